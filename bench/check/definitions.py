@@ -87,8 +87,9 @@ class Definitions:
         text = file.read_text()
         self.file, self.imports, self.lines, self.order = file, imported(text), {}, []
         name, depth, module = None, 0, []
-        for line in text.splitlines():
-            if not line.strip() or line.lstrip().startswith("--") or line.startswith(("use ", "pub use ", "pub mod ", "mod ")):
+        # A `use` may go on over several lines, within its braces.
+        for line in re.sub(r"^(?:pub )?use [^\n{]*\{[^}]*\}.*$", "", text, flags=re.M).splitlines():
+            if not line.strip() or line.lstrip().startswith(("--", "use ", "pub use ", "pub mod ", "mod ")):
                 continue
             if line.startswith("module "):
                 name, depth, module = None, 2, [line]

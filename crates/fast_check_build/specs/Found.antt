@@ -42,7 +42,8 @@ pub record IsFound (k : Known) (roots : List Nv) (answers : BTreeMap PackageNv P
   pub is_yield : IsYield (gives k) account yields
   pub join : JoinAll k account
   pub says : AreAnswers yields answers
-  pub own : (nv : Nv) (t : Text) (r : SourceRange) → answer answers nv (about t (whether_public r)) ≡ true → IsOwnRange (named_at k.root_symbol t) r
+  pub own : (nv : Nv) (t : Text) (r : SourceRange) → answer answers nv (about t (whether_public r)) ≡ true →
+      IsOwnRange (named_at k.root_symbol t) r
   pub own_implementations : (nv : Nv) (t : Text) (r : SourceRange) →
       answer answers nv (about t (whether_implementing r)) ≡ true →
       IsOwnRange (named_at k.root_symbol t) r

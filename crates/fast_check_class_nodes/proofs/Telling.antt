@@ -35,7 +35,8 @@ module _ (t : Tree) (m : IsMethod t) (p : is_private (ClassMethod-accessibility 
       cond (bytes_eq key.now q.now) true (contains_by (λ k. bytes_eq q.now k.now) old.private_methods)) →
       (earlier : List Tree) → Knows old earlier → Next new earlier t added
   next_method old new key added e same a updates earlier known = record {
-    stays_is = a ∙ (ap not (known.names key.now ∙ ap (λ name. list_any (is_private_method_of name) earlier) e) ∙ sym (stays_if_new earlier));
+    stays_is = a ∙ (ap not (known.names key.now ∙ ap (λ name. list_any (is_private_method_of name) earlier) e) ∙
+        sym (stays_if_new earlier));
     knows = record {
       names = λ name. updates (record { ref_ptr = (0, 0); now = name })
           ∙ ((λ i. cond (bytes_eq (e i) name) true (known.names name i))

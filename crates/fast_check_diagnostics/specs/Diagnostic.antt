@@ -5,25 +5,12 @@ use Rattle.std.specs.Rc.{rc_str_bytes}
 use Rattle.url.specs.Parts.{Parts, serialize}
 use Rattle.fast_check_diagnostics.specs.declared.diagnostics.range.FastCheckDiagnosticRange.{FastCheckDiagnosticRange}
 use Rattle.fast_check_diagnostics.specs.declared.diagnostics.FastCheckDiagnostic.{FastCheckDiagnostic}
-use Rattle.fast_check_diagnostics.specs.declared.diagnostics.FastCheckDiagnostic.TheVariants.{NotFoundReference}
-use Rattle.fast_check_diagnostics.specs.declared.diagnostics.FastCheckDiagnostic.TheVariants.{MissingExplicitType}
-use Rattle.fast_check_diagnostics.specs.declared.diagnostics.FastCheckDiagnostic.TheVariants.{MissingExplicitReturnType}
-use Rattle.fast_check_diagnostics.specs.declared.diagnostics.FastCheckDiagnostic.TheVariants.{UnsupportedAmbientModule}
-use Rattle.fast_check_diagnostics.specs.declared.diagnostics.FastCheckDiagnostic.TheVariants.{UnsupportedComplexReference}
-use Rattle.fast_check_diagnostics.specs.declared.diagnostics.FastCheckDiagnostic.TheVariants.{UnsupportedDefaultExportExpr}
-use Rattle.fast_check_diagnostics.specs.declared.diagnostics.FastCheckDiagnostic.TheVariants.{UnsupportedDestructuring}
-use Rattle.fast_check_diagnostics.specs.declared.diagnostics.FastCheckDiagnostic.TheVariants.{UnsupportedExpandoProperty}
-use Rattle.fast_check_diagnostics.specs.declared.diagnostics.FastCheckDiagnostic.TheVariants.{UnsupportedGlobalModule}
-use Rattle.fast_check_diagnostics.specs.declared.diagnostics.FastCheckDiagnostic.TheVariants.{UnsupportedRequire}
-use Rattle.fast_check_diagnostics.specs.declared.diagnostics.FastCheckDiagnostic.TheVariants.{UnsupportedPrivateMemberReference}
-use Rattle.fast_check_diagnostics.specs.declared.diagnostics.FastCheckDiagnostic.TheVariants.{UnsupportedSuperClassExpr}
-use Rattle.fast_check_diagnostics.specs.declared.diagnostics.FastCheckDiagnostic.TheVariants.{UnsupportedTsExportAssignment}
-use Rattle.fast_check_diagnostics.specs.declared.diagnostics.FastCheckDiagnostic.TheVariants.{UnsupportedTsNamespaceExport}
-use Rattle.fast_check_diagnostics.specs.declared.diagnostics.FastCheckDiagnostic.TheVariants.{UnsupportedUsing}
-use Rattle.fast_check_diagnostics.specs.declared.diagnostics.FastCheckDiagnostic.TheVariants.{UnsupportedNestedJavaScript}
-use Rattle.fast_check_diagnostics.specs.declared.diagnostics.FastCheckDiagnostic.TheVariants.{UnsupportedJavaScriptEntrypoint}
-use Rattle.fast_check_diagnostics.specs.declared.diagnostics.FastCheckDiagnostic.TheVariants.{Emit, ExportNotFound}
-use Rattle.fast_check_diagnostics.specs.declared.diagnostics.FastCheckDiagnostic.TheVariants.{Cached}
+use Rattle.fast_check_diagnostics.specs.declared.diagnostics.FastCheckDiagnostic.TheVariants.{
+    NotFoundReference, MissingExplicitType, MissingExplicitReturnType, UnsupportedAmbientModule,
+    UnsupportedComplexReference, UnsupportedDefaultExportExpr, UnsupportedDestructuring, UnsupportedExpandoProperty,
+    UnsupportedGlobalModule, UnsupportedRequire, UnsupportedPrivateMemberReference, UnsupportedSuperClassExpr,
+    UnsupportedTsExportAssignment, UnsupportedTsNamespaceExport, UnsupportedUsing, UnsupportedNestedJavaScript,
+    UnsupportedJavaScriptEntrypoint, Emit, ExportNotFound, Cached}
 use Rattle.fast_check_diagnostics.specs.declared.diagnostics.view.DiagnosticLevel.{DiagnosticLevel}
 use Rattle.fast_check_diagnostics.specs.declared.diagnostics.view.DiagnosticLevel.TheVariants.{Error, Warning}
 use Rattle.fast_check_diagnostics.specs.DiagnosticView.{DiagnosticView, Snippet, Location, AtPosition, AtModule}

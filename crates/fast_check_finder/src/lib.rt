@@ -1,11 +1,11 @@
 //! Follows packages and modules, until all that is demanded was followed.
 #![tactic(auto)]
 
-mod turns;
+mod find;
 
 pub use fast_check_packages::{BuildFault, PackageNv, WorkspaceMember};
 pub use fast_check_turns::{
     EnteredPackage, EntryFault, FinderInput, Finding, FollowedModule, FoundModule, KeptPackage,
     Sources, UntypedModule,
 };
-pub use turns::find_all;
+pub use find::find_all;

@@ -23,7 +23,8 @@ of_push (x ∷ xs) [] d e h p = absurd h
 of_push (x ∷ xs) (y ∷ ys) d e h p = (h.0, of_push xs ys d e h.1 p)
 
 one_apart : (d x : FastCheckDiagnostic) (e y : DemandFault × RcStr Global) → demand_fault d ≡ Some (placed_with e.0 (rc_str_bytes e.1)) →
-    demand_fault x ≡ Some (placed_with y.0 (rc_str_bytes y.1)) → eq_by_cmp order.cmp-value.it e.0 y.0 ≡ false → diagnose_one_fault d x ≡ false
+    demand_fault x ≡ Some (placed_with y.0 (rc_str_bytes y.1)) → eq_by_cmp order.cmp-value.it e.0 y.0 ≡ false →
+    diagnose_one_fault d x ≡ false
 one_apart d x e y p q h = ap (where_found (λ r. diagnoses (same_fault r) x)) p ∙
     (ap (where_found (same_fault (placed_with e.0 (rc_str_bytes e.1)))) q ∙ (compares e.0 y.0 (rc_str_bytes e.1) (rc_str_bytes y.1) ∙ h))
 

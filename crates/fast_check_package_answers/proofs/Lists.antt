@@ -6,7 +6,8 @@ use Rattle.std.proofs.Math.Seq.{take-append_seam}
 use Rattle.std.specs.List.{AllZip, AllByRecursion}
 use Rattle.fast_check_package_answers.specs.PackageFaults.{PackageFault, first_list}
 
-pub first_last : (lists : List (List PackageFault)) (last : List PackageFault) → first_list lists ≡ [] → first_list (lists ++ last ∷ []) ≡ last
+pub first_last : (lists : List (List PackageFault)) (last : List PackageFault) → first_list lists ≡ [] →
+    first_list (lists ++ last ∷ []) ≡ last
 first_last [] [] e = refl
 first_last [] (r ∷ rs) e = refl
 first_last ([] ∷ lists) last e = first_last lists last e

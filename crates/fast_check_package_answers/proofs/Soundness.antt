@@ -53,7 +53,8 @@ while_stop p (x ∷ xs) ys e = one_stop p x xs ys (p x) refl (while_stop p xs ys
 
 -- ---- where nothing is wrong
 
-first_empty : (rs : List PackageFault) (lists : List (List PackageFault)) → first_list (rs ∷ lists) ≡ [] → (rs ≡ []) × (first_list lists ≡ [])
+first_empty : (rs : List PackageFault) (lists : List (List PackageFault)) → first_list (rs ∷ lists) ≡ [] →
+    (rs ≡ []) × (first_list lists ≡ [])
 first_empty [] lists e = (refl, e)
 first_empty (r ∷ rs) lists e = cc
 

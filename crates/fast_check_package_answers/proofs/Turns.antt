@@ -24,8 +24,8 @@ use Rattle.fast_check_graph.specs.declared.root_symbol.RootSymbol.{RootSymbol}
 use Rattle.fast_check_cache.specs.declared.package_ranges.PackagePublicRanges.{PackagePublicRanges}
 use Rattle.fast_check_module_transform.specs.Transform.{skeleton, sources, comments}
 use Rattle.fast_check_transform_faults.specs.Diagnostics.{AreDiagnosticsOf, diagnosed}
-use Rattle.fast_check_package_answers.specs.PackageFaults.{PublicModule, PackageFault, met, found, Diagnoses, found_or, faults_in_tree, first_list}
-use Rattle.fast_check_package_answers.specs.PackageFaults.{module_faults, package_faults, sound_front}
+use Rattle.fast_check_package_answers.specs.PackageFaults.{
+    PublicModule, PackageFault, met, found, Diagnoses, found_or, faults_in_tree, first_list, module_faults, package_faults, sound_front}
 use Rattle.fast_check_package_answers.specs.PackageAnswer.{Answer, TreeModule, IsShown, ShowsMore, with_tree, tree_modules, IsSkeletonOf}
 use Rattle.fast_check_package_answers.specs.PackageAnswer.{IsRefused, IsFoundAnswer, IsUsedAnswer, IsPackageAnswer, OwnsPublic, OwnsModule}
 use Rattle.fast_check_package_answers.specs.PackageAnswer.{OwnsAll}
@@ -73,13 +73,16 @@ pub early : (first : Bool) (diagnostics : List FastCheckDiagnostic) (b : Bool) �
 early false diagnostics b is e = cc
 early true diagnostics b is e = (
   refl,
-  λ none. let zero : length diagnostics ≡ 0 = ap {B = ℕ} length none in not_true (length diagnostics == 0) (sym is ∙ e) (eq-eqb (length diagnostics) 0 zero),
+  λ none. let zero : length diagnostics ≡ 0 = ap {B = ℕ} length none in
+      not_true (length diagnostics == 0) (sym is ∙ e) (eq-eqb (length diagnostics) 0 zero),
 )
 
-pub goes_on : (first : Bool) (diagnostics : List FastCheckDiagnostic) (b : Bool) → b ≡ (first && not (length diagnostics == 0)) → b ≡ false →
+pub goes_on : (first : Bool) (diagnostics : List FastCheckDiagnostic) (b : Bool) →
+    b ≡ (first && not (length diagnostics == 0)) → b ≡ false →
     first ≡ true → diagnostics ≡ []
 goes_on false diagnostics b is e t = cc
-goes_on true diagnostics b is e t = nil_from_length diagnostics (eqb-true (length diagnostics) 0 (not_false (length diagnostics == 0) (sym is ∙ e)))
+goes_on true diagnostics b is e t =
+    nil_from_length diagnostics (eqb-true (length diagnostics) 0 (not_false (length diagnostics == 0) (sym is ∙ e)))
 
 -- ---- one module
 
@@ -97,7 +100,8 @@ faults_diagnosed info (f ∷ fs) [] h = absurd h
 faults_diagnosed info (f ∷ fs) (d ∷ ds) h = (h.0, faults_diagnosed info fs ds h.1)
 
 -- of these there are none exactly where nothing is wrong
-pub nothing_diagnosed : (first : Bool) (info : EsModule) (fs : List Fault) → fs ≡ [] → AllZip Diagnoses (map (met info) (diagnosed first fs)) []
+pub nothing_diagnosed : (first : Bool) (info : EsModule) (fs : List Fault) → fs ≡ [] →
+    AllZip Diagnoses (map (met info) (diagnosed first fs)) []
 nothing_diagnosed false info [] e = tt
 nothing_diagnosed true info [] e = tt
 nothing_diagnosed first info (f ∷ fs) e = cc
@@ -115,10 +119,12 @@ pub faults_answered : (first : Bool) (info : EsModule) (fs : List Fault) (r : Ma
 faults_answered first info fs (Ok made) ds e h = cc
 faults_answered first info fs (Err d) ds e h =
     let same : d ≡ ds = cc in
-    faults_diagnosed info (diagnosed first fs) ds.items (subst (λ (v : Diagnostics). AreDiagnosticsOf info (diagnosed first fs) v.items) same h)
+    faults_diagnosed info (diagnosed first fs) ds.items
+        (subst (λ (v : Diagnostics). AreDiagnosticsOf info (diagnosed first fs) v.items) same h)
 
 -- what the finder found goes first
-pub diagnosed_found : (ds : List FastCheckDiagnostic) (others : List PackageFault) (diagnostics : List FastCheckDiagnostic) → ds ≢ [] → diagnostics ≡ ds →
+pub diagnosed_found : (ds : List FastCheckDiagnostic) (others : List PackageFault) (diagnostics : List FastCheckDiagnostic) →
+    ds ≢ [] → diagnostics ≡ ds →
     AllZip Diagnoses (found_or ds others) diagnostics
 diagnosed_found [] others diagnostics some e = absurd (some refl)
 diagnosed_found (d ∷ ds) others diagnostics some e = subst (AllZip Diagnoses (map found (d ∷ ds))) (sym e) (found_diagnosed (d ∷ ds))
@@ -277,7 +283,8 @@ all_shown graph modules begin answers start shows = shows [] (subst (AllZip (IsS
 -- the modules before the first with something wrong, after one module more
 pub shows_turn : (first : Bool) (graph : ModuleGraph) (root : RootSymbol) (ms : List PublicModule) (m : PublicModule)
     (begin before after kept : List Answer) (answered : ℕ) (old more new : List FastCheckDiagnostic) →
-    AllZip Diagnoses (package_faults first graph root ms) old → AllZip Diagnoses (module_faults first graph root m) more → new ≡ old ++ more →
+    AllZip Diagnoses (package_faults first graph root ms) old → AllZip Diagnoses (module_faults first graph root m) more →
+    new ≡ old ++ more →
     (new ≡ [] → kept ≡ after) → (new ≢ [] → kept ≡ take answered after) → answered ≡ length before → take (length before) after ≡ before →
     ShowsMore graph (tree_modules root (sound_front first graph root ms)) begin before →
     (more ≡ [] → ShowsMore graph (with_tree m (found_module root m.0)) before after) →
@@ -302,7 +309,8 @@ shows_turn first graph root ms m begin before after kept answered (o ∷ os) mor
 
 -- once something is wrong, the modules that follow play no part
 pub shows_all : (first : Bool) (graph : ModuleGraph) (root : RootSymbol) (ms more all : List PublicModule) (begin kept : List Answer)
-    (diagnostics : List FastCheckDiagnostic) → diagnostics ≢ [] → ms ++ more ≡ all → AllZip Diagnoses (package_faults first graph root ms) diagnostics →
+    (diagnostics : List FastCheckDiagnostic) → diagnostics ≢ [] → ms ++ more ≡ all →
+    AllZip Diagnoses (package_faults first graph root ms) diagnostics →
     ShowsMore graph (tree_modules root (sound_front first graph root ms)) begin kept →
     ShowsMore graph (tree_modules root (sound_front first graph root all)) begin kept
 shows_all first graph root ms more all begin kept diagnostics some e h shown =

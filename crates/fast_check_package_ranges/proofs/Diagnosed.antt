@@ -21,8 +21,8 @@ use Rattle.fast_check_package_ranges.specs.Questions.{whether_implementing, whet
 use Rattle.fast_check_package_ranges.specs.Questions.{whether_faulty, whether_otherwise_faulty}
 use Rattle.fast_check_findings.specs.Diagnostics.{IsFair, any_fault, is_other, passes, diagnoses, diagnose_one_fault}
 use Rattle.fast_check_package_ranges.specs.Parts.{is_text, module_says}
-use Rattle.fast_check_package_ranges.specs.Answers.{diagnoses_missing, diagnoses_untyped_entry, diagnoses_untyped, diagnoses_otherwise, diagnose_alike}
-use Rattle.fast_check_package_ranges.specs.Answers.{module_answer}
+use Rattle.fast_check_package_ranges.specs.Answers.{
+    diagnoses_missing, diagnoses_untyped_entry, diagnoses_untyped, diagnoses_otherwise, diagnose_alike, module_answer}
 use Rattle.fast_check_package_ranges.specs.Made.{diagnosed_if, whole_diagnostics, module_is_said, is_foreign, IsModuleAnswer}
 use Rattle.fast_check_findings.proofs.Bools.{or_none, or_assoc, and_none}
 
@@ -149,7 +149,8 @@ no_one false false false = refl
 
 -- no two diagnostics tell the same
 
-missing_apart : (t : List ℕ) (s : Parts) (d : FastCheckDiagnostic) → diagnoses_missing t d ≡ false → diagnose_alike t (ExportNotFound s) d ≡ false
+missing_apart : (t : List ℕ) (s : Parts) (d : FastCheckDiagnostic) → diagnoses_missing t d ≡ false →
+    diagnose_alike t (ExportNotFound s) d ≡ false
 unfolding demand_fault
 missing_apart t s d h = ap (λ b. (is_text t s && b) || false) h ∙ (or_none (is_text t s && false) ∙ and_none (is_text t s))
 
@@ -177,7 +178,8 @@ diagnosed_apart : (t : List ℕ) (d : FastCheckDiagnostic) → is_other d ≡ fa
     AllByRecursion (λ x. diagnose_alike t d x ≡ false) ds
 diagnosed_apart t d o [] h = tt
 diagnosed_apart t d o (x ∷ xs) h = (
-  none_of_four (diagnoses_missing t d) (diagnoses_untyped_entry t d) (diagnoses_untyped t d) _ _ _ (diagnose_one_fault d x) (missing_other t d o)
+  none_of_four (diagnoses_missing t d) (diagnoses_untyped_entry t d) (diagnoses_untyped t d) _ _ _ (diagnose_one_fault d x)
+  (missing_other t d o)
       (untyped_entry_other t d o)
       (untyped_other t d o) h.0,
   diagnosed_apart t d o xs h.1,
@@ -244,8 +246,10 @@ shown parts = parts.is_untyped && not (module_says parts whether_otherwise_fault
 -- the diagnostics of a module: those of it as a whole, and then those of demands, each once
 pub record IsDiagnosed (specifier : Parts) (parts : JoinedModule) (out diagnosed_once : List FastCheckDiagnostic) : Type 0 where
   pub out_is : out ≡ whole_diagnostics specifier parts.is_missing parts.is_untyped_entry (shown parts) ++ diagnosed_once
-  pub same : (test : PlacedFault → Bool) → IsFair test → list_any (diagnoses test) diagnosed_once ≡ list_any (passes test) parts.found.faults.items
-  pub exact : (test : PlacedFault → Bool) → list_any (diagnoses test) diagnosed_once ≡ true → list_any (passes test) parts.found.faults.items ≡ true
+  pub same : (test : PlacedFault → Bool) → IsFair test → list_any (diagnoses test) diagnosed_once
+      ≡ list_any (passes test) parts.found.faults.items
+  pub exact : (test : PlacedFault → Bool) → list_any (diagnoses test) diagnosed_once ≡ true →
+      list_any (passes test) parts.found.faults.items ≡ true
   pub only : list_any is_other diagnosed_once ≡ false
   pub once : IsDistinct diagnose_one_fault diagnosed_once
 
@@ -310,7 +314,8 @@ module _ (specifier : Parts) (parts : JoinedModule) (out diagnosed_once : List F
       (untyped_diagnoses any_fault specifier) ∙
       first_two parts.is_missing parts.is_untyped_entry (shown parts)) ∙
       (ap (λ b. (parts.is_missing || parts.is_untyped_entry) || b)
-      (alike (diagnoses_otherwise (serialize specifier)) (diagnoses any_fault) (otherwise_other (serialize specifier)) diagnosed_once h.only ∙
+      (alike (diagnoses_otherwise (serialize specifier)) (diagnoses any_fault) (otherwise_other (serialize specifier))
+          diagnosed_once h.only ∙
       h.same any_fault (λ a b e. refl)) ∙
       or_assoc parts.is_missing parts.is_untyped_entry (list_any (passes any_fault) parts.found.faults.items)))
 
@@ -322,12 +327,16 @@ said : (specifier : Parts) (parts : JoinedModule) (m : PublicRanges) (diagnosed_
 said specifier parts m diagnosed_once publics others h whether_recorded fair = refl
 said specifier parts m diagnosed_once publics others h (whether_public r) fair = publics r
 said specifier parts m diagnosed_once publics others h (whether_implementing r) fair = others r
-said specifier parts m diagnosed_once publics others h whether_missing fair = diagnosed_missing specifier parts m.diagnostics diagnosed_once h
-said specifier parts m diagnosed_once publics others h whether_untyped_entry fair = diagnosed_untyped_entry specifier parts m.diagnostics diagnosed_once h
-said specifier parts m diagnosed_once publics others h whether_untyped fair = diagnosed_untyped specifier parts m.diagnostics diagnosed_once h
+said specifier parts m diagnosed_once publics others h whether_missing fair =
+    diagnosed_missing specifier parts m.diagnostics diagnosed_once h
+said specifier parts m diagnosed_once publics others h whether_untyped_entry fair =
+    diagnosed_untyped_entry specifier parts m.diagnostics diagnosed_once h
+said specifier parts m diagnosed_once publics others h whether_untyped fair =
+    diagnosed_untyped specifier parts m.diagnostics diagnosed_once h
 said specifier parts m diagnosed_once publics others h (whether_faulty test) fair =
     diagnosed_of_demands specifier parts m.diagnostics diagnosed_once h test ∙ h.same test fair
-said specifier parts m diagnosed_once publics others h whether_otherwise_faulty fair = diagnosed_otherwise specifier parts m.diagnostics diagnosed_once h
+said specifier parts m diagnosed_once publics others h whether_otherwise_faulty fair =
+    diagnosed_otherwise specifier parts m.diagnostics diagnosed_once h
 
 pub module_made : (specifier : Parts) (parts : JoinedModule) (m : PublicRanges) (diagnosed_once : List FastCheckDiagnostic) →
     ((r : SourceRange) → is_public m r ≡ list_any (same_range r) parts.found.ranges.items) →

@@ -21,9 +21,9 @@ use Rattle.fast_check_package_ranges.specs.declared.parts.JoinedPackage.{JoinedP
 use Rattle.fast_check_package_ranges.specs.Questions.{ModuleQuestion, whether_missing, whether_untyped_entry, whether_untyped}
 use Rattle.fast_check_package_ranges.specs.Questions.{whether_faulty, Question, about, is_fault, is_said, IsTextless}
 use Rattle.fast_check_package_ranges.specs.Parts.{lookup_text, lookup_package}
-use Rattle.fast_check_package_ranges.specs.Answers.{diagnoses_missing, diagnoses_untyped_entry, diagnoses_untyped, diagnose_alike, is_so, module_answer}
-use Rattle.fast_check_package_ranges.specs.Answers.{package_answer, answer, module_diagnostics, package_diagnostics, diagnostics_of}
-use Rattle.fast_check_package_ranges.specs.Answers.{cached_of}
+use Rattle.fast_check_package_ranges.specs.Answers.{
+    diagnoses_missing, diagnoses_untyped_entry, diagnoses_untyped, diagnose_alike, is_so, module_answer, package_answer, answer,
+    module_diagnostics, package_diagnostics, diagnostics_of, cached_of}
 use Rattle.fast_check_package_ranges.specs.Made.{is_foreign, AreModuleAnswers, IsPackageAnswer, ArePackageAnswers}
 
 -- an item that passes
@@ -128,12 +128,14 @@ module _ (packages : List (PackageNv × JoinedPackage)) (answers : BTreeMap Pack
         where_found any_fault o ≡ true → where_found (λ r. is_said yields nv (about t (whether_faulty (is_fault r)))) o ≡ true
     of_fault t d c None e h = absurd (false≢true h)
     of_fault t d c (Some r) e h = exact t (is_fault r)
-        (answered t (diagnoses (is_fault r)) (whether_faulty (is_fault r)) (λ m. refl) d c (ap (where_found (is_fault r)) e ∙ fault_itself r))
+        (answered t (diagnoses (is_fault r)) (whether_faulty (is_fault r)) (λ m. refl) d c
+        (ap (where_found (is_fault r)) e ∙ fault_itself r))
 
     pub only : (t : List ℕ) (d : FastCheckDiagnostic) → Contains (diagnostics_of answers nv t) d → is_so yields nv t d ≡ true
     only t d c = one_of (diagnoses_missing t d) (diagnoses_untyped_entry t d) (diagnoses_untyped t d) (diagnoses any_fault d) _ _ _ _
         (λ y. sym (said (about t whether_missing) tt) ∙ answered t (diagnoses_missing t) whether_missing (λ m. refl) d c y)
-        (λ y. sym (said (about t whether_untyped_entry) tt) ∙ answered t (diagnoses_untyped_entry t) whether_untyped_entry (λ m. refl) d c y)
+        (λ y. sym (said (about t whether_untyped_entry) tt) ∙
+            answered t (diagnoses_untyped_entry t) whether_untyped_entry (λ m. refl) d c y)
         (λ y. sym (said (about t whether_untyped) tt) ∙ answered t (diagnoses_untyped t) whether_untyped (λ m. refl) d c y)
         (of_fault t d c (demand_fault d) refl)
         (passes_not (is_foreign t) (diagnostics_of answers nv t) d c

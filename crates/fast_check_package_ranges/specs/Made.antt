@@ -6,9 +6,8 @@ use Rattle.url.specs.Parts.{Parts}
 use Rattle.fast_check_packages.specs.Package.{Nv}
 use Rattle.fast_check_diagnostics.specs.PublicRanges.{PublicRanges}
 use Rattle.fast_check_diagnostics.specs.declared.diagnostics.FastCheckDiagnostic.{FastCheckDiagnostic}
-use Rattle.fast_check_diagnostics.specs.declared.diagnostics.FastCheckDiagnostic.TheVariants.{ExportNotFound}
-use Rattle.fast_check_diagnostics.specs.declared.diagnostics.FastCheckDiagnostic.TheVariants.{UnsupportedJavaScriptEntrypoint}
-use Rattle.fast_check_diagnostics.specs.declared.diagnostics.FastCheckDiagnostic.TheVariants.{UnsupportedNestedJavaScript}
+use Rattle.fast_check_diagnostics.specs.declared.diagnostics.FastCheckDiagnostic.TheVariants.{
+    ExportNotFound, UnsupportedJavaScriptEntrypoint, UnsupportedNestedJavaScript}
 use Rattle.fast_check_cache.specs.declared.package_ranges.PackagePublicRanges.{PackagePublicRanges}
 use Rattle.fast_check_cache.specs.Cache.{item_of}
 use Rattle.fast_check_worklists.specs.Demands.{Text}
@@ -19,8 +18,8 @@ use Rattle.fast_check_package_ranges.specs.declared.parts.JoinedPackage.{JoinedP
 use Rattle.fast_check_package_ranges.specs.Questions.{ModuleQuestion, whether_untyped, whether_faulty}
 use Rattle.fast_check_package_ranges.specs.Questions.{whether_otherwise_faulty, IsTextlessAbout}
 use Rattle.fast_check_package_ranges.specs.Parts.{is_text, is_package, module_says, lookup_text}
-use Rattle.fast_check_package_ranges.specs.Answers.{diagnoses_untyped, diagnoses_otherwise, diagnose_alike, module_answer}
-use Rattle.fast_check_package_ranges.specs.Answers.{IsKeptAnswer}
+use Rattle.fast_check_package_ranges.specs.Answers.{
+    diagnoses_untyped, diagnoses_otherwise, diagnose_alike, module_answer, IsKeptAnswer}
 
 -- a diagnostic that is there, or is not
 abbrev pub diagnosed_if : Bool → FastCheckDiagnostic → List FastCheckDiagnostic

@@ -13,7 +13,8 @@ use Rattle.fast_check_pair_command.specs.Pair.{AdmitBoth, AnswersModules, IsFaul
 -- the line is the answer to this module and the second
 abbrev pub AnswersSecond : ModuleGraph → EsModule → PublicRanges → Side → Bool → List ℕ → ℕ → Type 0
 AnswersSecond graph a ranges_a side first line status =
-    (b : EsModule) × IsModuleOf side.es_module b × AnswersModules graph a ranges_a b side.public_ranges first line status
+    (b : EsModule) × IsModuleOf side.es_module b ×
+    AnswersModules graph a ranges_a b side.public_ranges first line status
 
 -- why they are refused: by a fault of the second, or else by ranges
 abbrev pub RefusesSecond : EsModule → PublicRanges → Side → Refusal → Type 0

@@ -85,7 +85,8 @@ module _ (r : Renaming) (ok : IsRenaming r) (c d : Bindings) (pair : SameBinding
     pub expr_alike : {t u : Tree} → SameExpr r c d t u → (p q : Option SourceRange) → PlaceAlike r ok p q →
         Alike r ok (expr_seen c t p) (expr_seen d u q)
     expr_alike (s.plain {t = t} {u = u} e s') p q f = by_form t u p q (plain_alike r ok c d (expr_seen c) (expr_seen d) t u p q e s')
-    expr_alike (s.SameExpr.refused {t = t} {u = u} e g) p q f = by_form t u p q (refused_alike r ok c d (expr_seen c) (expr_seen d) t u p q e g)
+    expr_alike (s.SameExpr.refused {t = t} {u = u} e g) p q f =
+        by_form t u p q (refused_alike r ok c d (expr_seen c) (expr_seen d) t u p q e g)
     expr_alike (s.compound {t = t} {u = u} k b e xs) p q f =
         by_form t u p q (compound_alike r ok c d (expr_seen c) (expr_seen d) t u p q k b e (exprs_alike xs))
     expr_alike (s.satisfies {t = t} {u = u} b a x e) p q f =
@@ -132,7 +133,8 @@ module _ (r : Renaming) (ok : IsRenaming r) (c d : Bindings) (pair : SameBinding
         RangeAlike r ok p q →
         AllAlike r ok pats pats' →
         Alike r ok (arrow_by_type c (expr_seen c) t p pats) (arrow_by_type d (expr_seen d) u q pats')
-    arrow_body_alike (s.typed_arrow {t = t} {u = u} w) p q pats pats' h e ps = typed_alike r ok c d (expr_seen c) (expr_seen d) t u p q pats pats' h e ps w
+    arrow_body_alike (s.typed_arrow {t = t} {u = u} w) p q pats pats' h e ps =
+        typed_alike r ok c d (expr_seen c) (expr_seen d) t u p q pats pats' h e ps w
     arrow_body_alike (s.classed_arrow {t = t} {u = u} b f k) p q pats pats' h e ps =
         classed_alike r ok c d (expr_seen c) (expr_seen d) t u p q pats pats' h e ps pair.unresolved b f k
     arrow_body_alike (s.shown_value {t = t} {u = u} n f) p q pats pats' h e ps =
@@ -183,13 +185,15 @@ module _ (r : Renaming) (ok : IsRenaming r) (c d : Bindings) (pair : SameBinding
     pat_alike (s.emptied {t = t} {u = u} e) b = emptied_alike r ok c d (expr_seen c) (expr_seen d) b t u e
     pat_alike (s.rest {t = t} {u = u} k a dots arg e) b = rest_alike r ok c d (expr_seen c) (expr_seen d) b t u k a dots arg e
     pat_alike (s.taken_apart {t = t} {u = u} e f a) b = taken_apart_alike r ok c d (expr_seen c) (expr_seen d) b t u e f a
-    pat_alike (s.default_taken_apart {t = t} {u = u} k e f a) b = default_taken_apart_alike r ok c d (expr_seen c) (expr_seen d) b t u k e f a
+    pat_alike (s.default_taken_apart {t = t} {u = u} k e f a) b =
+        default_taken_apart_alike r ok c d (expr_seen c) (expr_seen d) b t u k e f a
     pat_alike (s.typed_default {t = t} {u = u} k j e w) b = typed_default_alike r ok c d (expr_seen c) (expr_seen d) b t u k j e w
     pat_alike (s.shown_default {t = t} {u = u} k j e h) b = shown_default_alike r ok c d (expr_seen c) (expr_seen d) b t u k j e h
     pat_alike (s.kept_default {t = t} {u = u} k j a e h x) b = kept_default_alike r ok c d (expr_seen c)
         (expr_seen d) b t u k j a e h (λ p q f. expr_alike x p q f)
     pat_alike (s.typed_pattern {t = t} {u = u} k a e w) b = typed_pattern_alike r ok c d (expr_seen c) (expr_seen d) b t u k a e w
-    pat_alike (s.kept_pattern {t = t} {u = u} k a e x) b = kept_pattern_alike r ok c d (expr_seen c) (expr_seen d) b t u k a e (λ p q f. expr_alike x p q f)
+    pat_alike (s.kept_pattern {t = t} {u = u} k a e x) b =
+        kept_pattern_alike r ok c d (expr_seen c) (expr_seen d) b t u k a e (λ p q f. expr_alike x p q f)
 
   pub arrow_alike : {t u : Tree} → SameArrowHead r c d t u → SamePats r c d (parts (ArrowExpr-params t)) (parts (ArrowExpr-params u)) →
       SameArrowBody r c d t u →

@@ -25,7 +25,8 @@ use Rattle.fast_check_skeleton.specs.TypedGrammar.{IsLeavable, IsTypedFunction, 
 
 -- an argument of `super`: `{} as never`, or `...([] as never[])`
 abbrev pub IsNeverArgument : Tree → Type 0
-IsNeverArgument arg = ExprOrSpread-expr arg ≡ (if is_absent (ExprOrSpread-spread arg) then never_value else never_array_in_parens)
+IsNeverArgument arg = ExprOrSpread-expr arg
+    ≡ (if is_absent (ExprOrSpread-spread arg) then never_value else never_array_in_parens)
 
 -- `super(..);` of such arguments
 pub record IsNeverSuper (stmt : Tree) : Type 0 where
@@ -62,7 +63,8 @@ module _ (bindings : Bindings) where
         is_absent (ClassProp-value t) ≡ true → ClassProp-declare t ≡ true →
         ClassProp-definite t ≡ false → IsTypedMember t
     -- `key = value`
-    valued : {t : Tree} → kind_of t ≡ ClassProp → ClassProp-decorators t ≡ list [] → is_absent (ClassProp-type_ann t) ≡ true →
+    valued : {t : Tree} → kind_of t ≡ ClassProp → ClassProp-decorators t ≡ list [] →
+        is_absent (ClassProp-type_ann t) ≡ true →
         is_absent (ClassProp-value t) ≡ false → IsLeavable bindings (ClassProp-value t) → ClassProp-declare t ≡ false →
         ClassProp-definite t ≡ false →
         IsTypedMember t

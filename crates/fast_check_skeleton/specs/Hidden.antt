@@ -65,7 +65,8 @@ pub data IsSilentDecl (around : Surroundings) (place : SourceRange) : Tree → T
   -- `using` of which nothing is public
   using : {t : Tree} → kind_of t ≡ UsingDecl → is_public_using around place t ≡ false → IsSilentDecl around place t
   -- a namespace that is not public, whatever stands in it
-  namespace : {t : Tree} → kind_of t ≡ TsModuleDecl → is_namespace t ≡ true → around.is_public place ≡ false → IsSilentDecl around place t
+  namespace : {t : Tree} → kind_of t ≡ TsModuleDecl → is_namespace t ≡ true → around.is_public place ≡ false →
+      IsSilentDecl around place t
 
 -- an item that goes without a word
 pub data IsSilent (around : Surroundings) : Tree → Type 0 where
@@ -142,7 +143,8 @@ module _ (r : Renaming) (a b : Surroundings) where
   -- declarations; `p` and `q` are the ranges of their exports, or else their own
   pub data SameDecl (p q : SourceRange) : Tree → Tree → Type 0 where
     variable : {t u : Tree} → SameStatement t u → is_ambient_statement a t ≡ false →
-        SameDeclarators (SameDeclarator (mutability_of (VarDecl-kind t))) (parts (VarDecl-decls t)) (parts (VarDecl-decls u)) → SameDecl p q t u
+        SameDeclarators (SameDeclarator (mutability_of (VarDecl-kind t)))
+            (parts (VarDecl-decls t)) (parts (VarDecl-decls u)) → SameDecl p q t u
     ambient : {t u : Tree} → SameStatement t u → is_ambient_statement a t ≡ true →
         SameDeclarators (SameTree r) (parts (VarDecl-decls t)) (parts (VarDecl-decls u)) → SameDecl p q t u
     -- interfaces, type aliases and enums stand as they are written

@@ -43,7 +43,9 @@ starts_of_removed class = map (λ m. (range_of_node m).start) (removed_members (
 -- of those of a class declaration, which is public by `place`: none where it goes itself, or is ambient
 abbrev pub starts_in_class : Surroundings → SourceRange → Tree → List SourcePos
 starts_in_class around place decl =
-    if around.is_public place && not (is_ambient_class around decl) then starts_of_removed (ClassDecl-class decl) else []
+    if around.is_public place && not (is_ambient_class around decl) then
+        starts_of_removed (ClassDecl-class decl)
+    else []
 
 -- the starts of what goes inside of a declaration that stays, by what is done with it
 abbrev pub starts_in_decl : Surroundings → SourceRange → Tree → DeclRule → List SourcePos
@@ -53,7 +55,9 @@ starts_in_decl around place decl _ = []
 -- of those of a class that is exported by default, which is never ambient: none where it goes itself
 abbrev pub starts_in_default : Surroundings → Tree → DefaultRule → List SourcePos
 starts_in_default around item defaults.Class =
-    if around.is_public (ExportDefaultDecl-span item) then starts_of_removed (ClassExpr-class (ExportDefaultDecl-decl item)) else []
+    if around.is_public (ExportDefaultDecl-span item) then
+        starts_of_removed (ClassExpr-class (ExportDefaultDecl-decl item))
+    else []
 starts_in_default around item _ = []
 
 -- the start of an assignment that is tested: nothing stays of it

@@ -59,13 +59,15 @@ pub data IsSilentMember (earlier : List Tree) : Tree → Type 0 where
   -- a private method, property or accessor with a computed key
   computed : {m : Tree} → is_private_computed m ≡ true → IsSilentMember earlier m
   -- a private method behind one of its name
-  again : {m : Tree} (name : List ℕ) → is_private_method_of name m ≡ true → list_any (is_private_method_of name) earlier ≡ true → IsSilentMember earlier m
+  again : {m : Tree} (name : List ℕ) → is_private_method_of name m ≡ true →
+      list_any (is_private_method_of name) earlier ≡ true → IsSilentMember earlier m
   -- a private constructor without a body
   overload : {m : Tree} → kind_of m ≡ Constructor → is_private (Constructor-accessibility m) ≡ true →
       is_absent (Constructor-body m) ≡ true →
       IsSilentMember earlier m
   -- one with a body behind another
-  another : {m : Tree} → is_private_implementation m ≡ true → list_any is_private_implementation earlier ≡ true → IsSilentMember earlier m
+  another : {m : Tree} → is_private_implementation m ≡ true → list_any is_private_implementation earlier ≡ true →
+      IsSilentMember earlier m
 
 -- `c` and `d` are the scope numbers of the names that nothing in either source binds, `f` and `g` say which ranges are
 -- implementations behind overloads
@@ -100,16 +102,19 @@ module _ (r : Renaming) (c d : Bindings) (f g : SourceRange → Bool) where
     -- any types and values of private ones, their presence too
     any : is_private (ClassProp-accessibility t) ≡ true → SameProperty t u
     -- any values behind a written type, their presence too
-    typed : SameTree r (ClassProp-type_ann t) (ClassProp-type_ann u) → is_absent (ClassProp-type_ann t) ≡ false → SameProperty t u
+    typed : SameTree r (ClassProp-type_ann t) (ClassProp-type_ann u) → is_absent (ClassProp-type_ann t) ≡ false →
+        SameProperty t u
     -- any values of the same inferred type
     inferred : SameTree r (ClassProp-type_ann t) (ClassProp-type_ann u) →
-        SameTypeShown (mutability_of_property (ClassProp-readonly t)) (ClassProp-value t) (ClassProp-value u) → SameProperty t u
+        SameTypeShown (mutability_of_property (ClassProp-readonly t)) (ClassProp-value t) (ClassProp-value u) →
+        SameProperty t u
     -- no values
     absent : SameTree r (ClassProp-type_ann t) (ClassProp-type_ann u) →
         ClassProp-is_override t ≡ ClassProp-is_override u →
         is_absent (ClassProp-value t) ≡ true → is_absent (ClassProp-value u) ≡ true → SameProperty t u
     -- values that show no type and are to stay
-    kept : SameTree r (ClassProp-type_ann t) (ClassProp-type_ann u) → ClassProp-is_override t ≡ ClassProp-is_override u →
+    kept : SameTree r (ClassProp-type_ann t) (ClassProp-type_ann u) →
+        (ClassProp-is_override t ≡ ClassProp-is_override u) →
         NoTypeShown (mutability_of_property (ClassProp-readonly t)) (ClassProp-value t) (ClassProp-value u) →
         SameExpr r c d (ClassProp-value t) (ClassProp-value u) → SameProperty t u
 
@@ -135,12 +140,13 @@ module _ (r : Renaming) (c d : Bindings) (f g : SourceRange → Bool) where
     -- defaults of the same inferred type, behind no written type
     inferred : SameTree r (BindingIdent-type_ann (param_target t)) (BindingIdent-type_ann (param_target u)) →
         Both AssignPat (TsParamProp-param t) (TsParamProp-param u) →
-        SameTypeShown (mutability_of_property (TsParamProp-readonly t)) (AssignPat-right (TsParamProp-param t)) (AssignPat-right (TsParamProp-param u)) →
-        SameParamType t u
+        SameTypeShown (mutability_of_property (TsParamProp-readonly t)) (AssignPat-right (TsParamProp-param t))
+            (AssignPat-right (TsParamProp-param u)) → SameParamType t u
     -- defaults that show no type
     untyped : SameTree r (BindingIdent-type_ann (param_target t)) (BindingIdent-type_ann (param_target u)) →
         Both AssignPat (TsParamProp-param t) (TsParamProp-param u) →
-        NoTypeShown (mutability_of_property (TsParamProp-readonly t)) (AssignPat-right (TsParamProp-param t)) (AssignPat-right (TsParamProp-param u)) →
+        NoTypeShown (mutability_of_property (TsParamProp-readonly t))
+            (AssignPat-right (TsParamProp-param t)) (AssignPat-right (TsParamProp-param u)) →
         SameParamType t u
     -- no defaults
     bare : SameTree r (BindingIdent-type_ann (param_target t)) (BindingIdent-type_ann (param_target u)) →
@@ -163,7 +169,8 @@ module _ (r : Renaming) (c d : Bindings) (f g : SourceRange → Bool) where
     pub call : SameRange r (CallExpr-span (ExprStmt-expr t)) (CallExpr-span (ExprStmt-expr u))
     pub ctxt : IsPair r.scopes (CallExpr-ctxt (ExprStmt-expr t)).0 (CallExpr-ctxt (ExprStmt-expr u)).0
     pub callee : SameTree r (CallExpr-callee (ExprStmt-expr t)) (CallExpr-callee (ExprStmt-expr u))
-    pub arguments : Each (λ x y. SameTree r (ExprOrSpread-spread x) (ExprOrSpread-spread y)) (parts (CallExpr-args (ExprStmt-expr t)))
+    pub arguments : Each (λ x y. SameTree r (ExprOrSpread-spread x) (ExprOrSpread-spread y))
+        (parts (CallExpr-args (ExprStmt-expr t)))
         (parts (CallExpr-args (ExprStmt-expr u)))
     pub type_args : SameTree r (CallExpr-type_args (ExprStmt-expr t)) (CallExpr-type_args (ExprStmt-expr u))
 
@@ -187,7 +194,8 @@ module _ (r : Renaming) (c d : Bindings) (f g : SourceRange → Bool) where
 
   -- what agrees of two constructors that have skeletons, whatever their other parameters are
   pub record SameConstructed (t u : Tree) : Type 0 where
-    pub super_calls : SameSuperCalls (parts (BlockStmt-stmts (Constructor-body t))) (parts (BlockStmt-stmts (Constructor-body u)))
+    pub super_calls : SameSuperCalls (parts (BlockStmt-stmts (Constructor-body t)))
+        (parts (BlockStmt-stmts (Constructor-body u)))
     pub properties : Each SameParamProperty (param_properties t) (param_properties u)
 
   abbrev pub plain_params : Tree → List Tree
@@ -293,7 +301,8 @@ module _ (r : Renaming) (c d : Bindings) (f g : SourceRange → Bool) where
   -- members of ambient classes, the private ones with computed keys aside
   pub data SameAmbientMembers : List Tree → List Tree → Type 0 where
     end : SameAmbientMembers [] []
-    left : {t : Tree} {ts us : List Tree} → is_private_computed t ≡ true → SameAmbientMembers ts us → SameAmbientMembers (t ∷ ts) us
+    left : {t : Tree} {ts us : List Tree} → is_private_computed t ≡ true → SameAmbientMembers ts us →
+        SameAmbientMembers (t ∷ ts) us
     right : {u : Tree} {ts us : List Tree} → is_private_computed u ≡ true → SameAmbientMembers ts us →
         SameAmbientMembers ts (u ∷ us)
     next : {t u : Tree} {ts us : List Tree} → SameTree r t u → SameAmbientMembers ts us →

@@ -242,7 +242,8 @@ module _ (r : Renaming) (c d : Bindings) where
           SameGathered (RestPat-arg t) (RestPat-arg u) → SameTree r (RestPat-type_ann t) (RestPat-type_ann u) →
           SamePat t u
       -- any two that can't be parameters
-      taken_apart : {t u : Tree} → is_parameter (kind_of t) ≡ false → is_parameter (kind_of u) ≡ false → SameRange r (range_of_node t) (range_of_node u) →
+      taken_apart : {t u : Tree} → is_parameter (kind_of t) ≡ false → is_parameter (kind_of u) ≡ false →
+          SameRange r (range_of_node t) (range_of_node u) →
           SamePat t u
       -- any two defaults of what can't have one
       default_taken_apart : {t u : Tree} → Both AssignPat t u → takes_default (kind_of (AssignPat-left t)) ≡ false →

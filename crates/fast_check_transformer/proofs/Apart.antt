@@ -32,7 +32,8 @@ compares r = record {
   kind = λ p q h. let one = kinds_one _ _ h.kind p q h.first_place h.second_place h.first_diagnosed h.second_diagnosed in cc;
   names = λ p q object reference other another h. let one =
       kinds_one _ _ h.kind p q h.first_place h.second_place h.first_diagnosed h.second_diagnosed in (cc, cc);
-  flags = λ p q void async other another h. let one = kinds_one _ _ h.kind p q h.first_place h.second_place h.first_diagnosed h.second_diagnosed in
+  flags = λ p q void async other another h.
+      let one = kinds_one _ _ h.kind p q h.first_place h.second_place h.first_diagnosed h.second_diagnosed in
       (cc, cc);
   place = λ p q h.
       let same : SamePlace r p q =

@@ -1,12 +1,11 @@
 -- What tells two answers apart, so that the law of two worlds does not pass over it.
 use Rattle.std.specs.Prelude.{◌≡◌, Bool, List, [], ◌∷◌, Ok, Err, String, Vec, string_bytes}
 use Rattle.std.specs.declared.alloc.Global.{Global}
-use Rattle.fast_check_modules.specs.diagnostics.declared.diagnostics.range.FastCheckDiagnosticRange.{FastCheckDiagnosticRange}
+use Rattle.fast_check_modules.specs.diagnostics.declared.diagnostics.range.FastCheckDiagnosticRange.{
+    FastCheckDiagnosticRange}
 use Rattle.fast_check_modules.specs.diagnostics.declared.diagnostics.FastCheckDiagnostic.{FastCheckDiagnostic}
-use Rattle.fast_check_modules.specs.diagnostics.declared.diagnostics.FastCheckDiagnostic.TheVariants.{MissingExplicitType}
-use Rattle.fast_check_modules.specs.diagnostics.declared.diagnostics.FastCheckDiagnostic.TheVariants.{MissingExplicitReturnType}
-use Rattle.fast_check_modules.specs.diagnostics.declared.diagnostics.FastCheckDiagnostic.TheVariants.{UnsupportedUsing}
-use Rattle.fast_check_modules.specs.diagnostics.declared.diagnostics.FastCheckDiagnostic.TheVariants.{UnsupportedExpandoProperty}
+use Rattle.fast_check_modules.specs.diagnostics.declared.diagnostics.FastCheckDiagnostic.TheVariants.{
+    MissingExplicitType, MissingExplicitReturnType, UnsupportedUsing, UnsupportedExpandoProperty}
 use Rattle.fast_check_parsed_source.specs.declared.tables.fast_check_module.FastCheckModule.{FastCheckModule}
 use Rattle.fast_check_parsed_source.specs.declared.tables.fast_check_module.StaticSource.{StaticSource}
 use Rattle.fast_check_syntax.specs.Moves.{Renaming}

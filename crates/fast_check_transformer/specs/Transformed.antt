@@ -28,4 +28,5 @@ pub record IsTransformed (graph : ModuleGraph) (info : EsModule) (public : Publi
   pub comments : IfOk answer (λ made. made.comments ≡ transform.comments graph info public)
   pub sources : IfOk answer (λ made. made.module_info.sources.items ≡ transform.sources graph info public)
   pub faults : IfErr answer
-      (λ diagnostics. AreDiagnosticsOf info (diagnosed first_alone (transform.faults graph info public)) diagnostics.items)
+      (λ diagnostics. AreDiagnosticsOf info (diagnosed first_alone (transform.faults graph info public))
+      diagnostics.items)

@@ -21,7 +21,8 @@ use Rattle.fast_check_transformer.specs.Transformed.{ModuleAnswer}
 pub record AgreePair (r : Renaming) (graph : ModuleGraph) (a : EsModule) (ranges_a : PublicRanges) (b : EsModule)
     (ranges_b : PublicRanges) : Type 0 where
   pub specifier : a.specifier ≡ b.specifier
-  pub program : AgreeHidden r (surroundings_of graph a ranges_a) (surroundings_of graph b ranges_b) a.source.program b.source.program
+  pub program : AgreeHidden r (surroundings_of graph a ranges_a) (surroundings_of graph b ranges_b) a.source.program
+      b.source.program
   pub comments : SameComments r (kept a.source.comments) (kept b.source.comments)
 
 -- two skeletons, with what stays and what they depend on

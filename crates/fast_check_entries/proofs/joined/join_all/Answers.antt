@@ -12,7 +12,8 @@ returns-in_err-push_joined-clause-refused c =
     let f = c.in_err-push_joined.field-0.0 in
     passed_on c.from_residual.result f
     (Diagnoses (nv_of c.args.nv.now) (first_refused base (map string_bytes c.args.texts.now))) c.from_residual.ensures.1
-    (diagnoses_of (nv_of c.args.nv.now) (first_refused base (c.as_str.result.now ∷ [])) (first_refused base (map string_bytes c.args.texts.now))
+    (diagnoses_of (nv_of c.args.nv.now) (first_refused base (c.as_str.result.now ∷ []))
+    (first_refused base (map string_bytes c.args.texts.now))
     (λ y h. first_at
     (λ (t : List ℕ). is_none
     (joined base t)) string_bytes c.args.texts.now c.loop-text.text-index c.text-item.result c.loop-text-test.true

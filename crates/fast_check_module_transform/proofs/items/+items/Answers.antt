@@ -162,7 +162,8 @@ keep_namespace-returns-in-Some-clause-comments t c =
 
 pub keep_namespace-returns-then-not-contains-clause-answer : goal.keep_namespace-returns-then-not-contains-clause-answer
 keep_namespace-returns-then-not-contains-clause-answer t c =
-    private_namespace (seen_around c.args.around) c.args.place (seen c.args.decl) (sym c.module_fault.ensures ∙ none_of c.module_fault.result
+    private_namespace (seen_around c.args.around) c.args.place (seen c.args.decl)
+    (sym c.module_fault.ensures ∙ none_of c.module_fault.result
     (λ f e. c.in_default.not-Some f e))
     (sym c.contains.ensures ∙ c.if-not-contains.true) c.args.faults.now.items
 

@@ -20,7 +20,8 @@ returns-then-ends_early-clause-faults c =
     diagnosed_all first c.args.input.graph.now c.args.input.root_symbol.now
     (done ++ m ∷ []) c.next.new.self c.args.module_ranges.entries c.add_diagnostics.new.diagnostics.items
     last.0 (λ e. last.1 (c.deref.ensures.value ∙ e)) split
-    (diagnosed_more first c.args.input.graph.now c.args.input.root_symbol.now done m c.loop-specifier.diagnostics.items c.in_ok-more.more.items
+    (diagnosed_more first c.args.input.graph.now c.args.input.root_symbol.now done m c.loop-specifier.diagnostics.items
+    c.in_ok-more.more.items
     c.add_diagnostics.new.diagnostics.items
     c.loop-specifier.invariant.goes_on c.loop-specifier.invariant.faults c.in_ok-more.ensures.faults c.in_ok-add_diagnostics.ensures.added)
 
@@ -35,13 +36,15 @@ returns-then-ends_early-clause-shown c =
     shows_all first c.args.input.graph.now c.args.input.root_symbol.now
     (done ++ m ∷ []) c.next.new.self c.args.module_ranges.entries c.args.answers.now.items
     c.add_diagnostics.new.answers.items c.add_diagnostics.new.diagnostics.items (λ e. last.1 (c.deref.ensures.value ∙ e)) split
-    (diagnosed_more first c.args.input.graph.now c.args.input.root_symbol.now done m c.loop-specifier.diagnostics.items c.in_ok-more.more.items
+    (diagnosed_more first c.args.input.graph.now c.args.input.root_symbol.now done m c.loop-specifier.diagnostics.items
+    c.in_ok-more.more.items
     c.add_diagnostics.new.diagnostics.items
     c.loop-specifier.invariant.goes_on c.loop-specifier.invariant.faults c.in_ok-more.ensures.faults c.in_ok-add_diagnostics.ensures.added)
     (shows_turn first c.args.input.graph.now c.args.input.root_symbol.now done m c.args.answers.now.items c.loop-specifier.answers.items
     c.answer_module.new.answers.items c.add_diagnostics.new.answers.items c.len-answered.result c.loop-specifier.diagnostics.items
     c.in_ok-more.more.items
-    c.add_diagnostics.new.diagnostics.items c.loop-specifier.invariant.faults c.in_ok-more.ensures.faults c.in_ok-add_diagnostics.ensures.added
+    c.add_diagnostics.new.diagnostics.items c.loop-specifier.invariant.faults c.in_ok-more.ensures.faults
+    c.in_ok-add_diagnostics.ensures.added
     c.in_ok-add_diagnostics.ensures.kept c.in_ok-add_diagnostics.ensures.cut
     (c.len-answered.ensures ∙ c.loop-specifier.answers.ok.0) c.in_ok-more.ensures.stay
     c.loop-specifier.invariant.shown c.in_ok-more.ensures.shown)
@@ -54,14 +57,17 @@ loop-specifier-preserved c =
       all = append_assoc done (m ∷ []) c.next.new.self ∙
           (sym (ap (λ es. done ++ es) c.in-Some.ensures.steps) ∙ c.loop-specifier.invariant.all);
       faults =
-          diagnosed_more first c.args.input.graph.now c.args.input.root_symbol.now done m c.loop-specifier.diagnostics.items c.in_ok-more.more.items
-          c.add_diagnostics.new.diagnostics.items c.loop-specifier.invariant.goes_on c.loop-specifier.invariant.faults c.in_ok-more.ensures.faults
+          diagnosed_more first c.args.input.graph.now c.args.input.root_symbol.now done m c.loop-specifier.diagnostics.items
+          c.in_ok-more.more.items
+          c.add_diagnostics.new.diagnostics.items c.loop-specifier.invariant.goes_on c.loop-specifier.invariant.faults
+          c.in_ok-more.ensures.faults
           c.in_ok-add_diagnostics.ensures.added;
       shown = shows_turn first c.args.input.graph.now c.args.input.root_symbol.now done m c.args.answers.now.items
           c.loop-specifier.answers.items
           c.answer_module.new.answers.items c.add_diagnostics.new.answers.items c.len-answered.result c.loop-specifier.diagnostics.items
           c.in_ok-more.more.items
-          c.add_diagnostics.new.diagnostics.items c.loop-specifier.invariant.faults c.in_ok-more.ensures.faults c.in_ok-add_diagnostics.ensures.added
+          c.add_diagnostics.new.diagnostics.items c.loop-specifier.invariant.faults c.in_ok-more.ensures.faults
+          c.in_ok-add_diagnostics.ensures.added
           c.in_ok-add_diagnostics.ensures.kept c.in_ok-add_diagnostics.ensures.cut (c.len-answered.ensures ∙ c.loop-specifier.answers.ok.0)
           c.in_ok-more.ensures.stay c.loop-specifier.invariant.shown c.in_ok-more.ensures.shown;
       goes_on = λ t. sym c.deref.ensures.value ∙

@@ -15,6 +15,8 @@ pub returns-clause-kept : goal.returns-clause-kept
 returns-clause-kept c =
     item_kept c.args.input.graph.now c.args.input.root_symbol.now c.args.package_ranges
     c.args.input.options.now.should_error_on_first_diagnostic
-    c.new-skeletons.result.items c.answer_modules.new.answers.items c.deref.result.now c.in_ok-diagnostics.diagnostics.items c.deref-2.result.now
-    c.in_ok-modules.modules.items c.new-skeletons.ensures.items c.deref.ensures.value c.deref-2.ensures.value c.in_ok-diagnostics.ensures.faults
+    c.new-skeletons.result.items c.answer_modules.new.answers.items c.deref.result.now c.in_ok-diagnostics.diagnostics.items
+    c.deref-2.result.now
+    c.in_ok-modules.modules.items c.new-skeletons.ensures.items c.deref.ensures.value c.deref-2.ensures.value
+    c.in_ok-diagnostics.ensures.faults
     c.in_ok-diagnostics.ensures.shown c.in_ok-modules.ensures

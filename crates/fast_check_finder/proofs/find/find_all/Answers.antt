@@ -16,7 +16,7 @@ use Rattle.fast_check_finder.proofs.Stored.{has_lent}
 use Rattle.fast_check_turns.proofs.entry_proofs.Passed.{passed_on}
 use Rattle.fast_check_finder.specs.Refusals.{IsRefusal}
 use Rattle.fast_check_finder.proofs.Refused.{all_join, refusal}
-use Rattle.fast_check_finder.proofs.turns.find_all.Goals as goal
+use Rattle.fast_check_finder.proofs.find.find_all.Goals as goal
 
 pub turns-init : goal.turns-init
 turns-init g c =

@@ -9,7 +9,7 @@ use Rattle.fast_check_turns.specs.wants.Sources.{known, with_used}
 use Rattle.fast_check_turns.proofs.entry_proofs.Passed.{passed_on}
 use Rattle.fast_check_finder.specs.Refusals.{IsRefusedOf}
 use Rattle.fast_check_finder.proofs.Refused.{refused_of}
-use Rattle.fast_check_finder.proofs.turns.enter_next.Goals as goal
+use Rattle.fast_check_finder.proofs.find.enter_next.Goals as goal
 
 pub returns-clause-turned : goal.returns-clause-turned
 returns-clause-turned g c =

@@ -11,7 +11,7 @@ use Rattle.fast_check_turns.specs.Rules.{world}
 use Rattle.fast_check_turns.specs.Yields.{gives}
 use Rattle.fast_check_findings.specs.Findings.{yields_of}
 use Rattle.fast_check_finder.proofs.TurnLaws.{traced_turn}
-use Rattle.fast_check_finder.proofs.turns.turn.Goals as goal
+use Rattle.fast_check_finder.proofs.find.turn.Goals as goal
 
 pub returns-in_ok-after-in-None-clause-turned : goal.returns-in_ok-after-in-None-clause-turned
 returns-in_ok-after-in-None-clause-turned g c =

@@ -12,7 +12,7 @@ use Rattle.fast_check_turns.specs.Rules.{world}
 use Rattle.fast_check_turns.specs.Yields.{gives}
 use Rattle.fast_check_findings.specs.Findings.{yields_of}
 use Rattle.fast_check_finder.specs.Reach.{lent_dependencies, reach}
-use Rattle.fast_check_finder.proofs.turns.find_all.Given as goal
+use Rattle.fast_check_finder.proofs.find.find_all.Given as goal
 
 abbrev pub invariant-turns : goal.invariant-turns
 invariant-turns g l =
