@@ -15,8 +15,8 @@ use Rattle.fast_check_packages.specs.Package.{Nv, nv_of}
 use Rattle.fast_check_packages.specs.PackageOrder.{nv_total}
 use Rattle.fast_check_packages.specs.declared.package.PackageNv.{PackageNv}
 use Rattle.fast_check_modules.specs.diagnostics.PublicRanges.{PublicRanges, is_public}
-use Rattle.fast_check_graph.specs.declared.root_symbol.ModuleInfo.{ModuleInfo}
-use Rattle.fast_check_graph.specs.declared.root_symbol.ModuleInfo.TheVariants.{Esm, Json}
+use Rattle.fast_check_graph.specs.declared.root_symbol.AnyModuleInfo.{AnyModuleInfo}
+use Rattle.fast_check_graph.specs.declared.root_symbol.AnyModuleInfo.TheVariants.{Esm, Json}
 use Rattle.fast_check_graph.specs.declared.root_symbol.RootSymbol.{RootSymbol}
 use Rattle.fast_check_graph.specs.Root.{found_module}
 use Rattle.fast_check_cache.specs.declared.package_ranges.PackagePublicRanges.{PackagePublicRanges}
@@ -78,11 +78,11 @@ module _ (k : Known) (roots : List Nv) (ranges : BTreeMap PackageNv PackagePubli
       Contains p.1.module_ranges.entries m → OwnsModule k.root_symbol m
   owned_module p c in_order m d = go (found_module k.root_symbol m.0) refl
     where
-      go : (o : Option ModuleInfo) → found_module k.root_symbol m.0 ≡ o → AllByRecursion OwnsPublic (with_tree m o)
+      go : (o : Option AnyModuleInfo) → found_module k.root_symbol m.0 ≡ o → AllByRecursion OwnsPublic (with_tree m o)
       go None e = tt
       go (Some (Json info)) e = tt
       go (Some (Esm info)) e = (
-        λ r h. subst (λ (o : Option ModuleInfo). IsOwnRange o r) e
+        λ r h. subst (λ (o : Option AnyModuleInfo). IsOwnRange o r) e
             (found.own (nv_of p.0) (serialize m.0) r (is_answered p c in_order m d r ∙ h)),
         tt,
       )

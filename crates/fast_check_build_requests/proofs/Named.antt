@@ -17,8 +17,8 @@ use Rattle.fast_check_symbols.proofs.Last.{last_of_none}
 use Rattle.fast_check_modules.specs.symbols.declared.fault.TableFault.{TableFault}
 use Rattle.fast_check_modules.specs.symbols.declared.fault.TableFault.TheVariants as faults
 use Rattle.fast_check_modules.proofs.symbol_proofs.Alike.{last_alike}
-use Rattle.fast_check_graph.specs.declared.root_symbol.ModuleInfo.{ModuleInfo}
-use Rattle.fast_check_graph.specs.declared.root_symbol.ModuleInfo.TheVariants as infos
+use Rattle.fast_check_graph.specs.declared.root_symbol.AnyModuleInfo.{AnyModuleInfo}
+use Rattle.fast_check_graph.specs.declared.root_symbol.AnyModuleInfo.TheVariants as infos
 use Rattle.fast_check_graph.specs.declared.root_symbol.RootSymbol.{RootSymbol}
 use Rattle.fast_check_graph.specs.Graph.{is_specifier}
 use Rattle.fast_check_graph.specs.Root.{specifier_of, HasMisplaced, StandUnderOwnNames, IsRootFault, IsRootOf}
@@ -29,7 +29,7 @@ use Rattle.fast_check_build_requests.specs.Modules.{Entries, AreModulesOf, AreSo
 use Rattle.fast_check_build_requests.specs.Root.{url_cmp, name_of, IsRootOfParts, HasMisplacedParts, StandUnderNames, IsBuildFault}
 
 abbrev Modules : Type 0
-Modules = List (Parts × ModuleInfo)
+Modules = List (Parts × AnyModuleInfo)
 
 -- ---- maps of entries
 
@@ -56,7 +56,7 @@ found_entry test [] x is = cc
 found_entry test (e ∷ es) x is = found_at test e es x (test e.0) refl (found_entry test es x) is
 
 -- the look-up of an entry's key finds it
-entry_found : (m : BTreeMap Parts ModuleInfo) (es : Modules) → IsFromIterResult url_cmp es m → (e : Parts × ModuleInfo) →
+entry_found : (m : BTreeMap Parts AnyModuleInfo) (es : Modules) → IsFromIterResult url_cmp es m → (e : Parts × AnyModuleInfo) →
     Contains m.entries e
     → lookup (is_specifier e.0) m.entries ≡ Some e.1
 entry_found m es h e among =
@@ -67,13 +67,14 @@ entry_found m es h e among =
 -- ---- modules and their parts
 
 -- a module of these parts, or neither
-abbrev AreAlike : Option ModuleParts → Option ModuleInfo → Type 0
+abbrev AreAlike : Option ModuleParts → Option AnyModuleInfo → Type 0
 AreAlike None None = Unit {0}
 AreAlike None (Some m) = ⊥
 AreAlike (Some p) None = ⊥
 AreAlike (Some p) (Some m) = IsModuleOf p m
 
-or_alike : (o : Option ModuleParts) (n : Option ModuleInfo) (b : Bool) (p : ModuleParts) (m : ModuleInfo) → AreAlike o n → IsModuleOf p m
+or_alike : (o : Option ModuleParts) (n : Option AnyModuleInfo) (b : Bool) (p : ModuleParts) (m : AnyModuleInfo) →
+    AreAlike o n → IsModuleOf p m
     → AreAlike (option_or o (cond b (Some p) None)) (option_or n (cond b (Some m) None))
 or_alike None None true p m h is = is
 or_alike None None false p m h is = tt
@@ -90,19 +91,19 @@ alike test (e ∷ es) (m ∷ ms) (h, more) =
     (sym (ap test h.name))
     (or_alike (last_value test es) (last_value test ms) (test e.0) e.1 m.1 (alike test es ms more) h.made)
 
-module_there : (o : Option ModuleParts) (n : Option ModuleInfo) (p : ModuleParts) → AreAlike o n → o ≡ Some p → (m : ModuleInfo) ×
+module_there : (o : Option ModuleParts) (n : Option AnyModuleInfo) (p : ModuleParts) → AreAlike o n → o ≡ Some p → (m : AnyModuleInfo) ×
     (n ≡ Some m) × IsModuleOf p m
 module_there None n p h is = cc
 module_there (Some q) None p h is = absurd h
 module_there (Some q) (Some m) p h is = (m, refl, subst (λ (r : ModuleParts). IsModuleOf r m) (let same : q ≡ p = cc in same) h)
 
-parts_there : (o : Option ModuleParts) (n : Option ModuleInfo) (m : ModuleInfo) → AreAlike o n → n ≡ Some m → (p : ModuleParts) ×
+parts_there : (o : Option ModuleParts) (n : Option AnyModuleInfo) (m : AnyModuleInfo) → AreAlike o n → n ≡ Some m → (p : ModuleParts) ×
     (o ≡ Some p) × IsModuleOf p m
 parts_there o None m h is = cc
 parts_there None (Some n) m h is = absurd h
-parts_there (Some p) (Some n) m h is = (p, refl, subst (λ (r : ModuleInfo). IsModuleOf p r) (let same : n ≡ m = cc in same) h)
+parts_there (Some p) (Some n) m h is = (p, refl, subst (λ (r : AnyModuleInfo). IsModuleOf p r) (let same : n ≡ m = cc in same) h)
 
-own_name : (p : ModuleParts) (m : ModuleInfo) → IsModuleOf p m → specifier_of m ≡ name_of p
+own_name : (p : ModuleParts) (m : AnyModuleInfo) → IsModuleOf p m → specifier_of m ≡ name_of p
 own_name (parts.Esm p) (infos.Esm m) h = h.specifier
 own_name (parts.Esm p) (infos.Json m) h = absurd h
 own_name (parts.Json p) (infos.Esm m) h = absurd h
@@ -115,7 +116,8 @@ all_sound (e ∷ es) (m ∷ ms) (h, more) = All-cons (λ (e : Parts × ModulePar
 
 -- ---- the root
 
-module _ (es : Entries) (ms : Modules) (made : AreModulesOf es ms) (m : BTreeMap Parts ModuleInfo) (h : IsFromIterResult url_cmp ms m) where
+module _ (es : Entries) (ms : Modules) (made : AreModulesOf es ms) (m : BTreeMap Parts AnyModuleInfo)
+    (h : IsFromIterResult url_cmp ms m) where
   named : (name : Parts) → lookup (is_specifier name) m.entries ≡ last_value (is_specifier name) ms
   named = last_named m ms (λ key. h.0 key ∙ last_of_none (eq_by_cmp url_cmp) ms key)
 

@@ -4,33 +4,35 @@ use Rattle.std.proofs.Math.Logic.{inl, inr}
 use Rattle.url.specs.Parts.{Parts}
 use Rattle.fast_check_modules.specs.symbols.declared.fault.TableFault.{TableFault}
 use Rattle.fast_check_modules.specs.symbols.declared.fault.TableFault.TheVariants.{OutOfMemory}
-use Rattle.fast_check_graph.specs.declared.root_symbol.ModuleInfo.{ModuleInfo}
+use Rattle.fast_check_graph.specs.declared.root_symbol.AnyModuleInfo.{AnyModuleInfo}
 use Rattle.fast_check_build_requests.specs.declared.module_parts.ModuleParts.{ModuleParts}
 use Rattle.fast_check_build_requests.specs.declared.module_parts.ModuleParts.TheVariants as parts
 use Rattle.fast_check_build_requests.specs.Modules.{Entries, AreModulesOf, IsEntryOf, IsFaultOf, IsFirstFault}
 
 -- what is made of the rest goes behind what is made so far, and a fault of the rest is the first
-pub record Goes (all rest : Entries) (made : List (Parts × ModuleInfo)) : Type 0 where
-  pub more : (ms : List (Parts × ModuleInfo)) → AreModulesOf rest ms → AreModulesOf all (made ++ ms)
+pub record Goes (all rest : Entries) (made : List (Parts × AnyModuleInfo)) : Type 0 where
+  pub more : (ms : List (Parts × AnyModuleInfo)) → AreModulesOf rest ms → AreModulesOf all (made ++ ms)
   pub fault : (f : TableFault) → IsFirstFault rest f → IsFirstFault all f
 
-pub begins : (all rest : Entries) (made : List (Parts × ModuleInfo)) → rest ≡ all → made ≡ [] → Goes all rest made
+pub begins : (all rest : Entries) (made : List (Parts × AnyModuleInfo)) → rest ≡ all → made ≡ [] → Goes all rest made
 begins all rest made is none = record {
-  more = λ ms h. subst (λ (xs : List (Parts × ModuleInfo)). AreModulesOf all (xs ++ ms)) (sym none)
+  more = λ ms h. subst (λ (xs : List (Parts × AnyModuleInfo)). AreModulesOf all (xs ++ ms)) (sym none)
       (subst (λ (es : Entries). AreModulesOf es ms) is h);
   fault = λ f h. subst (λ (es : Entries). IsFirstFault es f) is h;
 }
 
-pub goes_on : (all rest : Entries) (made : List (Parts × ModuleInfo)) (e : Parts × ModuleParts) (left : Entries) (m : Parts × ModuleInfo)
-    (more : List (Parts × ModuleInfo)) → Goes all rest made → rest ≡ e ∷ left → IsEntryOf e m → more ≡ made ++ m ∷ [] → Goes all left more
+pub goes_on : (all rest : Entries) (made : List (Parts × AnyModuleInfo)) (e : Parts × ModuleParts) (left : Entries)
+    (m : Parts × AnyModuleInfo)
+    (more : List (Parts × AnyModuleInfo)) → Goes all rest made → rest ≡ e ∷ left → IsEntryOf e m → more ≡ made ++ m ∷ [] →
+    Goes all left more
 goes_on all rest made e left m more g is h grown = record {
-  more = λ ms zipped. subst (λ (xs : List (Parts × ModuleInfo)). AreModulesOf all xs)
-      (sym (append_assoc made (m ∷ []) ms) ∙ ap (λ (xs : List (Parts × ModuleInfo)). xs ++ ms) (sym grown))
+  more = λ ms zipped. subst (λ (xs : List (Parts × AnyModuleInfo)). AreModulesOf all xs)
+      (sym (append_assoc made (m ∷ []) ms) ∙ ap (λ (xs : List (Parts × AnyModuleInfo)). xs ++ ms) (sym grown))
       (g.more (m ∷ ms) (subst (λ (es : Entries). AreModulesOf es (m ∷ ms)) (sym is) (h, zipped)));
   fault = λ f later. g.fault f (subst (λ (es : Entries). IsFirstFault es f) (sym is) (inr (h.sound, later)));
 }
 
-pub fails : (all rest : Entries) (made : List (Parts × ModuleInfo)) (e : Parts × ModuleParts) (left : Entries) (f : TableFault) →
+pub fails : (all rest : Entries) (made : List (Parts × AnyModuleInfo)) (e : Parts × ModuleParts) (left : Entries) (f : TableFault) →
     Goes all rest made → rest ≡ e ∷ left → IsFaultOf e.1 f → IsFirstFault all f
 fails all rest made e left f g is h = g.fault f (subst (λ (es : Entries). IsFirstFault es f) (sym is) (inl h))
 
@@ -42,7 +44,7 @@ none_left : (xs : Entries) → length xs ≡ 0 → xs ≡ []
 none_left [] is = refl
 none_left (e ∷ xs) is = let never : ⊥ = omega (arith, is) in absurd never
 
-pub ends : (all rest : Entries) (made : List (Parts × ModuleInfo)) → Goes all rest made → length rest ≡ 0 → AreModulesOf all made
+pub ends : (all rest : Entries) (made : List (Parts × AnyModuleInfo)) → Goes all rest made → length rest ≡ 0 → AreModulesOf all made
 ends all rest made g is =
-    subst (λ (xs : List (Parts × ModuleInfo)). AreModulesOf all xs) (append-nil made)
+    subst (λ (xs : List (Parts × AnyModuleInfo)). AreModulesOf all xs) (append-nil made)
     (g.more [] (subst (λ (es : Entries). AreModulesOf es []) (sym (none_left rest is)) tt))

@@ -6,8 +6,8 @@ use Rattle.fast_check_modules.specs.symbols.declared.fault.TableFault.{TableFaul
 use Rattle.fast_check_modules.specs.EsModule.{EsModule, JsonModule}
 use Rattle.fast_check_modules.specs.symbols.WellFormed.{AreMadeOf, AreWellFormed, IsTableFault}
 use Rattle.fast_check_modules.specs.FitProgram.{FitProgram, IsModuleFault}
-use Rattle.fast_check_graph.specs.declared.root_symbol.ModuleInfo.{ModuleInfo}
-use Rattle.fast_check_graph.specs.declared.root_symbol.ModuleInfo.TheVariants as infos
+use Rattle.fast_check_graph.specs.declared.root_symbol.AnyModuleInfo.{AnyModuleInfo}
+use Rattle.fast_check_graph.specs.declared.root_symbol.AnyModuleInfo.TheVariants as infos
 use Rattle.fast_check_requests.specs.declared.request.EsModuleParts.{EsModuleParts}
 use Rattle.fast_check_build_requests.specs.declared.module_parts.JsonModuleParts.{JsonModuleParts}
 use Rattle.fast_check_build_requests.specs.declared.module_parts.ModuleParts.{ModuleParts}
@@ -30,7 +30,7 @@ pub record IsJsonModuleOf (p : JsonModuleParts) (m : JsonModule) : Type 0 where
   pub specifier : m.specifier ≡ p.specifier
   pub tables : AreMadeOf p.tables m.tables
 
-abbrev pub IsModuleOf : ModuleParts → ModuleInfo → Type 0
+abbrev pub IsModuleOf : ModuleParts → AnyModuleInfo → Type 0
 IsModuleOf (parts.Esm p) (infos.Esm m) = IsEsModuleOf p m
 IsModuleOf (parts.Esm p) (infos.Json m) = ⊥
 IsModuleOf (parts.Json p) (infos.Esm m) = ⊥
@@ -51,12 +51,12 @@ IsFaultOf (parts.Json p) fault = IsTableFault p.tables fault
 -- ---- entries, in order
 
 -- under the same name, the module of parts that are sound
-pub record IsEntryOf (e : Parts × ModuleParts) (m : Parts × ModuleInfo) : Type 0 where
+pub record IsEntryOf (e : Parts × ModuleParts) (m : Parts × AnyModuleInfo) : Type 0 where
   pub name : m.0 ≡ e.0
   pub sound : AreSound e.1
   pub made : IsModuleOf e.1 m.1
 
-abbrev pub AreModulesOf : Entries → List (Parts × ModuleInfo) → Type 0
+abbrev pub AreModulesOf : Entries → List (Parts × AnyModuleInfo) → Type 0
 AreModulesOf = AllZip IsEntryOf
 
 -- the first parts with a fault have this one

@@ -9,7 +9,7 @@ use Rattle.url.specs.Parts.{Parts, serialize}
 use Rattle.fast_check_symbols.specs.Entries.{last_value}
 use Rattle.fast_check_modules.specs.symbols.declared.fault.TableFault.{TableFault}
 use Rattle.fast_check_modules.specs.symbols.declared.fault.TableFault.TheVariants as faults
-use Rattle.fast_check_graph.specs.declared.root_symbol.ModuleInfo.{ModuleInfo}
+use Rattle.fast_check_graph.specs.declared.root_symbol.AnyModuleInfo.{AnyModuleInfo}
 use Rattle.fast_check_graph.specs.declared.root_symbol.RootSymbol.{RootSymbol}
 use Rattle.fast_check_graph.specs.Graph.{is_specifier}
 use Rattle.fast_check_graph.specs.Root.{found_module}
@@ -27,14 +27,14 @@ name_of (parts.Esm p) = p.specifier
 name_of (parts.Json p) = p.specifier
 
 -- the module of the last entry of a name, or else of the name that the last alias stands for
-abbrev pub last_found : List (Parts × ModuleInfo) → List (Parts × Parts) → Parts → Option ModuleInfo
+abbrev pub last_found : List (Parts × AnyModuleInfo) → List (Parts × Parts) → Parts → Option AnyModuleInfo
 last_found modules aliases name =
     option_or (last_value (is_specifier name) modules)
     (option_and_then (λ other. last_value (is_specifier other) modules) (last_value (is_specifier name) aliases))
 
 -- each module is made of its parts, and is found by the last entry
 pub record IsRootOfParts (modules : Entries) (aliases : List (Parts × Parts)) (root : RootSymbol) : Type 0 where
-  pub made : List (Parts × ModuleInfo)
+  pub made : List (Parts × AnyModuleInfo)
   pub are_made : AreModulesOf modules made
   pub finds : (name : Parts) → found_module root name ≡ last_found made aliases name
 

@@ -4,25 +4,25 @@ ghost use Rattle.std.specs.Prelude.{IfOk, IfErr, OnOk};
 ghost use Rattle.fast_check_build_requests.specs.Modules.{AreModulesOf, AreSound, IsFaultOf, IsFirstFault, IsModuleOf};
 
 use crate::module_parts::ModuleParts;
-use fast_check_graph::ModuleInfo;
+use fast_check_graph::AnyModuleInfo;
 use fast_check_modules::{EsModuleInfo, JsonModuleInfo, TableFault};
 use std::alloc::Global;
 use url::Url;
 
 /// The module of these parts. Of several faults of its tables the first is answered.
-fn module_of(alloc: Global, parts: ModuleParts) -> Result<ModuleInfo, TableFault>
+fn module_of(alloc: Global, parts: ModuleParts) -> Result<AnyModuleInfo, TableFault>
     ensures made { IfOk result (IsModuleOf parts) }
     ensures sound { OnOk result (AreSound parts) }
     ensures fault { IfErr result (IsFaultOf parts) }
 {
     match parts {
-        ModuleParts::Esm(esm) => Ok(ModuleInfo::Esm(EsModuleInfo::new(
+        ModuleParts::Esm(esm) => Ok(AnyModuleInfo::Esm(EsModuleInfo::new(
             alloc,
             esm.specifier,
             esm.source,
             esm.tables,
         )?)),
-        ModuleParts::Json(json) => Ok(ModuleInfo::Json(JsonModuleInfo::new(
+        ModuleParts::Json(json) => Ok(AnyModuleInfo::Json(JsonModuleInfo::new(
             alloc,
             json.specifier,
             json.tables,
@@ -34,7 +34,7 @@ fn module_of(alloc: Global, parts: ModuleParts) -> Result<ModuleInfo, TableFault
 pub fn modules_of(
     alloc: Global,
     modules: Vec<(Url, ModuleParts)>,
-) -> Result<Vec<(Url, ModuleInfo)>, TableFault>
+) -> Result<Vec<(Url, AnyModuleInfo)>, TableFault>
     ensures made { IfOk result (λ made. AreModulesOf modules.items made.items) }
     ensures fault { IfErr result (IsFirstFault modules.items) }
 {

@@ -6,7 +6,7 @@ ghost use Rattle.fast_check_build_requests.specs.Root.{IsRootOfParts, IsBuildFau
 
 use crate::module_parts::ModuleParts;
 use crate::modules::modules_of;
-use fast_check_graph::{ModuleInfo, RootSymbol};
+use fast_check_graph::{AnyModuleInfo, RootSymbol};
 use fast_check_modules::TableFault;
 use fast_check_symbols::map_of;
 use std::alloc::{AllocError, Global};
@@ -16,8 +16,8 @@ use url::Url;
 /// The modules by their names. Of entries with one name the last counts.
 fn modules_by_name(
     alloc: Global,
-    modules: Vec<(Url, ModuleInfo)>,
-) -> Result<BTreeMap<Url, ModuleInfo>, AllocError>
+    modules: Vec<(Url, AnyModuleInfo)>,
+) -> Result<BTreeMap<Url, AnyModuleInfo>, AllocError>
     ensures { IfOk result (IsFromIterResult url_cmp modules.items) }
 {
     modules.into_iter().collect(alloc)

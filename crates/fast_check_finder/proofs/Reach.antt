@@ -25,7 +25,7 @@ use Rattle.fast_check_symbols.specs.declared.node.SymbolNodeDep.{SymbolNodeDep}
 use Rattle.fast_check_symbols.specs.Symbols.{symbol_of, has_id}
 use Rattle.fast_check_symbols.specs.declared.tables.ReExportAllNode.{ReExportAllNode}
 use Rattle.fast_check_symbols.specs.Tables.{Tables, resolved_export}
-use Rattle.fast_check_graph.specs.declared.root_symbol.ModuleInfo.{ModuleInfo}
+use Rattle.fast_check_graph.specs.declared.root_symbol.AnyModuleInfo.{AnyModuleInfo}
 use Rattle.fast_check_graph.specs.Modules.{is_typed_module}
 use Rattle.fast_check_graph.specs.Graph.{is_specifier, text_resolved}
 use Rattle.fast_check_graph.specs.Root.{specifier_of, module_named, found_module}
@@ -104,10 +104,10 @@ module _ (k : Known) (stored roots_in : List Nv) (has_all : HasDependencies k.us
   abbrev In : Want → Type 0
   In = IsWantInside (reach k stored roots_in)
 
-  abbrev IsInfo : ModuleInfo → Type 0
+  abbrev IsInfo : AnyModuleInfo → Type 0
   IsInfo info = (key : Parts) × Contains k.root_symbol.modules.entries (key, info)
 
-  named_info : (t : Text) (info : ModuleInfo) → named_at k.root_symbol t ≡ Some info → IsInfo info
+  named_info : (t : Text) (info : AnyModuleInfo) → named_at k.root_symbol t ≡ Some info → IsInfo info
   named_info t info e =
       ⊎_elim (λ h. let f = found_in (is_text t) k.root_symbol.modules.entries info h in (f.0, f.1))
       (λ h.
@@ -116,7 +116,7 @@ module _ (k : Known) (stored roots_in : List Nv) (has_all : HasDependencies k.us
       (or_some (lookup (is_text t) k.root_symbol.modules.entries) (option_and_then (module_named k.root_symbol.modules.entries)
       (lookup (is_text t) k.root_symbol.aliases.entries)) info e)
 
-  info_in : (t : Text) (info : ModuleInfo) → info_at k.graph k.root_symbol t ≡ Some info → IsInfo info
+  info_in : (t : Text) (info : AnyModuleInfo) → info_at k.graph k.root_symbol t ≡ Some info → IsInfo info
   info_in t info e =
       let n = then_some (typed_info k.root_symbol t) (node_at k.graph t) info e in
       ⊎_elim (λ h. named_info t info (sym (ap (λ (b : Bool). cond b (named_at k.root_symbol t) None) h) ∙ n.2))
@@ -125,11 +125,11 @@ module _ (k : Known) (stored roots_in : List Nv) (has_all : HasDependencies k.us
 
   -- of the module that is followed
   each_traced : {Y : Type 0} (P : Y → Type 0) (f : TracedModule → List Y) (t : Text) →
-      ((info : ModuleInfo) → IsInfo info → Each P (f (traced_as k info))) →
+      ((info : AnyModuleInfo) → IsInfo info → Each P (f (traced_as k info))) →
       Each P (each_of f (module_at k t))
   each_traced {Y} P f t h = go (info_at k.graph k.root_symbol t) refl
     where
-      go : (o : Option ModuleInfo) → info_at k.graph k.root_symbol t ≡ o → Each P (each_of f (option_map (traced_as k) o))
+      go : (o : Option AnyModuleInfo) → info_at k.graph k.root_symbol t ≡ o → Each P (each_of f (option_map (traced_as k) o))
       go None e = each_nil P
       go (Some info) e = h info (info_in t info e)
 
@@ -163,7 +163,7 @@ module _ (k : Known) (stored roots_in : List Nv) (has_all : HasDependencies k.us
       each_cons In (to_module p t (asked_by d)) _ (text_in t c, asked_within A (suc L) d i)
       (each_cond In (same_nv nv p) [] (to_package p ∷ []) (each_nil In) (each_one In (to_package p) (package_in t p c e)))
 
-  target_in : (info : ModuleInfo) (text : List ℕ) (url : Parts) → resolved (traced_as k info) text ≡ Some url →
+  target_in : (info : AnyModuleInfo) (text : List ℕ) (url : Parts) → resolved (traced_as k info) text ≡ Some url →
       Contains (outer_texts k) (serialize url)
   target_in info text url e =
       let r = then_some (text_resolved text) (lookup (is_specifier (specifier_of info)) k.graph.resolutions.entries) url e in
@@ -173,7 +173,7 @@ module _ (k : Known) (stored roots_in : List Nv) (has_all : HasDependencies k.us
       (contains_flat_map (λ e. map (λ x. serialize x.1) e.1.entries) k.graph.resolutions.entries (f.0, r.0) (serialize url) f.1
       (contains_map (λ x. serialize x.1) r.0.entries (g.0, url) g.1))
 
-  answer_in : (info : ModuleInfo) (name : Name) (url : Parts) → answer_to (traced_as k info) name ≡ Some url →
+  answer_in : (info : AnyModuleInfo) (name : Name) (url : Parts) → answer_to (traced_as k info) name ≡ Some url →
       Contains (outer_texts k) (serialize url)
   answer_in info name url e =
       let x = then_some (answer_of (traced_as k info) name) (first_with (traced_as k info) name (tables_in info).re_exports) url e in
@@ -188,7 +188,7 @@ module _ (k : Known) (stored roots_in : List Nv) (has_all : HasDependencies k.us
 
   -- names that the tables of a module write
 
-  module _ (info : ModuleInfo) (is : IsInfo info) where
+  module _ (info : AnyModuleInfo) (is : IsInfo info) where
     abbrev T : Tables
     T = tables_in info
 

@@ -3,7 +3,7 @@
 mod trees;
 
 use crate::deep::trees::deep_module;
-use crate::modules::info_of;
+use crate::modules::module_of;
 use crate::written::say_written;
 use fast_check_cases::Said;
 use fast_check_graph::ModuleGraph;
@@ -110,7 +110,7 @@ fn say_request(alloc: Global, request: TransformRequest, line: &str, said: &mut 
         public_ranges,
         ..
     } = request;
-    let made = info_of(alloc, with_program(es_module, program));
+    let made = module_of(alloc, with_program(es_module, program));
     say_made(alloc, &graph, &made, &public_ranges, said);
 }
 

@@ -5,7 +5,7 @@ use fast_check_requests::EsModuleParts;
 use std::alloc::Global;
 
 /// The module of these parts, or what is wrong with its tables.
-pub fn info_of(alloc: Global, parts: EsModuleParts) -> Result<EsModuleInfo, TableFault> {
+pub fn module_of(alloc: Global, parts: EsModuleParts) -> Result<EsModuleInfo, TableFault> {
     let EsModuleParts {
         specifier,
         source,

@@ -12,25 +12,25 @@ use Rattle.std.proofs.lemmas.Map.Views.{lookup-from_Contains}
 use Rattle.url.specs.Parts.{Parts, serialize}
 use Rattle.fast_check_modules.proofs.symbol_proofs.Alike.{lookup_alike}
 use Rattle.fast_check_modules.proofs.symbol_proofs.Witness.{witness, none_of}
-use Rattle.fast_check_graph.specs.declared.root_symbol.ModuleInfo.{ModuleInfo}
+use Rattle.fast_check_graph.specs.declared.root_symbol.AnyModuleInfo.{AnyModuleInfo}
 use Rattle.fast_check_graph.specs.declared.root_symbol.RootSymbol.{RootSymbol}
 use Rattle.fast_check_graph.specs.Graph.{is_specifier}
 use Rattle.fast_check_graph.specs.ModuleNames.{specifier_of, is_misplaced, HasMisplaced, StandUnderOwnNames, module_named, module_aliased}
 use Rattle.fast_check_graph.specs.Root.{AreFoundByOwnNames}
 
-pub misplaced : (m : BTreeMap Parts ModuleInfo) → list_any is_misplaced m.entries ≡ true → HasMisplaced m
+pub misplaced : (m : BTreeMap Parts AnyModuleInfo) → list_any is_misplaced m.entries ≡ true → HasMisplaced m
 misplaced m e = let w = witness is_misplaced m.entries e in record { entry = w.0; among = w.1; differs = w.2 }
 
-pub well_placed : (m : BTreeMap Parts ModuleInfo) → list_any is_misplaced m.entries ≡ false → StandUnderOwnNames m
+pub well_placed : (m : BTreeMap Parts AnyModuleInfo) → list_any is_misplaced m.entries ≡ false → StandUnderOwnNames m
 well_placed m e h = none_of is_misplaced m.entries h.entry e h.among h.differs
 
-module _ (m : BTreeMap Parts ModuleInfo) (placed : list_any is_misplaced m.entries ≡ false) where
+module _ (m : BTreeMap Parts AnyModuleInfo) (placed : list_any is_misplaced m.entries ≡ false) where
   -- the key of an entry is its module's name
-  own_key : (e : Parts × ModuleInfo) → Contains m.entries e → is_specifier e.0 (specifier_of e.1) ≡ true
+  own_key : (e : Parts × AnyModuleInfo) → Contains m.entries e → is_specifier e.0 (specifier_of e.1) ≡ true
   own_key e h = ⊎_elim (λ y. y) (λ n. absurd (none_of is_misplaced m.entries e placed h (ap not n)))
       (cases_Bool (is_specifier e.0 (specifier_of e.1)))
 
-  own_module_found : IsOrdered (λ (a b : Parts). slice_cmp nat_cmp (serialize a) (serialize b)) m → (e : Parts × ModuleInfo) →
+  own_module_found : IsOrdered (λ (a b : Parts). slice_cmp nat_cmp (serialize a) (serialize b)) m → (e : Parts × AnyModuleInfo) →
       Contains m.entries e →
       module_named m.entries (specifier_of e.1) ≡ Some e.1
   own_module_found ordered e h = let total : IsTotalOrder (λ (a b : Parts). slice_cmp nat_cmp (serialize a) (serialize b)) =

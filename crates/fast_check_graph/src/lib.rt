@@ -7,4 +7,4 @@ mod root_symbol;
 
 pub use graph::ModuleGraph;
 pub use module::Module;
-pub use root_symbol::{ModuleInfo, RootSymbol};
+pub use root_symbol::{AnyModuleInfo, RootSymbol};

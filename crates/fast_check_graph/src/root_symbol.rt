@@ -10,19 +10,19 @@ use url::Url;
 
 /// A module with its tables.
 #[derive(Drop)]
-pub enum ModuleInfo {
+pub enum AnyModuleInfo {
     Esm(EsModuleInfo),
     Json(JsonModuleInfo),
 }
 
-impl ModuleInfo {
+impl AnyModuleInfo {
     /// Its name.
     pub fn specifier(&self) -> &Url
         ensures { result.now ≡ specifier_of self.now }
     {
         match self {
-            ModuleInfo::Esm(module) => module.specifier(),
-            ModuleInfo::Json(module) => module.specifier(),
+            AnyModuleInfo::Esm(module) => module.specifier(),
+            AnyModuleInfo::Json(module) => module.specifier(),
         }
     }
 }
@@ -30,7 +30,7 @@ impl ModuleInfo {
 /// The modules of a program by name, and the names that stand for others.
 #[derive(Drop)]
 pub struct RootSymbol {
-    modules: BTreeMap<Url, ModuleInfo>,
+    modules: BTreeMap<Url, AnyModuleInfo>,
     aliases: BTreeMap<Url, Url>,
     ghost own_names: { list_any is_misplaced modules.entries ≡ false },
 }
@@ -42,7 +42,7 @@ impl RootSymbol {
     /// These modules and aliases, where each module stands under its own name; else `ModuleNotUnderOwnName`, and what was handed in is dropped.
     /// It takes no memory.
     pub fn new(
-        modules: BTreeMap<Url, ModuleInfo>,
+        modules: BTreeMap<Url, AnyModuleInfo>,
         aliases: BTreeMap<Url, Url>,
     ) -> Result<RootSymbol, TableFault>
         ensures made { IfOk result (IsRootOf modules aliases) }
@@ -64,7 +64,7 @@ impl RootSymbol {
     }
 
     /// The module of a name, or else that of the name that it stands for.
-    pub fn module_from_specifier(&self, specifier: &Url) -> Option<&ModuleInfo>
+    pub fn module_from_specifier(&self, specifier: &Url) -> Option<&AnyModuleInfo>
         ensures { option_copied result ≡ found_module self.now specifier.now }
     {
         match self.own_module(specifier) {
@@ -74,14 +74,14 @@ impl RootSymbol {
     }
 
     /// The module of a name.
-    fn own_module(&self, specifier: &Url) -> Option<&ModuleInfo>
+    fn own_module(&self, specifier: &Url) -> Option<&AnyModuleInfo>
         ensures { option_copied result ≡ module_named self.now.modules.entries specifier.now }
     {
         self.modules.get(specifier)
     }
 
     /// The module of the name that a name stands for.
-    fn aliased_module(&self, specifier: &Url) -> Option<&ModuleInfo>
+    fn aliased_module(&self, specifier: &Url) -> Option<&AnyModuleInfo>
         ensures { option_copied result ≡ module_aliased self.now.modules.entries self.now.aliases.entries specifier.now }
     {
         self.own_module(self.aliases.get(specifier)?)
@@ -89,7 +89,7 @@ impl RootSymbol {
 }
 
 /// Whether a module stands under another name than its own.
-fn has_misplaced(modules: &BTreeMap<Url, ModuleInfo>) -> bool
+fn has_misplaced(modules: &BTreeMap<Url, AnyModuleInfo>) -> bool
     ensures { result ≡ list_any is_misplaced modules.now.entries }
 {
     modules

@@ -9,8 +9,8 @@ use Rattle.fast_check_modules.specs.diagnostics.declared.diagnostics.FastCheckDi
 use Rattle.fast_check_modules.specs.EsModule.{EsModule}
 use Rattle.fast_check_graph.specs.Root.{found_module}
 use Rattle.fast_check_graph.specs.declared.graph.ModuleGraph.{ModuleGraph}
-use Rattle.fast_check_graph.specs.declared.root_symbol.ModuleInfo.{ModuleInfo}
-use Rattle.fast_check_graph.specs.declared.root_symbol.ModuleInfo.TheVariants.{Esm, Json}
+use Rattle.fast_check_graph.specs.declared.root_symbol.AnyModuleInfo.{AnyModuleInfo}
+use Rattle.fast_check_graph.specs.declared.root_symbol.AnyModuleInfo.TheVariants.{Esm, Json}
 use Rattle.fast_check_graph.specs.declared.root_symbol.RootSymbol.{RootSymbol}
 use Rattle.fast_check_module_transform.specs.Transform.{faults}
 use Rattle.fast_check_package_answers.specs.PackageFaults.{PublicModule, PackageFault, met, found, faults_in_tree, found_or, module_faults}
@@ -31,7 +31,7 @@ one_fault : (info : EsModule) (fs : List Fault) → IsFront (map (met info) (tak
 one_fault info [] = whole []
 one_fault info (f ∷ fs) = record { rest = map (met info) fs; joined = refl; empty = λ e. cc }
 
-in_tree : (graph : ModuleGraph) (public : PublicRanges) (info : Option ModuleInfo) →
+in_tree : (graph : ModuleGraph) (public : PublicRanges) (info : Option AnyModuleInfo) →
     IsFront (faults_in_tree true graph public info) (faults_in_tree false graph public info)
 in_tree graph public None = whole []
 in_tree graph public (Some (Json json)) = whole []

@@ -18,14 +18,25 @@ use Rattle.fast_check_bindings.specs.Bindings.{bindings_of}
 use Rattle.fast_check_modules.specs.EsModule.{EsModule}
 use Rattle.fast_check_graph.specs.Root.{found_module}
 use Rattle.fast_check_graph.specs.declared.graph.ModuleGraph.{ModuleGraph}
-use Rattle.fast_check_graph.specs.declared.root_symbol.ModuleInfo.{ModuleInfo}
-use Rattle.fast_check_graph.specs.declared.root_symbol.ModuleInfo.TheVariants.{Esm}
+use Rattle.fast_check_graph.specs.declared.root_symbol.AnyModuleInfo.{AnyModuleInfo}
+use Rattle.fast_check_graph.specs.declared.root_symbol.AnyModuleInfo.TheVariants.{Esm}
 use Rattle.fast_check_graph.specs.declared.root_symbol.RootSymbol.{RootSymbol}
 use Rattle.fast_check_cache.specs.declared.package_ranges.PackagePublicRanges.{PackagePublicRanges}
 use Rattle.fast_check_module_transform.specs.Transform.{skeleton, sources, comments}
 use Rattle.fast_check_transform_faults.specs.Diagnostics.{AreDiagnosticsOf, diagnosed}
 use Rattle.fast_check_package_answers.specs.PackageFaults.{
-    PublicModule, PackageFault, met, found, Diagnoses, found_or, faults_in_tree, first_list, module_faults, package_faults, sound_front}
+  PublicModule,
+  PackageFault,
+  met,
+  found,
+  Diagnoses,
+  found_or,
+  faults_in_tree,
+  first_list,
+  module_faults,
+  package_faults,
+  sound_front,
+}
 use Rattle.fast_check_package_answers.specs.PackageAnswer.{Answer, TreeModule, IsShown, ShowsMore, with_tree, tree_modules, IsSkeletonOf}
 use Rattle.fast_check_package_answers.specs.PackageAnswer.{IsRefused, IsFoundAnswer, IsUsedAnswer, IsPackageAnswer, OwnsPublic, OwnsModule}
 use Rattle.fast_check_package_answers.specs.PackageAnswer.{OwnsAll}
@@ -120,7 +131,7 @@ faults_answered first info fs (Ok made) ds e h = cc
 faults_answered first info fs (Err d) ds e h =
     let same : d ≡ ds = cc in
     faults_diagnosed info (diagnosed first fs) ds.items
-        (subst (λ (v : Diagnostics). AreDiagnosticsOf info (diagnosed first fs) v.items) same h)
+    (subst (λ (v : Diagnostics). AreDiagnosticsOf info (diagnosed first fs) v.items) same h)
 
 -- what the finder found goes first
 pub diagnosed_found : (ds : List FastCheckDiagnostic) (others : List PackageFault) (diagnostics : List FastCheckDiagnostic) →
@@ -229,12 +240,12 @@ shows_tree graph m (Ok x) made old new e p g k d is =
     shows_one graph m old new (m.specifier, Ok made) is (refl, subst (IsSkeletonOf graph m) same one)
 
 -- a module that was found
-pub shows_found : (graph : ModuleGraph) (m : PublicModule) (info : EsModule) (o : Option ModuleInfo) (old new : List Answer)
+pub shows_found : (graph : ModuleGraph) (m : PublicModule) (info : EsModule) (o : Option AnyModuleInfo) (old new : List Answer)
     (r : Answered) →
     Some (Esm info) ≡ o → IfOk r (λ w. w.items ≡ [] → ShowsMore graph (with_tree m (Some (Esm info))) old new) →
     IfOk r (λ w. w.items ≡ [] → ShowsMore graph (with_tree m o) old new)
 shows_found graph m info o old new r e h =
-    subst (λ (x : Option ModuleInfo). IfOk r (λ w. w.items ≡ [] → ShowsMore graph (with_tree m x) old new)) e h
+    subst (λ (x : Option AnyModuleInfo). IfOk r (λ w. w.items ≡ [] → ShowsMore graph (with_tree m x) old new)) e h
 
 -- and one of which the finder found nothing
 pub shows_rest : (graph : ModuleGraph) (root : RootSymbol) (m : PublicModule) (left : PublicRanges) (old new : List Answer) (r : Answered) →

@@ -15,8 +15,8 @@ use Rattle.fast_check_module_transform.specs.skeleton.Grammar.{IsSkeleton}
 use Rattle.fast_check_bindings.specs.Bindings.{bindings_of}
 use Rattle.fast_check_graph.specs.Root.{found_module}
 use Rattle.fast_check_graph.specs.declared.graph.ModuleGraph.{ModuleGraph}
-use Rattle.fast_check_graph.specs.declared.root_symbol.ModuleInfo.{ModuleInfo}
-use Rattle.fast_check_graph.specs.declared.root_symbol.ModuleInfo.TheVariants.{Esm, Json}
+use Rattle.fast_check_graph.specs.declared.root_symbol.AnyModuleInfo.{AnyModuleInfo}
+use Rattle.fast_check_graph.specs.declared.root_symbol.AnyModuleInfo.TheVariants.{Esm, Json}
 use Rattle.fast_check_graph.specs.declared.root_symbol.RootSymbol.{RootSymbol}
 use Rattle.fast_check_cache.specs.declared.package_ranges.PackagePublicRanges.{PackagePublicRanges}
 use Rattle.fast_check_cache.specs.declared.item.FastCheckCacheModuleItem.{FastCheckCacheModuleItem}
@@ -36,7 +36,7 @@ pub record TreeModule : Type 0 where
   pub info : EsModule
   pub public : PublicRanges
 
-abbrev pub with_tree : PublicModule → Option ModuleInfo → List TreeModule
+abbrev pub with_tree : PublicModule → Option AnyModuleInfo → List TreeModule
 with_tree m (Some (Esm info)) = record { specifier = m.0; info = info; public = m.1 } ∷ []
 with_tree m (Some (Json _)) = []
 with_tree m None = []

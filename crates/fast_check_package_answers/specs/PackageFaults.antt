@@ -9,8 +9,8 @@ use Rattle.fast_check_modules.specs.diagnostics.declared.diagnostics.FastCheckDi
 use Rattle.fast_check_modules.specs.EsModule.{EsModule}
 use Rattle.fast_check_graph.specs.Root.{found_module}
 use Rattle.fast_check_graph.specs.declared.graph.ModuleGraph.{ModuleGraph}
-use Rattle.fast_check_graph.specs.declared.root_symbol.ModuleInfo.{ModuleInfo}
-use Rattle.fast_check_graph.specs.declared.root_symbol.ModuleInfo.TheVariants.{Esm, Json}
+use Rattle.fast_check_graph.specs.declared.root_symbol.AnyModuleInfo.{AnyModuleInfo}
+use Rattle.fast_check_graph.specs.declared.root_symbol.AnyModuleInfo.TheVariants.{Esm, Json}
 use Rattle.fast_check_graph.specs.declared.root_symbol.RootSymbol.{RootSymbol}
 use Rattle.fast_check_module_transform.specs.Transform.{faults}
 use Rattle.fast_check_transform_faults.specs.Diagnostics.{IsDiagnosticOf, diagnosed}
@@ -30,7 +30,7 @@ Diagnoses (found d) diagnosed_as = diagnosed_as ≡ d
 Diagnoses (met info fault) diagnosed_as = IsDiagnosticOf info fault diagnosed_as
 
 -- the faults of the transform, all or the first alone; none without a syntax tree
-abbrev pub faults_in_tree : Bool → ModuleGraph → PublicRanges → Option ModuleInfo → List PackageFault
+abbrev pub faults_in_tree : Bool → ModuleGraph → PublicRanges → Option AnyModuleInfo → List PackageFault
 faults_in_tree first graph public (Some (Esm info)) = map (met info) (diagnosed first (faults graph info public))
 faults_in_tree first graph public (Some (Json _)) = []
 faults_in_tree first graph public None = []

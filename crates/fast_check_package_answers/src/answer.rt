@@ -10,7 +10,7 @@ ghost use Rattle.fast_check_package_answers.specs.PackageAnswer.{IsRefused, IsFo
 use crate::input::BuildInput;
 use crate::used::used_answers;
 use fast_check_cache::PackagePublicRanges;
-use fast_check_graph::ModuleInfo;
+use fast_check_graph::AnyModuleInfo;
 use fast_check_module_transform::{TransformOptions, transform};
 use fast_check_modules::EsModuleInfo;
 use fast_check_modules::diagnostics::{FastCheckDiagnostic, ModulePublicRanges};
@@ -37,10 +37,10 @@ fn answer_tree(
 ) -> Result<Vec<FastCheckDiagnostic>, AllocError>
     requires { AreOwnRanges es_module_info.now.tables public_ranges.now }
     ensures faults { let i = input.entry in IfOk result (λ diagnostics. AllZip Diagnoses
-        (faults_in_tree i.options.now.should_error_on_first_diagnostic i.graph.now public_ranges.now (Some (ModuleInfo.Esm es_module_info.now)))
+        (faults_in_tree i.options.now.should_error_on_first_diagnostic i.graph.now public_ranges.now (Some (AnyModuleInfo.Esm es_module_info.now)))
         diagnostics.items) }
     ensures shown { let i = input.entry in IfOk result (λ diagnostics. diagnostics.items ≡ [] → ShowsMore i.graph.now
-        (with_tree (specifier, public_ranges.now) (Some (ModuleInfo.Esm es_module_info.now))) answers.old.items answers.new.items) }
+        (with_tree (specifier, public_ranges.now) (Some (AnyModuleInfo.Esm es_module_info.now))) answers.old.items answers.new.items) }
     ensures stay { OnOk result (take (length answers.old.items) answers.new.items ≡ answers.old.items) }
 {
     // Ranges of the module's own tables are admitted.
@@ -78,7 +78,7 @@ fn answer_if_tree(
     ensures stay { OnOk result (take (length answers.old.items) answers.new.items ≡ answers.old.items) }
 {
     match input.root_symbol.module_from_specifier(&specifier) {
-        Some(ModuleInfo::Esm(info)) => answer_tree(
+        Some(AnyModuleInfo::Esm(info)) => answer_tree(
             alloc,
             input,
             info,

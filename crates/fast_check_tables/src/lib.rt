@@ -2,7 +2,7 @@
 //! offers the crates that hold these, and has no code.
 #![tactic(auto)]
 
-pub use fast_check_graph::{Module, ModuleGraph, ModuleInfo, RootSymbol};
+pub use fast_check_graph::{AnyModuleInfo, Module, ModuleGraph, RootSymbol};
 pub use fast_check_modules::{
     CheckedTables, EsModuleInfo, FileDepName, JsonModuleInfo, ModuleTables, ReExportAllNode,
     ReferenceNamespace, Symbol, SymbolDecl, SymbolDeclKind, SymbolDep, SymbolExports, SymbolId,

@@ -9,13 +9,13 @@ use Rattle.fast_check_symbols.specs.Symbols.{symbol_of}
 use Rattle.fast_check_symbols.specs.Exports.{export_named}
 use Rattle.fast_check_modules.specs.symbols.declared.tables.ReExportAllNode.{ReExportAllNode}
 use Rattle.fast_check_modules.specs.symbols.Tables.{Tables, resolved_export}
-use Rattle.fast_check_graph.specs.declared.root_symbol.ModuleInfo.{ModuleInfo}
-use Rattle.fast_check_graph.specs.declared.root_symbol.ModuleInfo.TheVariants.{Esm, Json}
+use Rattle.fast_check_graph.specs.declared.root_symbol.AnyModuleInfo.{AnyModuleInfo}
+use Rattle.fast_check_graph.specs.declared.root_symbol.AnyModuleInfo.TheVariants.{Esm, Json}
 use Rattle.fast_check_graph.specs.Graph.{resolved_to}
 use Rattle.fast_check_graph.specs.Root.{specifier_of, found_module}
 use Rattle.fast_check_traces.specs.declared.modules.TracedModule.{TracedModule}
 
-abbrev pub tables_in : ModuleInfo → Tables
+abbrev pub tables_in : AnyModuleInfo → Tables
 tables_in (Esm info) = info.tables
 tables_in (Json info) = info.tables
 
@@ -28,7 +28,7 @@ abbrev pub own_export : Tables → Name → Option SymbolId
 own_export t name = option_and_then (λ s. export_named name s.exports) (symbol_of t.module_symbol t.symbols)
 
 -- the module that a re-export of all leads to
-abbrev pub led_to : TracedModule → ReExportAllNode → Option ModuleInfo
+abbrev pub led_to : TracedModule → ReExportAllNode → Option AnyModuleInfo
 led_to m x = option_and_then (found_module m.root_symbol.now)
     (resolved_to m.graph.now (string_bytes x.specifier) (specifier_of m.info.now))
 

@@ -7,7 +7,7 @@ mod modules;
 mod re_exports;
 mod roots;
 
-pub use fast_check_graph::{ModuleGraph, ModuleInfo, RootSymbol};
+pub use fast_check_graph::{AnyModuleInfo, ModuleGraph, RootSymbol};
 pub use fast_check_name_demands::{FileWant, FileWants, NameDemand};
 pub use fast_check_search::Found;
 pub use follow::{Traced, trace};

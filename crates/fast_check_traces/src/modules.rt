@@ -4,18 +4,18 @@ ghost use Rattle.std.specs.Option.{option_copied};
 ghost use Rattle.fast_check_traces.specs.Modules.{tables_in, own_tables, own_export, answer_of, first_with, answer_to};
 
 use fast_check_demands::CheckedTables;
-use fast_check_graph::{ModuleGraph, ModuleInfo, RootSymbol};
+use fast_check_graph::{AnyModuleInfo, ModuleGraph, RootSymbol};
 use fast_check_modules::ReExportAllNode;
 use fast_check_symbols::SymbolId;
 use url::Url;
 
 /// The tables of a module.
-pub fn tables_of(info: &ModuleInfo) -> &CheckedTables
+pub fn tables_of(info: &AnyModuleInfo) -> &CheckedTables
     ensures { result.now ≡ tables_in info.now }
 {
     match info {
-        ModuleInfo::Esm(module) => module.tables(),
-        ModuleInfo::Json(module) => module.tables(),
+        AnyModuleInfo::Esm(module) => module.tables(),
+        AnyModuleInfo::Json(module) => module.tables(),
     }
 }
 
@@ -24,7 +24,7 @@ pub fn tables_of(info: &ModuleInfo) -> &CheckedTables
 pub struct TracedModule<'a> {
     pub graph: &'a ModuleGraph,
     pub root_symbol: &'a RootSymbol,
-    pub info: &'a ModuleInfo,
+    pub info: &'a AnyModuleInfo,
 }
 
 /// The tables of the module that is followed.

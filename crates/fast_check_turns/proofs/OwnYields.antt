@@ -11,7 +11,7 @@ use Rattle.fast_check_packages.specs.Package.{Nv}
 use Rattle.fast_check_cache.specs.Cache.{ItemView}
 use Rattle.fast_check_names.specs.Imports.{NameDemand}
 use Rattle.fast_check_graph.specs.declared.module.Module.{Module}
-use Rattle.fast_check_graph.specs.declared.root_symbol.ModuleInfo.{ModuleInfo}
+use Rattle.fast_check_graph.specs.declared.root_symbol.AnyModuleInfo.{AnyModuleInfo}
 use Rattle.fast_check_graph.specs.Modules.{is_typed_module}
 use Rattle.fast_check_graph.specs.Graph.{is_specifier}
 use Rattle.fast_check_graph.specs.Root.{specifier_of, module_named, AreFoundByOwnNames}
@@ -60,13 +60,13 @@ module _ (k : Known) (found : AreFoundByOwnNames k.root_symbol) where
   Q = IsOwnYield k.root_symbol
 
   -- a module that is followed is found by its own name
-  abbrev IsFoundByName : ModuleInfo → Type 0
+  abbrev IsFoundByName : AnyModuleInfo → Type 0
   IsFoundByName info = named_at k.root_symbol (serialize (specifier_of info)) ≡ Some info
 
-  from_entries : (test : Parts → Bool) (info : ModuleInfo) → lookup test k.root_symbol.modules.entries ≡ Some info → IsFoundByName info
+  from_entries : (test : Parts → Bool) (info : AnyModuleInfo) → lookup test k.root_symbol.modules.entries ≡ Some info → IsFoundByName info
   from_entries test info e = let w = lookup_inside test k.root_symbol.modules.entries info e in found (w.0, info) w.1
 
-  from_either : (a b : Option ModuleInfo) (info : ModuleInfo) → (a ≡ Some info → IsFoundByName info) →
+  from_either : (a b : Option AnyModuleInfo) (info : AnyModuleInfo) → (a ≡ Some info → IsFoundByName info) →
       (b ≡ Some info → IsFoundByName info) →
       option_or a b ≡ Some info → IsFoundByName info
   from_either (Some x) b info f g e = f e
@@ -75,21 +75,21 @@ module _ (k : Known) (found : AreFoundByOwnNames k.root_symbol) where
   no_module : {X : Type 0} (x : X) → None ≡ Some x → ⊥
   no_module x e = cc
 
-  from_alias : (o : Option Parts) (info : ModuleInfo) → option_and_then (module_named k.root_symbol.modules.entries) o ≡ Some info →
+  from_alias : (o : Option Parts) (info : AnyModuleInfo) → option_and_then (module_named k.root_symbol.modules.entries) o ≡ Some info →
       IsFoundByName info
   from_alias None info e = absurd (no_module info e)
   from_alias (Some url) info e = from_entries (is_specifier url) info e
 
-  from_name : (t : Text) (info : ModuleInfo) → named_at k.root_symbol t ≡ Some info → IsFoundByName info
+  from_name : (t : Text) (info : AnyModuleInfo) → named_at k.root_symbol t ≡ Some info → IsFoundByName info
   from_name t info e = from_either (lookup (is_text t) k.root_symbol.modules.entries)
       (option_and_then (module_named k.root_symbol.modules.entries) (lookup (is_text t) k.root_symbol.aliases.entries)) info
       (from_entries (is_text t) info) (from_alias (lookup (is_text t) k.root_symbol.aliases.entries) info) e
 
-  from_typed : (b : Bool) (t : Text) (info : ModuleInfo) → cond b (named_at k.root_symbol t) None ≡ Some info → IsFoundByName info
+  from_typed : (b : Bool) (t : Text) (info : AnyModuleInfo) → cond b (named_at k.root_symbol t) None ≡ Some info → IsFoundByName info
   from_typed true t info e = from_name t info e
   from_typed false t info e = absurd (no_module info e)
 
-  from_node : (o : Option Module) (t : Text) (info : ModuleInfo) → option_and_then (typed_info k.root_symbol t) o ≡ Some info →
+  from_node : (o : Option Module) (t : Text) (info : AnyModuleInfo) → option_and_then (typed_info k.root_symbol t) o ≡ Some info →
       IsFoundByName info
   from_node None t info e = absurd (no_module info e)
   from_node (Some m) t info e = from_typed (is_typed_module m) t info e
@@ -97,7 +97,7 @@ module _ (k : Known) (found : AreFoundByOwnNames k.root_symbol) where
   abbrev IsFollowed : TracedModule → Type 0
   IsFollowed m = named_at k.root_symbol (own_text m) ≡ Some m.info.now
 
-  from_traced : (o : Option ModuleInfo) (m : TracedModule) → ((info : ModuleInfo) → o ≡ Some info → IsFoundByName info) →
+  from_traced : (o : Option AnyModuleInfo) (m : TracedModule) → ((info : AnyModuleInfo) → o ≡ Some info → IsFoundByName info) →
       option_map (traced_as k) o ≡ Some m → IsFollowed m
   from_traced None m f e = absurd (no_module m e)
   from_traced (Some info) m f e = subst (λ (x : TracedModule). IsFollowed x) (same (traced_as k info) m e) (f info refl)
@@ -113,7 +113,7 @@ module _ (k : Known) (found : AreFoundByOwnNames k.root_symbol) where
   own_at : (m : TracedModule) → IsFollowed m → (r : SourceRange) →
       Contains (table_ranges (own_tables m).symbols (own_tables m).re_exports) r →
       IsOwnRange (named_at k.root_symbol (own_text m)) r
-  own_at m h r c = subst (λ (o : Option ModuleInfo). IsOwnRange o r) (sym h) c
+  own_at m h r c = subst (λ (o : Option AnyModuleInfo). IsOwnRange o r) (sym h) c
 
   publics : (nv : Nv) (m : TracedModule) → IsFollowed m → (rs : List SourceRange) → AreTableRanges (own_tables m) rs →
       Each Q (public_at nv m rs)

@@ -10,7 +10,7 @@ use Rattle.fast_check_graph.specs.Modules.{is_typed_module, is_external}
 use Rattle.fast_check_entries.specs.findings.Yields.{Yield, untyped_module}
 use Rattle.fast_check_entries.specs.findings.Findings.{faulty_module}
 use Rattle.fast_check_packages.specs.Package.{Nv}
-use Rattle.fast_check_graph.specs.declared.root_symbol.ModuleInfo.{ModuleInfo}
+use Rattle.fast_check_graph.specs.declared.root_symbol.AnyModuleInfo.{AnyModuleInfo}
 use Rattle.fast_check_names.specs.Imports.{NameDemand}
 use Rattle.fast_check_demands.specs.Rules.{each_of}
 use Rattle.fast_check_search.proofs.Each.{Contains_none, Each}
@@ -30,7 +30,7 @@ none_some : {X : Type 0} (x : X) → None ≡ Some x → ⊥
 none_some x e = cc
 
 -- a module that is followed is not recorded as untyped
-typed_only : (k : Known) (nv : Nv) (t : Text) (info : ModuleInfo) → info_at k.graph k.root_symbol t ≡ Some info →
+typed_only : (k : Known) (nv : Nv) (t : Text) (info : AnyModuleInfo) → info_at k.graph k.root_symbol t ≡ Some info →
     untyped_yields k.graph nv t ≡ []
 typed_only k nv t info e = go (node_at k.graph t) e
   where
@@ -101,7 +101,7 @@ pub entered_at : (k : Known) (nv : Nv) (a b : State) (old new : List Yield) → 
     IsEntered (world k) (gives k) nv a b old new
 entered_at k nv a b old new h = record { outer = h.0; wants = h.1; asks = h.2; new_is = h.3 }
 
-pub followed_one : (k : Known) (x : Trace) (info : ModuleInfo) → info_at k.graph k.root_symbol x.specifier ≡ Some info →
+pub followed_one : (k : Known) (x : Trace) (info : AnyModuleInfo) → info_at k.graph k.root_symbol x.specifier ≡ Some info →
     (outer : List OuterWant)
     (given : List Yield) → IsTracedFor k (traced_as k info) x (map want_of outer) given → (a b : State) → AsksAll outer a b →
     (old new : List Yield) →

@@ -3,14 +3,14 @@ use Rattle.std.specs.Prelude.{⊤, Option, Some, None}
 use Rattle.std.specs.List.{Contains}
 use Rattle.fast_check_syntax.specs.declared.source.SourceRange.{SourceRange}
 use Rattle.fast_check_symbols.specs.Tables.{table_ranges}
-use Rattle.fast_check_graph.specs.declared.root_symbol.ModuleInfo.{ModuleInfo}
+use Rattle.fast_check_graph.specs.declared.root_symbol.AnyModuleInfo.{AnyModuleInfo}
 use Rattle.fast_check_graph.specs.declared.root_symbol.RootSymbol.{RootSymbol}
 use Rattle.fast_check_traces.specs.Modules.{tables_in}
 use Rattle.fast_check_entries.specs.findings.Yields.{Yield, public, implementing}
 use Rattle.fast_check_wants.specs.Sources.{named_at}
 
 -- a range of the tables of a module
-abbrev pub IsOwnRange : Option ModuleInfo → SourceRange → Type 0
+abbrev pub IsOwnRange : Option AnyModuleInfo → SourceRange → Type 0
 IsOwnRange None r = ⊥
 IsOwnRange (Some info) r = Contains (table_ranges (tables_in info).symbols (tables_in info).re_exports) r
 

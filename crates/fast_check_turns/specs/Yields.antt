@@ -8,8 +8,8 @@ use Rattle.fast_check_packages.specs.Package.{Nv}
 use Rattle.fast_check_cache.specs.Cache.{ItemView}
 use Rattle.fast_check_names.specs.Imports.{NameDemand}
 use Rattle.fast_check_graph.specs.declared.graph.ModuleGraph.{ModuleGraph}
-use Rattle.fast_check_graph.specs.declared.root_symbol.ModuleInfo.{ModuleInfo}
-use Rattle.fast_check_graph.specs.declared.root_symbol.ModuleInfo.TheVariants.{Esm, Json}
+use Rattle.fast_check_graph.specs.declared.root_symbol.AnyModuleInfo.{AnyModuleInfo}
+use Rattle.fast_check_graph.specs.declared.root_symbol.AnyModuleInfo.TheVariants.{Esm, Json}
 use Rattle.fast_check_graph.specs.Root.{specifier_of}
 use Rattle.fast_check_demands.specs.Demands.{Demand as SymbolDemand}
 use Rattle.fast_check_demands.specs.Rules.{each_of}
@@ -52,7 +52,7 @@ names_yields k nv t d m = recorded nv (own_text m) ∷ (public_at nv m (re_expor
     (names_wants k nv t d m))
 
 -- the source text of a module; one of JSON has none
-abbrev pub text_of : ModuleInfo → List ℕ
+abbrev pub text_of : AnyModuleInfo → List ℕ
 text_of (Esm info) = rc_str_bytes info.source.text
 text_of (Json info) = []
 

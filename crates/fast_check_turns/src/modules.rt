@@ -16,7 +16,7 @@ ghost use Rattle.fast_check_turns.specs.Yields.{dependencies, untyped_yields, gi
 use crate::progress::{Progress, push_finding};
 use crate::traced::{dependencies_of, found_of};
 use fast_check_entries::findings::{Finding, FollowedModule, FoundModule, UntypedModule};
-use fast_check_graph::{ModuleGraph, ModuleInfo};
+use fast_check_graph::{AnyModuleInfo, ModuleGraph};
 use fast_check_name_demands::{HeldDemands, hold, name_demands};
 use fast_check_packages::{JsrUrlProvider, PackageNv};
 use fast_check_traces::TracedModule;
@@ -28,7 +28,7 @@ use std::alloc::{AllocError, Global};
 fn followed_module(
     alloc: Global,
     package: PackageNv,
-    info: &ModuleInfo,
+    info: &AnyModuleInfo,
     outer: &[OuterWant],
     found: FoundModule,
 ) -> Result<Finding, AllocError>
@@ -51,7 +51,7 @@ fn follow_in<'a>(
     alloc: Global,
     sources: Sources<'a>,
     provider: &dyn JsrUrlProvider,
-    info: &'a ModuleInfo,
+    info: &'a AnyModuleInfo,
     trace: PendingTrace,
     held: &'a HeldDemands,
 ) -> Result<(Vec<OuterWant>, Finding), AllocError>

@@ -14,7 +14,7 @@ ghost use Rattle.fast_check_turns.specs.Yields.{text_of, source_with, source_in,
 
 use fast_check_demands::SymbolFault;
 use fast_check_entries::findings::{DemandFault, FaultyModule, FoundModule, faults_in};
-use fast_check_graph::ModuleInfo;
+use fast_check_graph::AnyModuleInfo;
 use fast_check_packages::{JsrUrlProvider, PackageNv};
 use fast_check_search::Found;
 use fast_check_traces::{Traced, TracedModule, tables_of};
@@ -24,12 +24,12 @@ use std::alloc::{AllocError, Global};
 use std::rc::RcStr;
 
 /// The source text of a module; one of JSON has none.
-fn text_of(alloc: Global, info: &ModuleInfo) -> Result<RcStr, AllocError>
+fn text_of(alloc: Global, info: &AnyModuleInfo) -> Result<RcStr, AllocError>
     ensures { IfOk result (λ text. rc_str_bytes text ≡ text_of info.now) }
 {
     match info {
-        ModuleInfo::Esm(module) => module.source().text.clone(),
-        ModuleInfo::Json(_) => RcStr::from_str(alloc, ""),
+        AnyModuleInfo::Esm(module) => module.source().text.clone(),
+        AnyModuleInfo::Json(_) => RcStr::from_str(alloc, ""),
     }
 }
 

@@ -13,7 +13,7 @@ use Rattle.fast_check_packages.specs.MembersIn.{members_in}
 use Rattle.fast_check_cache.specs.Cache.{ItemView}
 use Rattle.fast_check_graph.specs.declared.graph.ModuleGraph.{ModuleGraph}
 use Rattle.fast_check_graph.specs.declared.module.Module.{Module}
-use Rattle.fast_check_graph.specs.declared.root_symbol.ModuleInfo.{ModuleInfo}
+use Rattle.fast_check_graph.specs.declared.root_symbol.AnyModuleInfo.{AnyModuleInfo}
 use Rattle.fast_check_graph.specs.declared.root_symbol.RootSymbol.{RootSymbol}
 use Rattle.fast_check_graph.specs.Modules.{is_typed_module, is_external}
 use Rattle.fast_check_graph.specs.Root.{module_named}
@@ -73,21 +73,21 @@ abbrev pub node_at : ModuleGraph → Text → Option Module
 node_at g t = lookup (is_text t) g.modules.entries
 
 -- a module's own name goes before an alias
-abbrev pub named_at : RootSymbol → Text → Option ModuleInfo
+abbrev pub named_at : RootSymbol → Text → Option AnyModuleInfo
 named_at r t = option_or (lookup (is_text t) r.modules.entries)
     (option_and_then (module_named r.modules.entries) (lookup (is_text t) r.aliases.entries))
 
 abbrev pub lent : {X : Type 0} → X → Bor X
 lent x = record { ref_ptr = (0, 0); now = x }
 
-abbrev pub traced_as : Known → ModuleInfo → TracedModule
+abbrev pub traced_as : Known → AnyModuleInfo → TracedModule
 traced_as k info = record { graph = lent k.graph; root_symbol = lent k.root_symbol; info = lent info }
 
-abbrev pub typed_info : RootSymbol → Text → Module → Option ModuleInfo
+abbrev pub typed_info : RootSymbol → Text → Module → Option AnyModuleInfo
 typed_info r t m = cond (is_typed_module m) (named_at r t) None
 
 -- the module that is followed: one of the graph that is typed and has tables
-abbrev pub info_at : ModuleGraph → RootSymbol → Text → Option ModuleInfo
+abbrev pub info_at : ModuleGraph → RootSymbol → Text → Option AnyModuleInfo
 info_at g r t = option_and_then (typed_info r t) (node_at g t)
 
 abbrev pub module_at : Known → Text → Option TracedModule

@@ -7,7 +7,7 @@ ghost use Rattle.fast_check_packages.specs.Members.{member_nv};
 ghost use Rattle.fast_check_packages.specs.MembersIn.{members_in};
 ghost use Rattle.fast_check_wants.specs.Sources.{info_at, owner_by, untyped_at};
 
-use fast_check_graph::{ModuleGraph, ModuleInfo, RootSymbol};
+use fast_check_graph::{AnyModuleInfo, ModuleGraph, RootSymbol};
 use fast_check_packages::{IndexedMembers, JsrUrlProvider, PackageNv, WorkspaceMember};
 use std::alloc::{AllocError, Global};
 use url::Url;
@@ -25,7 +25,7 @@ pub fn info_of<'a>(
     graph: &ModuleGraph,
     root_symbol: &'a RootSymbol,
     specifier: &Url,
-) -> Option<&'a ModuleInfo>
+) -> Option<&'a AnyModuleInfo>
     ensures { option_copied result ≡ info_at graph.now root_symbol.now (serialize specifier.now) }
 {
     let module = graph.get(specifier)?;

@@ -3,7 +3,7 @@
 use crate::hello::source::{Line, parsed_source};
 use crate::hello::symbols::module_tables;
 use anyhow::Result;
-use fast_check::tables::{EsModuleInfo, ModuleInfo, RootSymbol};
+use fast_check::tables::{AnyModuleInfo, EsModuleInfo, RootSymbol};
 use std::alloc::{AllocError, Global};
 use std::collections::BTreeMap;
 use url::Url;
@@ -21,9 +21,9 @@ fn modules_by_name(
     alloc: Global,
     name: Url,
     module: EsModuleInfo,
-) -> Result<BTreeMap<Url, ModuleInfo>, AllocError> {
+) -> Result<BTreeMap<Url, AnyModuleInfo>, AllocError> {
     let mut modules = BTreeMap::new(alloc);
-    modules.insert(name, ModuleInfo::Esm(module))?;
+    modules.insert(name, AnyModuleInfo::Esm(module))?;
     Ok(modules)
 }
 

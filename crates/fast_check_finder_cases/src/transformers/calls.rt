@@ -1,5 +1,5 @@
 //! Calls of a transformer, and what is told of them.
-use crate::modules::info_of;
+use crate::modules::module_of;
 use crate::said_answers::say_diagnostic;
 use fast_check_cases::Said;
 use fast_check_graph::ModuleGraph;
@@ -94,6 +94,6 @@ pub fn say_calls(alloc: Global, request: TransformRequest, said: &mut Said) {
         public_ranges,
         ..
     } = request;
-    let made = info_of(alloc, es_module);
+    let made = module_of(alloc, es_module);
     say_made(alloc, &graph, &made, &public_ranges, said);
 }
