@@ -6,11 +6,27 @@ use Rattle.url.specs.Parts.{Parts, serialize}
 use Rattle.fast_check_diagnostics.specs.declared.diagnostics.range.FastCheckDiagnosticRange.{FastCheckDiagnosticRange}
 use Rattle.fast_check_diagnostics.specs.declared.diagnostics.FastCheckDiagnostic.{FastCheckDiagnostic}
 use Rattle.fast_check_diagnostics.specs.declared.diagnostics.FastCheckDiagnostic.TheVariants.{
-    NotFoundReference, MissingExplicitType, MissingExplicitReturnType, UnsupportedAmbientModule,
-    UnsupportedComplexReference, UnsupportedDefaultExportExpr, UnsupportedDestructuring, UnsupportedExpandoProperty,
-    UnsupportedGlobalModule, UnsupportedRequire, UnsupportedPrivateMemberReference, UnsupportedSuperClassExpr,
-    UnsupportedTsExportAssignment, UnsupportedTsNamespaceExport, UnsupportedUsing, UnsupportedNestedJavaScript,
-    UnsupportedJavaScriptEntrypoint, Emit, ExportNotFound, Cached}
+  NotFoundReference,
+  MissingExplicitType,
+  MissingExplicitReturnType,
+  UnsupportedAmbientModule,
+  UnsupportedComplexReference,
+  UnsupportedDefaultExportExpr,
+  UnsupportedDestructuring,
+  UnsupportedExpandoProperty,
+  UnsupportedGlobalModule,
+  UnsupportedRequire,
+  UnsupportedPrivateMemberReference,
+  UnsupportedSuperClassExpr,
+  UnsupportedTsExportAssignment,
+  UnsupportedTsNamespaceExport,
+  UnsupportedUsing,
+  UnsupportedNestedJavaScript,
+  UnsupportedJavaScriptEntrypoint,
+  Emit,
+  ExportNotFound,
+  Cached,
+}
 use Rattle.fast_check_diagnostics.specs.declared.diagnostics.view.DiagnosticLevel.{DiagnosticLevel}
 use Rattle.fast_check_diagnostics.specs.declared.diagnostics.view.DiagnosticLevel.TheVariants.{Error, Warning}
 use Rattle.fast_check_diagnostics.specs.DiagnosticView.{DiagnosticView, Snippet, Location, AtPosition, AtModule}

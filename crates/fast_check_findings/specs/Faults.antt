@@ -14,7 +14,10 @@ use Rattle.fast_check_symbols.specs.Symbols.{symbol_of}
 use Rattle.fast_check_diagnostics.specs.declared.diagnostics.range.FastCheckDiagnosticRange.{FastCheckDiagnosticRange}
 use Rattle.fast_check_diagnostics.specs.declared.diagnostics.FastCheckDiagnostic.{FastCheckDiagnostic}
 use Rattle.fast_check_diagnostics.specs.declared.diagnostics.FastCheckDiagnostic.TheVariants.{
-    NotFoundReference, UnsupportedComplexReference, UnsupportedPrivateMemberReference}
+  NotFoundReference,
+  UnsupportedComplexReference,
+  UnsupportedPrivateMemberReference,
+}
 use Rattle.fast_check_demands.specs.declared.fault.DemandFaultKind.{DemandFaultKind}
 use Rattle.fast_check_demands.specs.declared.fault.DemandFaultKind.TheVariants.{PrivateMember, NotFound, TooComplex}
 use Rattle.fast_check_demands.specs.Yields.{Fault}

@@ -22,7 +22,13 @@ use Rattle.fast_check_package_ranges.specs.Questions.{whether_faulty, whether_ot
 use Rattle.fast_check_findings.specs.Diagnostics.{IsFair, any_fault, is_other, passes, diagnoses, diagnose_one_fault}
 use Rattle.fast_check_package_ranges.specs.Parts.{is_text, module_says}
 use Rattle.fast_check_package_ranges.specs.Answers.{
-    diagnoses_missing, diagnoses_untyped_entry, diagnoses_untyped, diagnoses_otherwise, diagnose_alike, module_answer}
+  diagnoses_missing,
+  diagnoses_untyped_entry,
+  diagnoses_untyped,
+  diagnoses_otherwise,
+  diagnose_alike,
+  module_answer,
+}
 use Rattle.fast_check_package_ranges.specs.Made.{diagnosed_if, whole_diagnostics, module_is_said, is_foreign, IsModuleAnswer}
 use Rattle.fast_check_findings.proofs.Bools.{or_none, or_assoc, and_none}
 
@@ -179,7 +185,7 @@ diagnosed_apart : (t : List ℕ) (d : FastCheckDiagnostic) → is_other d ≡ fa
 diagnosed_apart t d o [] h = tt
 diagnosed_apart t d o (x ∷ xs) h = (
   none_of_four (diagnoses_missing t d) (diagnoses_untyped_entry t d) (diagnoses_untyped t d) _ _ _ (diagnose_one_fault d x)
-  (missing_other t d o)
+      (missing_other t d o)
       (untyped_entry_other t d o)
       (untyped_other t d o) h.0,
   diagnosed_apart t d o xs h.1,
@@ -315,7 +321,7 @@ module _ (specifier : Parts) (parts : JoinedModule) (out diagnosed_once : List F
       first_two parts.is_missing parts.is_untyped_entry (shown parts)) ∙
       (ap (λ b. (parts.is_missing || parts.is_untyped_entry) || b)
       (alike (diagnoses_otherwise (serialize specifier)) (diagnoses any_fault) (otherwise_other (serialize specifier))
-          diagnosed_once h.only ∙
+      diagnosed_once h.only ∙
       h.same any_fault (λ a b e. refl)) ∙
       or_assoc parts.is_missing parts.is_untyped_entry (list_any (passes any_fault) parts.found.faults.items)))
 

@@ -22,8 +22,19 @@ use Rattle.fast_check_package_ranges.specs.Questions.{ModuleQuestion, whether_mi
 use Rattle.fast_check_package_ranges.specs.Questions.{whether_faulty, Question, about, is_fault, is_said, IsTextless}
 use Rattle.fast_check_package_ranges.specs.Parts.{lookup_text, lookup_package}
 use Rattle.fast_check_package_ranges.specs.Answers.{
-    diagnoses_missing, diagnoses_untyped_entry, diagnoses_untyped, diagnose_alike, is_so, module_answer, package_answer, answer,
-    module_diagnostics, package_diagnostics, diagnostics_of, cached_of}
+  diagnoses_missing,
+  diagnoses_untyped_entry,
+  diagnoses_untyped,
+  diagnose_alike,
+  is_so,
+  module_answer,
+  package_answer,
+  answer,
+  module_diagnostics,
+  package_diagnostics,
+  diagnostics_of,
+  cached_of,
+}
 use Rattle.fast_check_package_ranges.specs.Made.{is_foreign, AreModuleAnswers, IsPackageAnswer, ArePackageAnswers}
 
 -- an item that passes
@@ -135,7 +146,7 @@ module _ (packages : List (PackageNv × JoinedPackage)) (answers : BTreeMap Pack
     only t d c = one_of (diagnoses_missing t d) (diagnoses_untyped_entry t d) (diagnoses_untyped t d) (diagnoses any_fault d) _ _ _ _
         (λ y. sym (said (about t whether_missing) tt) ∙ answered t (diagnoses_missing t) whether_missing (λ m. refl) d c y)
         (λ y. sym (said (about t whether_untyped_entry) tt) ∙
-            answered t (diagnoses_untyped_entry t) whether_untyped_entry (λ m. refl) d c y)
+        answered t (diagnoses_untyped_entry t) whether_untyped_entry (λ m. refl) d c y)
         (λ y. sym (said (about t whether_untyped) tt) ∙ answered t (diagnoses_untyped t) whether_untyped (λ m. refl) d c y)
         (of_fault t d c (demand_fault d) refl)
         (passes_not (is_foreign t) (diagnostics_of answers nv t) d c

@@ -11,7 +11,10 @@ use Rattle.fast_check_cache.specs.declared.package_ranges.PackagePublicRanges.{P
 use Rattle.fast_check_diagnostics.specs.PublicRanges.{PublicRanges, is_public, is_implementation}
 use Rattle.fast_check_diagnostics.specs.declared.diagnostics.FastCheckDiagnostic.{FastCheckDiagnostic}
 use Rattle.fast_check_diagnostics.specs.declared.diagnostics.FastCheckDiagnostic.TheVariants.{
-    ExportNotFound, UnsupportedJavaScriptEntrypoint, UnsupportedNestedJavaScript}
+  ExportNotFound,
+  UnsupportedJavaScriptEntrypoint,
+  UnsupportedNestedJavaScript,
+}
 use Rattle.fast_check_worklists.specs.Demands.{Text, same_nv}
 use Rattle.fast_check_findings.specs.Faults.{PlacedFault, demand_fault}
 use Rattle.fast_check_findings.specs.Yields.{Yield, kept}

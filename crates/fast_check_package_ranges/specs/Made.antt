@@ -7,7 +7,10 @@ use Rattle.fast_check_packages.specs.Package.{Nv}
 use Rattle.fast_check_diagnostics.specs.PublicRanges.{PublicRanges}
 use Rattle.fast_check_diagnostics.specs.declared.diagnostics.FastCheckDiagnostic.{FastCheckDiagnostic}
 use Rattle.fast_check_diagnostics.specs.declared.diagnostics.FastCheckDiagnostic.TheVariants.{
-    ExportNotFound, UnsupportedJavaScriptEntrypoint, UnsupportedNestedJavaScript}
+  ExportNotFound,
+  UnsupportedJavaScriptEntrypoint,
+  UnsupportedNestedJavaScript,
+}
 use Rattle.fast_check_cache.specs.declared.package_ranges.PackagePublicRanges.{PackagePublicRanges}
 use Rattle.fast_check_cache.specs.Cache.{item_of}
 use Rattle.fast_check_worklists.specs.Demands.{Text}
@@ -19,7 +22,12 @@ use Rattle.fast_check_package_ranges.specs.Questions.{ModuleQuestion, whether_un
 use Rattle.fast_check_package_ranges.specs.Questions.{whether_otherwise_faulty, IsTextlessAbout}
 use Rattle.fast_check_package_ranges.specs.Parts.{is_text, is_package, module_says, lookup_text}
 use Rattle.fast_check_package_ranges.specs.Answers.{
-    diagnoses_untyped, diagnoses_otherwise, diagnose_alike, module_answer, IsKeptAnswer}
+  diagnoses_untyped,
+  diagnoses_otherwise,
+  diagnose_alike,
+  module_answer,
+  IsKeptAnswer,
+}
 
 -- a diagnostic that is there, or is not
 abbrev pub diagnosed_if : Bool → FastCheckDiagnostic → List FastCheckDiagnostic

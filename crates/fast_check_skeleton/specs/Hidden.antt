@@ -144,7 +144,7 @@ module _ (r : Renaming) (a b : Surroundings) where
   pub data SameDecl (p q : SourceRange) : Tree → Tree → Type 0 where
     variable : {t u : Tree} → SameStatement t u → is_ambient_statement a t ≡ false →
         SameDeclarators (SameDeclarator (mutability_of (VarDecl-kind t)))
-            (parts (VarDecl-decls t)) (parts (VarDecl-decls u)) → SameDecl p q t u
+        (parts (VarDecl-decls t)) (parts (VarDecl-decls u)) → SameDecl p q t u
     ambient : {t u : Tree} → SameStatement t u → is_ambient_statement a t ≡ true →
         SameDeclarators (SameTree r) (parts (VarDecl-decls t)) (parts (VarDecl-decls u)) → SameDecl p q t u
     -- interfaces, type aliases and enums stand as they are written

@@ -44,7 +44,7 @@ starts_of_removed class = map (λ m. (range_of_node m).start) (removed_members (
 abbrev pub starts_in_class : Surroundings → SourceRange → Tree → List SourcePos
 starts_in_class around place decl =
     if around.is_public place && not (is_ambient_class around decl) then
-        starts_of_removed (ClassDecl-class decl)
+    starts_of_removed (ClassDecl-class decl)
     else []
 
 -- the starts of what goes inside of a declaration that stays, by what is done with it
@@ -56,7 +56,7 @@ starts_in_decl around place decl _ = []
 abbrev pub starts_in_default : Surroundings → Tree → DefaultRule → List SourcePos
 starts_in_default around item defaults.Class =
     if around.is_public (ExportDefaultDecl-span item) then
-        starts_of_removed (ClassExpr-class (ExportDefaultDecl-decl item))
+    starts_of_removed (ClassExpr-class (ExportDefaultDecl-decl item))
     else []
 starts_in_default around item _ = []
 

@@ -141,12 +141,12 @@ module _ (r : Renaming) (c d : Bindings) (f g : SourceRange → Bool) where
     inferred : SameTree r (BindingIdent-type_ann (param_target t)) (BindingIdent-type_ann (param_target u)) →
         Both AssignPat (TsParamProp-param t) (TsParamProp-param u) →
         SameTypeShown (mutability_of_property (TsParamProp-readonly t)) (AssignPat-right (TsParamProp-param t))
-            (AssignPat-right (TsParamProp-param u)) → SameParamType t u
+        (AssignPat-right (TsParamProp-param u)) → SameParamType t u
     -- defaults that show no type
     untyped : SameTree r (BindingIdent-type_ann (param_target t)) (BindingIdent-type_ann (param_target u)) →
         Both AssignPat (TsParamProp-param t) (TsParamProp-param u) →
         NoTypeShown (mutability_of_property (TsParamProp-readonly t))
-            (AssignPat-right (TsParamProp-param t)) (AssignPat-right (TsParamProp-param u)) →
+        (AssignPat-right (TsParamProp-param t)) (AssignPat-right (TsParamProp-param u)) →
         SameParamType t u
     -- no defaults
     bare : SameTree r (BindingIdent-type_ann (param_target t)) (BindingIdent-type_ann (param_target u)) →

@@ -199,7 +199,7 @@ namespace_seen look around place decl =
     if TsModuleDecl-global decl then faulty UnsupportedGlobalModule (TsModuleDecl-span decl) ∷ []
     else (if is_ambient_module decl then faulty UnsupportedAmbientModule (range_of_node (TsModuleDecl-id decl)) ∷ []
     else (if around.is_public place then
-        namespace_round (body_seen look (inside around decl) (items_inside decl)) decl ∷ [] else []))
+    namespace_round (body_seen look (inside around decl) (items_inside decl)) decl ∷ [] else []))
 
 -- A declaration, by what is done with it. Of a variable statement the declarators are public, by their own ranges;
 -- another is public by `place`, which is the range of its export, or else its own. Of what is no declaration nothing is

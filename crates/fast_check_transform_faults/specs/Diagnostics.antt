@@ -4,12 +4,23 @@ use Rattle.std.specs.Rc.{rc_str_bytes}
 use Rattle.fast_check_syntax.specs.declared.source.SourceRange.{SourceRange}
 use Rattle.fast_check_modules.specs.EsModule.{EsModule}
 use Rattle.fast_check_modules.specs.diagnostics.declared.diagnostics.range.FastCheckDiagnosticRange.{
-    FastCheckDiagnosticRange}
+  FastCheckDiagnosticRange,
+}
 use Rattle.fast_check_modules.specs.diagnostics.declared.diagnostics.FastCheckDiagnostic.{FastCheckDiagnostic}
 use Rattle.fast_check_modules.specs.diagnostics.declared.diagnostics.FastCheckDiagnostic.TheVariants.{
-    MissingExplicitType, MissingExplicitReturnType, UnsupportedDestructuring, UnsupportedSuperClassExpr,
-    UnsupportedDefaultExportExpr, UnsupportedUsing, UnsupportedRequire, UnsupportedTsExportAssignment,
-    UnsupportedTsNamespaceExport, UnsupportedGlobalModule, UnsupportedAmbientModule, UnsupportedExpandoProperty}
+  MissingExplicitType,
+  MissingExplicitReturnType,
+  UnsupportedDestructuring,
+  UnsupportedSuperClassExpr,
+  UnsupportedDefaultExportExpr,
+  UnsupportedUsing,
+  UnsupportedRequire,
+  UnsupportedTsExportAssignment,
+  UnsupportedTsNamespaceExport,
+  UnsupportedGlobalModule,
+  UnsupportedAmbientModule,
+  UnsupportedExpandoProperty,
+}
 use Rattle.fast_check_signatures.specs.declared.fault.Fault.{Fault}
 use Rattle.fast_check_signatures.specs.declared.fault.FaultKind.TheVariants as kinds
 

@@ -2,10 +2,15 @@
 use Rattle.std.specs.Prelude.{◌≡◌, Bool, List, [], ◌∷◌, Ok, Err, String, Vec, string_bytes}
 use Rattle.std.specs.declared.alloc.Global.{Global}
 use Rattle.fast_check_modules.specs.diagnostics.declared.diagnostics.range.FastCheckDiagnosticRange.{
-    FastCheckDiagnosticRange}
+  FastCheckDiagnosticRange,
+}
 use Rattle.fast_check_modules.specs.diagnostics.declared.diagnostics.FastCheckDiagnostic.{FastCheckDiagnostic}
 use Rattle.fast_check_modules.specs.diagnostics.declared.diagnostics.FastCheckDiagnostic.TheVariants.{
-    MissingExplicitType, MissingExplicitReturnType, UnsupportedUsing, UnsupportedExpandoProperty}
+  MissingExplicitType,
+  MissingExplicitReturnType,
+  UnsupportedUsing,
+  UnsupportedExpandoProperty,
+}
 use Rattle.fast_check_parsed_source.specs.declared.tables.fast_check_module.FastCheckModule.{FastCheckModule}
 use Rattle.fast_check_parsed_source.specs.declared.tables.fast_check_module.StaticSource.{StaticSource}
 use Rattle.fast_check_syntax.specs.Moves.{Renaming}

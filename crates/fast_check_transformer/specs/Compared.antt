@@ -1,12 +1,23 @@
 -- How sources and diagnostics are compared under a renaming.
 use Rattle.std.specs.Prelude.{◌≡◌, Option, Some, None, string_bytes}
 use Rattle.fast_check_modules.specs.diagnostics.declared.diagnostics.range.FastCheckDiagnosticRange.{
-    FastCheckDiagnosticRange}
+  FastCheckDiagnosticRange,
+}
 use Rattle.fast_check_modules.specs.diagnostics.declared.diagnostics.FastCheckDiagnostic.{FastCheckDiagnostic}
 use Rattle.fast_check_modules.specs.diagnostics.declared.diagnostics.FastCheckDiagnostic.TheVariants.{
-    MissingExplicitType, MissingExplicitReturnType, UnsupportedDestructuring, UnsupportedSuperClassExpr,
-    UnsupportedDefaultExportExpr, UnsupportedUsing, UnsupportedRequire, UnsupportedTsExportAssignment,
-    UnsupportedTsNamespaceExport, UnsupportedGlobalModule, UnsupportedAmbientModule, UnsupportedExpandoProperty}
+  MissingExplicitType,
+  MissingExplicitReturnType,
+  UnsupportedDestructuring,
+  UnsupportedSuperClassExpr,
+  UnsupportedDefaultExportExpr,
+  UnsupportedUsing,
+  UnsupportedRequire,
+  UnsupportedTsExportAssignment,
+  UnsupportedTsNamespaceExport,
+  UnsupportedGlobalModule,
+  UnsupportedAmbientModule,
+  UnsupportedExpandoProperty,
+}
 use Rattle.fast_check_parsed_source.specs.declared.tables.fast_check_module.StaticSource.{StaticSource}
 use Rattle.fast_check_signatures.specs.declared.fault.FaultKind.{FaultKind}
 use Rattle.fast_check_signatures.specs.declared.fault.FaultKind.TheVariants as kinds

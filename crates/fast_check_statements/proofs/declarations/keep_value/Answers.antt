@@ -13,5 +13,5 @@ returns-then-is_absent c =
 pub returns : goal.returns
 returns c = IfOk-weaker c.leave_expr.result _ _
     (λ tree h. present_value (seen_around c.args.around) c.args.place (seen c.args.value)
-        (sym c.is_absent.ensures ∙ c.if-is_absent.false) h)
+    (sym c.is_absent.ensures ∙ c.if-is_absent.false) h)
     c.leave_expr.ensures

@@ -13,5 +13,5 @@ returns c =
     let docs_url = adds-last _ _ _ _ _ _ (adds-token_ok _ _ _ _ _ c.in_ok-key.was c.key.ensures)
     (adds-last _ _ _ _ _ _ c.in_ok-write_optional.ensures hint) in
     let diagnosed = diagnosed_advice-is (view_of c.args.diagnostic.now) _ _ _ c.in_ok-docs_url.ensures c.in_ok-hint.ensures
-            c.in_ok-info.ensures in
+    c.in_ok-info.ensures in
     subst (λ tokens. OnOk c.write_lines.result (Adds tokens c.args.out.now c.write_lines.new.out)) diagnosed docs_url

@@ -20,7 +20,7 @@ returns c =
     let message = adds-last _ _ _ _ _ _ c.in_ok-write_text-3.ensures range in
     let level = adds-last _ _ _ _ _ _ c.in_ok-write_text-2.ensures message in
     let diagnosed_more = adds-three _ (named (codes "docs_url") (text_or_null view.docs_url))
-            (named (codes "hint") (text_or_null view.hint))
+    (named (codes "hint") (text_or_null view.hint))
     (named (codes "info") (array (items_of (map string view.info)))) _ _ _ _ c.in_ok-write_advice.ensures level in
     let code = adds-last _ _ _ _ _ _ c.in_ok-write_text.ensures diagnosed_more in
     let all = adds-last _ _ _ _ _ _ (adds-token_ok _ _ _ _ _ c.in_ok-begin_object.was c.begin_object.ensures) code in
