@@ -6,6 +6,7 @@ ghost use Rattle.fast_check_names.specs.Graph.{entry, reach, below_node, IsTree,
 ghost use Rattle.fast_check_names.specs.Names.{paths, paths_below, IsSame};
 ghost use Rattle.fast_check_names.specs.Queue.{next_of, nexts, placed, IsCopyFrom};
 
+use crate::lattice::listing::note_all;
 use crate::lattice::named_subset::{Exports, NamedSubset};
 use crate::lattice::node::{Below, Node, NodeNo};
 use std::alloc::{AllocError, Global};
@@ -53,6 +54,7 @@ fn copy_one(alloc: Global, node: &Node, queue: &mut Vec<usize>) -> Result<Node, 
         names,
         runs,
         sorted: node.sorted,
+        listed: node.listed,
     })
 }
 
@@ -73,6 +75,7 @@ fn copy_nodes(alloc: Global, nodes: &[Node], at: usize) -> Result<Vec<Node>, All
         copies.push(copy)?;
         i += 1;
     }
+    note_all(&mut copies);
     Ok(copies)
 }
 

@@ -117,6 +117,14 @@ fn renumber_names(names: &mut Vec<(String, Below)>, numbers: &[Option<usize>])
     }
 }
 
+/// Renumbers what one node lists, and the node that lists it.
+fn renumber_node(node: &mut Node, numbers: &[Option<usize>])
+    ensures { node.new.names.items ≡ moved_entries (number numbers.now) node.old.names.items }
+{
+    renumber_names(&mut node.names, numbers);
+    node.listed.node = number_of(numbers, node.listed.node);
+}
+
 /// Renumbers what stands in all nodes.
 fn renumber_nodes(nodes: &mut Vec<Node>, numbers: &[Option<usize>])
     ensures len { vec_len nodes.new ≡ vec_len nodes.old }
@@ -124,7 +132,7 @@ fn renumber_nodes(nodes: &mut Vec<Node>, numbers: &[Option<usize>])
 {
     for i in 0..nodes.len() {
         let node = &mut nodes[i];
-        renumber_names(&mut node.names, numbers);
+        renumber_node(node, numbers);
     }
 }
 

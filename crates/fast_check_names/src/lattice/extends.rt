@@ -6,6 +6,7 @@ ghost use Rattle.fast_check_names.specs.Graph.{entry, listings, shift, either_of
 ghost use Rattle.fast_check_names.specs.Gains.{IsJoint, IsCovering};
 
 use crate::lattice::calls::names_of;
+use crate::lattice::listing::note_places;
 use crate::lattice::node::{Below, Node};
 use crate::lattice::nodes::{find_at, shift_nodes};
 use crate::lattice::order::sort_from;
@@ -97,8 +98,10 @@ pub(crate) fn merge(
     move_into(nodes, nodes_room);
     let names = append_below(nodes, tree);
     let node = &mut nodes[at];
+    let from = node.names.len();
     move_into(&mut node.names, names_room);
     put_names(node, names);
+    note_places(nodes, at, from);
     Ok(())
 }
 

@@ -7,11 +7,11 @@ ghost use Rattle.fast_check_names.specs.Graph.{entry};
 ghost use Rattle.fast_check_names.specs.Names.{path_of};
 ghost use Rattle.fast_check_names.specs.Line.{line, link_at};
 
-use crate::lattice::node::{Below, Node, NodeNo};
+use crate::lattice::node::{Below, Listing, Node, NodeNo};
 use std::alloc::{AllocError, Global};
 
-/// A node that lists one name.
-fn node_of(alloc: Global, name: &String, below: Below) -> Result<Node, AllocError>
+/// A node that lists one name, and is listed by the node before.
+fn node_of(alloc: Global, name: &String, below: Below, before: usize) -> Result<Node, AllocError>
     ensures { IfOk result (λ node. (n : Name) → found node.names.items n ≡ cond (bytes_eq (string_bytes name.now) n) (Some below) None) }
 {
     let mut names = Vec::with_capacity(alloc, 1)?;
@@ -20,6 +20,10 @@ fn node_of(alloc: Global, name: &String, below: Below) -> Result<Node, AllocErro
         names,
         runs: Vec::new(alloc),
         sorted: 0,
+        listed: Listing {
+            node: before,
+            place: 0,
+        },
     })
 }
 
@@ -42,7 +46,8 @@ pub(crate) fn nodes_of(alloc: Global, parts: &[String]) -> Result<Vec<Node>, All
     let mut nodes = Vec::with_capacity(alloc, parts.len())?;
     for place in 0..parts.len() {
         let below = below_place(parts.len(), place);
-        nodes.push(node_of(alloc, &parts[place], below)?)?;
+        let before = place.saturating_sub(1);
+        nodes.push(node_of(alloc, &parts[place], below, before)?)?;
     }
     Ok(nodes)
 }

@@ -1,5 +1,5 @@
 //! Where few nodes go and they stand in one stretch, the last ones take their places, as many as go. That takes no memory, and no walk over the nodes:
-//! only the names are looked for under which the last ones stand.
+//! only the names are looked for under which the last ones stand, first where each of these notes that it is listed.
 
 ghost use Rattle.std.specs.Prelude.{◌≡◌, ◌<◌, ◌≤◌, ◌+◌, ◌-◌, ℕ, true, false, IsTrue, IfSome, Some, ◌∷◌, [], vec_len, length, is_some, get_or};
 ghost use Rattle.std.specs.Option.{MatchOption};
@@ -13,7 +13,8 @@ ghost use Rattle.fast_check_names.specs.Stretch.{AreFilled, IsParentAmong, Lacks
 
 use crate::lattice::calls::names_of;
 use crate::lattice::covers::write_all;
-use crate::lattice::node::{Below, Node, NodeNo};
+use crate::lattice::listing::note;
+use crate::lattice::node::{Below, Listing, Node, NodeNo};
 
 /// So many nodes go at most: each one that takes a place is looked for twice.
 const FEW: usize = 4;
@@ -94,12 +95,42 @@ fn parent_among(nodes: &[Node], low: usize, high: usize, no: usize) -> Option<(u
     None
 }
 
-/// A node outside of a stretch that lists another, and the place.
+/// Whether the subset of a node stands at a place of a list.
+fn leads_at(names: &[(String, Below)], place: usize, no: usize) -> bool
+    ensures { IsTrue result → IsPlaceOf names.now no place }
+{
+    if place >= names.len() {
+        return false;
+    }
+    leads_to(names[place].1, no)
+}
+
+/// The node and the place that a node notes, where that one stands outside of a stretch and lists it there.
+fn noted_parent(nodes: &[Node], low: usize, high: usize, no: usize) -> Option<(usize, usize)>
+    ensures { IfSome result (IsParentOutside (listings nodes.now) low high no) }
+{
+    let Some(node) = nodes.get(no) else {
+        return None;
+    };
+    let Listing { node: at, place } = node.listed;
+    if at >= no || (low <= at && at < high) {
+        return None;
+    }
+    if !leads_at(names_of(nodes, at), place, no) {
+        return None;
+    }
+    Some((at, place))
+}
+
+/// A node outside of a stretch that lists another, and the place: those that are noted, else those that are found.
 fn parent_outside(nodes: &[Node], low: usize, high: usize, no: usize) -> Option<(usize, usize)>
     requires order { low ≤ high }
     requires before { high ≤ no }
     ensures { MatchOption result (LacksParentOutside (listings nodes.now) low high no) (IsParentOutside (listings nodes.now) low high no) }
 {
+    if let Some(parent) = noted_parent(nodes, low, high, no) {
+        return Some(parent);
+    }
     match parent_among(nodes, high, no, no) {
         Some(parent) => Some(parent),
         None => parent_among(nodes, 0, low, no),
@@ -171,6 +202,15 @@ fn write_number(nodes: &mut Vec<Node>, at: usize, place: usize, no: usize)
     node.names[place].1 = Below::Subset(NodeNo(no));
 }
 
+/// Where a node is listed once the nodes from one on have moved down.
+fn lowered(at: usize, place: usize, from: usize, by: usize) -> Listing {
+    if at < from {
+        return Listing { node: at, place };
+    }
+    let node = at.saturating_sub(by);
+    Listing { node, place }
+}
+
 /// The numbers from one on fall to the places of those that go.
 fn lower(nodes: &mut Vec<Node>, gone: usize, from: usize)
     requires low { gone ≤ from }
@@ -184,6 +224,7 @@ fn lower(nodes: &mut Vec<Node>, gone: usize, from: usize)
             continue;
         };
         write_number(nodes, at, place, no - by);
+        note(nodes, no, lowered(at, place, from, by));
     }
 }
 

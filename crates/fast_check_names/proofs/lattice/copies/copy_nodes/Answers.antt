@@ -1,7 +1,10 @@
 use Rattle.std.proofs.Common.{rules, arith, ◌≡◌, ◌<◌, ◌≤◌, ◌+◌, ◌∙◌, refl, subst, ap, sym, ℕ, length, get_or, vec_len}
 use Rattle.std.proofs.lemmas.List.{length_push}
 use Rattle.fast_check_names.specs.declared.lattice.node.Node.{Node}
-use Rattle.fast_check_names.specs.Graph.{entry, IsTree}
+use Rattle.fast_check_names.specs.Graph.{entry, below_node, IsTree}
+use Rattle.fast_check_names.specs.Names.{IsSame}
+use Rattle.fast_check_names.proofs.Lists.{graph_along}
+use Rattle.fast_check_names.proofs.Puts.{tree_along}
 use Rattle.fast_check_names.specs.Queue.{IsCopyFrom}
 use Rattle.fast_check_names.proofs.Copies.{past_none}
 use Rattle.fast_check_names.proofs.Turns.{one_queued, next_place, number_at, count_bound, next_copied, tree_copied, same_copied}
@@ -54,9 +57,10 @@ returns-clause-tree c =
     let done : length queue ≤ c.queue.i = search rules in
     let within = c.queue.invariant.are.within in
     let same : length queue ≡ vec_len c.queue.copies = omega (arith, done, within, c.queue.invariant.count, c.queue.copies.ok.0) in
-    subst (λ (m : ℕ). IsTree (entry copies) m) same
+    tree_along copies c.note_all.new.nodes.items (vec_len c.queue.copies) (vec_len c.note_all.new.nodes) c.note_all.ensures.same
+    c.note_all.ensures.len (subst (λ (m : ℕ). IsTree (entry copies) m) same
     (tree_copied (entry nodes) (entry copies) (length nodes) c.args.at c.queue.i (length queue) (λ k. get_or queue k 0) c.requires.tree
-    c.queue.invariant.are done (λ k n h. past_none copies k (omega (arith, h, c.queue.invariant.count)) n))
+    c.queue.invariant.are done (λ k n h. past_none copies k (omega (arith, h, c.queue.invariant.count)) n)))
 
 pub returns-clause-same : goal.returns-clause-same
 returns-clause-same c =
@@ -64,5 +68,7 @@ returns-clause-same c =
     let queue = c.queue.queue.items in
     let copies = c.queue.copies.items in
     let done : length queue ≤ c.queue.i = search rules in
-    same_copied (entry nodes) (entry copies) (length nodes) c.args.at c.queue.i (length queue) (λ k. get_or queue k 0) c.requires.tree
-    c.queue.invariant.are done (λ k n h. past_none copies k (omega (arith, h, c.queue.invariant.count)) n)
+    graph_along (λ g. IsSame (below_node g 0) (below_node (entry nodes) c.args.at)) copies c.note_all.new.nodes.items
+    c.note_all.ensures.same
+    (same_copied (entry nodes) (entry copies) (length nodes) c.args.at c.queue.i (length queue) (λ k. get_or queue k 0) c.requires.tree
+    c.queue.invariant.are done (λ k n h. past_none copies k (omega (arith, h, c.queue.invariant.count)) n))

@@ -1,8 +1,8 @@
 use Rattle.std.proofs.Common.{arith, ap, ◌∙◌, ◌≡◌, ◌<◌, ◌+◌, ◌-◌, ◌++◌, sym, subst, refl, ℕ, suc, length, get_or, List, []}
 use Rattle.fast_check_names.specs.declared.lattice.node.Node.{Node}
-use Rattle.fast_check_names.specs.Graph.{entry, listings, shift, either_of, HasRoom}
+use Rattle.fast_check_names.specs.Graph.{entry, listings, shift, either_of, HasRoom, IsMerge}
 use Rattle.fast_check_names.specs.Order.{Entry, found}
-use Rattle.fast_check_names.proofs.Lists.{merges, items_at}
+use Rattle.fast_check_names.proofs.Lists.{merges, items_at, graph_along}
 use Rattle.fast_check_names.proofs.Merges.{tree_merged}
 use Rattle.fast_check_names.proofs.Puts.{tree_along}
 use Rattle.fast_check_names.proofs.Extends.{some_room, same_element}
@@ -59,19 +59,21 @@ returns-clause-merge c =
     let b = c.append_below-names.ensures.behind in
     let long : length c.move_into.new.items.items ≡ c.args.nodes.now.len = ap length c.move_into.ensures.items ∙
     sym c.args.nodes.now.ok.0 in
-    merges nodes tree b.0 c.append_below-names.new.nodes.items c.args.nodes.now.len c.args.at x _ c.args.nodes.now.ok.0 c.requires.within
+    graph_along (λ g. IsMerge (entry nodes) c.args.nodes.now.len c.args.at (entry tree) g) _ c.note_places.new.nodes.items
+    c.note_places.ensures.same
+    (merges nodes tree b.0 c.append_below-names.new.nodes.items c.args.nodes.now.len c.args.at x _ c.args.nodes.now.ok.0 c.requires.within
     (b.1 ∙ ap (λ (ns : List Node). ns ++ b.0) c.move_into.ensures.items)
     (λ k n. b.2 k n ∙ ap (λ (m : ℕ). shift (m - 1) (entry tree (suc k) n)) long)
     c.index_mut-node.ensures.value
     (λ n. c.put_names.ensures.found n ∙
     (ap (λ (es : List Entry). either_of (found es n) (found c.append_below-names.result.items n)) c.move_into-2.ensures.items ∙
     ap (either_of (found x.names.items n))
-    (c.append_below-names.ensures.names n ∙ ap (λ (m : ℕ). shift (m - 1) (entry tree 0 n)) c.move_into.ensures.len)))
+    (c.append_below-names.ensures.names n ∙ ap (λ (m : ℕ). shift (m - 1) (entry tree 0 n)) c.move_into.ensures.len))))
 
 pub returns-clause-tree : goal.returns-clause-tree
 returns-clause-tree c =
     tree_along _ _ ((c.args.nodes.now.len - 1) + c.args.tree.len) _ refl
-    (omega (arith, c.append_below-names.ensures.len, c.move_into.ensures.len, c.requires.within))
+    (omega (arith, c.note_places.ensures.len, c.append_below-names.ensures.len, c.move_into.ensures.len, c.requires.within))
     (tree_merged (entry c.args.nodes.now.items)
     (entry c.args.tree.items) _ c.args.nodes.now.len c.args.tree.len c.args.at c.requires.old_tree c.requires.tree
     c.requires.some c.requires.within c.requires.apart (returns-clause-merge c))

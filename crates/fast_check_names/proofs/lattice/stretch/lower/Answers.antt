@@ -1,7 +1,8 @@
-use Rattle.std.proofs.Common.{arith, ◌≡◌, ◌<◌, ◌≤◌, ⊎_elim, subst, ℕ}
+use Rattle.std.proofs.Common.{arith, ◌≡◌, ◌<◌, ◌≤◌, ◌+◌, ⊎_elim, subst, ℕ}
 use Rattle.std.proofs.lemmas.Bool.{cases_lt}
 use Rattle.fast_check_names.specs.Graph.{entry}
 use Rattle.fast_check_names.specs.Stretch.{AreLowered}
+use Rattle.fast_check_names.proofs.Lists.{graph_along}
 use Rattle.fast_check_names.proofs.Stretches.{lowered_none, lowered_short, lowered_past, lowered_more}
 use Rattle.fast_check_names.proofs.lattice.stretch.lower.Goals as goal
 
@@ -24,9 +25,12 @@ loop-no-preserved-in_default c =
 
 pub loop-no-preserved : goal.loop-no-preserved
 loop-no-preserved c =
-    lowered_more (entry c.args.nodes.now.items) c.args.nodes.now.len c.args.gone c.args.from c.loop-no.no c.requires.tree
+    let g = entry c.args.nodes.now.items in
+    graph_along (λ w. AreLowered g c.args.gone c.args.from (c.loop-no.no + 1) w) c.write_number.new.nodes.items c.note.new.nodes.items
+    c.note.ensures.same
+    (lowered_more g c.args.nodes.now.len c.args.gone c.args.from c.loop-no.no c.requires.tree
     c.loop-no.nodes.items c.loop-no.auto.no c.loop-no.invariant (entry c.write_number.new.nodes.items) (c.in-Some.at, c.in-Some.place)
-    (rw c.as_slice.ensures.value at c.in-Some.ensures) c.write_number.ensures.written
+    (rw c.as_slice.ensures.value at c.in-Some.ensures) c.write_number.ensures.written)
 
 pub returns-clause-lowered : goal.returns-clause-lowered
 returns-clause-lowered c =

@@ -1,0 +1,54 @@
+//! Where each node is listed is noted at the node. What a set has never hangs on a note: it saves the walk over the lists where it holds.
+
+ghost use Rattle.std.specs.Prelude.{◌≡◌, vec_len};
+ghost use Rattle.fast_check_names.specs.Graph.{listings};
+
+use crate::lattice::calls::names_of;
+use crate::lattice::node::{Below, Listing, Node};
+
+/// Notes where a node is listed.
+pub(crate) fn note(nodes: &mut Vec<Node>, no: usize, listed: Listing)
+    ensures len { vec_len nodes.new ≡ vec_len nodes.old }
+    ensures same { listings nodes.new.items ≡ listings nodes.old.items }
+{
+    if no >= nodes.len() {
+        return;
+    }
+    let node = &mut nodes[no];
+    node.listed = listed;
+}
+
+/// Notes at the node of the subset that node `at` lists at a place that it is listed there.
+fn note_place(nodes: &mut Vec<Node>, at: usize, place: usize)
+    ensures len { vec_len nodes.new ≡ vec_len nodes.old }
+    ensures same { listings nodes.new.items ≡ listings nodes.old.items }
+{
+    let Some((_, below)) = names_of(nodes.as_slice(), at).get(place) else {
+        return;
+    };
+    let Below::Subset(no) = *below else {
+        return;
+    };
+    note(nodes, no.0, Listing { node: at, place });
+}
+
+/// Notes at each node that node `at` lists from a place on where it is listed.
+pub(crate) fn note_places(nodes: &mut Vec<Node>, at: usize, from: usize)
+    ensures len { vec_len nodes.new ≡ vec_len nodes.old }
+    ensures same { listings nodes.new.items ≡ listings nodes.old.items }
+{
+    let count = names_of(nodes.as_slice(), at).len();
+    for place in from..count {
+        note_place(nodes, at, place);
+    }
+}
+
+/// Notes at each node where it is listed.
+pub(crate) fn note_all(nodes: &mut Vec<Node>)
+    ensures len { vec_len nodes.new ≡ vec_len nodes.old }
+    ensures same { listings nodes.new.items ≡ listings nodes.old.items }
+{
+    for at in 0..nodes.len() {
+        note_places(nodes, at, 0);
+    }
+}
