@@ -1,4 +1,6 @@
 pub mod Beginnings
+pub mod Begun
 pub mod First
+pub mod Found
 pub mod MembersFound
 pub mod Rows

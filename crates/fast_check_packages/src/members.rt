@@ -7,18 +7,18 @@ ghost use Rattle.fast_check_packages.specs.Texts.{IsTextIndex};
 
 use crate::member_places::{MemberPlaces, member_places};
 use crate::package::{PackageNv, WorkspaceMember};
-use crate::texts::TextIndex;
+use crate::texts::{TextIndex, TextPlaces};
 use std::alloc::{AllocError, Global};
 
 /// The texts of the bases of members.
 fn base_index(alloc: Global, members: &[WorkspaceMember]) -> Result<TextIndex, AllocError>
     ensures { IfOk result (IsTextIndex (bases_of members.now)) }
 {
-    let mut texts = TextIndex::new(alloc);
+    let mut texts = TextPlaces::new(alloc);
     for (place, member) in members.iter().enumerate() {
         texts.push(alloc, member.base.as_str().as_bytes(), place)?;
     }
-    Ok(texts)
+    texts.indexed(alloc)
 }
 
 /// Members of a workspace, found without going through their list.

@@ -10,7 +10,7 @@ ghost use Rattle.fast_check_packages.specs.Texts.{IsTextIndex};
 use crate::listed::ListedPackages;
 use crate::package::PackageNv;
 use crate::provider::JsrUrlProvider;
-use crate::texts::TextIndex;
+use crate::texts::{TextIndex, TextPlaces};
 use std::alloc::{AllocError, Global};
 use std::collections::BTreeMap;
 use std::marker::Model;
@@ -55,11 +55,11 @@ fn package_index(
 fn url_index(alloc: Global, rows: &[(PackageNv, Url)]) -> Result<TextIndex, AllocError>
     ensures { IfOk result (IsTextIndex (texts_of rows.now)) }
 {
-    let mut texts = TextIndex::new(alloc);
+    let mut texts = TextPlaces::new(alloc);
     for (place, row) in rows.iter().enumerate() {
         texts.push(alloc, row.1.as_str().as_bytes(), place)?;
     }
-    Ok(texts)
+    texts.indexed(alloc)
 }
 
 impl IndexedPackages {

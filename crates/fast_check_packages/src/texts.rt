@@ -1,22 +1,28 @@
 //! Texts, of which the first that begins another is found.
-ghost use Rattle.std.specs.Prelude.{◌≡◌, ◌++◌, ◌∷◌, [], ◌&&◌, ℕ, List, Some, None, cond, length, OnOk};
-ghost use Rattle.std.specs.Option.{option_or};
-ghost use Rattle.std.specs.Ordering.{is_eq, nat_cmp};
+ghost use Rattle.std.specs.Prelude.{◌≡◌, ◌++◌, ◌∷◌, [], ℕ, List, Some, None, cond, length, OnOk, IfOk};
+ghost use Rattle.std.specs.Option.{option_or, option_copied};
+ghost use Rattle.std.specs.Map.{keys_of};
 ghost use Rattle.std.specs.Str.{bytes_eq};
 ghost use Rattle.fast_check_packages.specs.Listed.{begins_with};
 ghost use Rattle.fast_check_packages.specs.First.{first_place, earlier};
-ghost use Rattle.fast_check_packages.specs.Texts.{place_of, IsTextIndex};
+ghost use Rattle.fast_check_packages.specs.Texts.{place_of, common, IsAscending, IsLastUpTo, AreFirsts, first_among, IsAppended, HasTextPlaces, IsTextIndex};
 
 use std::alloc::{AllocError, Global};
-use std::collections::{BTreeMap, BTreeSet};
+use std::collections::BTreeMap;
 
-/// Texts by their bytes, each with its first place among them.
+/// Texts in the order of their bytes, each with the place of the first text that begins it.
 ///
-/// A look-up asks once for each length that a text has: as often as they differ in length, however many they are.
+/// What begins a text begins the last one in this order that is not above it, too. So a look-up finds that one by a binary
+/// search. Where it does not begin the text, the two have a common beginning, which is shorter, and it goes on with that.
 #[derive(Drop)]
 pub struct TextIndex {
+    entries: Vec<(Vec<u8>, usize)>,
+}
+
+/// Texts as they are put together for an index: each with its first place among them.
+#[derive(Drop)]
+pub(crate) struct TextPlaces {
     places: BTreeMap<Vec<u8>, usize>,
-    lengths: BTreeSet<usize>,
 }
 
 /// The earlier of two places.
@@ -52,33 +58,59 @@ pub(crate) fn put_first(
     Ok(())
 }
 
-impl TextIndex {
-    /// An index of no texts.
-    pub fn new(alloc: Global) -> TextIndex
-        ensures { IsTextIndex [] result }
-    {
-        TextIndex {
-            places: BTreeMap::new(alloc),
-            lengths: BTreeSet::new(alloc),
+/// How many bytes two texts have in common at their beginnings.
+fn common_length(text: &[u8], other: &[u8]) -> usize
+    ensures { result ≡ common text.now other.now }
+{
+    let shorter = text.len().min(other.len());
+    for place in 0..shorter {
+        if text[place] != other[place] {
+            return place;
         }
     }
+    shorter
+}
 
-    /// Adds the text that follows the others, by its place among them.
-    pub fn push(&mut self, alloc: Global, text: &[u8], place: usize) -> Result<(), AllocError>
-        ensures { OnOk result ((texts : List (List ℕ)) → place ≡ length texts → IsTextIndex texts self.old
-            → IsTextIndex (texts ++ text.now ∷ []) self.new) }
+impl TextIndex {
+    /// The last of its texts that is not above another.
+    fn last_up_to(&self, text: &[u8]) -> Option<&(Vec<u8>, usize)>
+        ensures { IsAscending self.now.entries.items → IsLastUpTo text.now self.now.entries.items (option_copied result) }
     {
-        self.lengths.insert(text.len())?;
-        put_first(alloc, &mut self.places, text, place)
+        let after = self
+            .entries
+            .partition_point(|entry| entry.0.as_slice().cmp(&text).is_le());
+        self.entries.get(after.checked_sub(1)?)
     }
 
-    /// The place of the first text that begins another and has this length.
-    fn first_as_long(&self, text: &[u8], size: usize) -> Option<usize>
-        ensures { (texts : List (List ℕ)) → IsTextIndex texts self.now
-            → result ≡ first_place (λ t. begins_with t text.now && is_eq (nat_cmp (length t) size)) texts }
+    /// The place of the first text that begins another, of those that it has.
+    fn first_of(&self, text: &[u8]) -> Option<usize>
+        ensures { (texts : List (List ℕ)) → AreFirsts texts self.now.entries.items
+            → result ≡ first_among self.now.entries.items text.now texts }
     {
-        let beginning = text.get(..size)?;
-        self.places.get(beginning).copied()
+        let mut asked = text;
+        while let Some((key, first)) = self.last_up_to(asked) {
+            let common = common_length(key.as_slice(), asked);
+            if common == key.len() {
+                return Some(*first);
+            }
+            if common >= asked.len() {
+                return None;
+            }
+            asked = &asked[..common];
+        }
+        None
+    }
+
+    /// Adds a text that is above the others, by its first place.
+    fn append(&mut self, text: Vec<u8>, place: usize) -> Result<(), AllocError>
+        ensures keys { OnOk result (keys_of self.new.entries.items ≡ keys_of self.old.entries.items ++ text ∷ []) }
+        ensures firsts { OnOk result ((texts : List (List ℕ)) → first_place (bytes_eq text.items) texts ≡ Some place
+            → IsAppended text.items self.old.entries.items → AreFirsts texts self.old.entries.items
+            → AreFirsts texts self.new.entries.items) }
+    {
+        let first = earlier(self.first_of(text.as_slice()), Some(place));
+        self.entries.push((text, first.unwrap_or(place)))?;
+        Ok(())
     }
 
     /// The place of the first text that begins another.
@@ -86,10 +118,43 @@ impl TextIndex {
         ensures { (texts : List (List ℕ)) → IsTextIndex texts self.now
             → result ≡ first_place (λ t. begins_with t text.now) texts }
     {
-        let mut first = None;
-        for size in &self.lengths {
-            first = earlier(first, self.first_as_long(text, *size));
+        self.first_of(text)
+    }
+}
+
+impl TextPlaces {
+    /// No texts.
+    pub(crate) fn new(alloc: Global) -> TextPlaces
+        ensures { HasTextPlaces [] result }
+    {
+        TextPlaces {
+            places: BTreeMap::new(alloc),
         }
-        first
+    }
+
+    /// Adds the text that follows the others, by its place among them.
+    pub(crate) fn push(
+        &mut self,
+        alloc: Global,
+        text: &[u8],
+        place: usize,
+    ) -> Result<(), AllocError>
+        ensures { OnOk result ((texts : List (List ℕ)) → place ≡ length texts → HasTextPlaces texts self.old
+            → HasTextPlaces (texts ++ text.now ∷ []) self.new) }
+    {
+        put_first(alloc, &mut self.places, text, place)
+    }
+
+    /// An index of these texts.
+    pub(crate) fn indexed(self, alloc: Global) -> Result<TextIndex, AllocError>
+        ensures { IfOk result (λ index. (texts : List (List ℕ)) → HasTextPlaces texts self → IsTextIndex texts index) }
+    {
+        let mut index = TextIndex {
+            entries: Vec::new(alloc),
+        };
+        for (text, place) in self.places {
+            index.append(text, place)?;
+        }
+        Ok(index)
     }
 }

@@ -3,7 +3,7 @@ use Rattle.std.specs.Option.{option_or}
 use Rattle.std.proofs.lemmas.Result.{IfOk-weaker}
 use Rattle.fast_check_packages.specs.Texts.{place_of}
 use Rattle.fast_check_packages.proofs.Beginnings.{texts_more}
-use Rattle.fast_check_packages.proofs.texts.TextIndex.push.Goals as goal
+use Rattle.fast_check_packages.proofs.texts.TextPlaces.push.Goals as goal
 
 pub returns : goal.returns
 returns c =
@@ -12,6 +12,5 @@ returns c =
     (λ _. (asked : List ℕ) → place_of asked c.put_first.new.places
     ≡ option_or (place_of asked c.args.self.now.places) (cond (bytes_eq text asked) (Some c.args.place) None))
     _
-    (λ _ put texts at h. texts_more texts text c.args.place c.args.self.now
-    (record { places = c.put_first.new.places; lengths = c.insert.new.self }) at put c.in_ok-insert.ensures.updates h)
+    (λ _ put texts at h. texts_more texts text c.args.place c.args.self.now (record { places = c.put_first.new.places }) at put h)
     c.put_first.ensures
