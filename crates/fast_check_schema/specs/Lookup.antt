@@ -1,11 +1,11 @@
 -- Looking into the tables: by the text that JSON has, and by the node or word that a tree has.
-use Rattle.std.specs.Prelude.{ℕ, zero, suc, List, Bool, false, Option, Some, None, if◌then◌else◌}
+use Rattle.std.specs.Prelude.{ℕ, zero, suc, List, Bool, false, Option, Some, None}
 use Rattle.std.specs.List.{find, list_any}
 use Rattle.std.specs.Str.{bytes_eq}
 use denote.Enum.Bare.{sameb}
 use Rattle.fast_check_syntax.specs.Shape.{◌is◌}
 use Rattle.fast_check_syntax.specs.declared.kind.Kind.{Kind}
-use Rattle.fast_check_syntax.specs.declared.kind.Kind.TheVariants.{TargetPat, PatExpr}
+use Rattle.fast_check_syntax.specs.declared.kind.Kind.TheVariants as kinds
 use Rattle.fast_check_syntax.specs.declared.kind.Word.{Word}
 use Rattle.fast_check_syntax.specs.contracts.kind.Word.{the_type as word_type}
 use Rattle.fast_check_schema.specs.declared.form.Form.{Form}
@@ -42,5 +42,6 @@ variant_by_kind kind variants = find (λ v. is_admitted 2 kind v.form) variants
 
 -- what a mark stands round: a pattern that is assigned to, or an expression that is a pattern
 abbrev pub marked_choice : Kind → Option Choice
-marked_choice kind = if kind is TargetPat then Some choices.Pat else
-    (if kind is PatExpr then Some choices.Expr else None)
+marked_choice kinds.TargetPat = Some choices.Pat
+marked_choice kinds.PatExpr = Some choices.Expr
+marked_choice _ = None
