@@ -8,7 +8,7 @@ use Rattle.fast_check_syntax.specs.Moves.{Moves, moved}
 use Rattle.fast_check_syntax.proofs.Moved.{kind_of_moved, part_moved, parts_moved, is_absent_moved, flag_of_moved}
 use Rattle.fast_check_statement_forms.specs.Statements.{BlockStmt-stmts}
 use Rattle.fast_check_helpers.specs.Places.{at-BlockStmt-stmts}
-use Rattle.fast_check_helpers.specs.OptionalParams.{is_optional_param}
+use Rattle.fast_check_helpers.specs.OptionalParams.{optional_by_kind, is_optional_param}
 use Rattle.fast_check_helpers.specs.ReturnClass.{returns, returns_form, returns_by_kind, class_of_body, return_class}
 use Rattle.fast_check_helpers.proofs.Levels.{moved_stays}
 use Rattle.fast_check_helpers.proofs.Returns.{returns_out}
@@ -32,5 +32,11 @@ module _ (m : Moves) where
       ap₂ class_of_body (ap parts (part_moved m at-BlockStmt-stmts.place t) ∙ parts_moved m (BlockStmt-stmts t)) (returns_moved t)
       ∙ class_of_map (parts (BlockStmt-stmts t)) (returns t)
 
+  optional_moved : (k : Kind) (t : Tree) → optional_by_kind k (moved m t) ≡ optional_by_kind k t
+  optional_moved kinds.BindingIdent t = simp (part_moved, flag_of_moved)
+  optional_moved kinds.ArrayPat t = simp (part_moved, flag_of_moved)
+  optional_moved kinds.ObjectPat t = simp (part_moved, flag_of_moved)
+  optional_moved _ t = refl
+
   pub is_optional_param_moved : (t : Tree) → is_optional_param (moved m t) ≡ is_optional_param t
-  is_optional_param_moved t = simp (kind_of_moved, part_moved, flag_of_moved)
+  is_optional_param_moved t = ap (λ k. optional_by_kind k (moved m t)) (kind_of_moved m t) ∙ optional_moved (kind_of t) t

@@ -1,22 +1,24 @@
 -- Parameters that a call may leave out.
-use Rattle.std.specs.Prelude.{◌≡◌, ℕ, ◌<◌, Bool, true, false, ◌||◌, leb, List, drop, length, if◌then◌else◌, Option}
-use Rattle.std.specs.Prelude.{Some, None}
+use Rattle.std.specs.Prelude.{◌≡◌, ℕ, ◌<◌, Bool, true, false, leb, List, drop, length, Option, Some, None}
 use Rattle.std.specs.List.{list_all}
-use Rattle.fast_check_syntax.specs.declared.kind.Kind.TheVariants.{BindingIdent, ArrayPat, ObjectPat, AssignPat}
-use Rattle.fast_check_syntax.specs.declared.kind.Kind.TheVariants.{RestPat}
+use Rattle.fast_check_syntax.specs.declared.kind.Kind.{Kind}
+use Rattle.fast_check_syntax.specs.declared.kind.Kind.TheVariants as kinds
 use Rattle.fast_check_syntax.specs.declared.tree.Tree.{Tree}
-use Rattle.fast_check_syntax.specs.Shape.{◌is◌, kind_of}
+use Rattle.fast_check_syntax.specs.Shape.{kind_of}
 use Rattle.fast_check_program_forms.specs.Names.{BindingIdent-id, Ident-optional}
 use Rattle.fast_check_expression_forms.specs.Patterns.{ArrayPat-optional, ObjectPat-optional}
 
 -- an identifier or a pattern with `?`, one with a default, or a rest
+abbrev pub optional_by_kind : Kind → Tree → Bool
+optional_by_kind kinds.BindingIdent pat = Ident-optional (BindingIdent-id pat)
+optional_by_kind kinds.ArrayPat pat = ArrayPat-optional pat
+optional_by_kind kinds.ObjectPat pat = ObjectPat-optional pat
+optional_by_kind kinds.AssignPat pat = true
+optional_by_kind kinds.RestPat pat = true
+optional_by_kind _ pat = false
+
 abbrev pub is_optional_param : Tree → Bool
-is_optional_param pat =
-    let kind = kind_of pat in
-    if kind is BindingIdent then Ident-optional (BindingIdent-id pat)
-    else (if kind is ArrayPat then ArrayPat-optional pat
-    else (if kind is ObjectPat then ObjectPat-optional pat
-    else ((kind is AssignPat) || (kind is RestPat))))
+is_optional_param pat = optional_by_kind (kind_of pat) pat
 
 -- whether every parameter from a place on is optional
 abbrev pub is_optional_from : ℕ → List Tree → Bool

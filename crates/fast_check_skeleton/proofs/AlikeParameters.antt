@@ -1,5 +1,5 @@
 -- Parameters that agree but for what is hidden are seen alike.
-use Rattle.std.specs.Prelude.{◌≡◌, Bool, true, false, ◌||◌, Option, Some, None, option_map, [], ◌∷◌, refl, if◌then◌else◌}
+use Rattle.std.specs.Prelude.{◌≡◌, Bool, true, false, Option, Some, None, option_map, [], ◌∷◌, refl, if◌then◌else◌}
 use Rattle.std.proofs.Common.{ap, ap₂, ◌∙◌, sym, subst₂, true≢false}
 use Rattle.fast_check_syntax.specs.declared.kind.Kind.{Kind}
 use Rattle.fast_check_syntax.specs.declared.kind.Kind.TheVariants as kinds
@@ -16,11 +16,11 @@ use Rattle.fast_check_expression_forms.specs.Patterns.{ObjectPat-optional, Objec
 use Rattle.fast_check_expression_forms.specs.Patterns.{RestPat-arg, RestPat-type_ann, rest_pat, AssignPat-span, AssignPat-left}
 use Rattle.fast_check_expression_forms.specs.Patterns.{AssignPat-right, assign_pat}
 use Rattle.fast_check_ranges.specs.Ranges.{range_of_node}
-use Rattle.fast_check_program_forms.specs.Names.{Ident-span, Ident-optional, BindingIdent-id, BindingIdent-type_ann}
+use Rattle.fast_check_program_forms.specs.Names.{Ident-span, BindingIdent-id, BindingIdent-type_ann}
 use Rattle.fast_check_helpers.specs.declared.literal_type.DeclMutabilityKind.TheVariants.{Mutable}
 use Rattle.fast_check_helpers.specs.Builders.{type_ann, never_value}
 use Rattle.fast_check_helpers.specs.InferredType.{inferred_type}
-use Rattle.fast_check_helpers.specs.OptionalParams.{is_optional_param}
+use Rattle.fast_check_helpers.specs.OptionalParams.{optional_by_kind, is_optional_param}
 use Rattle.fast_check_helpers.proofs.BuildersMoved.{type_ann_moved, never_value_moved}
 use Rattle.fast_check_helpers.proofs.ReturnsMoved.{is_optional_param_moved}
 use Rattle.fast_check_signatures.specs.Bindings.{Bindings}
@@ -74,14 +74,10 @@ replaced_arg kinds.PatExpr arg e = refl
 replaced_arg _ arg e = cc
 
 -- whether a parameter is optional, by its kind
-abbrev optional_at : Tree → Kind → Bool
-optional_at pat kind =
-    if kind is kinds.BindingIdent then Ident-optional (BindingIdent-id pat)
-    else (if kind is kinds.ArrayPat then ArrayPat-optional pat
-    else (if kind is kinds.ObjectPat then ObjectPat-optional pat
-    else ((kind is kinds.AssignPat) || (kind is kinds.RestPat))))
+optional_of : (pat : Tree) {k : Kind} → kind_of pat ≡ k → is_optional_param pat ≡ optional_by_kind k pat
+optional_of pat e = ap (λ k. optional_by_kind k pat) e
 
-unfit_optional : (pat : Tree) (k : Kind) → is_parameter k ≡ false → optional_at pat k ≡ false
+unfit_optional : (pat : Tree) (k : Kind) → is_parameter k ≡ false → optional_by_kind k pat ≡ false
 unfit_optional pat kinds.BindingIdent e = cc
 unfit_optional pat kinds.AssignPat e = cc
 unfit_optional pat kinds.RestPat e = cc
@@ -167,14 +163,14 @@ module _ (r : Renaming) (ok : IsRenaming r) where
     same_optional t u s = same_read r ok is_optional_param (λ m keeps t. is_optional_param_moved m t) t u (tree_to r ok s)
 
     pub emptied_optional : (t u : Tree) → SameEmptied r c d t u → is_optional_param t ≡ is_optional_param u
-    emptied_optional t u (s.array k a o e) = ap (optional_at t) k.left ∙ (o ∙ sym (ap (optional_at u) k.right))
-    emptied_optional t u (s.object k a o e) = ap (optional_at t) k.left ∙ (o ∙ sym (ap (optional_at u) k.right))
+    emptied_optional t u (s.array k a o e) = optional_of t k.left ∙ (o ∙ sym (optional_of u k.right))
+    emptied_optional t u (s.object k a o e) = optional_of t k.left ∙ (o ∙ sym (optional_of u k.right))
 
     pub rest_optional : (t u : Tree) → Both kinds.RestPat t u → is_optional_param t ≡ is_optional_param u
-    rest_optional t u k = ap (optional_at t) k.left ∙ sym (ap (optional_at u) k.right)
+    rest_optional t u k = optional_of t k.left ∙ sym (optional_of u k.right)
 
     pub assign_optional : (t u : Tree) → Both kinds.AssignPat t u → is_optional_param t ≡ is_optional_param u
-    assign_optional t u k = ap (optional_at t) k.left ∙ sym (ap (optional_at u) k.right)
+    assign_optional t u k = optional_of t k.left ∙ sym (optional_of u k.right)
 
     pub unfit_same : (t u : Tree) → is_parameter (kind_of t) ≡ false → is_parameter (kind_of u) ≡ false →
         is_optional_param t ≡ is_optional_param u
