@@ -1,6 +1,6 @@
 //! The order by which a name is found among others: their numbers, sorted by name, in short runs. A number comes in where there is memory for it.
 
-ghost use Rattle.std.specs.Prelude.{◌≡◌, ◌<◌, ◌≤◌, ◌-◌, ◌+◌, IfOk, true, false, get_or, length, vec_len};
+ghost use Rattle.std.specs.Prelude.{◌≡◌, ◌<◌, ◌≤◌, ◌-◌, ◌+◌, IfOk, IsTrue, true, false, get_or, length, vec_len};
 ghost use Rattle.std.specs.Bool.{OnTrue, OnFalse};
 ghost use Rattle.std.specs.List.{concat, insert};
 ghost use Rattle.std.specs.Option.{MatchOption};
@@ -15,7 +15,7 @@ const LONG: usize = 512;
 
 /// A place in a run: behind it stand the names above a name.
 #[derive(Debug, Clone, Copy)]
-struct Slot {
+pub(crate) struct Slot {
     run: usize,
     at: usize,
 }
@@ -30,7 +30,8 @@ fn name_of(names: &[(String, Below)], number: usize) -> &str
     }
 }
 
-/// Whether the name of a number is above a name.
+/// Whether the name of a number is above a name. It is called, so that a search branches on its answer, and need not wait for each name to be read.
+#[inline(never)]
 fn is_above(names: &[(String, Below)], number: usize, name: &str) -> bool
     ensures { result ≡ above names.now number name.now }
 {
@@ -99,25 +100,71 @@ fn slot_of(names: &[(String, Below)], runs: &[Vec<usize>], name: &str) -> Slot
     Slot { run, at }
 }
 
-/// The number of a name that is in the order.
+/// Whether a place in a run is not too far on for a name.
+fn is_upto(names: &[(String, Below)], run: &[usize], slot: Slot, name: &str) -> bool
+    ensures within { IsTrue result → slot.at ≤ length run.now }
+    ensures start { IsTrue result → slot.at ≡ 0 → slot.run ≡ 0 }
+    ensures upto { IsTrue result → 0 < slot.at → above names.now (get_or run.now (slot.at - 1) 0) name.now ≡ false }
+{
+    if slot.at > run.len() {
+        return false;
+    }
+    if slot.at == 0 {
+        return slot.run == 0;
+    }
+    !is_above(names, run[slot.at - 1], name)
+}
+
+/// Whether a name would stand in a slot. At the end of a run that is not told, but of the last one.
+fn is_slot(names: &[(String, Below)], runs: &[Vec<usize>], slot: Slot, name: &str) -> bool
+    ensures { IsTrue result → IsSlot names.now (lists runs.now) name.now slot.run slot.at }
+{
+    if slot.run >= runs.len() {
+        return false;
+    }
+    let run = runs[slot.run].as_slice();
+    if !is_upto(names, run, slot, name) {
+        return false;
+    }
+    if slot.at == run.len() {
+        return slot.run + 1 == runs.len();
+    }
+    is_above(names, run[slot.at], name)
+}
+
+/// Where a name would stand: in the slot that is given, or where it is found to.
+fn slot_near(names: &[(String, Below)], runs: &[Vec<usize>], name: &str, hint: Option<Slot>) -> Slot
+    requires { AreFilled (lists runs.now) }
+    ensures { IsSlot names.now (lists runs.now) name.now result.run result.at }
+{
+    let Some(slot) = hint else {
+        return slot_of(names, runs, name);
+    };
+    if is_slot(names, runs, slot, name) {
+        return slot;
+    }
+    slot_of(names, runs, name)
+}
+
+/// The number of a name that is in the order, and the slot in which it would stand behind its like.
 pub(crate) fn find(
     names: &[(String, Below)],
     runs: &[Vec<usize>],
     sorted: usize,
     name: &str,
-) -> Option<usize>
+) -> (Option<usize>, Slot)
     requires { IsOrder (names_in names.now) (lists runs.now) sorted }
-    ensures { MatchOption result (IsAbsentBefore names.now name.now sorted) (λ i. (i < sorted) × (name_at names.now i ≡ name.now)) }
+    ensures { MatchOption result.0 (IsAbsentBefore names.now name.now sorted) (λ i. (i < sorted) × (name_at names.now i ≡ name.now)) }
 {
     let slot = slot_of(names, runs, name);
     if slot.at == 0 {
-        return None;
+        return (None, slot);
     }
     let number = runs[slot.run][slot.at - 1];
     if name_of(names, number) == name {
-        return Some(number);
+        return (Some(number), slot);
     }
-    None
+    (None, slot)
 }
 
 /// Makes the first run, if there is memory for it.
@@ -169,12 +216,13 @@ fn put(runs: &mut Vec<Vec<usize>>, slot: Slot, number: usize) -> bool
     true
 }
 
-/// Puts the number of the first name that is not in the order, if there is memory for it.
+/// Puts the number of the first name that is not in the order, if there is memory for it. It is looked for where it may stand.
 fn put_next(
     names: &[(String, Below)],
     runs: &mut Vec<Vec<usize>>,
     alloc: Global,
     sorted: usize,
+    hint: Option<Slot>,
 ) -> bool
     requires order { IsOrder (names_in names.now) (lists runs.old.items) sorted }
     requires within { sorted < length names.now }
@@ -185,8 +233,29 @@ fn put_next(
     if runs.is_empty() {
         return put_first(runs, alloc, sorted);
     }
-    let slot = slot_of(names, runs.as_slice(), name_of(names, sorted));
+    let slot = slot_near(names, runs.as_slice(), name_of(names, sorted), hint);
     put(runs, slot, sorted)
+}
+
+/// Puts the numbers of the names that are not in the order, as long as there is memory, and answers of how many names it then is. The slot is where the
+/// next one may stand.
+pub(crate) fn sort_near(
+    names: &[(String, Below)],
+    runs: &mut Vec<Vec<usize>>,
+    alloc: Global,
+    sorted: usize,
+    hint: Option<Slot>,
+) -> usize
+    requires order { IsOrder (names_in names.now) (lists runs.old.items) sorted }
+    requires once { IsOnce names.now }
+    ensures { IsOrder (names_in names.now) (lists runs.new.items) result }
+{
+    for number in sorted..names.len() {
+        if !put_next(names, runs, alloc, number, hint) {
+            return number;
+        }
+    }
+    names.len()
 }
 
 /// Puts the numbers of the names that are not in the order, as long as there is memory, and answers of how many names it then is.
@@ -200,12 +269,7 @@ pub(crate) fn sort_from(
     requires once { IsOnce names.now }
     ensures { IsOrder (names_in names.now) (lists runs.new.items) result }
 {
-    for number in sorted..names.len() {
-        if !put_next(names, runs, alloc, number) {
-            return number;
-        }
-    }
-    names.len()
+    sort_near(names, runs, alloc, sorted, None)
 }
 
 /// The numbers below a count.

@@ -4,8 +4,8 @@ use Rattle.fast_check_names.proofs.Places.{names_push, once_push, once_along, fo
 use Rattle.fast_check_names.proofs.Sorted.{order_more, order_along}
 use Rattle.fast_check_names.proofs.lattice.nodes.put_new.Goals as goal
 
-pub sort_from-node-requires-clause-order : goal.sort_from-node-requires-clause-order
-sort_from-node-requires-clause-order c =
+pub sort_near-node-requires-clause-order : goal.sort_near-node-requires-clause-order
+sort_near-node-requires-clause-order c =
     let node = c.args.node.now in
     let es = node.names.items in
     let e : Entry = (c.args.name, c.args.below) in
@@ -14,8 +14,8 @@ sort_from-node-requires-clause-order c =
     order_along (names_in c.as_slice.result.now) (names_in es ++ string_bytes c.args.name ∷ []) (lists node.runs.items) node.sorted same
     (order_more (names_in es) (string_bytes c.args.name ∷ []) (lists node.runs.items) node.sorted node.order)
 
-pub sort_from-node-requires-clause-once : goal.sort_from-node-requires-clause-once
-sort_from-node-requires-clause-once c =
+pub sort_near-node-requires-clause-once : goal.sort_near-node-requires-clause-once
+sort_near-node-requires-clause-once c =
     let es = c.args.node.now.names.items in
     let e : Entry = (c.args.name, c.args.below) in
     once_along c.as_slice.result.now (es ++ e ∷ []) (ap names_in (c.as_slice.ensures.value ∙ c.in_ok-push.ensures.items))
@@ -28,7 +28,7 @@ invariant_of-node-2 c =
     record {
       once = once_along c.push.new.self.items (es ++ e ∷ []) (ap names_in c.in_ok-push.ensures.items)
           (once_push es e c.args.node.now.once c.requires);
-      order = rw c.as_slice.ensures.value at c.sort_from-node.ensures;
+      order = rw c.as_slice.ensures.value at c.sort_near-node.ensures;
     }
 
 pub returns-clause-found : goal.returns-clause-found

@@ -26,10 +26,10 @@ returns-clause-done c =
     let runs = c.args.runs.now in
     let xss = lists runs.items in
     let n = name_at es c.args.sorted in
-    let run = c.slot_of-slot.result.run in
-    let at = c.slot_of-slot.result.at in
+    let run = c.slot_near-slot.result.run in
+    let at = c.slot_near-slot.result.at in
     let more : c.args.sorted < length (names_in es) = omega (arith, c.requires.within, length-map es (λ (e : Entry). string_bytes e.0)) in
-    let read = rw c.as_slice.ensures.value at c.slot_of-slot.ensures in
+    let read = rw c.as_slice.ensures.value at c.slot_near-slot.ensures in
     let slot : IsSlot es xss n run at = subst (λ (m : Name). IsSlot es xss m run at) c.name_of.ensures read in
     let gap : IsGap (keys (names_in es) (concat xss)) n (place xss run at) =
     slot_gap es xss n run at c.requires.order.filled c.requires.order.rising slot
@@ -52,18 +52,18 @@ returns-then-is_empty-clause-left c = on_false_from c.put_first.result
     (lists c.put_first.new.runs.items) c.args.sorted c.requires.order (ap concat same) c.put_first.ensures.filled)
     c.put_first.ensures.left
 
-pub slot_of-slot-requires : goal.slot_of-slot-requires
-slot_of-slot-requires c = rw c.as_slice.ensures.value c.requires.order.filled
+pub slot_near-slot-requires : goal.slot_near-slot-requires
+slot_near-slot-requires c = rw c.as_slice.ensures.value c.requires.order.filled
 
 pub put-requires-clause-run : goal.put-requires-clause-run
 put-requires-clause-run c =
     let runs = c.args.runs.now in
-    let slot = rw c.as_slice.ensures.value at c.slot_of-slot.ensures in
+    let slot = rw c.as_slice.ensures.value at c.slot_near-slot.ensures in
     let there = slot.some (some_runs runs c.if-is_empty.ensures) in
     omega (arith, there, count_is runs.items, runs.ok.0)
 
 pub put-requires-clause-at : goal.put-requires-clause-at
-put-requires-clause-at c = (rw c.as_slice.ensures.value at c.slot_of-slot.ensures).within
+put-requires-clause-at c = (rw c.as_slice.ensures.value at c.slot_near-slot.ensures).within
 
 pub put-requires-clause-filled : goal.put-requires-clause-filled
 put-requires-clause-filled c = c.requires.order.filled

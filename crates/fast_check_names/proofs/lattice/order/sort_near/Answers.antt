@@ -1,6 +1,6 @@
 use Rattle.fast_check_names.specs.Order.{lists}
 use Rattle.fast_check_names.proofs.Sorted.{order_all}
-use Rattle.fast_check_names.proofs.lattice.order.sort_from.Goals as goal
+use Rattle.fast_check_names.proofs.lattice.order.sort_near.Goals as goal
 
 pub loop-number-init : goal.loop-number-init
 loop-number-init c = c.requires.order
