@@ -159,7 +159,8 @@ of_end f whole end path from p w = (
       (λ own. let e = (end own.0 w).0 own.2 in inr (own.1 ∙ (ap (λ (q : Path). path ++ q) e.0 ∙ append-nil path), e.1)) h,
 )
 
-pub shows_all : (g : Graph) (b : Below) (path : Path) (from : ℕ) (old new : Ends) → b ≡ All → ShowsLonger (IsShownBy path from true) old new →
+pub shows_all : (g : Graph) (b : Below) (path : Path) (from : ℕ) (old new : Ends) → b ≡ All →
+    ShowsLonger (IsShownBy path from true) old new →
     ShowsLonger (IsOfBelow path from (reach g (Some b))) old new
 shows_all g b path from old new is shown =
     subst (λ (x : Below). ShowsLonger (IsOfBelow path from (reach g (Some x))) old new) (sym is)

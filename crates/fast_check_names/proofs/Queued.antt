@@ -1,6 +1,33 @@
 -- What the copy of a node lists.
-use Rattle.std.proofs.Common.{◌≡◌, ◌∙◌, sym, ap, refl, ⊎_elim, ℕ, ◌+◌, ◌<◌, ◌≤◌, true, false, cond, List, [], ◌∷◌, ◌++◌, append_assoc, subst, suc, take, None}
-use Rattle.std.proofs.Common.{Some, arith, length, get_or, string_bytes}
+use Rattle.std.proofs.Common.{
+  ◌≡◌,
+  ◌∙◌,
+  sym,
+  ap,
+  refl,
+  ⊎_elim,
+  ℕ,
+  ◌+◌,
+  ◌<◌,
+  ◌≤◌,
+  true,
+  false,
+  cond,
+  List,
+  [],
+  ◌∷◌,
+  ◌++◌,
+  append_assoc,
+  subst,
+  suc,
+  take,
+  None,
+  Some,
+  arith,
+  length,
+  get_or,
+  string_bytes,
+}
 use Rattle.std.specs.Prelude.{Vec, vec_len}
 use Rattle.std.specs.List.{AllZip}
 use Rattle.std.specs.Str.{bytes_eq}
@@ -120,7 +147,8 @@ number_is i j e = let same : i ≡ j = cc in ap (λ (x : NodeNo). x.0) same
 
 head_range : (count : ℕ) (b c : Below) (j : NodeNo) → c ≡ placed count b → c ≡ Subset j → (count ≤ j.0) × (j.0 < count + length (next_of b))
 head_range count All c j e is = absurd (all_no_subset j (sym e ∙ is))
-head_range count (Subset l) c j e is = let same = number_is (record { 0 = count }) j (sym e ∙ is) in (omega (arith, same), omega (arith, same))
+head_range count (Subset l) c j e is = let same = number_is (record { 0 = count }) j (sym e ∙ is) in
+    (omega (arith, same), omega (arith, same))
 
 -- the copy lists places from count on
 pub copy_range : (count : ℕ) (es fs : List Entry) → IsCopyFrom count es fs → (n : Name) (j : NodeNo) → found fs n ≡ Some (Subset j) →

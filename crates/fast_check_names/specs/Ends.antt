@@ -15,11 +15,13 @@ IsBeginning path from below p is_whole = (k : ℕ) × (from ≤ k) × (k < below
 
 -- what an end tells: the beginnings of its path that have at least from names, and the path itself
 abbrev pub IsShownBy : Path → ℕ → Bool → Path → Bool → Type 0
-IsShownBy path from whole p is_whole = IsBeginning path from (length path) p is_whole ⊎ ((p ≡ path) × (is_whole ≡ whole))
+IsShownBy path from whole p is_whole = IsBeginning path from (length path) p is_whole ⊎
+    ((p ≡ path) × (is_whole ≡ whole))
 
 -- what some ends tell
 abbrev pub IsShown : List PathEnd → Path → Bool → Type 0
-IsShown ends p is_whole = (e : PathEnd) × Contains ends e × IsShownBy (path_of e.names.items) e.from e.is_whole p is_whole
+IsShown ends p is_whole = (e : PathEnd) × Contains ends e × IsShownBy (path_of e.names.items) e.from e.is_whole p
+    is_whole
 
 -- the ends tell what the set demands
 abbrev pub AreEnds : NameSet → List PathEnd → Type 0

@@ -1,5 +1,6 @@
 -- Inner: no contract of a public call cites what stands here.
--- Nodes that are copied in the order of a queue: the copy of a node lists the places in the queue of those that follow it.
+-- Nodes that are copied in the order of a queue: the copy of a node lists the places in the queue of those that follow
+-- it.
 use Rattle.std.specs.Prelude.{ℕ, ◌≡◌, ◌+◌, List, [], ◌∷◌, ◌++◌, length, string_bytes}
 use Rattle.fast_check_names.specs.declared.lattice.node.Below.{Below}
 use Rattle.fast_check_names.specs.declared.lattice.node.Below.TheVariants.{All, Subset}

@@ -45,7 +45,8 @@ queue-preserved c =
     rw (c.in_ok-push-2.ensures.items, c.in_ok-copy.ensures.queue)
     (record {
       count = length_push copies copy ∙ ap (λ k. k + 1) c.queue.invariant.count;
-      are = next_copied nodes copies queue c.args.at c.queue.i node copy c.requires.tree c.queue.invariant.are c.queue.invariant.count next is
+      are = next_copied nodes copies queue c.args.at c.queue.i node copy c.requires.tree c.queue.invariant.are c.queue.invariant.count
+          next is
           lists;
     })
 

@@ -16,7 +16,8 @@ loop-i-preserved c =
     let long = length-map c.args.nodes.now.items (λ (x : Node). x.names.items) in
     let within : i < length ls = omega (arith, c.args.nodes.now.ok.0, c.len-i-end.ensures, long) in
     let held : node.names.items ≡ get_or ls i [] = items_at c.loop-i.nodes.items i node here c.index_mut-node.ensures.value ∙
-    (ap (λ (xs : List (List Entry)). get_or xs i []) c.loop-i.invariant ∙ still (moved_entries (number c.args.numbers.now)) ls i [] within) in
+    (ap (λ (xs : List (List Entry)). get_or xs i []) c.loop-i.invariant ∙ still (moved_entries (number c.args.numbers.now)) ls i []
+    within) in
     listings_set c.loop-i.nodes.items i _ ∙
     (ap (λ (xs : List (List Entry)). set xs i c.renumber_node.new.node.names.items) c.loop-i.invariant ∙
     (ap (λ (es : List Entry). set (map (moved_entries (number c.args.numbers.now)) (take i ls) ++ drop i ls) i es)

@@ -50,7 +50,8 @@ returns-clause-same c =
     let ok : is_ok c.insert.result ≡ true = c.insert.ensures.succeeds (omega (arith, room)) in
     let new : c.insert.new.self.items ≡ insert (set rest c.args.run lower) (c.args.run + 1) c.in-Ok.upper =
     rw (c.insert.ensures.items, ok) in
-    split_same runs rest c.insert.new.self.items c.args.run _ c.index_mut-long.result.now lower c.in-Ok.upper within c.reserve.ensures.items c.index_mut-long.ensures.value
+    split_same runs rest c.insert.new.self.items c.args.run _ c.index_mut-long.result.now lower c.in-Ok.upper within c.reserve.ensures.items
+    c.index_mut-long.ensures.value
     c.in-Ok.ensures.items c.in-Ok.ensures.tail new
 
 pub returns-clause-filled : goal.returns-clause-filled
@@ -70,7 +71,8 @@ returns-clause-filled c =
     c.index_mut-long.ensures.value ∙ (ap (λ (rs : List (Vec _ Global)). get_or rs c.args.run long) c.reserve.ensures.items ∙
     (get_or_default runs c.args.run long c.index.result.now within ∙ sym c.index.ensures)) in
     let count : long.len ≡ c.index.result.now.len = ap (λ (v : Vec _ Global). v.len) same in
-    split_filled runs rest c.insert.new.self.items c.args.run _ long lower c.in-Ok.upper within c.reserve.ensures.items c.index_mut-long.ensures.value
+    split_filled runs rest c.insert.new.self.items c.args.run _ long lower c.in-Ok.upper within c.reserve.ensures.items
+    c.index_mut-long.ensures.value
     c.in-Ok.ensures.items c.in-Ok.ensures.tail new c.requires.filled
     (omega (arith, c.in-Ok.ensures.len, lower.ok.0, c.len-half.ensures, count, c.len.ensures, c.if-len-le-LONG.false))
     (omega (arith, c.in-Ok.ensures.tail_len, c.in-Ok.upper.ok.0, c.len-half.ensures, count, c.len.ensures, c.if-len-le-LONG.false))

@@ -18,7 +18,8 @@ returns-clause-tree c =
     c.fill.ensures.filled in
     tree_out old.items lowered.items written.items all.items old.len all.len c.args.at c.args.name.now gone c.args.end from
     c.requires.tree c.requires.listed c.requires.without c.requires.filling c.requires.hang c.lower.ensures.lowered
-    c.write_all.ensures.written filled (omega (arith, size, written.ok.0)) (omega (arith, size, c.fill.ensures.len)) (omega (arith, all.ok.0))
+    c.write_all.ensures.written filled (omega (arith, size, written.ok.0)) (omega (arith, size, c.fill.ensures.len))
+    (omega (arith, all.ok.0))
 
 pub returns-clause-added : goal.returns-clause-added
 returns-clause-added c =
@@ -33,4 +34,5 @@ returns-clause-added c =
     c.fill.ensures.filled in
     added_out old.items lowered.items written.items all.items old.len all.len c.args.at c.args.name.now gone c.args.end from
     c.requires.tree c.requires.listed c.requires.without c.requires.filling c.requires.hang c.lower.ensures.lowered
-    c.write_all.ensures.written filled (omega (arith, size, written.ok.0)) (omega (arith, size, c.fill.ensures.len)) (omega (arith, all.ok.0))
+    c.write_all.ensures.written filled (omega (arith, size, written.ok.0)) (omega (arith, size, c.fill.ensures.len))
+    (omega (arith, all.ok.0))

@@ -22,5 +22,6 @@ returns-clause-joined c =
     let alone : (n : Name) → h other n ≡ cond (bytes_eq name n) (Some All) None =
     λ n. ap (λ (es : List Entry). found es n) (sym names) ∙ covering.alone n in
     on_ok_from c.cover.result
-    (λ (added : IsAdded g at (whole_below (name ∷ [])) w). root_gains g h w (joint.enough w (covered_joint g h w at other name alone added)))
+    (λ (added : IsAdded g at (whole_below (name ∷ [])) w). root_gains g h w
+    (joint.enough w (covered_joint g h w at other name alone added)))
     c.cover.ensures.added

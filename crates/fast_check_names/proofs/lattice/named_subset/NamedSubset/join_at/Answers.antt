@@ -29,7 +29,8 @@ returns-clause-joined c =
     on_ok_from c.merge.result
     (λ (is : IsMerge g c.args.self.now.nodes.len c.args.at s w).
     root_gains g h w (c.requires.joint.enough w
-    (merged g s w c.args.self.now.nodes.len c.put_root.new.nodes.len c.args.at c.args.self.now.tree made.tree made.some c.requires.joint.within
+    (merged g s w c.args.self.now.nodes.len c.put_root.new.nodes.len c.args.at c.args.self.now.tree made.tree made.some
+    c.requires.joint.within
     (names_lacked g h s c.args.at c.args.other c.requires.apart same) is (subset_of (below_node h c.args.other))
     (λ part n q. sym (same part (n ∷ q))))))
     c.merge.ensures.merge
