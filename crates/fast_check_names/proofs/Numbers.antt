@@ -13,18 +13,8 @@ use Rattle.fast_check_names.specs.declared.lattice.node.Below.{Below}
 use Rattle.fast_check_names.specs.declared.lattice.node.Below.TheVariants.{All, Subset}
 use Rattle.fast_check_names.specs.Order.{Name, Entry, found, IsOnce, IsAbsentBefore}
 use Rattle.fast_check_names.specs.Graph.{Graph, IsTree, listings}
-use Rattle.fast_check_names.specs.Numbers.{
-  stays,
-  number,
-  number_or_zero,
-  rank,
-  is_node,
-  lists_node,
-  IsWithout,
-  AreGone,
-  AreRanks,
-  AreMovedDown,
-}
+use Rattle.fast_check_names.specs.Numbers.{stays, number, number_or_zero, rank, is_node, lists_node, IsWithout, AreGone, AreRanks}
+use Rattle.fast_check_names.specs.Numbers.{AreMovedDown}
 use Rattle.fast_check_names.proofs.Walks.{name_shows}
 use Rattle.fast_check_names.proofs.Places.{found_none}
 use Rattle.fast_check_names.proofs.Extends.{itself}

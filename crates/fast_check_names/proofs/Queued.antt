@@ -1,33 +1,6 @@
 -- What the copy of a node lists.
-use Rattle.std.proofs.Common.{
-  ◌≡◌,
-  ◌∙◌,
-  sym,
-  ap,
-  refl,
-  ⊎_elim,
-  ℕ,
-  ◌+◌,
-  ◌<◌,
-  ◌≤◌,
-  true,
-  false,
-  cond,
-  List,
-  [],
-  ◌∷◌,
-  ◌++◌,
-  append_assoc,
-  subst,
-  suc,
-  take,
-  None,
-  Some,
-  arith,
-  length,
-  get_or,
-  string_bytes,
-}
+use Rattle.std.proofs.Common.{◌≡◌, ◌∙◌, sym, ap, refl, ⊎_elim, ℕ, ◌+◌, ◌<◌, ◌≤◌, true, false, cond, List, [], ◌∷◌, ◌++◌, append_assoc}
+use Rattle.std.proofs.Common.{subst, suc, take, None, Some, arith, length, get_or, string_bytes}
 use Rattle.std.specs.Prelude.{Vec, vec_len}
 use Rattle.std.specs.List.{AllZip}
 use Rattle.std.specs.Str.{bytes_eq}

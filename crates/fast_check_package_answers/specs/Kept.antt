@@ -12,13 +12,8 @@ use Rattle.fast_check_cache.specs.declared.item.FastCheckCacheModuleItem.{FastCh
 use Rattle.fast_check_cache.specs.declared.package_ranges.PackagePublicRanges.{PackagePublicRanges}
 use Rattle.fast_check_cache.specs.CachedPackages.{source_hash}
 use Rattle.fast_check_module_transform.specs.Transform.{skeleton, sources, comments}
-use Rattle.fast_check_package_answers.specs.PackageFaults.{
-  PublicModule,
-  PackageFault,
-  package_faults,
-  sound_front,
-  subject,
-}
+use Rattle.fast_check_package_answers.specs.PackageFaults.{PublicModule, PackageFault, package_faults, sound_front}
+use Rattle.fast_check_package_answers.specs.PackageFaults.{subject}
 use Rattle.fast_check_package_answers.specs.PackageAnswer.{TreeModule, tree_modules}
 
 -- what contracts see of a module that is kept

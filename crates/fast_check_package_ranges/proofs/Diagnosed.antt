@@ -21,14 +21,8 @@ use Rattle.fast_check_package_ranges.specs.Questions.{whether_implementing, whet
 use Rattle.fast_check_package_ranges.specs.Questions.{whether_faulty, whether_otherwise_faulty}
 use Rattle.fast_check_findings.specs.Diagnostics.{IsFair, any_fault, is_other, passes, diagnoses, diagnose_one_fault}
 use Rattle.fast_check_package_ranges.specs.Parts.{is_text, module_says}
-use Rattle.fast_check_package_ranges.specs.Answers.{
-  diagnoses_missing,
-  diagnoses_untyped_entry,
-  diagnoses_untyped,
-  diagnoses_otherwise,
-  diagnose_alike,
-  module_answer,
-}
+use Rattle.fast_check_package_ranges.specs.Answers.{diagnoses_missing, diagnoses_untyped_entry, diagnoses_untyped, diagnoses_otherwise}
+use Rattle.fast_check_package_ranges.specs.Answers.{diagnose_alike, module_answer}
 use Rattle.fast_check_package_ranges.specs.Made.{diagnosed_if, whole_diagnostics, module_is_said, is_foreign, IsModuleAnswer}
 use Rattle.fast_check_findings.proofs.Bools.{or_none, or_assoc, and_none}
 

@@ -21,20 +21,9 @@ use Rattle.fast_check_package_ranges.specs.declared.parts.JoinedPackage.{JoinedP
 use Rattle.fast_check_package_ranges.specs.Questions.{ModuleQuestion, whether_missing, whether_untyped_entry, whether_untyped}
 use Rattle.fast_check_package_ranges.specs.Questions.{whether_faulty, Question, about, is_fault, is_said, IsTextless}
 use Rattle.fast_check_package_ranges.specs.Parts.{lookup_text, lookup_package}
-use Rattle.fast_check_package_ranges.specs.Answers.{
-  diagnoses_missing,
-  diagnoses_untyped_entry,
-  diagnoses_untyped,
-  diagnose_alike,
-  is_so,
-  module_answer,
-  package_answer,
-  answer,
-  module_diagnostics,
-  package_diagnostics,
-  diagnostics_of,
-  cached_of,
-}
+use Rattle.fast_check_package_ranges.specs.Answers.{diagnoses_missing, diagnoses_untyped_entry, diagnoses_untyped, diagnose_alike, is_so}
+use Rattle.fast_check_package_ranges.specs.Answers.{module_answer, package_answer, answer, module_diagnostics, package_diagnostics}
+use Rattle.fast_check_package_ranges.specs.Answers.{diagnostics_of, cached_of}
 use Rattle.fast_check_package_ranges.specs.Made.{is_foreign, AreModuleAnswers, IsPackageAnswer, ArePackageAnswers}
 
 -- an item that passes

@@ -21,13 +21,8 @@ use Rattle.fast_check_package_ranges.specs.declared.parts.JoinedPackage.{JoinedP
 use Rattle.fast_check_package_ranges.specs.Questions.{ModuleQuestion, whether_untyped, whether_faulty}
 use Rattle.fast_check_package_ranges.specs.Questions.{whether_otherwise_faulty, IsTextlessAbout}
 use Rattle.fast_check_package_ranges.specs.Parts.{is_text, is_package, module_says, lookup_text}
-use Rattle.fast_check_package_ranges.specs.Answers.{
-  diagnoses_untyped,
-  diagnoses_otherwise,
-  diagnose_alike,
-  module_answer,
-  IsKeptAnswer,
-}
+use Rattle.fast_check_package_ranges.specs.Answers.{diagnoses_untyped, diagnoses_otherwise, diagnose_alike}
+use Rattle.fast_check_package_ranges.specs.Answers.{module_answer, IsKeptAnswer}
 
 -- a diagnostic that is there, or is not
 abbrev pub diagnosed_if : Bool → FastCheckDiagnostic → List FastCheckDiagnostic

@@ -1,6 +1,6 @@
 -- What begins a text, what is not above it, and how much two texts have in common.
-use Rattle.std.proofs.Common.{◌≡◌, ◌∙◌, sym, ap, subst, refl, ℕ, zero, suc, ◌<◌, ◌≤◌, Bool, true, false, ◌&&◌, ◌==◌, List, [], ◌∷◌, length, take, slice_index_or}
-use Rattle.std.proofs.Common.{arith, eqb→eq, ⊎_elim, true≢false, T}
+use Rattle.std.proofs.Common.{◌≡◌, ◌∙◌, sym, ap, subst, refl, ℕ, zero, suc, ◌<◌, ◌≤◌, Bool, true, false, ◌&&◌, ◌==◌, List, [], ◌∷◌, length}
+use Rattle.std.proofs.Common.{take, slice_index_or, arith, eqb→eq, ⊎_elim, true≢false, T}
 use Rattle.std.specs.declared.cmp.Ordering.{Ordering}
 use Rattle.std.specs.declared.cmp.Ordering.TheVariants.{Less, Equal, Greater}
 use Rattle.std.specs.Ordering.{MatchOrdering, ordering_then, ordering_reverse, is_le, is_lt, nat_cmp}

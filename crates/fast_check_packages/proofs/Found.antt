@@ -1,6 +1,7 @@
 -- An index of texts in the order of their bytes: how it is made, and what is found by it.
-use Rattle.std.proofs.Common.{◌≡◌, ◌∙◌, sym, ap, subst, refl, ℕ, zero, suc, ◌<◌, ◌≤◌, ◌-◌, Bool, true, false, ◌&&◌, ◌||◌, cond, List, [], ◌∷◌, ◌++◌}
-use Rattle.std.proofs.Common.{length, take, arith, Option, Some, None, Vec, Global, bytes_eq, ⊎_elim, true≢false, is_some, slice_index_or, slice_get, All, unwrap_or}
+use Rattle.std.proofs.Common.{◌≡◌, ◌∙◌, sym, ap, subst, refl, ℕ, zero, suc, ◌<◌, ◌≤◌, ◌-◌, Bool, true, false, ◌&&◌, ◌||◌, cond, List, []}
+use Rattle.std.proofs.Common.{◌∷◌, ◌++◌, length, take, arith, Option, Some, None, Vec, Global, bytes_eq, ⊎_elim, true≢false, is_some}
+use Rattle.std.proofs.Common.{slice_index_or, slice_get, All, unwrap_or}
 use Rattle.std.specs.Bool.{⊤}
 use Rattle.std.specs.Option.{option_map}
 use Rattle.std.specs.List.{list_any}
@@ -258,7 +259,8 @@ pub firsts_more : (texts : List (List ℕ)) (es : List Entry) (e : Entry) (place
     → AreFirsts texts (es ++ e ∷ [])
 firsts_more texts es e place own above are is = record {
   ascending = ascending_more es e are.ascending
-      (All-weaker (λ f. slice_cmp nat_cmp f.0.items e.0.items ≡ Less) (λ f. is_up_to f.0.items e.0.items ≡ true) (λ f h. ap is_le h) es above);
+      (All-weaker (λ f. slice_cmp nat_cmp f.0.items e.0.items ≡ Less) (λ f. is_up_to f.0.items e.0.items ≡ true) (λ f h. ap is_le h) es
+      above);
   firsts =
       All-append (λ f. first_among (es ++ e ∷ []) f.0.items texts ≡ Some f.1) es (e ∷ [])
       (λ k d lt. as_before texts es e (slice_index_or es k d).0.items (above k d lt) ∙ are.firsts k d lt)

@@ -1,6 +1,7 @@
 -- Inner: no contract of a public call cites what stands here.
 -- An index of texts, in the order of their bytes, each with the place of the first text that begins it.
-use Rattle.std.specs.Prelude.{◌≡◌, ℕ, suc, Bool, true, false, ◌==◌, ◌&&◌, cond, List, [], ◌∷◌, Option, Some, None, length, slice_index_or, ◌≤◌, ◌<◌}
+use Rattle.std.specs.Prelude.{◌≡◌, ℕ, suc, Bool, true, false, ◌==◌, ◌&&◌, cond, List, [], ◌∷◌, Option, Some, None}
+use Rattle.std.specs.Prelude.{length, slice_index_or, ◌≤◌, ◌<◌}
 use Rattle.std.specs.List.{All, IsAmong, list_any}
 use Rattle.std.specs.BTreeMap as map
 use Rattle.std.specs.BTreeMap.{BTreeMap}

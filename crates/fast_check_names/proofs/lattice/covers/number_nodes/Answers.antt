@@ -2,16 +2,8 @@ use Rattle.std.proofs.Common.{arith, rules, ap, sym, ◌∙◌, ◌≡◌, ℕ, 
 use Rattle.fast_check_names.specs.Order.{Entry, found}
 use Rattle.fast_check_names.specs.Graph.{entry}
 use Rattle.fast_check_names.specs.Numbers.{stays, lists_node}
-use Rattle.fast_check_names.proofs.Numbers.{
-  numbering_none,
-  numbering_without,
-  rank_upto,
-  numbering_past,
-  numbering_more,
-  numbering_ranks,
-  listed_node,
-  unlisted,
-}
+use Rattle.fast_check_names.proofs.Numbers.{numbering_none, numbering_without, rank_upto, numbering_past, numbering_more, numbering_ranks}
+use Rattle.fast_check_names.proofs.Numbers.{listed_node, unlisted}
 use Rattle.fast_check_names.proofs.lattice.covers.number_nodes.Goals as goal
 
 pub loop-at-init : goal.loop-at-init
