@@ -18,7 +18,7 @@ import tempfile
 HOST = "https://host.example/"
 FIRST, LEAST_SECONDS, MOST_BYTES, MOST_EXPONENT, RUNS = 500, 0.1, 4_000_000, 1.2, 3
 # Shapes that are known to grow with the square, each with the number at which its first size ends: four times that has to fit the stack.
-WITH_THE_SQUARE = {"path_behind_a_file": 8_000, "namespaces_behind_a_file": 500, "packages_within_each_other": 4_000}
+WITH_THE_SQUARE = {"path_behind_a_file": 8_000, "namespaces_behind_a_file": 500}
 RANGES = [[1, 9]]
 NO_TEXT = {"media_type": "TypeScript", "text": "", "program": {"Module": {"span": [1, 1], "body": []}}, "comments": {}}
 
