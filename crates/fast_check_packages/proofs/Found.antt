@@ -1,6 +1,6 @@
 -- An index of texts in the order of their bytes: how it is made, and what is found by it.
-use Rattle.std.proofs.Common.{◌≡◌, ◌∙◌, sym, ap, subst, refl, ℕ, zero, suc, ◌<◌, ◌≤◌, ◌-◌, Bool, true, false, ◌&&◌, ◌||◌, cond, List, []}
-use Rattle.std.proofs.Common.{◌∷◌, ◌++◌, length, take, arith, Option, Some, None, Vec, Global, bytes_eq, ⊎_elim, true≢false, is_some}
+use Rattle.std.proofs.Common.{◌≡◌, ◌∙◌, sym, ap, subst, refl, ℕ, zero, suc, ◌<◌, ◌≤◌, ◌-◌, Bool, true, false, ◌&&◌, ◌||◌, not, cond, List}
+use Rattle.std.proofs.Common.{[], ◌∷◌, ◌++◌, length, take, arith, Option, Some, None, Vec, Global, bytes_eq, ⊎_elim, true≢false, is_some}
 use Rattle.std.proofs.Common.{slice_index_or, slice_get, All, unwrap_or}
 use Rattle.std.specs.Bool.{⊤}
 use Rattle.std.specs.Option.{option_map}
@@ -21,8 +21,8 @@ use Rattle.fast_check_packages.specs.Listed.{begins_with}
 use Rattle.fast_check_packages.specs.declared.texts.TextIndex.{TextIndex}
 use Rattle.fast_check_packages.specs.declared.texts.TextPlaces.{TextPlaces}
 use Rattle.fast_check_packages.specs.First.{first_place, earlier}
-use Rattle.fast_check_packages.specs.Texts.{Entry, is_up_to, common, IsAscending, IsLastUpTo, is_key, first_among, AreFirsts, IsAppended}
-use Rattle.fast_check_packages.specs.Texts.{HasTextPlaces, IsTextIndex}
+use Rattle.fast_check_packages.specs.Texts.{Entry, is_up_to, common, IsAscending, IsLastUpTo, is_key, first_among, first_before, AreFirsts}
+use Rattle.fast_check_packages.specs.Texts.{AreAlone, IsAppended, HasTextPlaces, IsTextIndex}
 use Rattle.fast_check_packages.proofs.First.{first_same, first_same_of, first_none, first_of_either}
 use Rattle.fast_check_packages.proofs.Begun.{le_of_beginning, begins_between, begins_trans, begins_itself, begins_taken, begins_all}
 use Rattle.fast_check_packages.proofs.Begun.{common_within, begins_both, begins_whole, common_below, up_to_trans, up_to_itself, not_up_to}
@@ -207,6 +207,44 @@ is_before es text k last part =
         less : (m n : ℕ) → m ≤ n → (m ≡ n → ⊥) → m < n
         less m n le f = omega arith
 
+-- ---- where no text begins another
+
+none_of : (b : Bool) (o : Option ℕ) → cond b (Some 0) (option_map suc o) ≡ None → (b ≡ false) × (o ≡ None)
+none_of true o e = absurd (true≢false (ap is_some e))
+none_of false None e = (refl, refl)
+none_of false (Some x) e = absurd (true≢false (ap is_some e))
+
+none_at : (f : List ℕ → Bool) (xs : List (List ℕ)) → first_place f xs ≡ None → All (λ x. f x ≡ false) xs
+none_at f [] e = All-nil (λ x. f x ≡ false)
+none_at f (x ∷ xs) e =
+    let n = none_of (f x) (first_place f xs) e in
+    All-cons (λ y. f y ≡ false) x xs n.0 (none_at f xs n.1)
+
+alone_is : (p k n : Bool) → ((p && k) && not n) ≡ false → p ≡ true → k ≡ true → n ≡ true
+alone_is p k true h f g = refl
+alone_is true true false h f g = sym h
+alone_is true false false h f g = g
+alone_is false k false h f g = f
+
+as_much : (m n : ℕ) → m ≤ n → n ≤ m → m ≡ n
+as_much m n h g = omega arith
+
+pub found_alone : (texts : List (List ℕ)) (es : List Entry) (text : List ℕ) (k : Entry) → IsLastUpTo text es (Some k) → AreAlone texts es
+    → (common k.0.items text ≡ length k.0.items → ⊥) → None ≡ first_among es text texts
+found_alone texts es text k last alone part =
+    let here = subst (λ (e : Entry). first_before es e.0.items texts ≡ None) (sym last.0.1.1) (alone last.0.0 k last.0.1.0) in
+    sym (first_same_of (λ t. begins_with t text && is_key es t) (λ _. false) texts
+    (All-weaker (λ t. ((begins_with t k.0.items && is_key es t) && not (bytes_eq t k.0.items)) ≡ false)
+    (λ t. (begins_with t text && is_key es t) ≡ false)
+    (λ t h. never (begins_with t text) (is_key es t)
+    (λ y b. let inner = begins_last es text t k last y b in
+    let same : t ≡ k.0.items = (bytes_eq-Decides t k.0.items).0
+    (alone_is (begins_with t k.0.items) (is_key es t) (bytes_eq t k.0.items) h inner y) in
+    part (as_much (common k.0.items text) (length k.0.items) (common_within k.0.items text)
+    (subst (λ (q : List ℕ). length q ≤ common k.0.items text) same (begins_both t k.0.items text inner b))))) texts
+    (none_at (λ t. (begins_with t k.0.items && is_key es t) && not (bytes_eq t k.0.items)) texts here))
+    ∙ first_none texts)
+
 -- ---- one text more
 
 or_none : (b : Bool) → (b || false) ≡ b
@@ -229,14 +267,47 @@ not_more true true n f = refl
 not_more true false true f = absurd (f refl refl)
 not_more true false false f = refl
 
+same_as_before : (es : List Entry) (e : Entry) (text : List ℕ) → slice_cmp nat_cmp text e.0.items ≡ Less → (t : List ℕ)
+    → (begins_with t text && is_key (es ++ e ∷ []) t) ≡ (begins_with t text && is_key es t)
+same_as_before es e text below t =
+    ap (λ b. begins_with t text && b) (key_more es e t)
+    ∙ not_more (begins_with t text) (is_key es t) (bytes_eq t e.0.items)
+    (λ y b. true≢false (sym (subst (λ (q : List ℕ). is_up_to q text ≡ true) ((bytes_eq-Decides t e.0.items).0 y) (le_of_beginning t text b))
+    ∙ not_up_to text e.0.items below))
+
 as_before : (texts : List (List ℕ)) (es : List Entry) (e : Entry) (text : List ℕ) → slice_cmp nat_cmp text e.0.items ≡ Less
     → first_among (es ++ e ∷ []) text texts ≡ first_among es text texts
 as_before texts es e text below =
     first_same (λ t. begins_with t text && is_key (es ++ e ∷ []) t) (λ t. begins_with t text && is_key es t)
-    (λ t. ap (λ b. begins_with t text && b) (key_more es e t)
-    ∙ not_more (begins_with t text) (is_key es t) (bytes_eq t e.0.items)
-    (λ y b. true≢false (sym (subst (λ (q : List ℕ). is_up_to q text ≡ true) ((bytes_eq-Decides t e.0.items).0 y) (le_of_beginning t text b))
-    ∙ not_up_to text e.0.items below))) texts
+    (λ t. same_as_before es e text below t) texts
+
+none_own : (p k n : Bool) → (p && k) ≡ false → ((p && (k || n)) && not n) ≡ false
+none_own true true n h = absurd (true≢false h)
+none_own true false true h = refl
+none_own true false false h = refl
+none_own false k n h = refl
+
+pub alone_more : (texts : List (List ℕ)) (es : List Entry) (e : Entry) → IsAppended e.0.items es → AreAlone texts es
+    → first_among es e.0.items texts ≡ None → AreAlone texts (es ++ e ∷ [])
+alone_more texts es e above alone none =
+    let text = e.0.items in
+    All-append (λ f. first_before (es ++ e ∷ []) f.0.items texts ≡ None) es (e ∷ [])
+    (λ k d lt. before (slice_index_or es k d).0.items (above k d lt) ∙ alone k d lt)
+    (All-cons (λ f. first_before (es ++ e ∷ []) f.0.items texts ≡ None) e []
+    (first_same_of (λ t. (begins_with t text && is_key (es ++ e ∷ []) t) && not (bytes_eq t text)) (λ _. false) texts
+    (All-weaker (λ t. (begins_with t text && is_key es t) ≡ false)
+    (λ t. ((begins_with t text && is_key (es ++ e ∷ []) t) && not (bytes_eq t text)) ≡ false)
+    (λ t h. ap (λ b. (begins_with t text && b) && not (bytes_eq t text)) (key_more es e t)
+    ∙ none_own (begins_with t text) (is_key es t) (bytes_eq t text) h) texts
+    (none_at (λ t. begins_with t text && is_key es t) texts none))
+    ∙ first_none texts)
+    (All-nil (λ f. first_before (es ++ e ∷ []) f.0.items texts ≡ None)))
+  where
+    before : (text : List ℕ) → slice_cmp nat_cmp text e.0.items ≡ Less → first_before (es ++ e ∷ []) text texts ≡ first_before es text texts
+    before text below =
+        first_same (λ t. (begins_with t text && is_key (es ++ e ∷ []) t) && not (bytes_eq t text))
+        (λ t. (begins_with t text && is_key es t) && not (bytes_eq t text))
+        (λ t. ap (λ b. b && not (bytes_eq t text)) (same_as_before es e text below t)) texts
 
 own_more : (p k n m : Bool) → n ≡ m → (n ≡ true → p ≡ true) → (p && (k || n)) ≡ ((p && k) || m)
 own_more true true n m e f = refl
@@ -259,8 +330,8 @@ pub firsts_more : (texts : List (List ℕ)) (es : List Entry) (e : Entry) (place
     → AreFirsts texts (es ++ e ∷ [])
 firsts_more texts es e place own above are is = record {
   ascending = ascending_more es e are.ascending
-      (All-weaker (λ f. slice_cmp nat_cmp f.0.items e.0.items ≡ Less) (λ f. is_up_to f.0.items e.0.items ≡ true) (λ f h. ap is_le h) es
-      above);
+      (All-weaker (λ f. slice_cmp nat_cmp f.0.items e.0.items ≡ Less) (λ f. is_up_to f.0.items e.0.items ≡ true)
+      (λ f h. ap is_le h) es above);
   firsts =
       All-append (λ f. first_among (es ++ e ∷ []) f.0.items texts ≡ Some f.1) es (e ∷ [])
       (λ k d lt. as_before texts es e (slice_index_or es k d).0.items (above k d lt) ∙ are.firsts k d lt)
@@ -343,9 +414,11 @@ looked_up (e ∷ es) t h =
     or_first false c h = absurd (true≢false (sym h))
 
 pub all_indexed : (texts : List (List ℕ)) (places : TextPlaces) (index : TextIndex) → HasTextPlaces texts places
-    → keys_of index.entries.items ≡ keys_of places.places.entries → AreFirsts texts index.entries.items → IsTextIndex texts index
-all_indexed texts places index has same are = record {
+    → keys_of index.entries.items ≡ keys_of places.places.entries → AreFirsts texts index.entries.items
+    → (index.is_nested ≡ false → AreAlone texts index.entries.items) → IsTextIndex texts index
+all_indexed texts places index has same are alone = record {
   are_firsts = are;
+  are_alone = alone;
   has_texts =
       All-weaker (λ t. is_some (first_place (bytes_eq t) texts) ≡ true) (λ t. is_key index.entries.items t ≡ true)
       (λ t h. subst (λ (ks : List (Vec ℕ Global)). list_any (λ k. bytes_eq t k.items) ks ≡ true) (sym same)
@@ -354,6 +427,9 @@ all_indexed texts places index has same are = record {
 
 pub firsts_none : (texts : List (List ℕ)) → AreFirsts texts []
 firsts_none texts = record { ascending = ordered_at [] tt; firsts = All-nil (λ e. first_among [] e.0.items texts ≡ Some e.1) }
+
+pub alone_none : (texts : List (List ℕ)) → AreAlone texts []
+alone_none texts = All-nil (λ e. first_before [] e.0.items texts ≡ None)
 
 pub none_more : (texts : List (List ℕ)) (index : TextIndex) (text : List ℕ) → IsTextIndex texts index
     → first_among index.entries.items text texts ≡ first_place (λ t. begins_with t text) texts

@@ -1,7 +1,7 @@
 -- Inner: no contract of a public call cites what stands here.
 -- An index of texts, in the order of their bytes, each with the place of the first text that begins it.
-use Rattle.std.specs.Prelude.{◌≡◌, ℕ, suc, Bool, true, false, ◌==◌, ◌&&◌, cond, List, [], ◌∷◌, Option, Some, None}
-use Rattle.std.specs.Prelude.{length, slice_index_or, ◌≤◌, ◌<◌}
+use Rattle.std.specs.Prelude.{◌≡◌, ℕ, suc, ◌≤◌, ◌<◌, Bool, true, false, not, ◌==◌, ◌&&◌, cond, List, [], ◌∷◌}
+use Rattle.std.specs.Prelude.{Option, Some, None, length, slice_index_or}
 use Rattle.std.specs.List.{All, IsAmong, list_any}
 use Rattle.std.specs.BTreeMap as map
 use Rattle.std.specs.BTreeMap.{BTreeMap}
@@ -62,6 +62,15 @@ pub record AreFirsts (texts : List (List ℕ)) (entries : List Entry) : Type 0 w
   pub ascending : IsAscending entries
   pub firsts : All (λ e. first_among entries e.0.items texts ≡ Some e.1) entries
 
+-- the same, of those that are not this text
+abbrev pub first_before : List Entry → List ℕ → List (List ℕ) → Option ℕ
+first_before entries text texts = first_place
+    (λ t. (begins_with t text && is_key entries t) && not (bytes_eq t text)) texts
+
+-- none of their texts begins another
+abbrev pub AreAlone : List (List ℕ) → List Entry → Type 0
+AreAlone texts entries = All (λ e. first_before entries e.0.items texts ≡ None) entries
+
 -- a text is above all entries
 abbrev pub IsAppended : List ℕ → List Entry → Type 0
 IsAppended text entries = All (λ e. slice_cmp nat_cmp e.0.items text ≡ Less) entries
@@ -69,4 +78,5 @@ IsAppended text entries = All (λ e. slice_cmp nat_cmp e.0.items text ≡ Less) 
 -- it has all of these texts
 pub record IsTextIndex (texts : List (List ℕ)) (index : TextIndex) : Type 0 where
   pub are_firsts : AreFirsts texts index.entries.items
+  pub are_alone : index.is_nested ≡ false → AreAlone texts index.entries.items
   pub has_texts : All (λ t. is_key index.entries.items t ≡ true) texts

@@ -1,22 +1,25 @@
 //! Texts, of which the first that begins another is found.
-ghost use Rattle.std.specs.Prelude.{◌≡◌, ◌++◌, ◌∷◌, [], ℕ, List, Some, None, cond, length, OnOk, IfOk};
+ghost use Rattle.std.specs.Prelude.{◌≡◌, ◌++◌, ◌∷◌, [], ℕ, List, Some, None, cond, false, length, OnOk, IfOk};
 ghost use Rattle.std.specs.Option.{option_or, option_copied};
 ghost use Rattle.std.specs.Map.{keys_of};
 ghost use Rattle.std.specs.Str.{bytes_eq};
 ghost use Rattle.fast_check_packages.specs.Listed.{begins_with};
 ghost use Rattle.fast_check_packages.specs.First.{first_place, earlier};
-ghost use Rattle.fast_check_packages.specs.Texts.{place_of, common, IsAscending, IsLastUpTo, AreFirsts, first_among, IsAppended, HasTextPlaces, IsTextIndex};
+ghost use Rattle.fast_check_packages.specs.Texts.{place_of, common, IsAscending, IsLastUpTo, AreFirsts, AreAlone, first_among, IsAppended, HasTextPlaces, IsTextIndex};
 
 use std::alloc::{AllocError, Global};
 use std::collections::BTreeMap;
 
 /// Texts in the order of their bytes, each with the place of the first text that begins it.
 ///
-/// What begins a text begins the last one in this order that is not above it, too. So a look-up finds that one by a binary
-/// search. Where it does not begin the text, the two have a common beginning, which is shorter, and it goes on with that.
+/// What begins a text begins the last text of this order that is not above it, too, and a binary search finds that one.
+/// Where that one does not begin the text, the look-up goes on with what the two have in common, unless no text of the
+/// index begins another. So it searches once in most tables, and never more often than the text has bytes.
 #[derive(Drop)]
 pub struct TextIndex {
     entries: Vec<(Vec<u8>, usize)>,
+    /// Whether one of the texts begins another.
+    is_nested: bool,
 }
 
 /// Texts as they are put together for an index: each with its first place among them.
@@ -85,6 +88,7 @@ impl TextIndex {
     /// The place of the first text that begins another, of those that it has.
     fn first_of(&self, text: &[u8]) -> Option<usize>
         ensures { (texts : List (List ℕ)) → AreFirsts texts self.now.entries.items
+            → (self.now.is_nested ≡ false → AreAlone texts self.now.entries.items)
             → result ≡ first_among self.now.entries.items text.now texts }
     {
         let mut asked = text;
@@ -93,6 +97,10 @@ impl TextIndex {
             if common == key.len() {
                 return Some(*first);
             }
+            if !self.is_nested {
+                return None;
+            }
+            // This does not come, since the key is not above what is asked.
             if common >= asked.len() {
                 return None;
             }
@@ -106,9 +114,13 @@ impl TextIndex {
         ensures keys { OnOk result (keys_of self.new.entries.items ≡ keys_of self.old.entries.items ++ text ∷ []) }
         ensures firsts { OnOk result ((texts : List (List ℕ)) → first_place (bytes_eq text.items) texts ≡ Some place
             → IsAppended text.items self.old.entries.items → AreFirsts texts self.old.entries.items
-            → AreFirsts texts self.new.entries.items) }
+            → (self.old.is_nested ≡ false → AreAlone texts self.old.entries.items)
+            → AreFirsts texts self.new.entries.items
+            × (self.new.is_nested ≡ false → AreAlone texts self.new.entries.items)) }
     {
-        let first = earlier(self.first_of(text.as_slice()), Some(place));
+        let before = self.first_of(text.as_slice());
+        self.is_nested = self.is_nested || before.is_some();
+        let first = earlier(before, Some(place));
         self.entries.push((text, first.unwrap_or(place)))?;
         Ok(())
     }
@@ -151,6 +163,7 @@ impl TextPlaces {
     {
         let mut index = TextIndex {
             entries: Vec::new(alloc),
+            is_nested: false,
         };
         for (text, place) in self.places {
             index.append(text, place)?;

@@ -4,8 +4,8 @@ use Rattle.std.specs.Cmp.{on_total}
 use Rattle.std.specs.Cmp.Lexicographic.{nat_list_cmp_total}
 use Rattle.std.proofs.lemmas.List.Elements.{All-head, All-tail}
 use Rattle.std.proofs.lemmas.Map.Views.{All-found}
-use Rattle.fast_check_packages.specs.Texts.{Entry, AreFirsts, place_of}
-use Rattle.fast_check_packages.proofs.Found.{firsts_none, is_appended, keys_over, keys_done, all_indexed}
+use Rattle.fast_check_packages.specs.Texts.{Entry, AreFirsts, AreAlone, place_of}
+use Rattle.fast_check_packages.proofs.Found.{firsts_none, alone_none, is_appended, keys_over, keys_done, all_indexed}
 use Rattle.fast_check_packages.proofs.texts.TextPlaces.indexed.Goals as goal
 
 pub loop-text-init : goal.loop-text-init
@@ -16,7 +16,10 @@ loop-text-init c =
           ∙ ap (λ (es : List Entry). keys_of es) gives.0,
       subst (λ (es : List Entry). All (λ e. place_of e.0.items places ≡ Some e.1) es) (sym gives.0)
           (All-found (on_total (λ (v : Vec ℕ Global). v.items) nat_list_cmp_total) places gives.5),
-      λ texts h. subst (λ (es : List Entry). AreFirsts texts es) (sym c.new.ensures.items) (firsts_none texts),
+      λ texts h. (
+        subst (λ (es : List Entry). AreFirsts texts es) (sym c.new.ensures.items) (firsts_none texts),
+        λ e. subst (λ (es : List Entry). AreAlone texts es) (sym c.new.ensures.items) (alone_none texts),
+      ),
     )
 
 pub loop-text-preserved : goal.loop-text-preserved
@@ -36,7 +39,7 @@ loop-text-preserved c =
       All-tail (λ (e : Entry). place_of e.0.items places ≡ Some e.1) (text, c.in-Some.place) rest found,
       λ texts h. c.in_ok-append.ensures.firsts texts
           (sym (h text.items) ∙ All-head (λ (e : Entry). place_of e.0.items places ≡ Some e.1) (text, c.in-Some.place) rest found)
-          (is_appended old text (keys_of rest) (keys_of places.entries) gives.5 whole) (inv.2 texts h),
+          (is_appended old text (keys_of rest) (keys_of places.entries) gives.5 whole) (inv.2 texts h).0 (inv.2 texts h).1,
     )
 
 pub returns : goal.returns
@@ -45,4 +48,4 @@ returns c = λ texts h.
     let inv = c.loop-text.invariant in
     all_indexed texts c.args.self c.loop-text.index h
     (sym (keys_done (keys_of old))
-    ∙ (ap (λ (es : List Entry). keys_of old ++ keys_of es) (sym (c.in-None.ensures.steps).0) ∙ inv.0)) (inv.2 texts h)
+    ∙ (ap (λ (es : List Entry). keys_of old ++ keys_of es) (sym (c.in-None.ensures.steps).0) ∙ inv.0)) (inv.2 texts h).0 (inv.2 texts h).1
