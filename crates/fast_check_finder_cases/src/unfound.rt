@@ -38,10 +38,15 @@ fn say_json(alloc: Global, copy: &Result<FastCheckDiagnostic, AllocError>, said:
     }
 }
 
-/// Says the JSON of a copy, and all that is told of a diagnostic.
-fn say_all(alloc: Global, diagnostic: &FastCheckDiagnostic, said: &mut Said) {
+/// Says the JSON of a copy.
+fn say_copy(alloc: Global, diagnostic: &FastCheckDiagnostic, said: &mut Said) {
     let copy: Result<FastCheckDiagnostic, AllocError> = diagnostic.clone();
     say_json(alloc, &copy, said);
+}
+
+/// Says the JSON of a copy, and all that is told of a diagnostic.
+fn say_all(alloc: Global, diagnostic: &FastCheckDiagnostic, said: &mut Said) {
+    say_copy(alloc, diagnostic, said);
     say_diagnostic(alloc, diagnostic, said);
     said.say("\n");
 }
@@ -54,16 +59,20 @@ fn say_made(alloc: Global, made: &Option<FastCheckDiagnostic>, said: &mut Said) 
     }
 }
 
-fn say_both(alloc: Global, said: &mut Said) {
-    let cached = cached(alloc);
-    say_made(alloc, &cached, said);
-    let emit = emit(alloc);
-    say_made(alloc, &emit, said);
+fn say_cached(alloc: Global, said: &mut Said) {
+    let made = cached(alloc);
+    say_made(alloc, &made, said);
+}
+
+fn say_emit(alloc: Global, said: &mut Said) {
+    let made = emit(alloc);
+    say_made(alloc, &made, said);
 }
 
 /// Prints what is told of both kinds.
 pub fn run_unfound_cases(rt: &HostRuntime) -> io::Result<()> {
     let mut said = Said::new(rt.alloc());
-    say_both(rt.alloc(), &mut said);
+    say_cached(rt.alloc(), &mut said);
+    say_emit(rt.alloc(), &mut said);
     print!(rt; "{}", said.text().unwrap_or("out of memory\n"))
 }
