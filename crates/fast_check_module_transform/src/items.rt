@@ -120,23 +120,31 @@ fn keep_namespace(
     Ok(Some(namespace_with(alloc, decl, items)?))
 }
 
-/// What is public of a declaration with which this is done, and which is public by `place` where it is no variable
-/// statement; none where nothing is.
+/// A declaration, what is done with it, and the range by which it is public where it is no variable statement.
+#[derive(Clone, Copy)]
+struct Declared<'a> {
+    decl: Part<'a>,
+    rule: DeclRule,
+    place: SourceRange,
+}
+
+/// What is public of a declaration; none where nothing is.
 #[cycle(items)]
 fn keep_decl(
     alloc: Global,
     around: Surroundings<'_>,
-    place: SourceRange,
-    decl: Part<'_>,
-    rule: DeclRule,
+    declared: Declared<'_>,
     comments: &mut CommentsMut,
     faults: &mut Vec<Fault>,
 ) -> Result<Option<Tree>, AllocError>
-    ensures answer { IfOk result (λ tree.
-        Adds (decl_answer (seen_around around.entry) place (seen decl.entry) rule) (as_list tree) faults.old.items faults.new.items) }
-    ensures comments { IfOk result (λ _.
-        comments.new ≡ without_all_leading (starts_in_body start_look (seen_around around.entry) place (seen decl.entry) rule) comments.old) }
+    ensures answer { IfOk result (λ tree. Adds
+        (decl_answer (seen_around around.entry) declared.entry.place (seen declared.entry.decl) declared.entry.rule)
+        (as_list tree) faults.old.items faults.new.items) }
+    ensures comments { IfOk result (λ _. comments.new ≡ without_all_leading
+        (starts_in_body start_look (seen_around around.entry) declared.entry.place (seen declared.entry.decl) declared.entry.rule)
+        comments.old) }
 {
+    let Declared { decl, rule, place } = declared;
     match rule {
         DeclRule::Variables => keep_statement(alloc, around, decl, faults),
         DeclRule::Function => keep_public_function(alloc, around, place, decl, faults),
@@ -164,7 +172,12 @@ fn keep_export(
         comments.new ≡ without_all_leading (starts_in_export (seen_around around.entry) (seen item.entry) rule) comments.old) }
 {
     let ExportDecl { span, decl } = ExportDecl::of(item);
-    match keep_decl(alloc, around, span, decl, rule, comments, faults)? {
+    let declared = Declared {
+        decl,
+        rule,
+        place: span,
+    };
+    match keep_decl(alloc, around, declared, comments, faults)? {
         Some(decl) => Ok(Some(ExportDecl { span, decl }.into_tree(alloc)?)),
         None => Ok(None),
     }
@@ -206,15 +219,14 @@ fn keep_item(
         comments.new ≡ without_all_leading (starts_below start_look (seen_around around.entry) (seen item.entry) (item_rule (seen item.entry))) comments.old) }
 {
     match item_rule(item) {
-        ItemRule::Declared(rule) => keep_decl(
-            alloc,
-            around,
-            range_of_node(item),
-            item,
-            rule,
-            comments,
-            faults,
-        ),
+        ItemRule::Declared(rule) => {
+            let declared = Declared {
+                decl: item,
+                rule,
+                place: range_of_node(item),
+            };
+            keep_decl(alloc, around, declared, comments, faults)
+        }
         ItemRule::Exported(rule) => keep_export(alloc, around, item, rule, comments, faults),
         ItemRule::Linked(rule) => keep_link(alloc, around, item, rule),
         ItemRule::Default(rule) => keep_default(alloc, around, item, rule, faults),

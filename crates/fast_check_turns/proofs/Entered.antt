@@ -15,7 +15,7 @@ use Rattle.fast_check_entries.specs.Entries.{all_faults, entrance_seen, in_order
 use Rattle.fast_check_worklists.specs.Demands.{to_package}
 use Rattle.fast_check_worklists.specs.declared.worklist.OuterWant.{OuterWant}
 use Rattle.fast_check_worklists.specs.State.{want_of, State, AsksAll}
-use Rattle.fast_check_wants.specs.Sources.{Used}
+use Rattle.fast_check_sources.specs.Sources.{Used}
 use Rattle.fast_check_turns.specs.Rules.{entry_want, unless_faulty, entry_wants}
 use Rattle.fast_check_turns.specs.Yields.{entry_fault_yields, entry_yields}
 use Rattle.fast_check_turns.specs.Turns.{AsksAndGives, EntersAt, Enters}

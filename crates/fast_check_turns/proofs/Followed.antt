@@ -31,8 +31,8 @@ use Rattle.fast_check_worklists.specs.declared.worklist.OuterWant.{OuterWant}
 use Rattle.fast_check_worklists.specs.State.{State, want_of, AsksAll, Reached, root, step, IsSearched, IsOuter, AreWants, AreGiven}
 use Rattle.fast_check_worklists.specs.State.{IsFollowed}
 use Rattle.fast_check_name_demands.specs.NameDemands.{AreDemands, IsEmpty}
-use Rattle.fast_check_wants.specs.Sources.{Known, module_at}
-use Rattle.fast_check_wants.specs.Wants.{file_wants, left_wants}
+use Rattle.fast_check_sources.specs.Sources.{Known, module_at}
+use Rattle.fast_check_sources.specs.Wants.{file_wants, left_wants}
 use Rattle.fast_check_turns.specs.Rules.{names_wants, symbol_wants, world}
 use Rattle.fast_check_entries.specs.findings.Yields.{Yield, recorded, public, implementing}
 use Rattle.fast_check_entries.specs.findings.Findings.{placed_yields, module_yields}

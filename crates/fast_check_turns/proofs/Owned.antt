@@ -19,8 +19,8 @@ use Rattle.fast_check_worklists.specs.State.{IsOuter}
 use Rattle.fast_check_worklists.specs.Turn.{IsOrderly}
 use Rattle.fast_check_entries.specs.findings.declared.finding.EntryFault.{EntryFault}
 use Rattle.fast_check_entries.specs.Entries.{Entrance, passed_over, refused, entered, all_faults, in_order}
-use Rattle.fast_check_wants.specs.Sources.{Known, module_at}
-use Rattle.fast_check_wants.specs.Wants.{file_at, behind, resolved, file_wants, left_wants}
+use Rattle.fast_check_sources.specs.Sources.{Known, module_at}
+use Rattle.fast_check_sources.specs.Wants.{file_at, behind, resolved, file_wants, left_wants}
 use Rattle.fast_check_turns.specs.Rules.{names_wants, symbol_wants, entry_want, unless_faulty, entrance_at, entered_wants, entry_wants}
 use Rattle.fast_check_turns.specs.Rules.{world}
 

@@ -18,8 +18,8 @@ use Rattle.fast_check_traces.specs.Modules.{own_tables}
 use Rattle.fast_check_traces.specs.Roots.{roots}
 use Rattle.fast_check_traces.specs.Wants.{Want as ModuleWant, re_export_ranges, module_wants}
 use Rattle.fast_check_worklists.specs.Demands.{Want}
-use Rattle.fast_check_wants.specs.Sources.{Known}
-use Rattle.fast_check_wants.specs.Wants.{file_wants, left_wants}
+use Rattle.fast_check_sources.specs.Sources.{Known}
+use Rattle.fast_check_sources.specs.Wants.{file_wants, left_wants}
 use Rattle.fast_check_turns.specs.Yields.{source_in}
 use Rattle.fast_check_turns.specs.Traced.{IsTraced}
 use Rattle.fast_check_turns.proofs.Lists.{flat_mapped}

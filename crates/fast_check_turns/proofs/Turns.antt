@@ -19,7 +19,7 @@ use Rattle.fast_check_worklists.specs.Demands.{Text, asked, Want, to_symbol, Dem
 use Rattle.fast_check_worklists.specs.Account.{Trace, Followed, HasIn}
 use Rattle.fast_check_worklists.specs.declared.worklist.OuterWant.{OuterWant}
 use Rattle.fast_check_worklists.specs.State.{want_of, State, AsksAll, IsFollowed, IsEntered}
-use Rattle.fast_check_wants.specs.Sources.{Known, node_at, named_at, typed_info, info_at, traced_as, module_at, is_untyped}
+use Rattle.fast_check_sources.specs.Sources.{Known, node_at, named_at, typed_info, info_at, traced_as, module_at, is_untyped}
 use Rattle.fast_check_turns.specs.Rules.{names_wants, entrance_at, world}
 use Rattle.fast_check_turns.specs.Yields.{names_yields, untyped_yields, gives}
 use Rattle.fast_check_turns.proofs.Followed.{followed_there}

@@ -1,5 +1,5 @@
 pub use Rattle.fast_check_traces.specs as traces
-pub use Rattle.fast_check_wants.specs as wants
+pub use Rattle.fast_check_sources.specs as wants
 pub use Rattle.fast_check_entries.specs as entries
 pub mod Rules
 pub mod Yields

@@ -17,8 +17,8 @@ use Rattle.fast_check_entries.specs.findings.declared.finding.EntryFault.{EntryF
 use Rattle.fast_check_entries.specs.Entries.{Entrance, passed_over, refused, entered, all_faults, entrance_of, in_order}
 use Rattle.fast_check_worklists.specs.Demands.{Text, asked_by, Want, to_package, to_module, to_symbol, of_package}
 use Rattle.fast_check_worklists.specs.Demands.{of_module, of_symbol, World}
-use Rattle.fast_check_wants.specs.Sources.{Used, Known, module_at}
-use Rattle.fast_check_wants.specs.Wants.{file_wants, left_wants}
+use Rattle.fast_check_sources.specs.Sources.{Used, Known, module_at}
+use Rattle.fast_check_sources.specs.Wants.{file_wants, left_wants}
 
 -- names of a module, for a package
 abbrev pub names_wants : Known → Nv → Text → NameDemand → TracedModule → List Want

@@ -20,8 +20,8 @@ use Rattle.fast_check_traces.specs.Roots.{roots}
 use Rattle.fast_check_traces.specs.Wants.{re_export_ranges, module_wants}
 use Rattle.fast_check_worklists.specs.Demands.{Want}
 use Rattle.fast_check_worklists.specs.Account.{Trace}
-use Rattle.fast_check_wants.specs.Sources.{Known}
-use Rattle.fast_check_wants.specs.Wants.{file_wants, left_wants}
+use Rattle.fast_check_sources.specs.Sources.{Known}
+use Rattle.fast_check_sources.specs.Wants.{file_wants, left_wants}
 use Rattle.fast_check_turns.specs.Yields.{own_text, source_in, dependencies}
 
 -- an account of demands of symbols, what these ask of files, what names of the module ask of others, and what is found

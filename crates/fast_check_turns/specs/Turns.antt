@@ -10,7 +10,7 @@ use Rattle.fast_check_worklists.specs.declared.worklist.OuterWant.{OuterWant}
 use Rattle.fast_check_worklists.specs.State.{want_of, State, AsksAll}
 use Rattle.fast_check_entries.specs.findings.Yields.{Yield}
 use Rattle.fast_check_entries.specs.Entries.{Entrance}
-use Rattle.fast_check_wants.specs.Sources.{Used}
+use Rattle.fast_check_sources.specs.Sources.{Used}
 use Rattle.fast_check_turns.specs.Rules.{entered_wants, entry_wants}
 use Rattle.fast_check_turns.specs.Yields.{entered_yields, entry_yields}
 

@@ -25,7 +25,7 @@ use Rattle.fast_check_entries.specs.findings.Yields.{Yield, known_package, entry
 use Rattle.fast_check_entries.specs.findings.Yields.{recorded, public, implementing, untyped_module, kept}
 use Rattle.fast_check_entries.specs.findings.Findings.{faulty_module, entry_fault, placed_yields}
 use Rattle.fast_check_entries.specs.Entries.{Entrance, passed_over, refused, entered, all_faults, in_order}
-use Rattle.fast_check_wants.specs.Sources.{Used, Known, module_at, untyped_at}
+use Rattle.fast_check_sources.specs.Sources.{Used, Known, module_at, untyped_at}
 use Rattle.fast_check_turns.specs.Rules.{names_wants, symbol_wants, entrance_at}
 
 -- the module's own name

@@ -1,6 +1,6 @@
 //! What the finder is lent beside the provider and the cache.
 
-use fast_check_wants::Sources;
+use fast_check_sources::Sources;
 
 /// What is known of modules and packages, and the seed of the keys of the cache.
 #[derive(Clone, Copy)]

@@ -10,7 +10,7 @@ mod traced;
 pub use fast_check_entries::findings::{
     EnteredPackage, EntryFault, Finding, FollowedModule, FoundModule, KeptPackage, UntypedModule,
 };
-pub use fast_check_wants::Sources;
+pub use fast_check_sources::Sources;
 pub use input::FinderInput;
 pub use modules::follow;
 pub use packages::enter;

@@ -8,7 +8,7 @@ ghost use Rattle.fast_check_graph.specs.Root.{specifier_of};
 ghost use Rattle.fast_check_name_demands.specs.NameDemands.{Holds};
 ghost use Rattle.fast_check_worklists.specs.State.{want_of, state_of, trace_of, IsFollowed};
 ghost use Rattle.fast_check_entries.specs.findings.Findings.{module_yields, yields_of};
-ghost use Rattle.fast_check_wants.specs.Sources.{Used, known, with_used, traced_as};
+ghost use Rattle.fast_check_sources.specs.Sources.{Used, known, with_used, traced_as};
 ghost use Rattle.fast_check_turns.specs.Rules.{world};
 ghost use Rattle.fast_check_turns.specs.Traced.{IsTracedFor};
 ghost use Rattle.fast_check_turns.specs.Yields.{dependencies, untyped_yields, gives};
@@ -19,8 +19,8 @@ use fast_check_entries::findings::{Finding, FollowedModule, FoundModule, Untyped
 use fast_check_graph::{AnyModuleInfo, ModuleGraph};
 use fast_check_name_demands::{HeldDemands, hold, name_demands};
 use fast_check_packages::{JsrUrlProvider, PackageNv};
+use fast_check_sources::{Asker, Sources, info_of, is_untyped};
 use fast_check_traces::TracedModule;
-use fast_check_wants::{Asker, Sources, info_of, is_untyped};
 use fast_check_worklists::{OuterWant, PendingTrace};
 use std::alloc::{AllocError, Global};
 

@@ -11,7 +11,7 @@ ghost use Rattle.fast_check_entries.specs.findings.Findings.{yields_of};
 ghost use Rattle.fast_check_entries.specs.Entries.{entrance_seen, in_order, DiagnosesRefused};
 ghost use Rattle.fast_check_worklists.specs.Demands.{to_package};
 ghost use Rattle.fast_check_worklists.specs.State.{want_of, state_of, IsEntered};
-ghost use Rattle.fast_check_wants.specs.Sources.{known, with_used};
+ghost use Rattle.fast_check_sources.specs.Sources.{known, with_used};
 ghost use Rattle.fast_check_turns.specs.Rules.{entry_want, unless_faulty, entrance_at, world};
 ghost use Rattle.fast_check_turns.specs.Yields.{entry_fault_yields, gives};
 ghost use Rattle.fast_check_turns.specs.Turns.{AsksAndGives, EntersAt, Enters};

@@ -8,8 +8,8 @@ ghost use Rattle.fast_check_demands.specs.Yields.{fault_seen};
 ghost use Rattle.fast_check_worklists.specs.State.{want_of};
 ghost use Rattle.fast_check_entries.specs.findings.Faults.{placed_in, placed};
 ghost use Rattle.fast_check_entries.specs.findings.Yields.{dependency};
-ghost use Rattle.fast_check_wants.specs.Sources.{known};
-ghost use Rattle.fast_check_wants.specs.Wants.{file_wants, left_wants};
+ghost use Rattle.fast_check_sources.specs.Sources.{known};
+ghost use Rattle.fast_check_sources.specs.Wants.{file_wants, left_wants};
 ghost use Rattle.fast_check_turns.specs.Yields.{text_of, source_with, source_in, dependency_of, dependencies};
 
 use fast_check_demands::SymbolFault;
@@ -17,8 +17,8 @@ use fast_check_entries::findings::{DemandFault, FaultyModule, FoundModule, fault
 use fast_check_graph::AnyModuleInfo;
 use fast_check_packages::{JsrUrlProvider, PackageNv};
 use fast_check_search::Found;
+use fast_check_sources::{Asker, outer_wants};
 use fast_check_traces::{Traced, TracedModule, tables_of};
-use fast_check_wants::{Asker, outer_wants};
 use fast_check_worklists::OuterWant;
 use std::alloc::{AllocError, Global};
 use std::rc::RcStr;

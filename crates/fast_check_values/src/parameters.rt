@@ -28,6 +28,13 @@ use fast_check_signatures::{Fault, FaultKind};
 use fast_check_syntax::{Items, Kind, Part, SourceRange, Tree};
 use std::alloc::{AllocError, Global};
 
+/// The left side of a default: its range, and that of its name where it is one.
+#[derive(Clone, Copy)]
+struct LeftSide {
+    name: Option<SourceRange>,
+    range: SourceRange,
+}
+
 /// A parameter that stands if its type is written; else a fault at this place.
 fn typed(
     ty: Part<'_>,
@@ -183,23 +190,34 @@ fn transform_assign_pat(
             if let Some(ty) = default_type(alloc, unresolved_context(info), pat)? {
                 return without_default(alloc, is_optional, left, ty);
             }
-            let place = Ident::of(BindingIdent::of(left).id).span;
+            let range = Ident::of(BindingIdent::of(left).id).span;
+            let name = Some(range);
             let left = left.to_tree(alloc)?;
-            leave_default(alloc, info, pat, left, Some(place), place, faults)
+            leave_default(alloc, info, pat, left, LeftSide { name, range }, faults)
         }
         Kind::ArrayPat => {
-            let ArrayPat { span, type_ann, .. } = ArrayPat::of(left);
+            let ArrayPat {
+                span: range,
+                type_ann,
+                ..
+            } = ArrayPat::of(left);
             let left = emptied_array(alloc, left)?;
             if type_ann.is_absent() {
-                return leave_default(alloc, info, pat, left, None, span, faults);
+                let side = LeftSide { name: None, range };
+                return leave_default(alloc, info, pat, left, side, faults);
             }
             with_default(alloc, pat, left, never_array(alloc)?)
         }
         Kind::ObjectPat => {
-            let ObjectPat { span, type_ann, .. } = ObjectPat::of(left);
+            let ObjectPat {
+                span: range,
+                type_ann,
+                ..
+            } = ObjectPat::of(left);
             let left = emptied_object(alloc, left)?;
             if type_ann.is_absent() {
-                return leave_default(alloc, info, pat, left, None, span, faults);
+                let side = LeftSide { name: None, range };
+                return leave_default(alloc, info, pat, left, side, faults);
             }
             with_default(alloc, pat, left, never_value(alloc)?)
         }
@@ -207,27 +225,26 @@ fn transform_assign_pat(
     }
 }
 
-/// A pattern whose default has to stay; where it may not, its type is missing at this place.
+/// A pattern whose default has to stay; where it may not, its type is missing at the left side.
 #[cycle(leave)]
 fn leave_default(
     alloc: Global,
     info: &EsModuleInfo,
     pat: Part<'_>,
     left: Tree,
-    parent: Option<SourceRange>,
-    place: SourceRange,
+    side: LeftSide,
     faults: &mut Vec<Fault>,
 ) -> Result<Tree, AllocError>
     ensures { IfOk result (λ tree.
-        Adds (answer_to (default_seen (AssignPat-span (seen pat.entry)) place left
-        (expr_seen (bindings_of info.now) (AssignPat-right (seen pat.entry)) parent)))
+        Adds (answer_to (default_seen (AssignPat-span (seen pat.entry)) side.range left
+        (expr_seen (bindings_of info.now) (AssignPat-right (seen pat.entry)) side.name)))
         (Some tree) faults.old.items faults.new.items) }
 {
     let fault = Fault {
         kind: FaultKind::MissingExplicitType,
-        range: place,
+        range: side.range,
     };
     let right = AssignPat::of(pat).right;
-    let right = leave_value(alloc, info, right, parent, fault, faults)?;
+    let right = leave_value(alloc, info, right, side.name, fault, faults)?;
     with_default(alloc, pat, left, right)
 }

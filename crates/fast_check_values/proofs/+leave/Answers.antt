@@ -465,10 +465,10 @@ pub parameters::leave_default-returns : goal.parameters::leave_default-returns
 parameters::leave_default-returns t c =
     let u = bindings_of c.args.info.now in
     let pat = seen c.args.pat in
-    let value = ap (λ (v : Tree). answer_to (expr_seen u v c.args.parent)) c.of.ensures.right in
-    let fault = fault_at MissingExplicitType c.args.place in
-    default_made c.with_default.result (record { span = AssignPat-span pat; left = c.args.left; place = c.args.place })
-    (answer_to (expr_seen u (AssignPat-right pat) c.args.parent)) _ _
+    let value = ap (λ (v : Tree). answer_to (expr_seen u v c.args.side.name)) c.of.ensures.right in
+    let fault = fault_at MissingExplicitType c.args.side.range in
+    default_made c.with_default.result (record { span = AssignPat-span pat; left = c.args.left; place = c.args.side.range })
+    (answer_to (expr_seen u (AssignPat-right pat) c.args.side.name)) _ _
     (adds_same (ap (demanded fault) (sym value)) c.in_ok-right.ensures) c.with_default.ensures
 
 pub expressions::leave_value-returns-in-Some : goal.expressions::leave_value-returns-in-Some

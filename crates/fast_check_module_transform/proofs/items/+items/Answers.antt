@@ -195,80 +195,80 @@ keep_namespace-returns-clause-comments t c =
 pub keep_decl-returns-in-Variables-clause-answer : goal.keep_decl-returns-in-Variables-clause-answer
 keep_decl-returns-in-Variables-clause-answer t c =
     IfOk-weaker c.keep_statement.result _ _
-    (λ tree h. variables (seen_around c.args.around) c.args.place (seen c.args.decl) c.in-Variables.is h)
+    (λ tree h. variables (seen_around c.args.around) c.args.declared.place (seen c.args.declared.decl) c.in-Variables.is h)
     c.keep_statement.ensures
 
 pub keep_decl-returns-in-Function-clause-answer : goal.keep_decl-returns-in-Function-clause-answer
 keep_decl-returns-in-Function-clause-answer t c =
-    IfOk-weaker c.keep_public_function.result _ _ (λ tree h. functions (seen_around c.args.around) c.args.place
-    (seen c.args.decl) c.in-Function.is h) c.keep_public_function.ensures
+    IfOk-weaker c.keep_public_function.result _ _ (λ tree h. functions (seen_around c.args.around) c.args.declared.place
+    (seen c.args.declared.decl) c.in-Function.is h) c.keep_public_function.ensures
 
 pub keep_decl-returns-in-Class-clause-answer : goal.keep_decl-returns-in-Class-clause-answer
 keep_decl-returns-in-Class-clause-answer t c =
     IfOk-weaker c.keep_public_class.result _ _
-    (λ tree h. classes (seen_around c.args.around) c.args.place (seen c.args.decl) c.in-Class.is h)
+    (λ tree h. classes (seen_around c.args.around) c.args.declared.place (seen c.args.declared.decl) c.in-Class.is h)
     c.keep_public_class.ensures
 
 pub keep_decl-returns-in-Using-clause-answer : goal.keep_decl-returns-in-Using-clause-answer
 keep_decl-returns-in-Using-clause-answer t c =
-    IfOk-weaker c.keep_using.result _ _ (λ tree h. using_stays (seen_around c.args.around) c.args.place (seen c.args.decl) c.in-Using.is h)
+    IfOk-weaker c.keep_using.result _ _ (λ tree h. using_stays (seen_around c.args.around) c.args.declared.place (seen c.args.declared.decl) c.in-Using.is h)
     c.keep_using.ensures
 
 pub keep_decl-returns-in-Standing-clause-answer : goal.keep_decl-returns-in-Standing-clause-answer
 keep_decl-returns-in-Standing-clause-answer t c =
     IfOk-weaker c.keep_standing.result _ _
-    (λ tree h. standing (seen_around c.args.around) c.args.place
-    (seen c.args.decl) c.in-Standing.is tree h c.args.faults.now.items) c.keep_standing.ensures
+    (λ tree h. standing (seen_around c.args.around) c.args.declared.place
+    (seen c.args.declared.decl) c.in-Standing.is tree h c.args.faults.now.items) c.keep_standing.ensures
 
 pub keep_decl-returns-in-Namespace-clause-answer : goal.keep_decl-returns-in-Namespace-clause-answer
 keep_decl-returns-in-Namespace-clause-answer t c =
     IfOk-weaker c.keep_namespace.result _ _
-    (λ tree h. namespaces (seen_around c.args.around) c.args.place (seen c.args.decl) c.in-Namespace.is h) c.keep_namespace.ensures.answer
+    (λ tree h. namespaces (seen_around c.args.around) c.args.declared.place (seen c.args.declared.decl) c.in-Namespace.is h) c.keep_namespace.ensures.answer
 
 pub keep_decl-returns-in-NoDeclaration-clause-answer : goal.keep_decl-returns-in-NoDeclaration-clause-answer
 keep_decl-returns-in-NoDeclaration-clause-answer t c =
-    undeclared (seen_around c.args.around) c.args.place (seen c.args.decl) c.in-NoDeclaration.is c.args.faults.now.items
+    undeclared (seen_around c.args.around) c.args.declared.place (seen c.args.declared.decl) c.in-NoDeclaration.is c.args.faults.now.items
 
 pub keep_decl-returns-in-Variables-clause-comments : goal.keep_decl-returns-in-Variables-clause-comments
 keep_decl-returns-in-Variables-clause-comments t c =
     IfOk-weaker c.keep_statement.result _ _
-    (λ tree h. ap (λ r. without_all_leading (starts_in_body start_look (seen_around c.args.around) c.args.place
-    (seen c.args.decl) r) c.args.comments.now) (sym c.in-Variables.is)) c.keep_statement.ensures
+    (λ tree h. ap (λ r. without_all_leading (starts_in_body start_look (seen_around c.args.around) c.args.declared.place
+    (seen c.args.declared.decl) r) c.args.comments.now) (sym c.in-Variables.is)) c.keep_statement.ensures
 
 pub keep_decl-returns-in-Function-clause-comments : goal.keep_decl-returns-in-Function-clause-comments
 keep_decl-returns-in-Function-clause-comments t c =
     IfOk-weaker c.keep_public_function.result _ _
-    (λ tree h. ap (λ r. without_all_leading (starts_in_body start_look (seen_around c.args.around) c.args.place
-    (seen c.args.decl) r) c.args.comments.now) (sym c.in-Function.is)) c.keep_public_function.ensures
+    (λ tree h. ap (λ r. without_all_leading (starts_in_body start_look (seen_around c.args.around) c.args.declared.place
+    (seen c.args.declared.decl) r) c.args.comments.now) (sym c.in-Function.is)) c.keep_public_function.ensures
 
 pub keep_decl-returns-in-Class-clause-comments : goal.keep_decl-returns-in-Class-clause-comments
 keep_decl-returns-in-Class-clause-comments t c =
     IfOk-weaker c.keep_public_class.result _ _
-    (λ tree h. ap (λ r. without_all_leading (starts_in_body start_look (seen_around c.args.around) c.args.place
-    (seen c.args.decl) r) c.args.comments.now) (sym c.in-Class.is)) c.keep_public_class.ensures
+    (λ tree h. ap (λ r. without_all_leading (starts_in_body start_look (seen_around c.args.around) c.args.declared.place
+    (seen c.args.declared.decl) r) c.args.comments.now) (sym c.in-Class.is)) c.keep_public_class.ensures
 
 pub keep_decl-returns-in-Standing-clause-comments : goal.keep_decl-returns-in-Standing-clause-comments
 keep_decl-returns-in-Standing-clause-comments t c =
     IfOk-weaker c.keep_standing.result _ _
-    (λ tree h. ap (λ r. without_all_leading (starts_in_body start_look (seen_around c.args.around) c.args.place
-    (seen c.args.decl) r) c.args.comments.now) (sym c.in-Standing.is)) c.keep_standing.ensures
+    (λ tree h. ap (λ r. without_all_leading (starts_in_body start_look (seen_around c.args.around) c.args.declared.place
+    (seen c.args.declared.decl) r) c.args.comments.now) (sym c.in-Standing.is)) c.keep_standing.ensures
 
 pub keep_decl-returns-in-Using-clause-comments : goal.keep_decl-returns-in-Using-clause-comments
 keep_decl-returns-in-Using-clause-comments t c =
     IfOk-weaker c.keep_using.result _ _
-    (λ tree h. ap (λ r. without_all_leading (starts_in_body start_look (seen_around c.args.around) c.args.place
-    (seen c.args.decl) r) c.args.comments.now) (sym c.in-Using.is)) c.keep_using.ensures
+    (λ tree h. ap (λ r. without_all_leading (starts_in_body start_look (seen_around c.args.around) c.args.declared.place
+    (seen c.args.declared.decl) r) c.args.comments.now) (sym c.in-Using.is)) c.keep_using.ensures
 
 pub keep_decl-returns-in-Namespace-clause-comments : goal.keep_decl-returns-in-Namespace-clause-comments
 keep_decl-returns-in-Namespace-clause-comments t c =
     IfOk-weaker c.keep_namespace.result _ _
-    (λ tree h. h ∙ ap (λ r. without_all_leading (starts_in_body start_look (seen_around c.args.around) c.args.place
-    (seen c.args.decl) r) c.args.comments.now) (sym c.in-Namespace.is)) c.keep_namespace.ensures.comments
+    (λ tree h. h ∙ ap (λ r. without_all_leading (starts_in_body start_look (seen_around c.args.around) c.args.declared.place
+    (seen c.args.declared.decl) r) c.args.comments.now) (sym c.in-Namespace.is)) c.keep_namespace.ensures.comments
 
 pub keep_decl-returns-in-NoDeclaration-clause-comments : goal.keep_decl-returns-in-NoDeclaration-clause-comments
 keep_decl-returns-in-NoDeclaration-clause-comments t c =
     ap (λ r. without_all_leading
-    (starts_in_body start_look (seen_around c.args.around) c.args.place (seen c.args.decl) r) c.args.comments.now)
+    (starts_in_body start_look (seen_around c.args.around) c.args.declared.place (seen c.args.declared.decl) r) c.args.comments.now)
     (sym c.in-NoDeclaration.is)
 
 -- ---- exports

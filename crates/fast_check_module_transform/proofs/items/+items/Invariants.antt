@@ -19,7 +19,7 @@ abbrev pub decreases-keep_namespace : goal.decreases-keep_namespace
 decreases-keep_namespace l = 6 * height (seen l.decl) + 2
 
 abbrev pub decreases-keep_decl : goal.decreases-keep_decl
-decreases-keep_decl l = 6 * height (seen l.decl) + 3
+decreases-keep_decl l = 6 * height (seen l.declared.decl) + 3
 
 abbrev pub decreases-keep_export : goal.decreases-keep_export
 decreases-keep_export l = 6 * height (seen l.item) + 4

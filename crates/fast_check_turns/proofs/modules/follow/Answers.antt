@@ -3,7 +3,7 @@ use Rattle.std.specs.List.{flat_map}
 use Rattle.std.specs.Option.{option_copied}
 use Rattle.fast_check_entries.specs.findings.Findings.{yields_of}
 use Rattle.fast_check_worklists.specs.State.{state_of, trace_of}
-use Rattle.fast_check_wants.specs.Sources.{known, with_used}
+use Rattle.fast_check_sources.specs.Sources.{known, with_used}
 use Rattle.fast_check_turns.proofs.Turns.{followed_nowhere, followed_one}
 use Rattle.fast_check_turns.proofs.modules.follow.Goals as goal
 

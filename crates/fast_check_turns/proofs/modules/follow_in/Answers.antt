@@ -4,7 +4,7 @@ use Rattle.fast_check_names.specs.Imports.{NameDemand}
 use Rattle.fast_check_name_demands.specs.Files.{names_of}
 use Rattle.fast_check_name_demands.specs.NameDemands.{AreDemands}
 use Rattle.fast_check_worklists.specs.State.{want_of}
-use Rattle.fast_check_wants.specs.Sources.{known, traced_as}
+use Rattle.fast_check_sources.specs.Sources.{known, traced_as}
 use Rattle.fast_check_turns.proofs.TracedWith.{traced_with}
 use Rattle.fast_check_turns.proofs.modules.follow_in.Goals as goal
 

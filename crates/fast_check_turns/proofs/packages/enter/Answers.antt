@@ -5,7 +5,7 @@ use Rattle.fast_check_cache.specs.CachedPackages.{used_item}
 use Rattle.fast_check_entries.specs.Entries.{Entrance}
 use Rattle.fast_check_entries.specs.findings.Findings.{yields_of}
 use Rattle.fast_check_worklists.specs.State.{state_of}
-use Rattle.fast_check_wants.specs.Sources.{known, with_used}
+use Rattle.fast_check_sources.specs.Sources.{known, with_used}
 use Rattle.fast_check_turns.specs.Turns.{Enters}
 use Rattle.fast_check_turns.specs.Lent.{used_of}
 use Rattle.fast_check_turns.proofs.Turns.{entered_at}

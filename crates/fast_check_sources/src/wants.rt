@@ -10,8 +10,8 @@ ghost use Rattle.fast_check_name_demands.specs.Files.{names_of, file_demand_of};
 ghost use Rattle.fast_check_traces.specs.Wants.{want_of as want_seen, re_exported};
 ghost use Rattle.fast_check_worklists.specs.Demands.{asked, asked_by};
 ghost use Rattle.fast_check_worklists.specs.State.{want_of};
-ghost use Rattle.fast_check_wants.specs.Sources.{known, owner_by};
-ghost use Rattle.fast_check_wants.specs.Wants.{file_at, behind, resolved, file_wants, left_wants};
+ghost use Rattle.fast_check_sources.specs.Sources.{known, owner_by};
+ghost use Rattle.fast_check_sources.specs.Wants.{file_at, behind, resolved, file_wants, left_wants};
 
 use crate::exports::exports_to_ask;
 use crate::sources::{Sources, owner_of};

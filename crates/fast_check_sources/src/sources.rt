@@ -5,7 +5,7 @@ ghost use Rattle.url.specs.Parts.{serialize};
 ghost use Rattle.fast_check_packages.specs.Package.{nv_of};
 ghost use Rattle.fast_check_packages.specs.Members.{member_nv};
 ghost use Rattle.fast_check_packages.specs.MembersIn.{members_in};
-ghost use Rattle.fast_check_wants.specs.Sources.{info_at, owner_by, untyped_at};
+ghost use Rattle.fast_check_sources.specs.Sources.{info_at, owner_by, untyped_at};
 
 use fast_check_graph::{AnyModuleInfo, ModuleGraph, RootSymbol};
 use fast_check_packages::{IndexedMembers, JsrUrlProvider, PackageNv, WorkspaceMember};

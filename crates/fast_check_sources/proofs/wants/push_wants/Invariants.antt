@@ -3,9 +3,9 @@ use Rattle.std.specs.List.{flat_map}
 use Rattle.fast_check_packages.specs.Package.{nv_of}
 use Rattle.fast_check_traces.specs.Wants.{want_of as want_seen}
 use Rattle.fast_check_worklists.specs.State.{want_of}
-use Rattle.fast_check_wants.specs.Sources.{known}
-use Rattle.fast_check_wants.specs.Wants.{left_wants}
-use Rattle.fast_check_wants.proofs.wants.push_wants.Given as goal
+use Rattle.fast_check_sources.specs.Sources.{known}
+use Rattle.fast_check_sources.specs.Wants.{left_wants}
+use Rattle.fast_check_sources.proofs.wants.push_wants.Given as goal
 
 abbrev pub invariant-loop-want : goal.invariant-loop-want
 invariant-loop-want g l =

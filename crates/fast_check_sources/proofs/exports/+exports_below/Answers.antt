@@ -1,7 +1,7 @@
 use Rattle.std.proofs.Common.{ap, string_bytes}
 use Rattle.fast_check_names.specs.Names.{path_of, paths_below}
-use Rattle.fast_check_wants.proofs.ExportsAsked.{below_first}
-use Rattle.fast_check_wants.proofs.exports.+exports_below.Goals as goal
+use Rattle.fast_check_sources.proofs.ExportsAsked.{below_first}
+use Rattle.fast_check_sources.proofs.exports.+exports_below.Goals as goal
 
 pub returns-in_ok-one_name-in-Some : goal.returns-in_ok-one_name-in-Some
 returns-in_ok-one_name-in-Some t c =

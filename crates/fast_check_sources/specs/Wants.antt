@@ -10,7 +10,7 @@ use Rattle.fast_check_name_demands.specs.Files.{FileDemand}
 use Rattle.fast_check_traces.specs.declared.modules.TracedModule.{TracedModule}
 use Rattle.fast_check_traces.specs.Wants.{Want as ModuleWant, re_exported, answered}
 use Rattle.fast_check_worklists.specs.Demands.{Text, Wanted, same_nv, asked_by, Want, to_package, to_module}
-use Rattle.fast_check_wants.specs.Sources.{Known}
+use Rattle.fast_check_sources.specs.Sources.{Known}
 
 -- a file of the same package is demanded. Of another package only the package is
 abbrev pub file_at : Nv → Text → Wanted → Option Nv → List Want

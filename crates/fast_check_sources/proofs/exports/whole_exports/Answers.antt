@@ -1,6 +1,6 @@
 use Rattle.fast_check_names.specs.Names.{path_of, paths}
-use Rattle.fast_check_wants.proofs.ExportsAsked.{whole_asked}
-use Rattle.fast_check_wants.proofs.exports.whole_exports.Goals as goal
+use Rattle.fast_check_sources.proofs.ExportsAsked.{whole_asked}
+use Rattle.fast_check_sources.proofs.exports.whole_exports.Goals as goal
 
 pub returns : goal.returns
 returns c =

@@ -4,7 +4,7 @@ ghost use Rattle.fast_check_names.specs.Names.{path_of, paths, paths_below, name
 ghost use Rattle.fast_check_names.specs.Imports.{subset_at, whole_at};
 ghost use Rattle.fast_check_name_demands.specs.Files.{names_of, path_demand};
 ghost use Rattle.fast_check_worklists.specs.Demands.{asked, asked_by};
-ghost use Rattle.fast_check_wants.specs.Exports.{touched_below};
+ghost use Rattle.fast_check_sources.specs.Exports.{touched_below};
 
 use fast_check_demands::Extent;
 use fast_check_name_demands::NameDemand;

@@ -11,7 +11,7 @@ use Rattle.fast_check_names.specs.Paths.{below_subset_is}
 use Rattle.fast_check_names.specs.Imports.{NameDemand, names_but_default, each_name, subset_at, whole_at}
 use Rattle.fast_check_names.proofs.Sets.{same_subset, same_whole}
 use Rattle.fast_check_worklists.specs.Demands.{touched_path, set_demands, asked, asked_by}
-use Rattle.fast_check_wants.specs.Exports.{touched_below}
+use Rattle.fast_check_sources.specs.Exports.{touched_below}
 
 and_true : (b : Bool) → b ≡ b && true
 and_true true = refl

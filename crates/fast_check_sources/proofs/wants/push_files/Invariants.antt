@@ -3,9 +3,9 @@ use Rattle.std.specs.List.{flat_map}
 use Rattle.fast_check_packages.specs.Package.{nv_of}
 use Rattle.fast_check_name_demands.specs.Files.{file_demand_of}
 use Rattle.fast_check_worklists.specs.State.{want_of}
-use Rattle.fast_check_wants.specs.Sources.{known}
-use Rattle.fast_check_wants.specs.Wants.{file_wants}
-use Rattle.fast_check_wants.proofs.wants.push_files.Given as goal
+use Rattle.fast_check_sources.specs.Sources.{known}
+use Rattle.fast_check_sources.specs.Wants.{file_wants}
+use Rattle.fast_check_sources.proofs.wants.push_files.Given as goal
 
 abbrev pub invariant-loop-file : goal.invariant-loop-file
 invariant-loop-file g l =

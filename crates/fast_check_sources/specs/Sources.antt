@@ -19,7 +19,7 @@ use Rattle.fast_check_graph.specs.Modules.{is_typed_module, is_external}
 use Rattle.fast_check_graph.specs.Root.{module_named}
 use Rattle.fast_check_traces.specs.declared.modules.TracedModule.{TracedModule}
 use Rattle.fast_check_worklists.specs.Demands.{Text}
-use Rattle.fast_check_wants.specs.declared.sources.Sources.{Sources}
+use Rattle.fast_check_sources.specs.declared.sources.Sources.{Sources}
 
 -- the item of a package with these entry points (in order, each once) that is used in place of what would be found
 abbrev pub Used : Type 0
