@@ -27,7 +27,8 @@ use Rattle.fast_check_symbols.specs.declared.tables.ReExportAllNode.{ReExportAll
 use Rattle.fast_check_symbols.specs.Tables.{Tables, resolved_export}
 use Rattle.fast_check_graph.specs.declared.root_symbol.AnyModuleInfo.{AnyModuleInfo}
 use Rattle.fast_check_graph.specs.Modules.{is_typed_module}
-use Rattle.fast_check_graph.specs.Graph.{is_specifier, text_resolved}
+use Rattle.fast_check_graph.specs.Graph.{is_specifier}
+use Rattle.fast_check_graph.specs.Resolutions.{text_resolved}
 use Rattle.fast_check_graph.specs.Root.{specifier_of, module_named, found_module}
 use Rattle.fast_check_demands.specs.symbol_demands.declared.demand.Namespace.{Namespace}
 use Rattle.fast_check_demands.specs.symbol_demands.declared.demand.Namespace.TheVariants.{Value, Type_}

@@ -12,6 +12,7 @@ use Rattle.fast_check_packages.specs.declared.package.PackageNv.{PackageNv}
 use Rattle.fast_check_packages.specs.Package.{Nv, nv_of, nv_cmp}
 use Rattle.fast_check_graph.specs.declared.graph.ModuleGraph.{ModuleGraph}
 use Rattle.fast_check_graph.specs.declared.module.Module.{Module}
+use Rattle.fast_check_graph.specs.Resolutions.{text_resolved}
 
 -- a specifier is told by its text
 abbrev pub is_specifier : Parts → Parts → Bool
@@ -25,14 +26,13 @@ is_package nv k = is_eq (nv_cmp nv (nv_of k))
 abbrev pub module_at : ModuleGraph → Parts → Option Module
 module_at g specifier = lookup (is_specifier specifier) g.modules.entries
 
--- what a text resolves to, among those of one module
-abbrev pub text_resolved : List ℕ → BTreeMap (String Global) Parts → Option Parts
-text_resolved text texts = lookup (λ k. bytes_eq text (string_bytes k)) texts.entries
+-- what the texts in a module resolve to
+abbrev pub resolutions_of : ModuleGraph → Parts → Option (BTreeMap (String Global) Parts)
+resolutions_of g referrer = lookup (is_specifier referrer) g.resolutions.entries
 
 -- what a text in a module resolves to
 abbrev pub resolved_to : ModuleGraph → List ℕ → Parts → Option Parts
-resolved_to g text referrer = option_and_then (text_resolved text)
-    (lookup (is_specifier referrer) g.resolutions.entries)
+resolved_to g text referrer = option_and_then (text_resolved text) (resolutions_of g referrer)
 
 -- the export texts of a package by their export names
 abbrev pub exports_of : ModuleGraph → Nv → Option (List (String Global × String Global))

@@ -1,4 +1,5 @@
 pub mod Modules
+pub mod Resolutions
 pub mod Graph
 pub mod ModuleNames
 pub mod Root

@@ -2,7 +2,7 @@
 ghost use Rattle.std.specs.Prelude.{◌≡◌, IsOkAnd, option_map};
 ghost use Rattle.std.specs.Option.{option_copied};
 ghost use Rattle.fast_check_packages.specs.Package.{nv_of};
-ghost use Rattle.fast_check_graph.specs.Graph.{IsGraphOf, module_at, resolved_to, exports_of};
+ghost use Rattle.fast_check_graph.specs.Graph.{IsGraphOf, module_at, resolutions_of, resolved_to, exports_of};
 
 use crate::module::Module;
 use fast_check_packages::PackageNv;
@@ -45,11 +45,18 @@ impl ModuleGraph {
         self.modules.get(specifier)
     }
 
+    /// What the texts in the module `referrer` resolve to.
+    pub fn resolutions_of(&self, referrer: &Url) -> Option<&BTreeMap<String, Url>>
+        ensures { option_copied result ≡ resolutions_of self.now referrer.now }
+    {
+        self.resolutions.get(referrer)
+    }
+
     /// What a text in the module `referrer` resolves to.
     pub fn resolve_dependency(&self, specifier_text: &str, referrer: &Url) -> Option<&Url>
         ensures { option_copied result ≡ resolved_to self.now specifier_text.now referrer.now }
     {
-        self.resolutions.get(referrer)?.get(specifier_text)
+        self.resolutions_of(referrer)?.get(specifier_text)
     }
 
     /// The export texts of a package by their export names.

@@ -30,7 +30,7 @@ fn answered_source(
     let Str { span, value, .. } = Str::of(src);
     match relative_source(
         alloc,
-        around.graph,
+        around.resolutions,
         around.es_module_info.specifier(),
         value,
     )? {

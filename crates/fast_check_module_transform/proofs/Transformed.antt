@@ -17,8 +17,7 @@ use Rattle.fast_check_declarations.specs.surroundings.skeleton.Grammar.{IsSkelet
 use Rattle.fast_check_declarations.specs.surroundings.skeleton.Surroundings.{Surroundings}
 use Rattle.fast_check_declarations.proofs.surroundings_proofs.skeleton_proofs.Standing.{skeleton_stands}
 use Rattle.fast_check_module_transform.specs.PartAnswers.{items_answer, program_answer}
-use Rattle.fast_check_declarations.specs.surroundings.Surroundings.{surroundings_of}
-use Rattle.fast_check_module_transform.specs.Transform.{skeleton, faults}
+use Rattle.fast_check_module_transform.specs.Transform.{surroundings_of, skeleton, faults}
 
 pub made_program : (around : Surroundings) (program : Tree) {E : Type 0}
     (r : Result Tree E) {x : Tree} {ts items : List Tree} {old new : List Fault} →

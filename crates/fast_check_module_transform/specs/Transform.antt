@@ -3,7 +3,9 @@ use Rattle.std.specs.Prelude.{List}
 use Rattle.fast_check_syntax.specs.declared.tree.Tree.{Tree}
 use Rattle.fast_check_graph.specs.declared.graph.ModuleGraph.{ModuleGraph}
 use Rattle.fast_check_modules.specs.EsModule.{EsModule}
-use Rattle.fast_check_declarations.specs.surroundings.Surroundings.{surroundings_of}
+use Rattle.fast_check_graph.specs.Graph.{resolutions_of}
+use Rattle.fast_check_declarations.specs.surroundings.Surroundings.{surroundings_by}
+use Rattle.fast_check_declarations.specs.surroundings.skeleton.Surroundings.{Surroundings}
 use Rattle.fast_check_links.specs.StaticSources.{static_sources}
 use Rattle.fast_check_modules.specs.diagnostics.PublicRanges.{PublicRanges}
 use Rattle.fast_check_parsed_source.specs.declared.tables.fast_check_module.StaticSource.{StaticSource}
@@ -11,6 +13,10 @@ use Rattle.fast_check_signatures.specs.declared.fault.Fault.{Fault}
 use Rattle.fast_check_declarations.specs.surroundings.skeleton.Skeleton.{skeleton_of, faults_of}
 use Rattle.fast_check_declarations.specs.surroundings.skeleton.KeptComments.{kept_comments}
 use Rattle.fast_check_comments.specs.declared.comments.Comments.{Comments}
+
+-- what it is asked beside its tree
+abbrev pub surroundings_of : ModuleGraph → EsModule → PublicRanges → Surroundings
+surroundings_of graph info public = surroundings_by (resolutions_of graph info.specifier) info public
 
 -- the skeleton of a module
 abbrev pub skeleton : ModuleGraph → EsModule → PublicRanges → Tree

@@ -38,7 +38,8 @@ pub fn keep_module(
     ensures comments { IfOk result (λ kept. kept.comments ≡ comments graph.now es_module_info.now public_ranges.now) }
     ensures faults { IfOk result (λ kept. kept.faults.items ≡ faults graph.now es_module_info.now public_ranges.now) }
 {
-    let around = Surroundings::of(graph, es_module_info, public_ranges);
+    let resolutions = graph.resolutions_of(es_module_info.specifier());
+    let around = Surroundings::of(resolutions, es_module_info, public_ranges);
     let source = es_module_info.source();
     let mut comments = CommentsMut::new(source.comments.clone()?);
     let mut faults = Vec::new(alloc);

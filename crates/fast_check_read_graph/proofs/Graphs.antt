@@ -20,7 +20,8 @@ use Rattle.fast_check_packages.specs.Package.{nv_of, nv_cmp}
 use Rattle.fast_check_modules.proofs.symbol_proofs.Alike.{lookup_alike, last_alike}
 use Rattle.fast_check_graph.specs.declared.graph.ModuleGraph.{ModuleGraph}
 use Rattle.fast_check_graph.specs.declared.module.Module.{Module}
-use Rattle.fast_check_graph.specs.Graph.{is_specifier, is_package, text_resolved, IsGraphOf}
+use Rattle.fast_check_graph.specs.Graph.{is_specifier, is_package, IsGraphOf}
+use Rattle.fast_check_graph.specs.Resolutions.{text_resolved}
 use Rattle.fast_check_graph.proofs.Tied.{at_specifier, at_text}
 use Rattle.fast_check_read_graph.specs.Graph as seen
 use Rattle.fast_check_read_graph.specs.Gathered.{all_gathered}

@@ -18,7 +18,8 @@ use Rattle.fast_check_packages.specs.Package.{Nv, VersionParts, nv_of, nv_cmp}
 use Rattle.fast_check_symbols.specs.Entries.{last_value}
 use Rattle.fast_check_graph.specs.declared.graph.ModuleGraph.{ModuleGraph}
 use Rattle.fast_check_graph.specs.declared.module.Module.{Module}
-use Rattle.fast_check_graph.specs.Graph.{is_specifier, module_at, text_resolved, resolved_to, exports_of}
+use Rattle.fast_check_graph.specs.Graph.{is_specifier, module_at, resolved_to, exports_of}
+use Rattle.fast_check_graph.specs.Resolutions.{text_resolved}
 use Rattle.fast_check_read_graph.specs.Reads.{given, list_of, both_of, three_of, or_default, needed, listed, url_of}
 use Rattle.fast_check_read_graph.specs.Modules.{module_of}
 

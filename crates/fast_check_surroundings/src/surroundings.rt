@@ -1,17 +1,19 @@
 //! What is asked of a module beside its tree, as the code is lent it.
 ghost use Rattle.std.specs.Prelude.{◌≡◌};
+ghost use Rattle.std.specs.Option.{option_copied};
 
-use fast_check_graph::ModuleGraph;
 use fast_check_modules::EsModuleInfo;
 use fast_check_modules::diagnostics::ModulePublicRanges;
 use fast_check_statement_forms::TsModuleDecl;
 use fast_check_syntax::Part;
+use std::collections::BTreeMap;
+use url::Url;
 
 /// What the transform asks beside the tree.
 #[derive(Clone, Copy)]
 pub struct Surroundings<'a> {
-    /// The modules that the module's imports resolve to.
-    pub graph: &'a ModuleGraph,
+    /// What the texts of its imports resolve to, where the graph has some.
+    pub resolutions: Option<&'a BTreeMap<String, Url>>,
     pub es_module_info: &'a EsModuleInfo,
     pub public_ranges: &'a ModulePublicRanges,
     /// Whether all that stands here is ambient: in a declaration file, or inside of a namespace with `declare`.
@@ -21,18 +23,18 @@ pub struct Surroundings<'a> {
 impl<'a> Surroundings<'a> {
     ghost use Rattle.fast_check_syntax.specs.Part.{seen};
     ghost use Rattle.fast_check_skeleton.specs.Surroundings.{inside};
-    ghost use Rattle.fast_check_surroundings.specs.Surroundings.{seen_around, surroundings_of};
+    ghost use Rattle.fast_check_surroundings.specs.Surroundings.{seen_around, surroundings_by};
 
-    /// What is asked of a module of this graph, with these public ranges.
+    /// What is asked of a module whose texts resolve to these, with these public ranges.
     pub fn of(
-        graph: &'a ModuleGraph,
+        resolutions: Option<&'a BTreeMap<String, Url>>,
         es_module_info: &'a EsModuleInfo,
         public_ranges: &'a ModulePublicRanges,
     ) -> Self
-        ensures { seen_around result ≡ surroundings_of graph.now es_module_info.now public_ranges.now }
+        ensures { seen_around result ≡ surroundings_by (option_copied resolutions.entry) es_module_info.now public_ranges.now }
     {
         Surroundings {
-            graph,
+            resolutions,
             es_module_info,
             public_ranges,
             is_ambient: es_module_info.source().media_type.is_declaration(),
@@ -44,7 +46,7 @@ impl<'a> Surroundings<'a> {
         ensures { seen_around result ≡ inside (seen_around self.entry) (seen decl.entry) }
     {
         Surroundings {
-            graph: self.graph,
+            resolutions: self.resolutions,
             es_module_info: self.es_module_info,
             public_ranges: self.public_ranges,
             is_ambient: self.is_ambient || TsModuleDecl::of(decl).declare,

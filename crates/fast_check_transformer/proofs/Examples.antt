@@ -4,8 +4,9 @@ use Rattle.std.proofs.Common.{inl, ap, ◌∙◌, sym}
 use Rattle.fast_check_bindings.specs.Bindings.{bindings_of}
 use Rattle.fast_check_comments.specs.declared.comments.Comments.{Comments}
 use Rattle.fast_check_comments.specs.Kept.{kept}
-use Rattle.fast_check_surroundings.specs.Surroundings.{surroundings_of}
+use Rattle.fast_check_module_transform.specs.Transform.{surroundings_of}
 use Rattle.fast_check_graph.specs.declared.graph.ModuleGraph.{ModuleGraph}
+use Rattle.fast_check_graph.specs.Graph.{resolutions_of}
 use Rattle.fast_check_modules.specs.EsModule.{EsModule}
 use Rattle.fast_check_modules.specs.diagnostics.PublicRanges.{PublicRanges, is_public}
 use Rattle.fast_check_modules.specs.symbols.Tables.{symbol_of_swc}
@@ -76,7 +77,7 @@ module _ (graph : ModuleGraph) where
   of m ranges t = surroundings_of graph (with_program m t) ranges
 
   abbrev sources : EsModule → Tree → List ℕ → Option (List ℕ)
-  sources m t = relative_source graph (with_program m t).specifier
+  sources m t = relative_source (resolutions_of graph m.specifier) (with_program m t).specifier
 
   same_object : (m n : EsModule) (t u : Tree) → SameOfF m n →
       SameObject no_places (of m (public_at []) t) (of n (public_at []) u) target target

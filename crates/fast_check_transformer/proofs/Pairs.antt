@@ -1,9 +1,8 @@
 -- Of two modules that agree but for what is hidden, what `transform` answers is the same.
 use Rattle.std.specs.Prelude.{◌≡◌, Bool, Ok, Err, refl}
 use Rattle.std.proofs.Common.{sym, subst, true≢false}
-use Rattle.fast_check_surroundings.specs.Surroundings.{surroundings_of}
 use Rattle.fast_check_graph.specs.declared.graph.ModuleGraph.{ModuleGraph}
-use Rattle.fast_check_module_transform.specs.Transform.{faults}
+use Rattle.fast_check_module_transform.specs.Transform.{surroundings_of, faults}
 use Rattle.fast_check_modules.specs.EsModule.{EsModule}
 use Rattle.fast_check_modules.specs.diagnostics.PublicRanges.{PublicRanges}
 use Rattle.fast_check_skeleton.specs.SameComments.{SameComments}
