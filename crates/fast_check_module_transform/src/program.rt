@@ -5,7 +5,7 @@ ghost use Rattle.fast_check_signatures.specs.Answers.{Adds};
 ghost use Rattle.fast_check_declarations.specs.surroundings.skeleton.KeptComments.{removed_starts, without_all_leading};
 ghost use Rattle.fast_check_declarations.specs.surroundings.Surroundings.{seen_around};
 ghost use Rattle.fast_check_module_transform.specs.PartAnswers.{program_answer};
-ghost use Rattle.fast_check_module_transform.specs.Transform.{skeleton, comments, faults};
+ghost use Rattle.fast_check_module_transform.specs.Transform.{surroundings_of, skeleton, comments, faults};
 
 use crate::items::keep_items;
 use fast_check_comments::{Comments, CommentsMut};
@@ -26,6 +26,18 @@ pub struct KeptModule {
     pub faults: Vec<Fault>,
 }
 
+/// What is asked of a module of this graph beside its tree.
+fn surroundings_of<'a>(
+    graph: &'a ModuleGraph,
+    es_module_info: &'a EsModuleInfo,
+    public_ranges: &'a ModulePublicRanges,
+) -> Surroundings<'a>
+    ensures { seen_around result ≡ surroundings_of graph.now es_module_info.now public_ranges.now }
+{
+    let resolutions = graph.resolutions_of(es_module_info.specifier());
+    Surroundings::of(resolutions, es_module_info, public_ranges)
+}
+
 /// What is public of the module with these tables, the comments that stay with it, and what is wrong with it: of a module with faults
 /// the tree is not to be used. `transform` and `FastCheckTransformer` answer what this finds. An `Err` is want of memory.
 pub fn keep_module(
@@ -38,8 +50,7 @@ pub fn keep_module(
     ensures comments { IfOk result (λ kept. kept.comments ≡ comments graph.now es_module_info.now public_ranges.now) }
     ensures faults { IfOk result (λ kept. kept.faults.items ≡ faults graph.now es_module_info.now public_ranges.now) }
 {
-    let resolutions = graph.resolutions_of(es_module_info.specifier());
-    let around = Surroundings::of(resolutions, es_module_info, public_ranges);
+    let around = surroundings_of(graph, es_module_info, public_ranges);
     let source = es_module_info.source();
     let mut comments = CommentsMut::new(source.comments.clone()?);
     let mut faults = Vec::new(alloc);
