@@ -25,6 +25,8 @@ for crate in crates/*/; do
   done
   [ ! -d "${crate}out/rlib" ] || cp -a --reflink=auto "${crate}out/rlib" "$scratch/${crate}out"
 done
+# The cases offer their cache to this driver alone, since a library that offers it writes all that its items mention.
+[ "$1" != builds ] || echo 'pub use memory::MemoryCache;' >> "$scratch/crates/fast_check_cache_cases/src/lib.rt"
 mkdir -p "$scratch/crates/driver/src"
 for file in "bench/time/drivers/$1"/*.rt.txt; do
   name=${file##*/}

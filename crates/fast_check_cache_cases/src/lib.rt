@@ -12,4 +12,3 @@ mod said_answers;
 
 pub use builds::run_cached_builds;
 pub use calls::run_cache_cases;
-pub use memory::MemoryCache;

@@ -12,7 +12,8 @@ use fast_check_graph::ModuleGraph;
 use fast_check_links::static_sources;
 use fast_check_modules::EsModuleInfo;
 use fast_check_modules::diagnostics::{FastCheckDiagnostic, ModulePublicRanges};
-use fast_check_parsed_source::{FastCheckModule, ModuleInfo, WorkspaceMember};
+use fast_check_packages::WorkspaceMember;
+use fast_check_parsed_source::{FastCheckModule, ModuleInfo};
 use fast_check_transform_faults::diagnose;
 use std::alloc::{AllocError, Global};
 

@@ -7,4 +7,3 @@ mod input;
 mod request;
 
 pub use command::answer_pair;
-pub use request::{PairRequest, Side, read_pair_request};

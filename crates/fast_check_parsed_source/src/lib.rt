@@ -3,7 +3,6 @@
 
 mod tables;
 
-pub use fast_check_packages::{PackageNv, WorkspaceMember};
 pub use tables::{
     FastCheckModule, MediaType, ModuleInfo, ModuleSpecifier, ParsedSource, StaticSource,
 };
