@@ -3,6 +3,7 @@ pub mod Entries
 pub mod Decls
 pub mod Symbols
 pub mod Places
+pub mod NamePlaces
 pub mod Faults
 pub mod Tables
 pub mod WellFormed

@@ -1,5 +1,4 @@
-use Rattle.std.proofs.Common.{◌≡◌, ◌∙◌, sym, ap, subst, List, Option, Some, None}
-use Rattle.std.specs.Prelude.{slice_get}
+use Rattle.std.proofs.Common.{◌∙◌, sym, ap, subst, List, Option, Some, None}
 use Rattle.std.specs.Option.{option_copied, option_and_then}
 use Rattle.std.specs.Slice.{IsItemAt}
 use Rattle.fast_check_symbols.specs.Exports.{export_named}
