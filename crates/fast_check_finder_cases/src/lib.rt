@@ -5,7 +5,6 @@
 mod deep;
 mod faults;
 mod modules;
-mod places;
 mod said_answers;
 mod said_packages;
 mod transformers;
@@ -15,7 +14,6 @@ mod written;
 
 pub use deep::run_deep_cases;
 pub use faults::run_fault_cases;
-pub use places::run_place_cases;
 pub use transformers::run_transformer_cases;
 pub use unfound::run_unfound_cases;
 pub use worlds::run_finder_cases;

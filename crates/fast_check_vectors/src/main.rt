@@ -8,12 +8,11 @@ mod streams;
 use crate::streams::{Input, Output};
 use anyhow::{Result, bail};
 use fast_check_cache_cases::{run_cache_cases, run_cached_builds};
-use fast_check_cases::{run_form_cases, run_name_cases};
+use fast_check_cases::{run_form_cases, run_name_cases, run_place_cases};
 use fast_check_commands::{Ending, run};
 use fast_check_example::run_example;
 use fast_check_finder_cases::{
-    run_deep_cases, run_fault_cases, run_finder_cases, run_place_cases, run_transformer_cases,
-    run_unfound_cases,
+    run_deep_cases, run_fault_cases, run_finder_cases, run_transformer_cases, run_unfound_cases,
 };
 use std::alloc::AllocError;
 use std::fs::File;

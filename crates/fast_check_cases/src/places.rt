@@ -1,7 +1,7 @@
 //! Places of diagnostics: when two are one. Each line of the file `places` is one: its module, its start and its end, and behind `|` the text of the
 //! module. Each is compared with the first, and with a copy of itself.
 
-use fast_check_cases::Said;
+use crate::said::Said;
 use fast_check_diagnostics::FastCheckDiagnosticRange;
 use fast_check_syntax::{SourcePos, SourceRange};
 use std::alloc::Global;
