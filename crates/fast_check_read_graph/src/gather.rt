@@ -59,11 +59,15 @@ pub fn gather_all<W, G: Gather<W>>(alloc: Global, value: &Value, empty: G) -> Re
     Ok(gathered)
 }
 
+/// The most items for which an array has room before they are read. A longer one takes more as they come, so what is refused holds little.
+const FIRST_ROOM: usize = 16_384;
+
 /// An array, of items as the crate that has `W` reads them.
 pub fn read_items_by<W, T: FromJsonBy<W>>(alloc: Global, value: &Value) -> Result<Vec<T>, ReadError>
     ensures { Reads (λ v. map T.seen v.items) (list_of T.read_of (view value.now)) result }
 {
-    gather_all::<W, Vec<T>>(alloc, value, Vec::new(alloc))
+    let room = read_array(value)?.len().min(FIRST_ROOM);
+    gather_all::<W, Vec<T>>(alloc, value, Vec::with_capacity(alloc, room)?)
 }
 
 /// Both values, or the first error. Values that are read this way go up at one place, so none that owns memory is left beside an error.
