@@ -41,3 +41,39 @@ fn members_with_float(members: &Map<String, Value>) -> bool
     }
     false
 }
+
+/// Whether a number anywhere in the value is held as a float. The value is dropped as it is looked at, each item of an array for itself, so that it passes
+/// through the cache once.
+#[cycle(dropped)]
+pub fn had_float(value: Value) -> bool
+    ensures { result ≡ holds_float (view value) }
+{
+    match value {
+        Value::Array(items) => items_had_float(items),
+        Value::Object(members) => members_had_float(members),
+        single => has_float(&single),
+    }
+}
+
+fn items_had_float(items: Vec<Value>) -> bool
+    ensures { result ≡ items_have_float (items_view items.items) }
+{
+    for item in items {
+        if has_float(&item) {
+            return true;
+        }
+    }
+    false
+}
+
+#[cycle(dropped)]
+fn members_had_float(members: Map<String, Value>) -> bool
+    ensures { result ≡ members_have_float (members_view members.entries) }
+{
+    for (_, member) in members {
+        if had_float(member) {
+            return true;
+        }
+    }
+    false
+}

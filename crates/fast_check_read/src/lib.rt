@@ -10,7 +10,7 @@ mod tree;
 
 pub use comments::read_comments;
 pub use error::ReadError;
-pub use float::has_float;
+pub use float::{had_float, has_float};
 pub use input::{InputFault, read_input};
 pub use pieces::{
     read_array, read_bool, read_members, read_optional_flag, read_pair, read_range, read_ranges,
