@@ -1,5 +1,5 @@
 -- Modules that are made one after another.
-use Rattle.std.proofs.Common.{◌≡◌, ◌∙◌, sym, ap, subst, refl, List, [], ◌∷◌, ◌++◌, length, append_assoc, append-nil, arith}
+use Rattle.std.proofs.Common.{◌≡◌, ◌∙◌, true, false, sym, ap, subst, refl, List, [], ◌∷◌, ◌++◌, length, append_assoc, append-nil, arith}
 use Rattle.std.proofs.Math.Logic.{inl, inr}
 use Rattle.url.specs.Parts.{Parts}
 use Rattle.fast_check_modules.specs.symbols.declared.fault.TableFault.{TableFault}
@@ -39,6 +39,11 @@ fails all rest made e left f g is h = g.fault f (subst (λ (es : Entries). IsFir
 pub wants_memory : (p : ModuleParts) → IsFaultOf p OutOfMemory
 wants_memory (parts.Esm p) = tt
 wants_memory (parts.Json p) = tt
+
+-- room is lacking only for modules
+pub lacks_room : (all : Entries) → (length all ≡ 0 → false ≡ true) → IsFirstFault all OutOfMemory
+lacks_room [] some = absurd (let f : false ≡ true = some refl in cc)
+lacks_room (e ∷ es) some = inl (wants_memory e.1)
 
 none_left : (xs : Entries) → length xs ≡ 0 → xs ≡ []
 none_left [] is = refl

@@ -3,7 +3,7 @@
 ghost use Rattle.std.specs.Prelude.{IfOk, IfErr};
 ghost use Rattle.fast_check_build_requests.specs.Input.{HoldsBuild, LacksBuild};
 
-use crate::request::{BuildRequest, read_build_request};
+use crate::request::{BuildRequest, read_build_value};
 use fast_check_read::read_input;
 use fast_check_requests::Refusal;
 use std::alloc::Global;
@@ -15,5 +15,5 @@ pub fn read_build(alloc: Global, bytes: &[u8]) -> Result<BuildRequest, Refusal>
     ensures refusal { IfErr result (LacksBuild bytes.now) }
 {
     let value = read_input(alloc, bytes)?;
-    Ok(read_build_request(alloc, &value)?)
+    Ok(read_build_value(alloc, value)?)
 }

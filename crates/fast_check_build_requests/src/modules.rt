@@ -38,7 +38,7 @@ pub fn modules_of(
     ensures made { IfOk result (λ made. AreModulesOf modules.items made.items) }
     ensures fault { IfErr result (IsFirstFault modules.items) }
 {
-    let mut made = Vec::new(alloc);
+    let mut made = Vec::with_capacity(alloc, modules.len())?;
     for (name, parts) in modules {
         let module = module_of(alloc, parts)?;
         made.push((name, module))?;

@@ -9,7 +9,7 @@ use crate::module_parts::ModuleParts;
 use crate::provider::read_provider;
 use fast_check_graph::ModuleGraph;
 use fast_check_packages::{ListedPackages, PackageNv, WorkspaceMember};
-use fast_check_read::{ReadError, has_float};
+use fast_check_read::{ReadError, had_float, has_float};
 use fast_check_read_tables::{read_flag, read_graph, read_list};
 use serde_json::Value;
 use std::alloc::Global;
@@ -40,6 +40,17 @@ pub fn read_build_request(alloc: Global, value: &Value) -> Result<BuildRequest, 
         return Err(ReadError::BadForm);
     }
     read_build_members(alloc, value)
+}
+
+/// The same of a value that is dropped. Floats are looked for behind the members, since to drop the value is to go over all of it.
+pub(crate) fn read_build_value(alloc: Global, value: Value) -> Result<BuildRequest, ReadError>
+    ensures { Reads build (build_of (view value)) result }
+{
+    let request = read_build_members(alloc, &value)?;
+    if had_float(value) {
+        return Err(ReadError::BadForm);
+    }
+    Ok(request)
 }
 
 fn read_build_members(alloc: Global, value: &Value) -> Result<BuildRequest, ReadError>

@@ -2,13 +2,19 @@ use Rattle.std.proofs.Common.{rules, arith, refl}
 use Rattle.fast_check_modules.specs.symbols.declared.fault.TableFault.{TableFault}
 use Rattle.fast_check_modules.specs.symbols.declared.fault.TableFault.TheVariants.{OutOfMemory}
 use Rattle.fast_check_build_requests.specs.Modules.{IsFaultOf}
-use Rattle.fast_check_build_requests.proofs.Turns.{begins, goes_on, fails, wants_memory, ends}
+use Rattle.fast_check_build_requests.proofs.Turns.{begins, goes_on, fails, wants_memory, lacks_room, ends}
 use Rattle.fast_check_build_requests.proofs.modules.modules_of.Goals as goal
 
 pub loop-name-init : goal.loop-name-init
 loop-name-init c =
-    begins c.args.modules.items c.into_iter-name-iterator.result.rest.items c.new-made.result.items
-    c.into_iter-name-iterator.ensures.into_iter_gives.0 c.new-made.ensures.items
+    begins c.args.modules.items c.into_iter-name-iterator.result.rest.items c.in_ok-made.made.items
+    c.into_iter-name-iterator.ensures.into_iter_gives.0 c.in_ok-made.ensures.items
+
+pub returns-in_err-made-clause-fault : goal.returns-in_err-made-clause-fault
+returns-in_err-made-clause-fault c =
+    let first = lacks_room c.args.modules.items (λ none.
+    c.in_err-made.ensures.succeeds (omega (arith, c.len.ensures, c.args.modules.ok.0, none))) in
+    search (rules, first)
 
 pub returns-in_err-module-clause-fault : goal.returns-in_err-module-clause-fault
 returns-in_err-module-clause-fault c =
