@@ -55,6 +55,7 @@ fn copy_one(alloc: Global, node: &Node, queue: &mut Vec<usize>) -> Result<Node, 
         runs,
         sorted: node.sorted,
         listed: node.listed,
+        begins: None,
     })
 }
 

@@ -8,6 +8,7 @@ ghost use Rattle.fast_check_names.specs.Names.{whole_below, IsAdded};
 ghost use Rattle.fast_check_names.specs.Numbers.{stays, number, rank, is_node, lists_node, moved_entries, AreGone, AreRanks, AreMovedDown, IsWithout};
 
 use crate::lattice::calls::names_of;
+use crate::lattice::listing::noted_number;
 use crate::lattice::node::{Below, Node, NodeNo};
 use crate::lattice::nodes::place_of;
 use crate::lattice::stretch::{end_and_first, take_out};
@@ -122,7 +123,7 @@ fn renumber_node(node: &mut Node, numbers: &[Option<usize>])
     ensures { node.new.names.items ≡ moved_entries (number numbers.now) node.old.names.items }
 {
     renumber_names(&mut node.names, numbers);
-    node.listed.node = number_of(numbers, node.listed.node);
+    node.listed.node = noted_number(number_of(numbers, node.listed.node as usize));
 }
 
 /// Renumbers what stands in all nodes.

@@ -5,6 +5,7 @@ ghost use Rattle.fast_check_names.specs.Order.{Name, found, lists, IsOnce};
 ghost use Rattle.fast_check_names.specs.Graph.{entry, listings, shift, either_of, IsTree, IsMerge, IsBehind, HasRoom, AreApart, LacksNames};
 ghost use Rattle.fast_check_names.specs.Gains.{IsJoint, IsCovering};
 
+use crate::lattice::begins::{begins_of, note_begins};
 use crate::lattice::calls::names_of;
 use crate::lattice::listing::note_places;
 use crate::lattice::node::{Below, Node};
@@ -54,7 +55,10 @@ fn put_names(node: &mut Node, mut names: Vec<(String, Below)>)
 {
     let alloc = *names.allocator();
     let _ = node.names.append(&mut names);
-    node.sorted = sort_from(node.names.as_slice(), &mut node.runs, alloc, node.sorted);
+    let listed = node.names.as_slice();
+    note_begins(alloc, listed, &mut node.begins);
+    let begins = begins_of(&node.begins);
+    node.sorted = sort_from(listed, &mut node.runs, begins, alloc, node.sorted);
 }
 
 /// Puts the nodes of a tree but its root behind the others, where there is room for them, and answers the names of the root.

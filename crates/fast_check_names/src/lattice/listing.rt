@@ -6,6 +6,11 @@ ghost use Rattle.fast_check_names.specs.Graph.{listings};
 use crate::lattice::calls::names_of;
 use crate::lattice::node::{Below, Listing, Node};
 
+/// A number as it is noted: the largest there is for one that is too large.
+pub(crate) fn noted_number(number: usize) -> u32 {
+    u32::try_from(number).unwrap_or(u32::MAX)
+}
+
 /// Notes where a node is listed.
 pub(crate) fn note(nodes: &mut Vec<Node>, no: usize, listed: Listing)
     ensures len { vec_len nodes.new ≡ vec_len nodes.old }
@@ -29,7 +34,11 @@ fn note_place(nodes: &mut Vec<Node>, at: usize, place: usize)
     let Below::Subset(no) = *below else {
         return;
     };
-    note(nodes, no.0, Listing { node: at, place });
+    let listed = Listing {
+        node: noted_number(at),
+        place: noted_number(place),
+    };
+    note(nodes, no.0, listed);
 }
 
 /// Notes at each node that node `at` lists from a place on where it is listed.

@@ -7,6 +7,7 @@ ghost use Rattle.std.specs.Option.{MatchOption};
 ghost use Rattle.fast_check_names.specs.Order.{name_at, names_in, lists, run_at, AreFilled, IsAbsentBefore, IsOnce, IsOrder, ArePlaces};
 ghost use Rattle.fast_check_names.specs.Slots.{above, place, IsSlot, IsCount};
 
+use crate::lattice::begins::guess;
 use crate::lattice::node::Below;
 use std::alloc::{AllocError, Global};
 
@@ -14,14 +15,14 @@ use std::alloc::{AllocError, Global};
 const LONG: usize = 512;
 
 /// A place in a run: behind it stand the names above a name.
-#[derive(Debug, Clone, Copy)]
+#[derive(Clone, Copy)]
 pub(crate) struct Slot {
-    run: usize,
-    at: usize,
+    pub run: usize,
+    pub at: usize,
 }
 
 /// The name of a number.
-fn name_of(names: &[(String, Below)], number: usize) -> &str
+pub(crate) fn name_of(names: &[(String, Below)], number: usize) -> &str
     ensures { result.now ≡ name_at names.now number }
 {
     match names.get(number) {
@@ -32,7 +33,7 @@ fn name_of(names: &[(String, Below)], number: usize) -> &str
 
 /// Whether the name of a number is above a name. It is called, so that a search branches on its answer, and need not wait for each name to be read.
 #[inline(never)]
-fn is_above(names: &[(String, Below)], number: usize, name: &str) -> bool
+pub(crate) fn is_above(names: &[(String, Below)], number: usize, name: &str) -> bool
     ensures { result ≡ above names.now number name.now }
 {
     name_of(names, number).cmp(name).is_gt()
@@ -150,13 +151,14 @@ fn slot_near(names: &[(String, Below)], runs: &[Vec<usize>], name: &str, hint: O
 pub(crate) fn find(
     names: &[(String, Below)],
     runs: &[Vec<usize>],
+    begins: &[u64],
     sorted: usize,
     name: &str,
 ) -> (Option<usize>, Slot)
     requires { IsOrder (names_in names.now) (lists runs.now) sorted }
     ensures { MatchOption result.0 (IsAbsentBefore names.now name.now sorted) (λ i. (i < sorted) × (name_at names.now i ≡ name.now)) }
 {
-    let slot = slot_of(names, runs, name);
+    let slot = slot_near(names, runs, name, guess(names, runs, begins, name));
     if slot.at == 0 {
         return (None, slot);
     }
@@ -220,6 +222,7 @@ fn put(runs: &mut Vec<Vec<usize>>, slot: Slot, number: usize) -> bool
 fn put_next(
     names: &[(String, Below)],
     runs: &mut Vec<Vec<usize>>,
+    begins: &[u64],
     alloc: Global,
     sorted: usize,
     hint: Option<Slot>,
@@ -233,7 +236,14 @@ fn put_next(
     if runs.is_empty() {
         return put_first(runs, alloc, sorted);
     }
-    let slot = slot_near(names, runs.as_slice(), name_of(names, sorted), hint);
+    let name = name_of(names, sorted);
+    let held = runs.as_slice();
+    let hint = if hint.is_none() {
+        guess(names, held, begins, name)
+    } else {
+        hint
+    };
+    let slot = slot_near(names, held, name, hint);
     put(runs, slot, sorted)
 }
 
@@ -242,6 +252,7 @@ fn put_next(
 pub(crate) fn sort_near(
     names: &[(String, Below)],
     runs: &mut Vec<Vec<usize>>,
+    begins: &[u64],
     alloc: Global,
     sorted: usize,
     hint: Option<Slot>,
@@ -251,7 +262,7 @@ pub(crate) fn sort_near(
     ensures { IsOrder (names_in names.now) (lists runs.new.items) result }
 {
     for number in sorted..names.len() {
-        if !put_next(names, runs, alloc, number, hint) {
+        if !put_next(names, runs, begins, alloc, number, hint) {
             return number;
         }
     }
@@ -262,6 +273,7 @@ pub(crate) fn sort_near(
 pub(crate) fn sort_from(
     names: &[(String, Below)],
     runs: &mut Vec<Vec<usize>>,
+    begins: &[u64],
     alloc: Global,
     sorted: usize,
 ) -> usize
@@ -269,7 +281,7 @@ pub(crate) fn sort_from(
     requires once { IsOnce names.now }
     ensures { IsOrder (names_in names.now) (lists runs.new.items) result }
 {
-    sort_near(names, runs, alloc, sorted, None)
+    sort_near(names, runs, begins, alloc, sorted, None)
 }
 
 /// The numbers below a count.

@@ -7,6 +7,7 @@ ghost use Rattle.fast_check_names.specs.Graph.{entry};
 ghost use Rattle.fast_check_names.specs.Names.{path_of};
 ghost use Rattle.fast_check_names.specs.Line.{line, link_at};
 
+use crate::lattice::listing::noted_number;
 use crate::lattice::node::{Below, Listing, Node, NodeNo};
 use std::alloc::{AllocError, Global};
 
@@ -21,9 +22,10 @@ fn node_of(alloc: Global, name: &String, below: Below, before: usize) -> Result<
         runs: Vec::new(alloc),
         sorted: 0,
         listed: Listing {
-            node: before,
+            node: noted_number(before),
             place: 0,
         },
+        begins: None,
     })
 }
 

@@ -13,7 +13,7 @@ ghost use Rattle.fast_check_names.specs.Stretch.{AreFilled, IsParentAmong, Lacks
 
 use crate::lattice::calls::names_of;
 use crate::lattice::covers::write_all;
-use crate::lattice::listing::note;
+use crate::lattice::listing::{note, noted_number};
 use crate::lattice::node::{Below, Listing, Node, NodeNo};
 
 /// So many nodes go at most: each one that takes a place is looked for twice.
@@ -112,7 +112,8 @@ fn noted_parent(nodes: &[Node], low: usize, high: usize, no: usize) -> Option<(u
     let Some(node) = nodes.get(no) else {
         return None;
     };
-    let Listing { node: at, place } = node.listed;
+    let at = node.listed.node as usize;
+    let place = node.listed.place as usize;
     if at >= no || (low <= at && at < high) {
         return None;
     }
@@ -205,10 +206,15 @@ fn write_number(nodes: &mut Vec<Node>, at: usize, place: usize, no: usize)
 /// Where a node is listed once the nodes from one on have moved down.
 fn lowered(at: usize, place: usize, from: usize, by: usize) -> Listing {
     if at < from {
-        return Listing { node: at, place };
+        return Listing {
+            node: noted_number(at),
+            place: noted_number(place),
+        };
     }
-    let node = at.saturating_sub(by);
-    Listing { node, place }
+    Listing {
+        node: noted_number(at.saturating_sub(by)),
+        place: noted_number(place),
+    }
 }
 
 /// The numbers from one on fall to the places of those that go.

@@ -13,8 +13,8 @@ sort_from-node-requires-clause-order c =
     let fs = c.args.names.items in
     let ok : is_ok c.append.result ≡ true = c.append.ensures.succeeds c.requires.room in
     let items : c.append.new.self.items ≡ es ++ fs = rw (c.append.ensures.items, ok) in
-    order_along (names_in c.as_slice.result.now) (names_in es ++ names_in fs) (lists node.runs.items) node.sorted
-    (ap names_in (c.as_slice.ensures.value ∙ items) ∙ map-append (λ (e : Entry). string_bytes e.0) es fs)
+    order_along (names_in c.as_slice-listed.result.now) (names_in es ++ names_in fs) (lists node.runs.items) node.sorted
+    (ap names_in (c.as_slice-listed.ensures.value ∙ items) ∙ map-append (λ (e : Entry). string_bytes e.0) es fs)
     (order_more (names_in es) (names_in fs) (lists node.runs.items) node.sorted node.order)
 
 pub sort_from-node-requires-clause-once : goal.sort_from-node-requires-clause-once
@@ -24,7 +24,7 @@ sort_from-node-requires-clause-once c =
     let fs = c.args.names.items in
     let ok : is_ok c.append.result ≡ true = c.append.ensures.succeeds c.requires.room in
     let items : c.append.new.self.items ≡ es ++ fs = rw (c.append.ensures.items, ok) in
-    once_along c.as_slice.result.now (es ++ fs) (ap names_in (c.as_slice.ensures.value ∙ items))
+    once_along c.as_slice-listed.result.now (es ++ fs) (ap names_in (c.as_slice-listed.ensures.value ∙ items))
     (once_append es fs node.once c.requires.once c.requires.apart)
 
 pub invariant_of-node : goal.invariant_of-node
@@ -37,7 +37,7 @@ invariant_of-node c =
     record {
       once = once_along c.append.new.self.items (es ++ fs) (ap names_in items)
           (once_append es fs node.once c.requires.once c.requires.apart);
-      order = rw c.as_slice.ensures.value at c.sort_from-node.ensures;
+      order = rw c.as_slice-listed.ensures.value at c.sort_from-node.ensures;
     }
 
 pub returns : goal.returns

@@ -9,16 +9,16 @@ sort_near-node-requires-clause-order c =
     let node = c.args.node.now in
     let es = node.names.items in
     let e : Entry = (c.args.name, c.args.below) in
-    let same : names_in c.as_slice.result.now ≡ names_in es ++ string_bytes c.args.name ∷ [] =
-    ap names_in (c.as_slice.ensures.value ∙ c.in_ok-push.ensures.items) ∙ names_push es e in
-    order_along (names_in c.as_slice.result.now) (names_in es ++ string_bytes c.args.name ∷ []) (lists node.runs.items) node.sorted same
+    let same : names_in c.as_slice-listed.result.now ≡ names_in es ++ string_bytes c.args.name ∷ [] =
+    ap names_in (c.as_slice-listed.ensures.value ∙ c.in_ok-push.ensures.items) ∙ names_push es e in
+    order_along (names_in c.as_slice-listed.result.now) (names_in es ++ string_bytes c.args.name ∷ []) (lists node.runs.items) node.sorted same
     (order_more (names_in es) (string_bytes c.args.name ∷ []) (lists node.runs.items) node.sorted node.order)
 
 pub sort_near-node-requires-clause-once : goal.sort_near-node-requires-clause-once
 sort_near-node-requires-clause-once c =
     let es = c.args.node.now.names.items in
     let e : Entry = (c.args.name, c.args.below) in
-    once_along c.as_slice.result.now (es ++ e ∷ []) (ap names_in (c.as_slice.ensures.value ∙ c.in_ok-push.ensures.items))
+    once_along c.as_slice-listed.result.now (es ++ e ∷ []) (ap names_in (c.as_slice-listed.ensures.value ∙ c.in_ok-push.ensures.items))
     (once_push es e c.args.node.now.once c.requires)
 
 pub invariant_of-node-2 : goal.invariant_of-node-2
@@ -28,7 +28,7 @@ invariant_of-node-2 c =
     record {
       once = once_along c.push.new.self.items (es ++ e ∷ []) (ap names_in c.in_ok-push.ensures.items)
           (once_push es e c.args.node.now.once c.requires);
-      order = rw c.as_slice.ensures.value at c.sort_near-node.ensures;
+      order = rw c.as_slice-listed.ensures.value at c.sort_near-node.ensures;
     }
 
 pub returns-clause-found : goal.returns-clause-found

@@ -29,8 +29,8 @@ returns-clause-done c =
     let run = c.slot_near-slot.result.run in
     let at = c.slot_near-slot.result.at in
     let more : c.args.sorted < length (names_in es) = omega (arith, c.requires.within, length-map es (λ (e : Entry). string_bytes e.0)) in
-    let read = rw c.as_slice.ensures.value at c.slot_near-slot.ensures in
-    let slot : IsSlot es xss n run at = subst (λ (m : Name). IsSlot es xss m run at) c.name_of.ensures read in
+    let read = rw c.as_slice-held.ensures.value at c.slot_near-slot.ensures in
+    let slot : IsSlot es xss n run at = subst (λ (m : Name). IsSlot es xss m run at) c.name_of-name.ensures read in
     let gap : IsGap (keys (names_in es) (concat xss)) n (place xss run at) =
     slot_gap es xss n run at c.requires.order.filled c.requires.order.rising slot
     (λ h e. c.requires.absent (get_or (run_at xss run) (at - 1) 0)
@@ -53,17 +53,17 @@ returns-then-is_empty-clause-left c = on_false_from c.put_first.result
     c.put_first.ensures.left
 
 pub slot_near-slot-requires : goal.slot_near-slot-requires
-slot_near-slot-requires c = rw c.as_slice.ensures.value c.requires.order.filled
+slot_near-slot-requires c = rw c.as_slice-held.ensures.value c.requires.order.filled
 
 pub put-requires-clause-run : goal.put-requires-clause-run
 put-requires-clause-run c =
     let runs = c.args.runs.now in
-    let slot = rw c.as_slice.ensures.value at c.slot_near-slot.ensures in
+    let slot = rw c.as_slice-held.ensures.value at c.slot_near-slot.ensures in
     let there = slot.some (some_runs runs c.if-is_empty.ensures) in
     omega (arith, there, count_is runs.items, runs.ok.0)
 
 pub put-requires-clause-at : goal.put-requires-clause-at
-put-requires-clause-at c = (rw c.as_slice.ensures.value at c.slot_near-slot.ensures).within
+put-requires-clause-at c = (rw c.as_slice-held.ensures.value at c.slot_near-slot.ensures).within
 
 pub put-requires-clause-filled : goal.put-requires-clause-filled
 put-requires-clause-filled c = c.requires.order.filled
