@@ -10,7 +10,7 @@ use crate::lattice::calls::names_of;
 use crate::lattice::listing::note_places;
 use crate::lattice::node::{Below, Node};
 use crate::lattice::nodes::{find_at, shift_nodes};
-use crate::lattice::order::sort_from;
+use crate::lattice::order::sort_near;
 use std::alloc::{AllocError, Global};
 
 /// Room for the elements of a vector and `more`: None where they fit, else a vector without elements to which they can move.
@@ -58,7 +58,7 @@ fn put_names(node: &mut Node, mut names: Vec<(String, Below)>)
     let listed = node.names.as_slice();
     note_begins(alloc, listed, &mut node.begins);
     let begins = begins_of(&node.begins);
-    node.sorted = sort_from(listed, &mut node.runs, begins, alloc, node.sorted);
+    node.sorted = sort_near(listed, &mut node.runs, begins, alloc, node.sorted, None);
 }
 
 /// Puts the nodes of a tree but its root behind the others, where there is room for them, and answers the names of the root.

@@ -269,21 +269,6 @@ pub(crate) fn sort_near(
     names.len()
 }
 
-/// Puts the numbers of the names that are not in the order, as long as there is memory, and answers of how many names it then is.
-pub(crate) fn sort_from(
-    names: &[(String, Below)],
-    runs: &mut Vec<Vec<usize>>,
-    begins: &[u64],
-    alloc: Global,
-    sorted: usize,
-) -> usize
-    requires order { IsOrder (names_in names.now) (lists runs.old.items) sorted }
-    requires once { IsOnce names.now }
-    ensures { IsOrder (names_in names.now) (lists runs.new.items) result }
-{
-    sort_near(names, runs, begins, alloc, sorted, None)
-}
-
 /// The numbers below a count.
 fn numbers_below(alloc: Global, count: usize) -> Result<Vec<usize>, AllocError>
     ensures { IfOk result (λ numbers. IsCount numbers.items count) }

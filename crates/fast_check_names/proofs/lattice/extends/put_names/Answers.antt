@@ -6,8 +6,8 @@ use Rattle.fast_check_names.proofs.Sorted.{order_more, order_along}
 use Rattle.fast_check_names.proofs.Extends.{once_append, found_append}
 use Rattle.fast_check_names.proofs.lattice.extends.put_names.Goals as goal
 
-pub sort_from-node-requires-clause-order : goal.sort_from-node-requires-clause-order
-sort_from-node-requires-clause-order c =
+pub sort_near-node-requires-clause-order : goal.sort_near-node-requires-clause-order
+sort_near-node-requires-clause-order c =
     let node = c.args.node.now in
     let es = node.names.items in
     let fs = c.args.names.items in
@@ -17,8 +17,8 @@ sort_from-node-requires-clause-order c =
     (ap names_in (c.as_slice-listed.ensures.value ∙ items) ∙ map-append (λ (e : Entry). string_bytes e.0) es fs)
     (order_more (names_in es) (names_in fs) (lists node.runs.items) node.sorted node.order)
 
-pub sort_from-node-requires-clause-once : goal.sort_from-node-requires-clause-once
-sort_from-node-requires-clause-once c =
+pub sort_near-node-requires-clause-once : goal.sort_near-node-requires-clause-once
+sort_near-node-requires-clause-once c =
     let node = c.args.node.now in
     let es = node.names.items in
     let fs = c.args.names.items in
@@ -37,7 +37,7 @@ invariant_of-node c =
     record {
       once = once_along c.append.new.self.items (es ++ fs) (ap names_in items)
           (once_append es fs node.once c.requires.once c.requires.apart);
-      order = rw c.as_slice-listed.ensures.value at c.sort_from-node.ensures;
+      order = rw c.as_slice-listed.ensures.value at c.sort_near-node.ensures;
     }
 
 pub returns : goal.returns
