@@ -35,16 +35,7 @@ pub(crate) fn begins_of(begins: &Begins) -> &[u64] {
     }
 }
 
-/// Notes what the names begin with whose beginnings are not noted, as long as there is memory.
-fn push_begins(names: &[(String, Below)], begins: &mut Vec<u64>) {
-    for number in begins.len()..names.len() {
-        if begins.push(begin_of(name_of(names, number))).is_err() {
-            return;
-        }
-    }
-}
-
-/// Notes what names begin with, where they are many.
+/// Notes what the names begin with whose beginnings are not noted, where names are many, as long as there is memory.
 pub(crate) fn note_begins(alloc: Global, names: &[(String, Below)], begins: &mut Begins) {
     if names.len() <= FEW {
         return;
@@ -52,8 +43,13 @@ pub(crate) fn note_begins(alloc: Global, names: &[(String, Below)], begins: &mut
     if begins.is_none() {
         *begins = Box::new(alloc, Vec::new(alloc)).ok();
     }
-    if let Some(begins) = begins {
-        push_begins(names, begins);
+    let Some(noted) = begins else {
+        return;
+    };
+    for number in noted.len()..names.len() {
+        if noted.push(begin_of(name_of(names, number))).is_err() {
+            return;
+        }
     }
 }
 
