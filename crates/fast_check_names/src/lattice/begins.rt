@@ -4,7 +4,7 @@
 ghost use Rattle.std.specs.Prelude.{◌≤◌, length};
 
 use crate::lattice::node::{Begins, Below};
-use crate::lattice::order::{Slot, is_above, name_of};
+use crate::lattice::order::{NameSlot, is_above, name_of};
 use std::alloc::Global;
 
 /// A node of no more names has no beginnings.
@@ -121,16 +121,16 @@ pub(crate) fn guess(
     runs: &[Vec<usize>],
     begins: &[u64],
     name: &str,
-) -> Option<Slot> {
+) -> Option<NameSlot> {
     if begins.is_empty() {
         return None;
     }
     let begin = begin_of(name);
     let before = guess_runs(names, runs, begins, name, begin);
     if before == 0 {
-        return Some(Slot { run: 0, at: 0 });
+        return Some(NameSlot { run: 0, at: 0 });
     }
     let run = before - 1;
     let at = guess_in_run(names, runs[run].as_slice(), begins, name, begin);
-    Some(Slot { run, at })
+    Some(NameSlot { run, at })
 }

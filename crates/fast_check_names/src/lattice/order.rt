@@ -16,7 +16,7 @@ const LONG: usize = 512;
 
 /// A place in a run: behind it stand the names above a name.
 #[derive(Clone, Copy)]
-pub(crate) struct Slot {
+pub(crate) struct NameSlot {
     pub run: usize,
     pub at: usize,
 }
@@ -88,21 +88,21 @@ fn runs_upto(names: &[(String, Below)], runs: &[Vec<usize>], name: &str) -> usiz
 }
 
 /// Where a name would stand.
-fn slot_of(names: &[(String, Below)], runs: &[Vec<usize>], name: &str) -> Slot
+fn slot_of(names: &[(String, Below)], runs: &[Vec<usize>], name: &str) -> NameSlot
     requires { AreFilled (lists runs.now) }
     ensures { IsSlot names.now (lists runs.now) name.now result.run result.at }
 {
     let before = runs_upto(names, runs, name);
     if before == 0 {
-        return Slot { run: 0, at: 0 };
+        return NameSlot { run: 0, at: 0 };
     }
     let run = before - 1;
     let at = upto_in_run(names, runs[run].as_slice(), name);
-    Slot { run, at }
+    NameSlot { run, at }
 }
 
 /// Whether a place in a run is not too far on for a name.
-fn is_upto(names: &[(String, Below)], run: &[usize], slot: Slot, name: &str) -> bool
+fn is_upto(names: &[(String, Below)], run: &[usize], slot: NameSlot, name: &str) -> bool
     ensures within { IsTrue result → slot.at ≤ length run.now }
     ensures start { IsTrue result → slot.at ≡ 0 → slot.run ≡ 0 }
     ensures upto { IsTrue result → 0 < slot.at → above names.now (get_or run.now (slot.at - 1) 0) name.now ≡ false }
@@ -117,7 +117,7 @@ fn is_upto(names: &[(String, Below)], run: &[usize], slot: Slot, name: &str) -> 
 }
 
 /// Whether a name would stand in a slot. At the end of a run that is not told, but of the last one.
-fn is_slot(names: &[(String, Below)], runs: &[Vec<usize>], slot: Slot, name: &str) -> bool
+fn is_slot(names: &[(String, Below)], runs: &[Vec<usize>], slot: NameSlot, name: &str) -> bool
     ensures { IsTrue result → IsSlot names.now (lists runs.now) name.now slot.run slot.at }
 {
     if slot.run >= runs.len() {
@@ -134,7 +134,12 @@ fn is_slot(names: &[(String, Below)], runs: &[Vec<usize>], slot: Slot, name: &st
 }
 
 /// Where a name would stand: in the slot that is given, or where it is found to.
-fn slot_near(names: &[(String, Below)], runs: &[Vec<usize>], name: &str, hint: Option<Slot>) -> Slot
+fn slot_near(
+    names: &[(String, Below)],
+    runs: &[Vec<usize>],
+    name: &str,
+    hint: Option<NameSlot>,
+) -> NameSlot
     requires { AreFilled (lists runs.now) }
     ensures { IsSlot names.now (lists runs.now) name.now result.run result.at }
 {
@@ -154,7 +159,7 @@ pub(crate) fn find(
     begins: &[u64],
     sorted: usize,
     name: &str,
-) -> (Option<usize>, Slot)
+) -> (Option<usize>, NameSlot)
     requires { IsOrder (names_in names.now) (lists runs.now) sorted }
     ensures { MatchOption result.0 (IsAbsentBefore names.now name.now sorted) (λ i. (i < sorted) × (name_at names.now i ≡ name.now)) }
 {
@@ -202,7 +207,7 @@ fn split(runs: &mut Vec<Vec<usize>>, run: usize)
 }
 
 /// Puts a number in a slot, if there is memory for it.
-fn put(runs: &mut Vec<Vec<usize>>, slot: Slot, number: usize) -> bool
+fn put(runs: &mut Vec<Vec<usize>>, slot: NameSlot, number: usize) -> bool
     requires run { slot.run < vec_len runs.old }
     requires at { slot.at ≤ length (run_at (lists runs.old.items) slot.run) }
     requires filled { AreFilled (lists runs.old.items) }
@@ -225,7 +230,7 @@ fn put_next(
     begins: &[u64],
     alloc: Global,
     sorted: usize,
-    hint: Option<Slot>,
+    hint: Option<NameSlot>,
 ) -> bool
     requires order { IsOrder (names_in names.now) (lists runs.old.items) sorted }
     requires within { sorted < length names.now }
@@ -255,7 +260,7 @@ pub(crate) fn sort_near(
     begins: &[u64],
     alloc: Global,
     sorted: usize,
-    hint: Option<Slot>,
+    hint: Option<NameSlot>,
 ) -> usize
     requires order { IsOrder (names_in names.now) (lists runs.old.items) sorted }
     requires once { IsOnce names.now }
