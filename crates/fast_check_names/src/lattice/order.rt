@@ -211,7 +211,8 @@ fn put(runs: &mut Vec<Vec<usize>>, slot: NameSlot, number: usize) -> bool
     requires run { slot.run < vec_len runs.old }
     requires at { slot.at ≤ length (run_at (lists runs.old.items) slot.run) }
     requires filled { AreFilled (lists runs.old.items) }
-    ensures inserted { OnTrue result (concat (lists runs.new.items) ≡ insert (concat (lists runs.old.items)) (place (lists runs.old.items) slot.run slot.at) number) }
+    ensures inserted { OnTrue result (concat (lists runs.new.items)
+        ≡ insert (concat (lists runs.old.items)) (place (lists runs.old.items) slot.run slot.at) number) }
     ensures left { OnFalse result (concat (lists runs.new.items) ≡ concat (lists runs.old.items)) }
     ensures filled { AreFilled (lists runs.new.items) }
 {

@@ -197,7 +197,8 @@ fn write_number(nodes: &mut Vec<Node>, at: usize, place: usize, no: usize)
     requires within { at < vec_len nodes.old }
     requires listed { place < length (get_or (listings nodes.old.items) at []) }
     ensures len { vec_len nodes.new ≡ vec_len nodes.old }
-    ensures written { IsWritten (entry nodes.old.items) at (name_at (get_or (listings nodes.old.items) at []) place) (Some (Below.Subset (record { 0 = no }))) (entry nodes.new.items) }
+    ensures written { IsWritten (entry nodes.old.items) at (name_at (get_or (listings nodes.old.items) at []) place)
+        (Some (Below.Subset (record { 0 = no }))) (entry nodes.new.items) }
 {
     let node = &mut nodes[at];
     node.names[place].1 = Below::Subset(NodeNo(no));

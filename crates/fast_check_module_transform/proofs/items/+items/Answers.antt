@@ -211,7 +211,8 @@ keep_decl-returns-in-Class-clause-answer t c =
 
 pub keep_decl-returns-in-Using-clause-answer : goal.keep_decl-returns-in-Using-clause-answer
 keep_decl-returns-in-Using-clause-answer t c =
-    IfOk-weaker c.keep_using.result _ _ (λ tree h. using_stays (seen_around c.args.around) c.args.declared.place (seen c.args.declared.decl) c.in-Using.is h)
+    IfOk-weaker c.keep_using.result _ _
+    (λ tree h. using_stays (seen_around c.args.around) c.args.declared.place (seen c.args.declared.decl) c.in-Using.is h)
     c.keep_using.ensures
 
 pub keep_decl-returns-in-Standing-clause-answer : goal.keep_decl-returns-in-Standing-clause-answer
@@ -223,7 +224,8 @@ keep_decl-returns-in-Standing-clause-answer t c =
 pub keep_decl-returns-in-Namespace-clause-answer : goal.keep_decl-returns-in-Namespace-clause-answer
 keep_decl-returns-in-Namespace-clause-answer t c =
     IfOk-weaker c.keep_namespace.result _ _
-    (λ tree h. namespaces (seen_around c.args.around) c.args.declared.place (seen c.args.declared.decl) c.in-Namespace.is h) c.keep_namespace.ensures.answer
+    (λ tree h. namespaces (seen_around c.args.around) c.args.declared.place (seen c.args.declared.decl) c.in-Namespace.is h)
+    c.keep_namespace.ensures.answer
 
 pub keep_decl-returns-in-NoDeclaration-clause-answer : goal.keep_decl-returns-in-NoDeclaration-clause-answer
 keep_decl-returns-in-NoDeclaration-clause-answer t c =

@@ -7,4 +7,5 @@ pub returns : goal.returns
 returns c =
     let info = c.args.es_module_info.now in
     c.of.ensures
-    ∙ ap (λ r. surroundings_by r info c.args.public_ranges.now) (c.resolutions_of-resolutions.ensures ∙ ap (resolutions_of c.args.graph.now) c.specifier.ensures)
+    ∙ ap (λ r. surroundings_by r info c.args.public_ranges.now)
+    (c.resolutions_of-resolutions.ensures ∙ ap (resolutions_of c.args.graph.now) c.specifier.ensures)

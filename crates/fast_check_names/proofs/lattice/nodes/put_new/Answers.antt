@@ -11,7 +11,8 @@ sort_near-node-requires-clause-order c =
     let e : Entry = (c.args.name, c.args.below) in
     let same : names_in c.as_slice-listed.result.now ≡ names_in es ++ string_bytes c.args.name ∷ [] =
     ap names_in (c.as_slice-listed.ensures.value ∙ c.in_ok-push.ensures.items) ∙ names_push es e in
-    order_along (names_in c.as_slice-listed.result.now) (names_in es ++ string_bytes c.args.name ∷ []) (lists node.runs.items) node.sorted same
+    order_along (names_in c.as_slice-listed.result.now) (names_in es ++ string_bytes c.args.name ∷ []) (lists node.runs.items) node.sorted
+    same
     (order_more (names_in es) (string_bytes c.args.name ∷ []) (lists node.runs.items) node.sorted node.order)
 
 pub sort_near-node-requires-clause-once : goal.sort_near-node-requires-clause-once

@@ -61,7 +61,8 @@ returns c =
     let run = c.slot_near-slot.result.run in
     let at = c.slot_near-slot.result.at in
     let some : 0 < at = omega (arith, c.if-slot-eq0.false) in
-    let there : run < length runs = omega (arith, run_there xss run (omega (arith, some, c.slot_near-slot.ensures.within)), count_is runs) in
+    let there : run < length runs =
+    omega (arith, run_there xss run (omega (arith, some, c.slot_near-slot.ensures.within)), count_is runs) in
     let is = number_is runs run (at - 1) c.index-runs-slot.result c.index-number.result.now there c.index-runs-slot.is
     (omega (arith, some, c.slot_near-slot.ensures.within)) c.index-number.ensures in
     gap_lacks es xss c.args.sorted c.args.name.now (place xss run at) c.requires
