@@ -608,9 +608,10 @@ def declared_in(file, text):
 
 
 def declared_by(texts):
-    """The names that the files of each crate declare, by the crate."""
+    """The names that the files of each crate declare, by the crate, and the names of the crates themselves."""
     found = defaultdict(set)
     for path, text in texts.items():
+        found[""].add(path.split("/")[1])
         if path.endswith((".rt", ".antt")):
             found[path.split("/")[1]] |= declared_in(path, text)
     return found
