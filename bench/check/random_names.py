@@ -2,9 +2,9 @@
 """Random pairs of name sets through the calls of `fast_check_names`, against plain sets of paths.
 
 Both sets of a pair are trees of at most three names at a level and four levels: each name is demanded whole, has a subset that may be empty, or is
-absent. For each pair the one is extended by the other; then random calls change it: `add`, `add_qualified`, `add_named`. After each call the
-answer, what the set has and its `node_count` have to be those of the trees, by the rules of docs/RULES.md; at the end the set has to equal itself, and
-not itself with one name more.
+absent. In one of fifty pairs both have 50 to 200 names more at their first level, of which some begin alike. For each pair the one is extended by the
+other; then random calls change it: `add`, `add_qualified`, `add_named`. After each call the answer, what the set has and its `node_count` have to be those of
+the trees, by the rules of docs/RULES.md; at the end the set has to equal itself, and not itself with one name more.
 
 Usage: bench/check/random_names.py PROGRAM [PAIRS [SEED]]
 PROGRAM runs the calls of the file `names` in its folder when its word is `names`, as the program of all cases does.
@@ -17,7 +17,8 @@ import tempfile
 
 NAMES = ("a", "b", "c", "default")
 LEVELS = 4
-PAIRS_A_RUN = 500
+WIDE = [f"{word}{number}" for word in ("n", "name", "a_name_of_many_letters_") for number in range(100)]
+PAIRS_A_RUN, PAIRS_A_WIDE_ONE = 500, 50
 
 
 def random_tree(random_, levels=LEVELS):
@@ -27,6 +28,12 @@ def random_tree(random_, levels=LEVELS):
         is_whole = levels == 1 or random_.random() < 0.4
         tree[name] = None if is_whole else random_tree(random_, levels - 1)
     return tree
+
+
+def widened(random_, tree):
+    """The same set with many names more, each whole or with one name below it."""
+    names = random_.sample(WIDE, random_.randrange(50, 200))
+    return {**tree, **{name: None if random_.random() < 0.7 else {random_.choice(NAMES): None} for name in names}}
 
 
 def written(tree, before=""):
@@ -107,7 +114,8 @@ def make(tree):
 
 def random_change(random_, tree):
     """A call that adds to a set, and the set that it leaves."""
-    path = [random_.choice(NAMES) for _ in range(random_.randrange(1, LEVELS + 1))]
+    first = random_.choice(WIDE if len(tree) > len(NAMES) and random_.random() < 0.7 else NAMES)
+    path = [first, *(random_.choice(NAMES) for _ in range(random_.randrange(LEVELS)))]
     kind = random_.choice(("add", "add_qualified", "add_named"))
     if kind == "add":
         return f"add {path[0]}", joined(tree, {path[0]: None})
@@ -151,7 +159,10 @@ def main(words):
     while made < count:
         calls = []
         for _ in range(min(PAIRS_A_RUN, count - made)):
-            calls += calls_of(random_, without_deep_ends(random_tree(random_), 3), without_deep_ends(random_tree(random_), 2))
+            pair = without_deep_ends(random_tree(random_), 3), without_deep_ends(random_tree(random_), 2)
+            if made % PAIRS_A_WIDE_ONE == 0:
+                pair = [widened(random_, tree) for tree in pair]
+            calls += calls_of(random_, *pair)
             made += 1
         answers = run(program, calls)
         if len(answers) != len(calls):
