@@ -20,7 +20,7 @@ use Rattle.fast_check_names.specs.Order.{Entry, IsOnce, found}
 use Rattle.fast_check_names.specs.Graph.{Graph, NameSet, Path, IsAfter, listings, entry, reach, below_node}
 use Rattle.fast_check_names.specs.Names.{Name, nothing, path_of, has_whole}
 use Rattle.fast_check_names.specs.Ends.{is_demanded, IsBeginning, IsShownBy, AreEnds}
-use Rattle.fast_check_names.specs.Shown.{ShowsLonger, IsBelowPath, IsOfBelow, IsOfNames}
+use Rattle.fast_check_names.specs.Shown.{ShowsLonger, IsBelowPath, IsBegun, IsOfBelow, IsOfNames}
 use Rattle.fast_check_names.proofs.Walks.{name_shows}
 use Rattle.fast_check_names.proofs.Lists.{found_read}
 
@@ -73,7 +73,7 @@ abbrev pub Shown : Type 1
 Shown = Path → Bool → Type 0
 
 abbrev pub shown_of : PathEnd → Shown
-shown_of e p w = IsShownBy (path_of e.names.items) e.from e.is_whole p w
+shown_of e p w = IsShownBy (path_of e.names.items) e.is_whole p w
 
 pub shows_one : (old : Ends) (e : PathEnd) → ShowsLonger (shown_of e) old (old ++ e ∷ [])
 shows_one old e p w = (
@@ -82,13 +82,12 @@ shows_one old e p w = (
   λ h. ⊎_elim (λ was. (was.0, Contains-append_left old (e ∷ []) was.0 was.1, was.2)) (λ shows. (e, Contains-push old e, shows)) h,
 )
 
-pub shows_pushed : (old new : Ends) (e : PathEnd) (path : Path) (from : ℕ) (whole : Bool) → new ≡ old ++ e ∷ [] →
-    path_of e.names.items ≡ path → e.from ≡ from → e.is_whole ≡ whole → ShowsLonger (IsShownBy path from whole) old new
-shows_pushed old new e path from whole is names at extent =
-    subst (λ (l : Ends). ShowsLonger (IsShownBy path from whole) old l) (sym is)
-    (subst (λ (p : Path). ShowsLonger (IsShownBy p from whole) old (old ++ e ∷ [])) names
-    (subst (λ (k : ℕ). ShowsLonger (IsShownBy (path_of e.names.items) k whole) old (old ++ e ∷ [])) at
-    (subst (λ (b : Bool). ShowsLonger (IsShownBy (path_of e.names.items) e.from b) old (old ++ e ∷ [])) extent (shows_one old e))))
+pub shows_pushed : (old new : Ends) (e : PathEnd) (path : Path) (whole : Bool) → new ≡ old ++ e ∷ [] →
+    path_of e.names.items ≡ path → e.is_whole ≡ whole → ShowsLonger (IsShownBy path whole) old new
+shows_pushed old new e path whole is names extent =
+    subst (λ (l : Ends). ShowsLonger (IsShownBy path whole) old l) (sym is)
+    (subst (λ (p : Path). ShowsLonger (IsShownBy p whole) old (old ++ e ∷ [])) names
+    (subst (λ (b : Bool). ShowsLonger (IsShownBy (path_of e.names.items) b) old (old ++ e ∷ [])) extent (shows_one old e)))
 
 pub shows_both : (P Q : Shown) (old mid new : Ends) → ShowsLonger P old mid → ShowsLonger Q mid new →
     ShowsLonger (λ p w. P p w ⊎ Q p w) old new
@@ -151,44 +150,43 @@ end_of_bare g j none [] true = (λ h. absurd (false≢true h), λ h. absurd (fal
 end_of_bare g j none (n ∷ q) w =
     (λ h. absurd (false≢true (sym (longer_none g j none n q w) ∙ h)), λ h. absurd (let e = h.0 in cc))
 
-of_end : (f : NameSet) (whole : Bool) → IsEnd f whole → (path : Path) (from : ℕ) (p : Path) (w : Bool) →
-    IsShownBy path from whole p w ↔ IsOfBelow path from f p w
-of_end f whole end path from p w = (
+of_end : (f : NameSet) (whole : Bool) → IsEnd f whole → (path p : Path) (w : Bool) →
+    IsShownBy path whole p w ↔ IsOfBelow path f p w
+of_end f whole end path p w = (
   λ h. ⊎_elim (λ b. inl b) (λ own. inr ([], own.0 ∙ sym (append-nil path), (end [] w).1 (refl, own.1))) h,
   λ h. ⊎_elim (λ b. inl b)
       (λ own. let e = (end own.0 w).0 own.2 in inr (own.1 ∙ (ap (λ (q : Path). path ++ q) e.0 ∙ append-nil path), e.1)) h,
 )
 
-pub shows_all : (g : Graph) (b : Below) (path : Path) (from : ℕ) (old new : Ends) → b ≡ All →
-    ShowsLonger (IsShownBy path from true) old new →
-    ShowsLonger (IsOfBelow path from (reach g (Some b))) old new
-shows_all g b path from old new is shown =
-    subst (λ (x : Below). ShowsLonger (IsOfBelow path from (reach g (Some x))) old new) (sym is)
-    (shows_as (IsShownBy path from true) (IsOfBelow path from (reach g (Some All))) old new
-    (of_end (reach g (Some All)) true (end_of_all g) path from) shown)
+pub shows_all : (g : Graph) (b : Below) (path : Path) (old new : Ends) → b ≡ All → ShowsLonger (IsShownBy path true) old new →
+    ShowsLonger (IsOfBelow path (reach g (Some b))) old new
+shows_all g b path old new is shown =
+    subst (λ (x : Below). ShowsLonger (IsOfBelow path (reach g (Some x))) old new) (sym is)
+    (shows_as (IsShownBy path true) (IsOfBelow path (reach g (Some All))) old new
+    (of_end (reach g (Some All)) true (end_of_all g) path) shown)
 
 none_listed : (es : List Entry) → length es ≡ 0 → (n : Name) → found es n ≡ None
 none_listed [] h n = refl
 none_listed (e ∷ es) h n = absurd (omega (arith, h))
 
-pub shows_bare : (nodes : List Node) (b : Below) (j : NodeNo) (path : Path) (from : ℕ) (old new : Ends) → b ≡ Subset j →
-    length (get_or (listings nodes) j.0 []) ≡ 0 → ShowsLonger (IsShownBy path from false) old new →
-    ShowsLonger (IsOfBelow path from (reach (entry nodes) (Some b))) old new
-shows_bare nodes b j path from old new is bare shown =
+pub shows_bare : (nodes : List Node) (b : Below) (j : NodeNo) (path : Path) (old new : Ends) → b ≡ Subset j →
+    length (get_or (listings nodes) j.0 []) ≡ 0 → ShowsLonger (IsShownBy path false) old new →
+    ShowsLonger (IsOfBelow path (reach (entry nodes) (Some b))) old new
+shows_bare nodes b j path old new is bare shown =
     let g = entry nodes in
-    subst (λ (x : Below). ShowsLonger (IsOfBelow path from (reach g (Some x))) old new) (sym is)
-    (shows_as (IsShownBy path from false) (IsOfBelow path from (reach g (Some (Subset j)))) old new
-    (of_end (reach g (Some (Subset j))) false (end_of_bare g j (none_listed (get_or (listings nodes) j.0 []) bare)) path from) shown)
+    subst (λ (x : Below). ShowsLonger (IsOfBelow path (reach g (Some x))) old new) (sym is)
+    (shows_as (IsShownBy path false) (IsOfBelow path (reach g (Some (Subset j)))) old new
+    (of_end (reach g (Some (Subset j))) false (end_of_bare g j (none_listed (get_or (listings nodes) j.0 []) bare)) path) shown)
 
 -- where a node has names, its path is told as a beginning of theirs
 
-names_below : (g : Graph) (j : NodeNo) (path : Path) (from : ℕ) → from ≤ length path → (p : Path) (w : Bool) →
-    IsOfNames path from (below_node g j.0) p w ↔ IsOfBelow path from (reach g (Some (Subset j))) p w
-names_below g j path from fits p w = (λ h. ⊎_elim to_begin to_below h, λ h. ⊎_elim from_begin from_below h)
+names_below : (g : Graph) (j : NodeNo) (path : Path) → 0 < length path → (p : Path) (w : Bool) →
+    IsOfNames path (below_node g j.0) p w ↔ IsOfBelow path (reach g (Some (Subset j))) p w
+names_below g j path named p w = (λ h. ⊎_elim to_begin to_below h, λ h. ⊎_elim from_begin from_below h)
   where
-    to_begin : IsBeginning path from (length path + 1) p w → IsOfBelow path from (reach g (Some (Subset j))) p w
-    to_begin (k, low, high, is, extent) = ⊎_elim
-        (λ (h : k < length path). inl (k, low, h, is, extent))
+    to_begin : IsBegun path (length path + 1) p w → IsOfBelow path (reach g (Some (Subset j))) p w
+    to_begin (k, some, high, is, extent) = ⊎_elim
+        (λ (h : k < length path). inl (k, some, h, is, extent))
         (λ (h : length path ≤ k). inr (
           [],
           is ∙ (take_all k path h ∙ sym (append-nil path)),
@@ -196,34 +194,34 @@ names_below g j path from fits p w = (λ h. ⊎_elim to_begin to_below h, λ h. 
         ))
         (cases_lt k (length path))
 
-    to_below : IsBelowPath path (below_node g j.0) p w → IsOfBelow path from (reach g (Some (Subset j))) p w
+    to_below : IsBelowPath path (below_node g j.0) p w → IsOfBelow path (reach g (Some (Subset j))) p w
     to_below ([], is, has) = absurd (false≢true (sym (demanded_nil g j.0 w) ∙ has))
     to_below (n ∷ q, is, has) = inr (n ∷ q, is, demanded_under g j n q w ∙ (sym (demanded_name g j.0 n q w) ∙ has))
 
-    from_begin : IsBeginning path from (length path) p w → IsOfNames path from (below_node g j.0) p w
-    from_begin (k, low, high, is, extent) = inl (k, low, (let h = high in omega (arith, h)), is, extent)
+    from_begin : IsBeginning path p w → IsOfNames path (below_node g j.0) p w
+    from_begin (k, some, high, is, extent) = inl (k, some, (let h = high in omega (arith, h)), is, extent)
 
     nil_is : (b : Bool) → is_demanded (reach g (Some (Subset j))) [] b ≡ true → b ≡ false
     nil_is false h = refl
     nil_is true h = absurd (false≢true h)
 
-    from_below : IsBelowPath path (reach g (Some (Subset j))) p w → IsOfNames path from (below_node g j.0) p w
+    from_below : IsBelowPath path (reach g (Some (Subset j))) p w → IsOfNames path (below_node g j.0) p w
     from_below ([], is, has) = inl (
       length path,
-      fits,
+      named,
       omega arith,
       is ∙ (append-nil path ∙ sym (take_all (length path) path (omega arith))),
       nil_is w has,
     )
     from_below (n ∷ q, is, has) = inr (n ∷ q, is, demanded_name g j.0 n q w ∙ (sym (demanded_under g j n q w) ∙ has))
 
-pub shows_named : (g : Graph) (b : Below) (j : NodeNo) (path : Path) (from : ℕ) (old new : Ends) → b ≡ Subset j → from ≤ length path →
-    ShowsLonger (IsOfNames path from (below_node g j.0)) old new →
-    ShowsLonger (IsOfBelow path from (reach g (Some b))) old new
-shows_named g b j path from old new is fits shown =
-    subst (λ (x : Below). ShowsLonger (IsOfBelow path from (reach g (Some x))) old new) (sym is)
-    (shows_as (IsOfNames path from (below_node g j.0)) (IsOfBelow path from (reach g (Some (Subset j)))) old new
-    (names_below g j path from fits) shown)
+pub shows_named : (g : Graph) (b : Below) (j : NodeNo) (path : Path) (old new : Ends) → b ≡ Subset j → 0 < length path →
+    ShowsLonger (IsOfNames path (below_node g j.0)) old new →
+    ShowsLonger (IsOfBelow path (reach g (Some b))) old new
+shows_named g b j path old new is named shown =
+    subst (λ (x : Below). ShowsLonger (IsOfBelow path (reach g (Some x))) old new) (sym is)
+    (shows_as (IsOfNames path (below_node g j.0)) (IsOfBelow path (reach g (Some (Subset j)))) old new
+    (names_below g j path named) shown)
 
 -- the walk over the names of a node
 
@@ -234,88 +232,82 @@ under path e = path ++ string_bytes e.0 ∷ []
 abbrev pub IsOfEach : Path → Graph → List Entry → Shown
 IsOfEach path g es p w = (e : Entry) × Contains es e × IsBelowPath (under path e) (reach g (Some e.1)) p w
 
-abbrev pub IsWalked : Path → ℕ → ℕ → Graph → List Entry → Shown
-IsWalked path from shown g es p w = IsBeginning path from shown p w ⊎ IsOfEach path g es p w
+-- the first of them tells the beginnings of the path and the path
+abbrev pub IsWalked : Path → Graph → List Entry → Shown
+IsWalked path g es p w = ((0 < length es) × IsBegun path (length path + 1) p w) ⊎ IsOfEach path g es p w
 
 no_entry : (x : Entry) → Contains [] x → ⊥
 no_entry x (k, below, is) = omega (arith, below)
 
-pub walked_none : (path : Path) (from : ℕ) (g : Graph) (old : Ends) → ShowsLonger (IsWalked path from from g []) old old
-walked_none path from g old p w = (
+pub walked_none : (path : Path) (g : Graph) (old : Ends) → ShowsLonger (IsWalked path g []) old old
+walked_none path g old p w = (
   λ h. inl h,
   λ h. ⊎_elim (λ was. was)
-      (λ none. ⊎_elim (λ b. let low = b.1 in let high = b.2 in absurd (omega (arith, low, high)))
-      (λ each. absurd (no_entry each.0 each.1)) none) h,
+      (λ none. ⊎_elim (λ b. let some = b.0 in absurd (omega (arith, some))) (λ each. absurd (no_entry each.0 each.1)) none) h,
 )
 
-walked_step : (path : Path) (from shown : ℕ) (g : Graph) (es : List Entry) (e : Entry) → from ≤ shown → shown ≤ length path + 1 →
-    (p : Path) (w : Bool) →
-    (IsWalked path from shown g es p w ⊎ IsOfBelow (under path e) shown (reach g (Some e.1)) p w) ↔
-    IsWalked path from (length path + 1) g (es ++ e ∷ []) p w
-walked_step path from shown g es e low high p w = (
-  λ h. ⊎_elim (λ before. ⊎_elim begun each before) (λ here. ⊎_elim beginning below here) h,
-  λ h. ⊎_elim back (λ each. of_each each) h,
+walked_step : (path : Path) (g : Graph) (es : List Entry) (e : Entry) (p : Path) (w : Bool) →
+    (IsWalked path g es p w ⊎ IsOfBelow (under path e) (reach g (Some e.1)) p w) ↔ IsWalked path g (es ++ e ∷ []) p w
+walked_step path g es e p w = (
+  λ h. ⊎_elim (λ before. ⊎_elim (λ b. inl (some, b.1)) each before) (λ here. ⊎_elim beginning below here) h,
+  λ h. ⊎_elim (λ b. back b.1) (λ each. of_each each) h,
 )
   where
     long : length (under path e) ≡ length path + 1
     long = length-append path (string_bytes e.0 ∷ [])
 
-    begun : IsBeginning path from shown p w → IsWalked path from (length path + 1) g (es ++ e ∷ []) p w
-    begun (k, l, h, is, extent) = inl (k, l, (let u = h in omega (arith, u, high)), is, extent)
+    some : 0 < length (es ++ e ∷ [])
+    some = omega (arith, length-append es (e ∷ []))
 
-    each : IsOfEach path g es p w → IsWalked path from (length path + 1) g (es ++ e ∷ []) p w
+    each : IsOfEach path g es p w → IsWalked path g (es ++ e ∷ []) p w
     each (x, among, at) = inr (x, Contains-append_left es (e ∷ []) x among, at)
 
-    beginning : IsBeginning (under path e) shown (length (under path e)) p w →
-        IsWalked path from (length path + 1) g (es ++ e ∷ []) p w
+    beginning : IsBeginning (under path e) p w → IsWalked path g (es ++ e ∷ []) p w
     beginning (k, l, h, is, extent) =
-        let d = l in let u = h in
+        let u = h in
         inl (
-          k,
-          omega (arith, low, d),
-          omega (arith, u, long),
-          is ∙ take-append-le k path (string_bytes e.0 ∷ []) (omega (arith, u, long)),
-          extent,
+          some,
+          (
+            k,
+            l,
+            omega (arith, u, long),
+            is ∙ take-append-le k path (string_bytes e.0 ∷ []) (omega (arith, u, long)),
+            extent,
+          ),
         )
 
-    below : IsBelowPath (under path e) (reach g (Some e.1)) p w → IsWalked path from (length path + 1) g (es ++ e ∷ []) p w
+    below : IsBelowPath (under path e) (reach g (Some e.1)) p w → IsWalked path g (es ++ e ∷ []) p w
     below at = inr (e, Contains-push es e, at)
 
-    back : IsBeginning path from (length path + 1) p w →
-        IsWalked path from shown g es p w ⊎ IsOfBelow (under path e) shown (reach g (Some e.1)) p w
+    back : IsBegun path (length path + 1) p w → IsWalked path g es p w ⊎ IsOfBelow (under path e) (reach g (Some e.1)) p w
     back (k, l, h, is, extent) =
         let u = h in
-        ⊎_elim (λ (t : k < shown). inl (inl (k, l, t, is, extent)))
-        (λ (t : shown ≤ k). inr (inl (
+        inr (inl (
           k,
-          t,
+          l,
           omega (arith, u, long),
           is ∙ sym (take-append-le k path (string_bytes e.0 ∷ []) (omega (arith, u))),
           extent,
-        )))
-        (cases_lt k shown)
+        ))
 
-    of_each : IsOfEach path g (es ++ e ∷ []) p w →
-        IsWalked path from shown g es p w ⊎ IsOfBelow (under path e) shown (reach g (Some e.1)) p w
+    of_each : IsOfEach path g (es ++ e ∷ []) p w → IsWalked path g es p w ⊎ IsOfBelow (under path e) (reach g (Some e.1)) p w
     of_each (x, among, at) = ⊎_elim
         (λ was. inl (inr (x, was, at)))
         (λ is. inr (inr (subst (λ (y : Entry). IsBelowPath (under path y) (reach g (Some y.1)) p w) (sym is) at)))
         (Contains-push_cases es e x among)
 
-pub walked_more : (path here : Path) (from shown next : ℕ) (g : Graph) (es : List Entry) (i : ℕ) (e : Entry) (old mid new : Ends) →
-    i < length es → e ≡ get_or es i e → here ≡ under path e → from ≤ shown → shown ≤ length path + 1 → next ≡ length path + 1 →
-    ShowsLonger (IsWalked path from shown g (take i es)) old mid → ShowsLonger (IsOfBelow here shown (reach g (Some e.1))) mid new →
-    ShowsLonger (IsWalked path from next g (take (i + 1) es)) old new
-walked_more path here from shown next g es i e old mid new within is at low high next_is before now =
+pub walked_more : (path here : Path) (g : Graph) (es : List Entry) (i : ℕ) (e : Entry) (old mid new : Ends) →
+    i < length es → e ≡ get_or es i e → here ≡ under path e →
+    ShowsLonger (IsWalked path g (take i es)) old mid → ShowsLonger (IsOfBelow here (reach g (Some e.1))) mid new →
+    ShowsLonger (IsWalked path g (take (i + 1) es)) old new
+walked_more path here g es i e old mid new within is at before now =
     let more : take (i + 1) es ≡ take i es ++ e ∷ [] =
     take_more es i e within ∙ ap (λ (x : Entry). take i es ++ x ∷ []) (sym is) in
-    subst (λ (l : List Entry). ShowsLonger (IsWalked path from next g l) old new) (sym more)
-    (subst (λ (k : ℕ). ShowsLonger (IsWalked path from k g (take i es ++ e ∷ [])) old new) (sym next_is)
-    (shows_as (λ p w. IsWalked path from shown g (take i es) p w ⊎ IsOfBelow (under path e) shown (reach g (Some e.1)) p w)
-    (IsWalked path from (length path + 1) g (take i es ++ e ∷ [])) old new
-    (walked_step path from shown g (take i es) e low high)
-    (shows_both (IsWalked path from shown g (take i es)) (IsOfBelow (under path e) shown (reach g (Some e.1))) old mid new before
-    (subst (λ (p : Path). ShowsLonger (IsOfBelow p shown (reach g (Some e.1))) mid new) at now))))
+    subst (λ (l : List Entry). ShowsLonger (IsWalked path g l) old new) (sym more)
+    (shows_as (λ p w. IsWalked path g (take i es) p w ⊎ IsOfBelow (under path e) (reach g (Some e.1)) p w)
+    (IsWalked path g (take i es ++ e ∷ [])) old new (walked_step path g (take i es) e)
+    (shows_both (IsWalked path g (take i es)) (IsOfBelow (under path e) (reach g (Some e.1))) old mid new before
+    (subst (λ (p : Path). ShowsLonger (IsOfBelow p (reach g (Some e.1))) mid new) at now)))
 
 -- at the end
 
@@ -369,21 +361,19 @@ each_named g at es path once lists p w = (to_named, from_named)
     from_named ([], is, has) = absurd (false≢true (sym (demanded_nil g at w) ∙ has))
     from_named (n ∷ q, is, has) = by_look_up n q (g at n) (sym (lists n)) is (sym (demanded_name g at n q w) ∙ has)
 
-pub walked_all : (nodes : List Node) (at : ℕ) (path : Path) (from shown : ℕ) (i : ℕ) (old new : Ends) →
-    IsOnce (get_or (listings nodes) at []) → length (get_or (listings nodes) at []) ≤ i → shown ≡ length path + 1 →
-    ShowsLonger (IsWalked path from shown (entry nodes) (take i (get_or (listings nodes) at []))) old new →
-    ShowsLonger (IsOfNames path from (below_node (entry nodes) at)) old new
-walked_all nodes at path from shown i old new once all shown_is walked =
+pub walked_all : (nodes : List Node) (at : ℕ) (path : Path) (i : ℕ) (old new : Ends) →
+    IsOnce (get_or (listings nodes) at []) → 0 < length (get_or (listings nodes) at []) → length (get_or (listings nodes) at []) ≤ i →
+    ShowsLonger (IsWalked path (entry nodes) (take i (get_or (listings nodes) at []))) old new →
+    ShowsLonger (IsOfNames path (below_node (entry nodes) at)) old new
+walked_all nodes at path i old new once some all walked =
     let es = get_or (listings nodes) at [] in
     let g = entry nodes in
-    let whole : ShowsLonger (IsWalked path from shown g es) old new =
-    subst (λ (l : List Entry). ShowsLonger (IsWalked path from shown g l) old new) (take_all i es all) walked in
-    shows_as (IsWalked path from (length path + 1) g es) (IsOfNames path from (below_node g at)) old new
+    shows_as (IsWalked path g es) (IsOfNames path (below_node g at)) old new
     (λ p w. (
-      λ h. ⊎_elim (λ b. inl b) (λ e. inr ((each_named g at es path once (λ n. refl) p w).0 e)) h,
-      λ h. ⊎_elim (λ b. inl b) (λ e. inr ((each_named g at es path once (λ n. refl) p w).1 e)) h,
+      λ h. ⊎_elim (λ b. inl b.1) (λ e. inr ((each_named g at es path once (λ n. refl) p w).0 e)) h,
+      λ h. ⊎_elim (λ b. inl (some, b)) (λ e. inr ((each_named g at es path once (λ n. refl) p w).1 e)) h,
     ))
-    (subst (λ (k : ℕ). ShowsLonger (IsWalked path from k g es) old new) shown_is whole)
+    (subst (λ (l : List Entry). ShowsLonger (IsWalked path g l) old new) (take_all i es all) walked)
 
 -- the whole set
 
@@ -402,12 +392,12 @@ ends_of_none nodes ends bare none = subst (λ (l : Ends). AreEnds (below_node (e
         demanded_none (entry nodes) q w)
 
 pub ends_of_names : (g : Graph) (old ends : Ends) (path : Path) → old ≡ [] → path ≡ [] →
-    ShowsLonger (IsOfNames path 1 (below_node g 0)) old ends → AreEnds (below_node g 0) ends
+    ShowsLonger (IsOfNames path (below_node g 0)) old ends → AreEnds (below_node g 0) ends
 ends_of_names g old ends path none start shown =
-    let from_none : ShowsLonger (IsOfNames path 1 (below_node g 0)) [] ends =
-    subst (λ (l : Ends). ShowsLonger (IsOfNames path 1 (below_node g 0)) l ends) none shown in
-    let more : ShowsLonger (IsOfNames [] 1 (below_node g 0)) [] ends =
-    subst (λ (q : Path). ShowsLonger (IsOfNames q 1 (below_node g 0)) [] ends) start from_none in
+    let from_none : ShowsLonger (IsOfNames path (below_node g 0)) [] ends =
+    subst (λ (l : Ends). ShowsLonger (IsOfNames path (below_node g 0)) l ends) none shown in
+    let more : ShowsLonger (IsOfNames [] (below_node g 0)) [] ends =
+    subst (λ (q : Path). ShowsLonger (IsOfNames q (below_node g 0)) [] ends) start from_none in
     λ p w. (
       λ h. ⊎_elim (λ was. let below = was.1.1 in absurd (omega (arith, below)))
           (λ own. ⊎_elim (λ b. let low = b.1 in let high = b.2 in absurd (omega (arith, low, high)))

@@ -1,5 +1,4 @@
-use Rattle.std.proofs.Common.{rules, ◌≡◌, ◌<◌, ◌≤◌, ◌+◌, ◌∙◌, refl, sym, ap, [], ◌∷◌, Some, length, get_or, string_bytes, List, arith}
-use Rattle.std.proofs.lemmas.List.{length-append}
+use Rattle.std.proofs.Common.{rules, ◌≡◌, ◌≤◌, ◌∙◌, refl, sym, ap, [], Some, length, get_or, string_bytes, List, arith}
 use Rattle.fast_check_names.specs.Order.{Entry, found}
 use Rattle.fast_check_names.specs.Graph.{entry, listings}
 use Rattle.fast_check_names.specs.Names.{path_of}
@@ -14,14 +13,14 @@ pub push_below-returns-then-is_empty-clause-shown :
 push_below-returns-then-is_empty-clause-shown t c =
     let empty : length c.names_of.result.now ≡ 0 = search rules in
     on_ok_more c.push_end-then-is_empty.result
-    (shows_bare c.args.nodes.now c.args.below c.in-Subset.no (path_of c.args.path.now.items) c.args.from c.args.out.now.items
+    (shows_bare c.args.nodes.now c.args.below c.in-Subset.no (path_of c.args.path.now.items) c.args.out.now.items
     c.push_end-then-is_empty.new.out.items c.in-Subset.is (rw c.names_of.ensures.names at empty))
     (rw c.as_slice-then-is_empty.ensures.value at c.push_end-then-is_empty.ensures)
 
 pub push_below-returns-in-All-clause-shown : goal.push_below-returns-in-All-clause-shown
 push_below-returns-in-All-clause-shown t c =
     on_ok_more c.push_end.result
-    (shows_all (entry c.args.nodes.now) c.args.below (path_of c.args.path.now.items) c.args.from c.args.out.now.items
+    (shows_all (entry c.args.nodes.now) c.args.below (path_of c.args.path.now.items) c.args.out.now.items
     c.push_end.new.out.items c.in-All.is)
     (rw c.as_slice.ensures.value at c.push_end.ensures)
 
@@ -29,8 +28,8 @@ pub push_below-returns-else-is_empty-clause-shown :
     goal.push_below-returns-else-is_empty-clause-shown
 push_below-returns-else-is_empty-clause-shown t c =
     on_ok_more c.push_names.result
-    (shows_named (entry c.args.nodes.now) c.args.below c.in-Subset.no (path_of c.args.path.now.items) c.args.from c.args.out.now.items
-    c.push_names.new.out.items c.in-Subset.is (omega (arith, c.requires.fits, long_path c.args.path.now)))
+    (shows_named (entry c.args.nodes.now) c.args.below c.in-Subset.no (path_of c.args.path.now.items) c.args.out.now.items
+    c.push_names.new.out.items c.in-Subset.is (omega (arith, c.requires.named, long_path c.args.path.now)))
     c.push_names.ensures.shown
 
 pub push_names-push_below-requires : goal.push_names-push_below-requires
@@ -43,23 +42,13 @@ push_names-push_below-requires t c =
     ap (λ (l : List Entry). found l name) (sym c.names_of-name-items.ensures.names) ∙
     found_read es c.names_of-name-items.ensures.once c.loop-name.name-index d c.loop-name-test.true c.loop-name-item.is in
     let after = later_at nodes (length nodes) c.requires.tree c.args.at name (Some d.1) listed in
-    let long = long_path c.loop-name.path in
-    let same = ap length c.loop-name.invariant.0 in (
-      omega (arith, c.decreases, rank_falls (length nodes) c.args.at d.1 after),
-      (
-        c.requires.tree,
-        omega (arith, c.in_ok-push.ensures.len, c.loop-name.invariant.3, c.loop-name.invariant.1, long, same),
-      ),
-    )
+    (omega (arith, c.decreases, rank_falls (length nodes) c.args.at d.1 after), (c.requires.tree, omega (arith, c.in_ok-push.ensures.len)))
 
 pub push_names-loop-name-init : goal.push_names-loop-name-init
 push_names-loop-name-init t c = (
   refl,
   omega (arith, c.len-count.ensures, long_path c.args.path.now),
-  omega arith,
-  omega (arith, c.len-count.ensures, c.requires.fits),
-  λ (some : 0 < 0). absurd (omega (arith, some)),
-  walked_none (path_of c.args.path.now.items) c.args.from (entry c.args.nodes.now) c.args.out.now.items,
+  walked_none (path_of c.args.path.now.items) (entry c.args.nodes.now) c.args.out.now.items,
 )
 
 pub push_names-returns-clause-same : goal.push_names-returns-clause-same
@@ -77,28 +66,19 @@ push_names-loop-name-preserved t c =
     let pushed : path_of c.push.new.self.items ≡ under path d =
     pushed_path c.push.new.self.items c.loop-name.path.items c.in_ok-clone.field-0 path (string_bytes d.0) c.in_ok-push.ensures.items own.0
     c.in_ok-clone.ensures.cases in
-    let walked : path_of c.push_below.new.path.items ≡ under path d = c.in_ok-push_below.ensures.same ∙ pushed in
-    let shown : c.len-shown.result ≡ c.len-count.result + 1 = omega
-    (arith, c.len-shown.ensures, long_path c.push_below.new.path, ap length walked, length-append path (string_bytes d.0 ∷ []), own.1) in (
+    let walked : path_of c.push_below.new.path.items ≡ under path d = c.in_ok-push_below.ensures.same ∙ pushed in (
       cut_path c.push_below.new.path.items c.truncate.new.self.items c.len-count.result path (string_bytes d.0)
           c.truncate.ensures.items walked own.1,
       own.1,
-      omega (arith, shown, own.2, own.3),
-      omega (arith, shown),
-      λ some. shown,
-      walked_more path (path_of c.push.new.self.items) c.args.from c.loop-name.shown c.len-shown.result (entry c.args.nodes.now) es
-          c.loop-name.name-index d c.args.out.now.items c.loop-name.out.items c.push_below.new.out.items
-          c.loop-name-test.true c.loop-name-item.is pushed own.2 (omega (arith, own.3, own.1)) (omega (arith, shown, own.1))
-          own.5 c.in_ok-push_below.ensures.shown,
+      walked_more path (path_of c.push.new.self.items) (entry c.args.nodes.now) es c.loop-name.name-index d c.args.out.now.items
+          c.loop-name.out.items c.push_below.new.out.items c.loop-name-test.true c.loop-name-item.is pushed own.2
+          c.in_ok-push_below.ensures.shown,
     )
 
 pub push_names-returns-clause-shown : goal.push_names-returns-clause-shown
 push_names-returns-clause-shown t c =
-    let own = c.loop-name.invariant in
-    let nodes = c.args.nodes.now in
-    let es = get_or (listings nodes) c.args.at [] in
+    let es = get_or (listings c.args.nodes.now) c.args.at [] in
     let all : length es ≤ c.loop-name.name-index = rw c.names_of-name-items.ensures.names at c.loop-name-test.false in
-    let shown = own.4 (omega (arith, all, c.requires.some)) in
-    walked_all nodes c.args.at (path_of c.args.path.now.items) c.args.from c.loop-name.shown c.loop-name.name-index c.args.out.now.items
-    c.loop-name.out.items (rw c.names_of-name-items.ensures.names at c.names_of-name-items.ensures.once) all
-    (omega (arith, shown, own.1)) (rw c.names_of-name-items.ensures.names at own.5)
+    walked_all c.args.nodes.now c.args.at (path_of c.args.path.now.items) c.loop-name.name-index c.args.out.now.items c.loop-name.out.items
+    (rw c.names_of-name-items.ensures.names at c.names_of-name-items.ensures.once) c.requires.some all
+    (rw c.names_of-name-items.ensures.names at c.loop-name.invariant.2)

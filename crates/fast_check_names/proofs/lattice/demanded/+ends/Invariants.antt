@@ -1,4 +1,4 @@
-use Rattle.std.proofs.Common.{◌≡◌, ◌≤◌, ◌<◌, ◌+◌, ◌-◌, ◌*◌, length, take}
+use Rattle.std.proofs.Common.{◌≡◌, ◌+◌, ◌-◌, ◌*◌, length, take}
 use Rattle.fast_check_names.specs.Graph.{entry}
 use Rattle.fast_check_names.specs.Names.{path_of}
 use Rattle.fast_check_names.specs.Shown.{ShowsLonger}
@@ -15,8 +15,4 @@ abbrev pub invariant-push_names-loop-name : goal.invariant-push_names-loop-name
 invariant-push_names-loop-name l =
     (path_of l.path.items ≡ path_of l.initial.path.items)
     × (l.count ≡ length (path_of l.initial.path.items))
-    × (l.initial.from ≤ l.shown)
-    × (l.shown ≤ l.count + 1)
-    × (0 < l.name-index → l.shown ≡ l.count + 1)
-    × ShowsLonger (IsWalked (path_of l.initial.path.items) l.initial.from l.shown (entry l.nodes) (take l.name-index l.name-items))
-    l.initial.out.items l.out.items
+    × ShowsLonger (IsWalked (path_of l.initial.path.items) (entry l.nodes) (take l.name-index l.name-items)) l.initial.out.items l.out.items

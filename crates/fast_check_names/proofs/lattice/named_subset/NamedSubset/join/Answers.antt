@@ -25,3 +25,24 @@ returns-clause-joined c =
     (λ (added : IsAdded g at (whole_below (name ∷ [])) w). root_gains g h w
     (joint.enough w (covered_joint g h w at other name alone added)))
     c.cover.ensures.added
+
+pub returns-in_default-clause-joined : goal.returns-in_default-clause-joined
+returns-in_default-clause-joined c = c.join_copy.ensures.joined
+
+pub returns-in_default-clause-err : goal.returns-in_default-clause-err
+returns-in_default-clause-err c = c.join_copy.ensures.err
+
+pub returns-then-lists_none-clause-joined : goal.returns-then-lists_none-clause-joined
+returns-then-lists_none-clause-joined c = c.join_at.ensures.joined
+
+pub returns-then-lists_none-clause-err : goal.returns-then-lists_none-clause-err
+returns-then-lists_none-clause-err c = c.join_at.ensures.err
+
+pub returns-in_default-covering-clause-joined : goal.returns-in_default-covering-clause-joined
+returns-in_default-covering-clause-joined c = c.join_copy-in_default-covering.ensures.joined
+
+pub returns-in_default-covering-clause-err : goal.returns-in_default-covering-clause-err
+returns-in_default-covering-clause-err c = c.join_copy-in_default-covering.ensures.err
+
+pub cover-requires-clause-tree : goal.cover-requires-clause-tree
+cover-requires-clause-tree c = c.args.self.now.tree
