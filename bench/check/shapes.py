@@ -18,7 +18,7 @@ import tempfile
 HOST = "https://host.example/"
 FIRST, LEAST_SECONDS, MOST_BYTES, MOST_EXPONENT, RUNS = 500, 0.1, 4_000_000, 1.2, 3
 # Shapes that are known to grow with the square, each with the number at which its first size ends: four times that has to fit the stack.
-WITH_THE_SQUARE = {"path_behind_a_file": 8_000, "namespaces_behind_a_file": 500}
+WITH_THE_SQUARE = {"path_through_files": 500}
 RANGES = [[1, 9]]
 NO_TEXT = {"media_type": "TypeScript", "text": "", "program": {"Module": {"span": [1, 1], "body": []}}, "comments": {}}
 
@@ -164,6 +164,14 @@ def namespaces_behind_a_file(n):
     """The same of a path through namespaces in one another."""
     asks = [symbol(1, part("f", *(f"s{i}" for i in range(2, n + 1)))), symbol(2, file_ref(url(1), "s1"), name="f")]
     return request(module(url(0), asks, [["s1", 1]]), module(url(1), in_one_another(n), [["s1", 1]]))
+
+
+@shape
+def path_through_files(n):
+    """A path of names that is asked of a module, which asks the next one for it, and so on: each of them is asked for all that is left of it."""
+    asks = [symbol(1, part("f", *["N"] * n)), symbol(2, file_ref(url(1), "N"), name="f")]
+    through = [module(url(i), [symbol(1, file_ref(url(i + 1), "N"), name="N")], [["N", 1]]) for i in range(1, n)]
+    return request(module(url(0), asks, [["s1", 1]]), *through, module(url(n), [symbol(1, definition(), name="N")], [["N", 1]]))
 
 
 @shape

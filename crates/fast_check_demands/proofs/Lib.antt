@@ -1,1 +1,2 @@
 pub use Rattle.fast_check_symbol_demands.proofs.EachAt
+pub mod Touched

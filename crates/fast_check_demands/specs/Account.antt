@@ -71,6 +71,22 @@ as_reference (by_path p x) = by_path p x
 abbrev pub referred : Demand → Demand
 referred d = record { symbol = d.symbol; asked = as_reference d.asked; referrer = d.referrer }
 
+-- a path is a beginning of another one, and shorter
+abbrev pub is_beginning : Path → Path → Bool
+is_beginning [] [] = false
+is_beginning [] (n ∷ p) = true
+is_beginning (m ∷ q) [] = false
+is_beginning (m ∷ q) (n ∷ p) = bytes_eq n m && is_beginning q p
+
+abbrev pub is_begun : Asked → Asked → Bool
+is_begun (by_path q Touched) (by_path p x) = is_beginning q p
+is_begun _ _ = false
+
+-- d touches a path, and for a longer one that begins with it e asks the same symbol, for the same referrer. All that
+-- follows from d then follows from e (`proofs/Touched.antt`)
+abbrev pub touches : Demand → Demand → Bool
+touches d e = same_symbol d.symbol e.symbol && (is_begun d.asked e.asked && same_symbol d.referrer e.referrer)
+
 -- some demand of the account asks for what d asks for, by reference where d asks as a child
 abbrev pub IsCovered : List Demand → Demand → Type 0
 IsCovered account d = IsTrue (list_any (alike d) account || list_any (alike (referred d)) account)

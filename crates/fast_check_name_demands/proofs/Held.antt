@@ -1,25 +1,27 @@
 -- What is held of a value is what the value demands.
 use Rattle.std.proofs.Common.{◌≡◌, ◌∙◌, sym, ap, refl, subst, ⊎_elim, inl, inr, Bool, true, false, ◌&&◌, not, List, [], ◌∷◌, ◌↔◌}
+use Rattle.std.proofs.Common.{map, take}
 use Rattle.std.specs.Prelude.{IsTrue}
 use Rattle.std.proofs.Common.{Vec, Result, Ok, Err}
 use Rattle.std.specs.Result.{IfOk}
 use Rattle.std.specs.declared.alloc.Global.{Global}
-use Rattle.std.specs.List.{Contains}
 use Rattle.std.proofs.lemmas.Bool.{false≢true, cases_Bool}
 use Rattle.std.proofs.lemmas.List.Elements.{Contains-push, Contains-push_cases}
 use Rattle.fast_check_names.specs.declared.lattice.demanded.PathEnd.{PathEnd}
 use Rattle.fast_check_names.specs.declared.lattice.named_subset.NamedSubset.{NamedSubset}
 use Rattle.fast_check_names.specs.declared.lattice.imported_exports.ImportedExports.{ImportedExports}
 use Rattle.fast_check_names.specs.declared.lattice.imported_exports.ImportedExports.TheVariants.{Star, StarWithDefault, Subset}
-use Rattle.fast_check_names.specs.Names.{Name, Path, NameSet, Touched as touched, Covered, nothing, paths, has_whole, IsSame}
+use Rattle.fast_check_names.specs.Names.{Name, Path, NameSet, Touched as touched, Covered, nothing, path_of, paths, has_whole, IsSame}
 use Rattle.fast_check_names.specs.Paths.{paths_opened_nil}
-use Rattle.fast_check_names.specs.Ends.{is_demanded, AreEnds}
+use Rattle.fast_check_names.specs.Ends.{is_demanded, IsShownBy, AreEnds}
 use Rattle.fast_check_names.specs.Imports.{NameDemand, names_but_default, each_name, subset_at, whole_at, demands}
+use Rattle.fast_check_demands.specs.symbol_demands.declared.demand.Extent.TheVariants.{Touched}
 use Rattle.fast_check_name_demands.specs.declared.single.HeldDemands.{HeldDemands}
 use Rattle.fast_check_name_demands.specs.declared.single.HeldDemands.TheVariants.{AllButDefault, All, There, Paths}
 use Rattle.fast_check_name_demands.specs.Files.{path_demand}
-use Rattle.fast_check_name_demands.specs.NameDemands.{extent_of, IsOfEnds, IsOfHeld, Gains, IsEmpty, IsDemandOf, AreDemands, Holds, AreHeld}
-use Rattle.fast_check_name_demands.proofs.Parts.{Demands, no_element}
+use Rattle.fast_check_name_demands.specs.NameDemands.{extent_of, end_demand, IsOfEnds, IsOfHeld, IsEmpty, IsDemandOf, GoesWith, AreAll}
+use Rattle.fast_check_name_demands.specs.NameDemands.{AreDemands, Holds}
+use Rattle.fast_check_name_demands.proofs.Parts.{Demands, no_element, contains_map, map_contains, cut_at}
 
 -- of all names but `default`, and of all names
 
@@ -122,20 +124,21 @@ holds_ends x s ends n is has are = subst (λ (y : ImportedExports). (d : NameDem
 
 -- what is listed of it is demanded
 
-are_demands : (x : ImportedExports) (held : HeldDemands) (listed : Demands) → AreHeld held listed → Holds x held → AreDemands x listed
-are_demands x held listed are holds d = (λ h. (holds d).0 ((are d).0 h), λ h. (are d).1 ((holds d).1 h))
-
-only_one : (one : NameDemand) (d : NameDemand) → Contains (one ∷ []) d ↔ (d ≡ one)
-only_one one d = (
-  λ h. ⊎_elim (λ none. absurd (no_element d none)) (λ is. sym is) (Contains-push_cases [] one d h),
-  λ is. subst (λ (y : NameDemand). Contains (one ∷ []) y) (sym is) (Contains-push [] one),
-)
+are_demands : (x : ImportedExports) (held : HeldDemands) (listed : Demands) → AreAll (IsOfHeld held) listed → Holds x held →
+    AreDemands x listed
+are_demands x held listed are holds = record {
+  sound = λ d c. (holds d).0 (are.sound d c);
+  complete = λ d own. are.complete d ((holds d).1 own);
+}
 
 listed_one : (held : HeldDemands) (one : NameDemand) (listed : Demands) → listed ≡ one ∷ [] →
-    ((d : NameDemand) → (d ≡ one) ↔ IsOfHeld held d) → AreHeld held listed
+    ((d : NameDemand) → (d ≡ one) ↔ IsOfHeld held d) → AreAll (IsOfHeld held) listed
 listed_one held one listed is only =
-    subst (λ (l : Demands). AreHeld held l) (sym is)
-    (λ d. (λ h. (only d).0 ((only_one one d).0 h), λ h. (only_one one d).1 ((only d).1 h)))
+    subst (λ (l : Demands). AreAll (IsOfHeld held) l) (sym is)
+    (record {
+      sound = λ d c. (only d).0 (⊎_elim (λ none. absurd (no_element d none)) (λ same. sym same) (Contains-push_cases [] one d c));
+      complete = λ d own. (one, Contains-push [] one, inl ((only d).1 own));
+    })
 
 pub demands_of_star : (held : HeldDemands) (listed : Demands) → held ≡ AllButDefault → listed ≡ names_but_default ∷ [] →
     (x : ImportedExports) → Holds x held → AreDemands x listed
@@ -155,14 +158,43 @@ demands_of_there held listed is made x holds =
     are_demands x There listed (listed_one There (subset_at []) listed made (λ d. (λ h. h, λ h. h)))
     (subst (λ (y : HeldDemands). Holds x y) is holds)
 
-pub demands_of_paths : (held : HeldDemands) (ends : Vec PathEnd Global) (listed : Demands) → held ≡ Paths ends →
-    Gains (IsOfEnds ends.items) [] listed → (x : ImportedExports) → Holds x held → AreDemands x listed
-demands_of_paths held ends listed is gains x holds =
-    are_demands x (Paths ends) listed
-    (λ d. (
-      λ h. ⊎_elim (λ none. absurd (no_element d none)) (λ t. t) ((gains d).0 h),
-      λ h. (gains d).1 (inr h),
+-- a path that an end tells is the end's own, or a beginning of it
+goes_with : (path : Path) (whole : Bool) (p : Path) (w : Bool) (d : NameDemand) → d ≡ path_demand p (extent_of w) →
+    IsShownBy path whole p w → GoesWith d (path_demand path (extent_of whole))
+goes_with path whole p w d is shown = ⊎_elim
+    (λ begun.
+    let c = cut_at begun.0 path begun.1 begun.2 in
+    let at : d ≡ path_demand (take begun.0 path) Touched =
+    is ∙ (ap (λ (b : Bool). path_demand p (extent_of b)) begun.4 ∙ ap (λ (q : Path). path_demand q Touched) begun.3) in
+    inr (
+      c.0,
+      c.1,
+      c.2,
+      c.3,
+      extent_of whole,
+      at ∙ ap (λ (q : Path). path_demand q Touched) c.4,
+      ap (λ (q : Path). path_demand q (extent_of whole)) c.5,
     ))
+    (λ own. inl (is ∙
+    (ap (λ (q : Path). path_demand q (extent_of w)) own.0 ∙ ap (λ (b : Bool). path_demand path (extent_of b)) own.1))) shown
+
+ends_demand : (ends : List PathEnd) → AreAll (IsOfEnds ends) (map end_demand ends)
+ends_demand ends = record {
+  sound = λ d c.
+      let e = map_contains end_demand ends d c in
+      (path_of e.0.names.items, e.0.is_whole, sym e.2, (e.0, e.1, inr (refl, refl)));
+  complete = λ d own.
+      let e = own.3.0 in (
+        end_demand e,
+        contains_map end_demand ends e own.3.1,
+        goes_with (path_of e.names.items) e.is_whole own.0 own.1 d own.2 own.3.2,
+      );
+}
+
+pub demands_of_paths : (held : HeldDemands) (ends : Vec PathEnd Global) (listed : Demands) → held ≡ Paths ends →
+    listed ≡ map end_demand ends.items → (x : ImportedExports) → Holds x held → AreDemands x listed
+demands_of_paths held ends listed is made x holds =
+    are_demands x (Paths ends) listed (subst (λ (l : Demands). AreAll (IsOfEnds ends.items) l) (sym made) (ends_demand ends.items))
     (subst (λ (y : HeldDemands). Holds x y) is holds)
 
 pub if_ok_then : {T E : Type 0} {P Q : T → Type 0} (r : Result T E) → ((x : T) → P x → Q x) → IfOk r P → IfOk r Q

@@ -1,2 +1,2 @@
 mod Held
-mod Parts
+pub mod Parts

@@ -1,16 +1,14 @@
 //! The single names that a value of demanded names stands for.
-ghost use Rattle.std.specs.Prelude.{◌≡◌, ◌≤◌, [], ◌∷◌, map, length, OnOk, IfOk};
-ghost use Rattle.fast_check_names.specs.Names.{path_of};
-ghost use Rattle.fast_check_names.specs.Ends.{IsBeginning};
+ghost use Rattle.std.specs.Prelude.{◌≡◌, map, IfOk};
 ghost use Rattle.fast_check_name_demands.specs.Files.{names_of};
-ghost use Rattle.fast_check_name_demands.specs.NameDemands.{extent_of, IsOfPath, IsOfEnd, IsOfEnds, Gains, AreDemands, Holds};
+ghost use Rattle.fast_check_name_demands.specs.NameDemands.{extent_of, end_demand, AreDemands, Holds};
 
 use crate::want::{NameDemand, by_path};
 use fast_check_demands::Extent;
 use fast_check_names::{ImportedExports, PathEnd};
 use std::alloc::{AllocError, Global};
 
-/// What a value demands of a module, held while its single demands are lent: no name of a path is copied for a beginning of it.
+/// What a value demands of a module, held while its single demands are lent.
 #[derive(Drop)]
 pub enum HeldDemands {
     /// Each export but `default`.
@@ -49,41 +47,25 @@ fn extent_of(is_whole: bool) -> Extent
     }
 }
 
-/// Pushes the beginnings of a path that have at least so many names, as subsets.
-fn push_beginnings<'a>(
-    names: &'a [String],
-    from: usize,
-    out: &mut Vec<NameDemand<'a>>,
-) -> Result<(), AllocError>
-    ensures { OnOk result (Gains (IsOfPath (IsBeginning (path_of names.now) from (length names.now))) (map names_of out.old.items) (map names_of out.new.items)) }
+/// What the end of a path demands.
+fn end_demand(end: &PathEnd) -> NameDemand<'_>
+    ensures { names_of result ≡ end_demand end.now }
 {
-    for count in from..names.len() {
-        out.push(by_path(&names[..count], Extent::Touched))?;
-    }
-    Ok(())
-}
-
-/// Pushes what an end tells.
-fn push_end<'a>(end: &'a PathEnd, out: &mut Vec<NameDemand<'a>>) -> Result<(), AllocError>
-    ensures { OnOk result (Gains (IsOfEnd end.now) (map names_of out.old.items) (map names_of out.new.items)) }
-{
-    let names = end.names.as_slice();
-    push_beginnings(names, end.from, out)?;
-    out.push(by_path(names, extent_of(end.is_whole)))?;
-    Ok(())
+    by_path(end.names.as_slice(), extent_of(end.is_whole))
 }
 
 fn demands_of_ends(alloc: Global, ends: &[PathEnd]) -> Result<Vec<NameDemand<'_>>, AllocError>
-    ensures { IfOk result (λ out. Gains (IsOfEnds ends.now) [] (map names_of out.items)) }
+    ensures { IfOk result (λ out. map names_of out.items ≡ map end_demand ends.now) }
 {
     let mut out = Vec::new(alloc);
     for end in ends {
-        push_end(end, &mut out)?;
+        out.push(end_demand(end))?;
     }
     Ok(out)
 }
 
-/// The single things that a value demands of a module, in no promised order. Of no names, that the module is there.
+/// The single things that a value demands of a module, in no promised order. A path that is touched is left out where a longer one begins with it:
+/// all that follows from it follows from the longer one. Of no names, that the module is there.
 pub fn name_demands(alloc: Global, held: &HeldDemands) -> Result<Vec<NameDemand<'_>>, AllocError>
     ensures { IfOk result (λ out. (exports : ImportedExports) → Holds exports held.now → AreDemands exports (map names_of out.items)) }
 {

@@ -1,9 +1,10 @@
 -- What holds of each element of a list, and elements of lists that are made of others.
-use Rattle.std.proofs.Common.{◌≡◌, sym, ap, refl, subst, Bool, true, false, cond, List, [], ◌∷◌, ◌++◌, map, Option, Some, None, ⊎_elim, inl}
+use Rattle.std.proofs.Common.{◌≡◌, sym, refl, subst, Bool, true, false, cond, List, [], ◌∷◌, ◌++◌, map, Option, Some, None, ⊎_elim, inl}
 use Rattle.std.proofs.Common.{inr, ◌⊎◌, arith}
 use Rattle.std.specs.List.{Contains, flat_map}
 use Rattle.std.proofs.lemmas.List.Elements.{Contains-push_cases, Contains-append_left, Contains-append_right, Contains-append_cases}
 use Rattle.fast_check_name_demands.specs.demands.Rules.{each_of}
+pub use Rattle.fast_check_name_demands.proofs.Parts.{contains_map}
 
 pub Contains_none : {X : Type 0} (x : X) → Contains [] x → ⊥
 Contains_none x h = omega (arith, h.1)
@@ -19,13 +20,6 @@ Contains_later y xs x h = Contains-append_right (y ∷ []) xs x h
 
 pub Contains_cases : {X : Type 0} (y : X) (xs : List X) (x : X) → Contains (y ∷ xs) x → (y ≡ x) ⊎ Contains xs x
 Contains_cases y xs x h = ⊎_elim (λ e. inl (Contains_only y x e)) (λ e. inr e) (Contains-append_cases (y ∷ []) xs x h)
-
-pub contains_map : {X Y : Type 0} (f : X → Y) (xs : List X) (x : X) → Contains xs x → Contains (map f xs) (f x)
-contains_map f [] x c = absurd (Contains_none x c)
-contains_map {X} {Y} f (y ∷ ys) x c = ⊎_elim
-    (λ here. subst (λ (z : Y). Contains (map f (y ∷ ys)) z) (ap f here) (Contains_first (f y) (map f ys)))
-    (λ there. Contains_later (f y) (map f ys) (f x) (contains_map f ys x there))
-    (Contains_cases y ys x c)
 
 pub contains_flat_map : {X Y : Type 0} (f : X → List Y) (xs : List X) (x : X) (y : Y) → Contains xs x → Contains (f x) y →
     Contains (flat_map f xs) y

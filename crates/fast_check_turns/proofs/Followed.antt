@@ -1,7 +1,7 @@
 -- What came of a trace is what its demands name and give.
 use Rattle.std.proofs.Common.{◌≡◌, ◌∙◌, sym, ap, refl, subst, true, List, [], ◌∷◌, ◌++◌, Option, Some, map, ⊎_elim, ◌⊎◌}
 use Rattle.std.proofs.Common.{inl, inr}
-use Rattle.std.specs.List.{Contains, flat_map}
+use Rattle.std.specs.List.{list_any, Contains, flat_map}
 use Rattle.std.proofs.lemmas.Bool.{false≢true}
 use Rattle.std.proofs.lemmas.List.Elements.{Contains-append_cases, Contains-append_left, Contains-append_right}
 use Rattle.fast_check_syntax.specs.declared.source.SourceRange.{SourceRange}
@@ -10,7 +10,7 @@ use Rattle.fast_check_names.specs.declared.lattice.imported_exports.ImportedExpo
 use Rattle.fast_check_names.specs.declared.lattice.imported_exports.ImportedExports.TheVariants.{Star, StarWithDefault, Subset}
 use Rattle.fast_check_names.specs.Imports.{NameDemand, names_but_default, each_name, subset_at, whole_at, demands}
 use Rattle.fast_check_demands.specs.Demands.{Demand as SymbolDemand}
-use Rattle.fast_check_demands.specs.Account.{Chained, root as symbol_root, step as symbol_step, IsCovered as IsSymbolCovered}
+use Rattle.fast_check_demands.specs.Account.{Chained, root as symbol_root, step as symbol_step, touches, IsCovered as IsSymbolCovered}
 use Rattle.fast_check_demands.specs.Rules.{each_of, names}
 use Rattle.fast_check_demands.specs.Yields.{ranges, implementations, faults}
 use Rattle.fast_check_entries.specs.findings.declared.finding.FoundModule.{FoundModule}
@@ -19,7 +19,7 @@ use Rattle.fast_check_name_demands.specs.Files.{files}
 use Rattle.fast_check_traces.specs.declared.modules.TracedModule.{TracedModule}
 use Rattle.fast_check_traces.specs.Modules.{own_tables}
 use Rattle.fast_check_traces.specs.Roots.{roots}
-use Rattle.fast_check_traces.specs.Wants.{re_export_ranges, module_wants}
+use Rattle.fast_check_traces.specs.Wants.{re_export_ranges, module_wants, Want as ModuleWant}
 use Rattle.fast_check_search.proofs.Each.{Contains_none, Contains_first, Contains_later, Contains_cases, contains_map, contains_flat_map}
 use Rattle.fast_check_search.proofs.Each.{Each, each_append, each_map, each_flat}
 use Rattle.fast_check_worklists.proofs.Waiting.{map_contains}
@@ -28,9 +28,9 @@ use Rattle.fast_check_worklists.specs.Demands.{Text, asked, Want, to_package, to
 use Rattle.fast_check_worklists.specs.Demands.{of_symbol}
 use Rattle.fast_check_worklists.specs.Account.{Followed, HasIn, IsSymbolMet}
 use Rattle.fast_check_worklists.specs.declared.worklist.OuterWant.{OuterWant}
-use Rattle.fast_check_worklists.specs.State.{State, want_of, AsksAll, Reached, root, step, IsSearched, IsOuter, AreWants, AreGiven}
-use Rattle.fast_check_worklists.specs.State.{IsFollowed}
-use Rattle.fast_check_name_demands.specs.NameDemands.{AreDemands, IsEmpty}
+use Rattle.fast_check_worklists.specs.State.{State, want_of, AsksAll, Reached, root, step, IsSearched, IsOuter, IsWithin, AreWants}
+use Rattle.fast_check_worklists.specs.State.{AreGiven, IsFollowed}
+use Rattle.fast_check_name_demands.specs.NameDemands.{GoesWith, AreDemands, IsEmpty}
 use Rattle.fast_check_sources.specs.Sources.{Known, module_at}
 use Rattle.fast_check_sources.specs.Wants.{file_wants, left_wants}
 use Rattle.fast_check_turns.specs.Rules.{names_wants, symbol_wants, world}
@@ -41,6 +41,7 @@ use Rattle.fast_check_turns.specs.Yields.{faults_at, names_yields, symbol_yields
 use Rattle.fast_check_turns.specs.Traced.{IsTraced}
 use Rattle.fast_check_turns.proofs.Lists.{flat_contains}
 use Rattle.fast_check_turns.proofs.Placed.{placed_flat}
+use Rattle.fast_check_turns.proofs.Begun.{begun_root, covered_touches, begun_wants, dependency_kept, goes_again}
 use Rattle.fast_check_turns.proofs.Owned.{IsOwned, owned_files, owned_left}
 
 -- what is listed is asked
@@ -88,10 +89,15 @@ module _ (k : Known) (nv : Nv) (t : Text) (m : TracedModule) (here : module_at k
 
   listed_asked : (d : NameDemand) → Contains listed d → asked x d ≡ true
   listed_asked d c =
-      ⊎_elim (λ h. demanded_asked x d h) (λ e. subst (λ (y : NameDemand). asked x y ≡ true) (sym e.1) (empty_asked x e.0)) ((are d).0 c)
+      ⊎_elim (λ h. demanded_asked x d h) (λ e. subst (λ (y : NameDemand). asked x y ≡ true) (sym e.1) (empty_asked x e.0))
+      (are.sound d c)
 
-  asked_listed : (d : NameDemand) → asked x d ≡ true → Contains listed d ⊎ (d ≡ subset_at [])
-  asked_listed d h = ⊎_elim (λ e. inl ((are d).1 (inl e))) (λ e. inr e) (asked_demanded x d h)
+  -- what is asked goes with what is listed
+  abbrev IsListed : NameDemand → Type 0
+  IsListed d = (e : NameDemand) × Contains listed e × GoesWith d e
+
+  asked_listed : (d : NameDemand) → asked x d ≡ true → IsListed d ⊎ (d ≡ subset_at [])
+  asked_listed d h = ⊎_elim (λ e. inl (are.complete d (inl e))) (λ e. inr e) (asked_demanded x d h)
 
   -- by the two kinds of demands of a trace
   by_kind : (P : Demand → Type 0) → ((d : NameDemand) → asked x d ≡ true → P (of_module nv t d)) →
@@ -141,9 +147,18 @@ module _ (k : Known) (nv : Nv) (t : Text) (m : TracedModule) (here : module_at k
   outer_met (to_module p u w) h = tt
   outer_met (to_symbol p u s) h = absurd h
 
-  roots_met : (d : NameDemand) → asked x d ≡ true → (s : SymbolDemand) → Contains (roots (own_tables m) d) s → IsSymbolCovered a.symbols s
+  abbrev IsMet : SymbolDemand → Type 0
+  IsMet s = IsSymbolCovered a.symbols s ⊎ (list_any (touches s) a.symbols ≡ true)
+
+  roots_met : (d : NameDemand) → asked x d ≡ true → (s : SymbolDemand) → Contains (roots (own_tables m) d) s → IsMet s
   roots_met d h s c =
-      ⊎_elim (λ l. a.account.has_roots s (contains_flat_map (roots (own_tables m)) listed d s l c))
+      ⊎_elim
+      (λ l. ⊎_elim
+      (λ same. inl (a.account.has_roots s (contains_flat_map (roots (own_tables m)) listed d s
+      (subst (λ (y : NameDemand). Contains listed y) (sym same) l.1) c)))
+      (λ begins. let r = begun_root (own_tables m) d l.0 begins s c in
+      inr (covered_touches s r.0 a.symbols r.2
+      (a.account.has_roots r.0 (contains_flat_map (roots (own_tables m)) listed l.0 r.0 l.1 r.1)))) l.2)
       (λ e. absurd (Contains_none s (subst (λ (y : NameDemand). Contains (roots (own_tables m) y) s) e c)))
       (asked_listed d h)
 
@@ -156,7 +171,7 @@ module _ (k : Known) (nv : Nv) (t : Text) (m : TracedModule) (here : module_at k
   symbols_met : (s : SymbolDemand) → Contains a.symbols s → Each Met (world k (of_symbol nv t s))
   symbols_met s h = subst (Each Met) (sym (symbols_world s))
       (each_append Met (map (to_symbol nv t) (names (own_tables m) s)) (flat_map (file_wants k nv m) (files (own_tables m) s))
-      (each_map Met (to_symbol nv t) (names (own_tables m) s) (λ e c. (refl, refl, a.account.closed s e h c)))
+      (each_map Met (to_symbol nv t) (names (own_tables m) s) (λ e c. (refl, refl, inl (a.account.closed s e h c))))
       (each_flat Met (file_wants k nv m) (files (own_tables m) s) (λ f c w e. outer_met w (owned_files k nv m f w e))))
 
   searched : IsSearched (world k) new
@@ -203,17 +218,33 @@ module _ (k : Known) (nv : Nv) (t : Text) (m : TracedModule) (here : module_at k
       Contains wants w
   in_wants w c = subst (λ (ws : List Want). Contains ws w) (sym a.wants_are) c
 
-  names_complete : (d : NameDemand) → asked x d ≡ true → (w : Want) → Contains (names_wants k nv t d m) w → IsOuter w → Contains wants w
+  -- a want is within one of those that came of the trace
+  abbrev IsWanted : Want → Type 0
+  IsWanted v = (w : Want) × Contains wants w × IsWithin v w
+
+  listed_wanted : (d : NameDemand) (o : ModuleWant) (w : Want) → Contains listed d → Contains (module_wants m d) o →
+      Contains (left_wants k nv m o) w → Contains wants w
+  listed_wanted d o w i j c = in_wants w
+      (Contains-append_right (flat_map (file_wants k nv m) a.asked_files)
+      (flat_map (left_wants k nv m) (flat_map (module_wants m) listed)) w
+      (contains_flat_map (left_wants k nv m) (flat_map (module_wants m) listed) o w
+      (contains_flat_map (module_wants m) listed d o i j) c))
+
+  names_complete : (d : NameDemand) → asked x d ≡ true → (w : Want) → Contains (names_wants k nv t d m) w → IsOuter w → IsWanted w
   names_complete d h w c o =
       ⊎_elim (λ l. absurd (not_symbol (roots (own_tables m) d) w l o))
       (λ r.
       let v = flat_contains (left_wants k nv m) (module_wants m d) w r in
       ⊎_elim
-      (λ i. in_wants w
-      (Contains-append_right (flat_map (file_wants k nv m) a.asked_files)
-      (flat_map (left_wants k nv m) (flat_map (module_wants m) listed)) w
-      (contains_flat_map (left_wants k nv m) (flat_map (module_wants m) listed) v.0 w
-      (contains_flat_map (module_wants m) listed d v.0 i v.1) v.2)))
+      (λ i. ⊎_elim
+      (λ same. (
+        w,
+        listed_wanted d v.0 w (subst (λ (y : NameDemand). Contains listed y) (sym same) i.1) v.1 v.2,
+        λ e g. g,
+      ))
+      (λ begins.
+      let u = begun_wants k nv m d i.0 begins v.0 v.1 w v.2 in (u.1, listed_wanted i.0 u.0 u.1 i.1 u.2 u.3, u.4))
+      i.2)
       (λ e. absurd (Contains_none v.0 (subst (λ (y : NameDemand). Contains (module_wants m y) v.0) e v.1)))
       (asked_listed d h))
       (Contains-append_cases (map (to_symbol nv t) (roots (own_tables m) d)) (flat_map (left_wants k nv m) (module_wants m d)) w c)
@@ -234,9 +265,9 @@ module _ (k : Known) (nv : Nv) (t : Text) (m : TracedModule) (here : module_at k
   are_wants = record {
     sound = wants_sound;
     complete = λ d w h c o.
-        by_kind (λ e. Contains (world k e) w → Contains wants w)
+        by_kind (λ e. Contains (world k e) w → IsWanted w)
         (λ e i j. names_complete e i w (subst (λ (ws : List Want). Contains ws w) (names_world e) j) o)
-        (λ s i j. symbols_complete s i w (subst (λ (ws : List Want). Contains ws w) (symbols_world s) j) o) d h c;
+        (λ s i j. (w, symbols_complete s i w (subst (λ (ws : List Want). Contains ws w) (symbols_world s) j) o, λ e g. g)) d h c;
   }
 
   -- what is given
@@ -380,15 +411,16 @@ module _ (k : Known) (nv : Nv) (t : Text) (m : TracedModule) (here : module_at k
       (λ r. each_append IsGiven (public_at nv m (re_export_ranges m d)) (dependencies nv (names_wants k nv t d m))
       (each_map IsGiven (public nv (own_text m)) (re_export_ranges m d) again_in)
       (λ z i. let f = flat_contains (dependency_of nv) (names_wants k nv t d m) z i in
-      in_dependencies z
-      (contains_flat_map (dependency_of nv) wants f.0 z (names_complete d h f.0 f.1 (dependency_outer f.0 z f.2)) f.2)) y r)
+      let v = names_complete d h f.0 f.1 (dependency_outer f.0 z f.2) in
+      in_dependencies z (contains_flat_map (dependency_of nv) wants v.0 z v.1 (dependency_kept nv f.0 v.0 v.2 z f.2))) y r)
       (Contains_cases (recorded nv (own_text m)) _ y c)
     where
       again_in : (r : SourceRange) → Contains (re_export_ranges m d) r → IsGiven (public nv (own_text m) r)
       again_in r i =
           ⊎_elim
           (λ l. in_shown r (among r (Contains-append_right a.declared (flat_map (re_export_ranges m) listed) r
-          (contains_flat_map (re_export_ranges m) listed d r l i))))
+          (contains_flat_map (re_export_ranges m) listed l.0 r l.1
+          (subst (λ (rs : List SourceRange). Contains rs r) (goes_again m d l.0 l.2) i)))))
           (λ e. absurd (Contains_none r (subst (λ (z : NameDemand). Contains (re_export_ranges m z) r) e i)))
           (asked_listed d h)
 

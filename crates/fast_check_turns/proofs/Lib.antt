@@ -5,5 +5,7 @@ mod Placed
 mod Entered
 pub mod OwnYields
 pub mod Owned
+mod Begun
+pub mod Touched
 mod Followed
 pub mod Turns

@@ -275,8 +275,10 @@ module _ (world : World) (roots : List Nv) (u : Universe) (is_universe : IsUnive
       closed_new d h e g = by_want g.want g.among e g.gives
         where
           by_want : (w : Want) → Contains (world d) w → (e : Demand) → Gives w e → IsAsked b e
-          by_want (to_package p) c e g = wants_after.asked (to_package p) (f.wants.complete d (to_package p) h c tt) e g
-          by_want (to_module p t v) c e g = wants_after.asked (to_module p t v) (f.wants.complete d (to_module p t v) h c tt) e g
+          by_want (to_package p) c e g =
+              let w = f.wants.complete d (to_package p) h c tt in wants_after.asked w.0 w.1 e (w.2 e g)
+          by_want (to_module p t v) c e g =
+              let w = f.wants.complete d (to_module p t v) h c tt in wants_after.asked w.0 w.1 e (w.2 e g)
           by_want (to_symbol p t s) c (of_package q) g = absurd g
           by_want (to_symbol p t s) c (of_module q v e) g = absurd g
           by_want (to_symbol p t s) c (of_symbol q v e) g = tt

@@ -8,7 +8,7 @@ use Rattle.fast_check_names.specs.Names.{Path, NameSet, IsBelow}
 use Rattle.fast_check_names.specs.Imports.{default_name, imported, NameDemand, names_but_default, each_name, subset_at}
 use Rattle.fast_check_names.specs.Imports.{whole_at}
 use Rattle.fast_check_demands.specs.Demands.{Demand as SymbolDemand}
-use Rattle.fast_check_demands.specs.Account.{IsCovered as IsSymbolCovered}
+use Rattle.fast_check_demands.specs.Account.{touches, IsCovered as IsSymbolCovered}
 use Rattle.fast_check_worklists.specs.Demands.{Text, same_nv, asked, asked_by, one, Demand, of_package, of_module}
 use Rattle.fast_check_worklists.specs.Demands.{of_symbol, World, Follows}
 
@@ -55,10 +55,11 @@ traces_of followed = map (λ x. x.trace) followed
 
 -- demands of symbols that were searched together meet the demand
 abbrev pub IsSymbolMet : Nv → Text → SymbolDemand → Followed → Type 0
-IsSymbolMet nv t s x = (x.trace.nv ≡ nv) × (x.trace.specifier ≡ t) × IsSymbolCovered x.symbols s
+IsSymbolMet nv t s x = (x.trace.nv ≡ nv) × (x.trace.specifier ≡ t) × (IsSymbolCovered x.symbols s ⊎
+    IsTrue (list_any (touches s) x.symbols))
 
 -- A package is covered by itself; a demand of a module by those of its specifier, if there is one; a demand of a symbol
--- by those of the same package, module and symbol.
+-- by those of the same package, module and symbol, a path that is touched by a longer one too.
 abbrev pub IsCovered : Account → Demand → Type 0
 IsCovered account (of_package p) = IsTrue (list_any (same_nv p) account.packages)
 IsCovered account (of_module nv t d) =

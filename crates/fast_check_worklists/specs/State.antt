@@ -14,7 +14,7 @@ use Rattle.fast_check_worklists.specs.declared.worklist.OuterWant.{OuterWant}
 use Rattle.fast_check_worklists.specs.declared.worklist.OuterWant.TheVariants.{Package, Module}
 use Rattle.fast_check_worklists.specs.declared.worklist.Worklist.{Worklist}
 use Rattle.fast_check_worklists.specs.Demands.{Text, same_nv, asked, Want, to_package, to_module, to_symbol, Demand}
-use Rattle.fast_check_worklists.specs.Demands.{of_package, of_module, of_symbol, World}
+use Rattle.fast_check_worklists.specs.Demands.{of_package, of_module, of_symbol, World, Gives}
 use Rattle.fast_check_worklists.specs.Account.{Trace, Followed, HasIn, IsSymbolMet}
 
 abbrev pub want_of : OuterWant → Want
@@ -80,10 +80,15 @@ IsOuter (to_package p) = Unit {0}
 IsOuter (to_module p t w) = Unit {0}
 IsOuter (to_symbol p t s) = ⊥
 
--- the wants of a trace that was followed
+-- the second gives each single demand that the first does
+abbrev pub IsWithin : Want → Want → Type 0
+IsWithin v w = (e : Demand) → Gives v e → Gives w e
+
+-- the wants of a trace that was followed, up to those that are within others
 pub record AreWants (world : World) (x : Followed) (wants : List Want) : Type 0 where
   pub sound : (w : Want) → Contains wants w → (d : Demand) × HasIn x d × Contains (world d) w
-  pub complete : (d : Demand) (w : Want) → HasIn x d → Contains (world d) w → IsOuter w → Contains wants w
+  pub complete : (d : Demand) (v : Want) → HasIn x d → Contains (world d) v → IsOuter v → (w : Want) ×
+      Contains wants w × IsWithin v w
 
 -- what a trace that was followed gives
 pub record AreGiven {Y : Type 0} (gives : Demand → List Y) (x : Followed) (given : List Y) : Type 0 where
