@@ -3,8 +3,8 @@
 
 A line for each shape: the largest number, its megabytes, the status, the processor seconds of the three sizes (each twice the one before; of three runs
 the quickest), the bytes held a byte of the largest, and the exponent by which seconds grow with bytes, fitted to the three. The first size is doubled until a run takes
-a tenth of a second, or the input has 4 MB. An exponent above 1.2 is told, and so is a run that ends by a signal; then the status is 1. A shape that is known to grow
-with the square (SECURITY.md) is told as such, and only a run that ends by a signal counts against it.
+a tenth of a second, or the input has 4 MB; of two shapes it has an end. An exponent above 1.2 is told, and so is a run that ends by a signal; then the status is 1. A shape that is
+known to grow with the square (SECURITY.md) is told as such, and only a run that ends by a signal counts against it.
 
 Usage: bench/check/shapes.py PROGRAM [SHAPE ..]
 """
@@ -17,8 +17,10 @@ import tempfile
 
 HOST = "https://host.example/"
 FIRST, LEAST_SECONDS, MOST_BYTES, MOST_EXPONENT, RUNS = 500, 0.1, 4_000_000, 1.2, 3
-# Shapes that are known to grow with the square, each with the number at which its first size ends: four times that has to fit the stack.
-WITH_THE_SQUARE = {"path_through_files": 500}
+# The shape that is known to grow with the square.
+WITH_THE_SQUARE = ("path_through_files",)
+# The number at which the first size of a shape ends: four times that has to fit the stack, or the memory.
+LAST = {"path_behind_a_file": 8_000, "path_through_files": 500}
 RANGES = [[1, 9]]
 NO_TEXT = {"media_type": "TypeScript", "text": "", "program": {"Module": {"span": [1, 1], "body": []}}, "comments": {}}
 
@@ -323,7 +325,7 @@ def exponent(points):
 
 def measure(program, name):
     """Prints the line of a shape. Answers whether it grows as it may, or is known not to."""
-    n, last = FIRST, WITH_THE_SQUARE.get(name, math.inf)
+    n, last = FIRST, LAST.get(name, math.inf)
     first = spent(program, SHAPES[name](n))
     while first[2] < LEAST_SECONDS and first[0] < MOST_BYTES and first[1] < 3 and n < last:
         n *= 2
