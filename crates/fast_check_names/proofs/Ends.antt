@@ -1,68 +1,26 @@
 -- The ends of a set tell what it demands.
-use Rattle.std.proofs.Common.{◌≡◌, ◌∙◌, sym, ap, refl, subst, ⊎_elim, inl, inr, ◌⊎◌, ◌↔◌, ℕ, suc, ◌+◌, ◌-◌, ◌*◌, ◌<◌, ◌≤◌}
-use Rattle.std.proofs.Common.{Bool, true, false}
-use Rattle.std.proofs.Common.{cond, List, [], ◌∷◌, ◌++◌, Option, Some, None, String, string_bytes, arith, length, get_or, take}
-use Rattle.std.proofs.Common.{append_assoc}
-use Rattle.std.proofs.Common.{Vec, Result, Ok, Err}
-use Rattle.std.specs.Result.{OnOk}
-use Rattle.std.specs.List.{Contains, AllZip}
+use Rattle.std.proofs.Common.{◌≡◌, ◌∙◌, sym, ap, refl, subst, ⊎_elim, inl, inr, ◌⊎◌, ◌↔◌, ℕ, zero, suc, ◌+◌, ◌-◌, ◌<◌, ◌≤◌, ◌==◌}
+use Rattle.std.proofs.Common.{Bool, true, false, cond, List, [], ◌∷◌, ◌++◌, Option, Some, None, string_bytes, arith, length, get_or, take}
+use Rattle.std.specs.List.{Contains}
 use Rattle.std.specs.Str.{bytes_eq}
-use Rattle.std.specs.declared.alloc.Global.{Global}
 use Rattle.std.proofs.lemmas.Bool.{false≢true, cases_lt}
-use Rattle.std.proofs.lemmas.List.{append-nil, take-append-le, take_more, take_all, length-append, length-map, map-append, take-map}
+use Rattle.std.proofs.lemmas.List.{take-append-le, take_more, take_all}
 use Rattle.std.proofs.lemmas.List.Elements.{Contains-append_left, Contains-push, Contains-push_cases}
 use Rattle.fast_check_names.specs.declared.lattice.demanded.PathEnd.{PathEnd}
 use Rattle.fast_check_names.specs.declared.lattice.node.Node.{Node}
 use Rattle.fast_check_names.specs.declared.lattice.node.NodeNo.{NodeNo}
 use Rattle.fast_check_names.specs.declared.lattice.node.Below.{Below}
 use Rattle.fast_check_names.specs.declared.lattice.node.Below.TheVariants.{All, Subset}
-use Rattle.fast_check_names.specs.Order.{Entry, IsOnce, found}
-use Rattle.fast_check_names.specs.Graph.{Graph, NameSet, Path, IsAfter, listings, entry, reach, below_node}
-use Rattle.fast_check_names.specs.Names.{Name, nothing, path_of, has_whole}
+use Rattle.fast_check_names.specs.Order.{Name, Entry, found}
+use Rattle.fast_check_names.specs.Graph.{Graph, Path, IsTree, listings, listed, entry, reach, rooted, below_node}
+use Rattle.fast_check_names.specs.Names.{nothing, path_of, has_whole}
 use Rattle.fast_check_names.specs.Ends.{is_demanded, IsBeginning, IsShownBy, AreEnds}
-use Rattle.fast_check_names.specs.Shown.{ShowsLonger, IsBelowPath, IsBegun, IsOfBelow, IsOfNames}
+use Rattle.fast_check_names.specs.Shown.{leads, onto, IsPathTo, end_of, IsOfName, IsOfNames, IsOfNodes, ShowsLonger}
 use Rattle.fast_check_names.proofs.Walks.{name_shows}
 use Rattle.fast_check_names.proofs.Lists.{found_read}
-
--- the measure of the walk
-abbrev pub rank : ℕ → Below → ℕ
-rank count All = 0
-rank count (Subset j) = 2 * (count - j.0) + 2
-
-pub rank_falls : (count at : ℕ) (b : Below) → IsAfter at count (Some b) → rank count b < 2 * (count - at) + 1
-rank_falls count at All h = omega arith
-rank_falls count at (Subset j) h = omega (arith, h.0, h.1)
-
-pub rank_is : (count : ℕ) (b : Below) (j : NodeNo) → b ≡ Subset j → 2 * (count - j.0) + 1 < rank count b
-rank_is count b j is = subst (λ (x : Below). 2 * (count - j.0) + 1 < rank count x) (sym is) (omega arith)
-
--- copies of names spell the same path
-pub copied_names : (parts copies : List (String Global)) → AllZip (λ s t. string_bytes t ≡ string_bytes s) parts copies →
-    path_of copies ≡ path_of parts
-copied_names [] [] h = refl
-copied_names [] (t ∷ copies) h = absurd h
-copied_names (s ∷ parts) [] h = absurd h
-copied_names (s ∷ parts) (t ∷ copies) h = ap (λ n. n ∷ path_of copies) h.0 ∙ ap (λ p. string_bytes s ∷ p) (copied_names parts copies h.1)
-
--- a name more at the end of a path, and one less
-pub pushed_path : (items before : List (String Global)) (copy : String Global) (path : Path) (n : Name) → items ≡ before ++ copy ∷ [] →
-    path_of before ≡ path → string_bytes copy ≡ n → path_of items ≡ path ++ n ∷ []
-pushed_path items before copy path n is was same =
-    ap path_of is ∙ (map-append string_bytes before (copy ∷ []) ∙
-    (ap (λ (p : Path). p ++ string_bytes copy ∷ []) was ∙ ap (λ (m : Name). path ++ m ∷ []) same))
-
-pub cut_path : (items cut : List (String Global)) (count : ℕ) (path : Path) (n : Name) → cut ≡ take count items →
-    path_of items ≡ path ++ n ∷ [] → count ≡ length path → path_of cut ≡ path
-cut_path items cut count path n is was long =
-    ap path_of is ∙ (sym (take-map string_bytes count items) ∙ (ap (λ (p : Path). take count p) was ∙
-    (take-append-le count path (n ∷ []) (omega (arith, long)) ∙ take_all count path (omega (arith, long)))))
-
-pub long_path : (path : Vec (String Global) Global) → length (path_of path.items) ≡ path.len
-long_path path = omega (arith, length-map path.items string_bytes, path.ok.0)
-
-pub on_ok_more : {T E : Type 0} {P Q : Type 0} (r : Result T E) → (P → Q) → OnOk r P → OnOk r Q
-on_ok_more (Ok x) f p = f p
-on_ok_more (Err e) f p = tt
+use Rattle.fast_check_names.proofs.Counts.{leads_once}
+use Rattle.fast_check_names.proofs.Copies.{first_of, node_there}
+use Rattle.fast_check_names.proofs.Stretches.{once_at}
 
 -- ends tell more
 
@@ -75,21 +33,17 @@ Shown = Path → Bool → Type 0
 abbrev pub shown_of : PathEnd → Shown
 shown_of e p w = IsShownBy (path_of e.names.items) e.is_whole p w
 
-pub shows_one : (old : Ends) (e : PathEnd) → ShowsLonger (shown_of e) old (old ++ e ∷ [])
+shows_one : (old : Ends) (e : PathEnd) → ShowsLonger (shown_of e) old (old ++ e ∷ [])
 shows_one old e p w = (
   λ h. ⊎_elim (λ was. inl (h.0, was, h.2))
       (λ is. inr (subst (λ (x : PathEnd). shown_of x p w) (sym is) h.2)) (Contains-push_cases old e h.0 h.1),
   λ h. ⊎_elim (λ was. (was.0, Contains-append_left old (e ∷ []) was.0 was.1, was.2)) (λ shows. (e, Contains-push old e, shows)) h,
 )
 
-pub shows_pushed : (old new : Ends) (e : PathEnd) (path : Path) (whole : Bool) → new ≡ old ++ e ∷ [] →
-    path_of e.names.items ≡ path → e.is_whole ≡ whole → ShowsLonger (IsShownBy path whole) old new
-shows_pushed old new e path whole is names extent =
-    subst (λ (l : Ends). ShowsLonger (IsShownBy path whole) old l) (sym is)
-    (subst (λ (p : Path). ShowsLonger (IsShownBy p whole) old (old ++ e ∷ [])) names
-    (subst (λ (b : Bool). ShowsLonger (IsShownBy (path_of e.names.items) b) old (old ++ e ∷ [])) extent (shows_one old e)))
+shows_nothing : (P : Shown) (old : Ends) → ((p : Path) (w : Bool) → P p w → ⊥) → ShowsLonger P old old
+shows_nothing P old none p w = (λ h. inl h, λ h. ⊎_elim (λ was. was) (λ x. absurd (none p w x)) h)
 
-pub shows_both : (P Q : Shown) (old mid new : Ends) → ShowsLonger P old mid → ShowsLonger Q mid new →
+shows_both : (P Q : Shown) (old mid new : Ends) → ShowsLonger P old mid → ShowsLonger Q mid new →
     ShowsLonger (λ p w. P p w ⊎ Q p w) old new
 shows_both P Q old mid new f g p w = (
   λ h. ⊎_elim (λ was. ⊎_elim (λ first. inl first) (λ x. inr (inl x)) ((f p w).0 was)) (λ x. inr (inr x)) ((g p w).0 h),
@@ -97,11 +51,100 @@ shows_both P Q old mid new f g p w = (
       (λ more. ⊎_elim (λ x. (g p w).1 (inl ((f p w).1 (inr x)))) (λ x. (g p w).1 (inr x)) more) h,
 )
 
-pub shows_as : (P Q : Shown) (old new : Ends) → ((p : Path) (w : Bool) → P p w ↔ Q p w) → ShowsLonger P old new → ShowsLonger Q old new
+shows_as : (P Q : Shown) (old new : Ends) → ((p : Path) (w : Bool) → P p w ↔ Q p w) → ShowsLonger P old new → ShowsLonger Q old new
 shows_as P Q old new e f p w = (
   λ h. ⊎_elim (λ was. inl was) (λ x. inr ((e p w).0 x)) ((f p w).0 h),
   λ h. (f p w).1 (⊎_elim (λ was. inl was) (λ x. inr ((e p w).1 x)) h),
 )
+
+-- the end at a name
+
+extent_is : (a b : Bool) → Some a ≡ Some b → a ≡ b
+extent_is a b e = cc
+
+no_extent : (a : Bool) → None ≡ Some a → ⊥
+no_extent a e = cc
+
+-- no other path leads to a node
+one_path : (g : Graph) (size : ℕ) → IsTree g size → (k : ℕ) (n : Name) (p q : Path) → IsPathTo g k n p → IsPathTo g k n q → p ≡ q
+one_path g size tree k n p q a b =
+    a.2 ∙ (ap (λ (r : Path). onto r (n ∷ [])) (leads_once g size tree a.0 b.0 k k refl a.1 b.1) ∙ sym b.2)
+
+pub shows_no_end : (ls : List (List Entry)) (k : ℕ) (e : Entry) (old : Ends) → None ≡ end_of ls e.1 →
+    ShowsLonger (IsOfName ls k e) old old
+shows_no_end ls k e old none =
+    shows_nothing (IsOfName ls k e) old (λ p w x. no_extent x.1 (none ∙ x.3))
+
+pub shows_end : (ls : List (List Entry)) (size k : ℕ) (e : Entry) (old new : Ends) (end : PathEnd) → IsTree (listed ls) size →
+    Some end.is_whole ≡ end_of ls e.1 → IsPathTo (listed ls) k (string_bytes e.0) (path_of end.names.items) → new ≡ old ++ end ∷ [] →
+    ShowsLonger (IsOfName ls k e) old new
+shows_end ls size k e old new end tree extent leads_to is =
+    subst (λ (l : Ends). ShowsLonger (IsOfName ls k e) old l) (sym is)
+    (shows_as (shown_of end) (IsOfName ls k e) old (old ++ end ∷ [])
+    (λ p w. (
+      λ h. (path_of end.names.items, end.is_whole, leads_to, sym extent, h),
+      λ x. subst (λ (b : Bool). IsShownBy (path_of end.names.items) b p w) (extent_is x.1 end.is_whole (sym x.3 ∙ sym extent))
+          (subst (λ (q : Path). IsShownBy q x.1 p w)
+          (one_path (listed ls) size tree k (string_bytes e.0) x.0 (path_of end.names.items) x.2 leads_to) x.4),
+    ))
+    (shows_one old end))
+
+-- the ends at the names of a node, and of all nodes
+
+no_entry : (x : Entry) → Contains [] x → ⊥
+no_entry x (k, below, is) = omega (arith, below)
+
+pub shows_no_names : (ls : List (List Entry)) (k : ℕ) (old : Ends) → ShowsLonger (IsOfNames ls k []) old old
+shows_no_names ls k old = shows_nothing (IsOfNames ls k []) old (λ p w x. no_entry x.0 x.1)
+
+names_more : (ls : List (List Entry)) (k : ℕ) (es : List Entry) (e : Entry) (p : Path) (w : Bool) →
+    (IsOfNames ls k es p w ⊎ IsOfName ls k e p w) ↔ IsOfNames ls k (es ++ e ∷ []) p w
+names_more ls k es e p w = (
+  λ h. ⊎_elim (λ x. (x.0, Contains-append_left es (e ∷ []) x.0 x.1, x.2)) (λ x. (e, Contains-push es e, x)) h,
+  λ x. ⊎_elim (λ was. inl (x.0, was, x.2))
+      (λ is. inr (subst (λ (d : Entry). IsOfName ls k d p w) (sym is) x.2)) (Contains-push_cases es e x.0 x.1),
+)
+
+pub shows_name : (ls : List (List Entry)) (k : ℕ) (es : List Entry) (i : ℕ) (e : Entry) (old mid new : Ends) → i < length es →
+    e ≡ get_or es i e →
+    ShowsLonger (IsOfNames ls k (take i es)) old mid → ShowsLonger (IsOfName ls k e) mid new →
+    ShowsLonger (IsOfNames ls k (take (i + 1) es)) old new
+shows_name ls k es i e old mid new within is before now =
+    let more : take (i + 1) es ≡ take i es ++ e ∷ [] =
+    take_more es i e within ∙ ap (λ (x : Entry). take i es ++ x ∷ []) (sym is) in
+    subst (λ (l : List Entry). ShowsLonger (IsOfNames ls k l) old new) (sym more)
+    (shows_as (λ p w. IsOfNames ls k (take i es) p w ⊎ IsOfName ls k e p w) (IsOfNames ls k (take i es ++ e ∷ [])) old new
+    (names_more ls k (take i es) e)
+    (shows_both (IsOfNames ls k (take i es)) (IsOfName ls k e) old mid new before now))
+
+pub shows_names : (ls : List (List Entry)) (k : ℕ) (es : List Entry) (i : ℕ) (old new : Ends) → es ≡ get_or ls k [] → length es ≤ i →
+    ShowsLonger (IsOfNames ls k (take i es)) old new → ShowsLonger (IsOfNames ls k (get_or ls k [])) old new
+shows_names ls k es i old new names end shown =
+    subst (λ (l : List Entry). ShowsLonger (IsOfNames ls k l) old new) (take_all i es end ∙ names) shown
+
+pub shows_no_nodes : (ls : List (List Entry)) (ends : Ends) → ends ≡ [] → ShowsLonger (IsOfNodes ls 0) [] ends
+shows_no_nodes ls ends none =
+    subst (λ (l : Ends). ShowsLonger (IsOfNodes ls 0) [] l) (sym none)
+    (shows_nothing (IsOfNodes ls 0) [] (λ p w x. let h = x.1 in omega (arith, h)))
+
+nodes_more : (ls : List (List Entry)) (k : ℕ) (p : Path) (w : Bool) →
+    (IsOfNodes ls k p w ⊎ IsOfNames ls k (get_or ls k []) p w) ↔ IsOfNodes ls (k + 1) p w
+nodes_more ls k p w = (
+  λ h. ⊎_elim (λ x. let l = x.1 in (x.0, omega (arith, l), x.2)) (λ x. (k, omega arith, x)) h,
+  λ x. let h = x.1 in
+      ⊎_elim (λ (l : x.0 < k). inl (x.0, l, x.2))
+      (λ (l : k ≤ x.0).
+      let same : x.0 ≡ k = omega (arith, l, h) in
+      inr (subst (λ (m : ℕ). IsOfNames ls m (get_or ls m []) p w) same x.2))
+      (cases_lt x.0 k),
+)
+
+pub shows_node : (ls : List (List Entry)) (k : ℕ) (old mid new : Ends) → ShowsLonger (IsOfNodes ls k) old mid →
+    ShowsLonger (IsOfNames ls k (get_or ls k [])) mid new →
+    ShowsLonger (IsOfNodes ls (k + 1)) old new
+shows_node ls k old mid new before now =
+    shows_as (λ p w. IsOfNodes ls k p w ⊎ IsOfNames ls k (get_or ls k []) p w) (IsOfNodes ls (k + 1)) old new (nodes_more ls k)
+    (shows_both (IsOfNodes ls k) (IsOfNames ls k (get_or ls k [])) old mid new before now)
 
 -- what is demanded at the end of a path
 
@@ -114,6 +157,18 @@ demanded_none g [] false = refl
 demanded_none g (n ∷ q) false = refl
 demanded_none g [] true = refl
 demanded_none g (n ∷ q) true = whole_of_nothing q
+
+demanded_all : (g : Graph) (w : Bool) → is_demanded (reach g (Some All)) [] w ≡ true → w ≡ true
+demanded_all g true h = refl
+demanded_all g false h = absurd (false≢true h)
+
+demanded_past : (g : Graph) (n : Name) (q : Path) (w : Bool) → is_demanded (reach g (Some All)) (n ∷ q) w ≡ false
+demanded_past g n q true = refl
+demanded_past g n q false = refl
+
+demanded_subset : (g : Graph) (j : NodeNo) (w : Bool) → is_demanded (reach g (Some (Subset j))) [] w ≡ true → w ≡ false
+demanded_subset g j false h = refl
+demanded_subset g j true h = absurd (false≢true h)
 
 demanded_under : (g : Graph) (j : NodeNo) (n : Name) (q : Path) (w : Bool) →
     is_demanded (reach g (Some (Subset j))) (n ∷ q) w ≡ is_demanded (reach g (g j.0 n)) q w
@@ -129,194 +184,74 @@ demanded_name : (g : Graph) (at : ℕ) (n : Name) (q : Path) (w : Bool) →
 demanded_name g at n q false = refl
 demanded_name g at n q true = refl
 
--- the set demands the empty path to this extent, and no other path
-abbrev IsEnd : NameSet → Bool → Type 0
-IsEnd f whole = (q : Path) (w : Bool) → (is_demanded f q w ≡ true) ↔ ((q ≡ []) × (w ≡ whole))
+-- below the path of a node is demanded what the node lists
+demanded_at : (g : Graph) (r : Path) (k : ℕ) → leads g r k → (n : Name) (q : Path) (w : Bool) →
+    is_demanded (rooted g) (onto r (n ∷ q)) w ≡ is_demanded (reach g (g k n)) q w
+demanded_at g [] k a n q w = demanded_name g 0 n q w ∙ ap (λ (i : ℕ). is_demanded (reach g (g i n)) q w) (sym a)
+demanded_at g (m ∷ r) k a n q w =
+    demanded_at g r a.0 a.1 m (n ∷ q) w ∙
+    (ap (λ o. is_demanded (reach g o) (n ∷ q) w) a.2 ∙ demanded_under g (record { 0 = k }) n q w)
 
-end_of_all : (g : Graph) → IsEnd (reach g (Some All)) true
-end_of_all g [] true = (λ h. (refl, refl), λ h. refl)
-end_of_all g [] false = (λ h. absurd (false≢true h), λ h. absurd (false≢true h.1))
-end_of_all g (n ∷ q) true = (λ h. absurd (false≢true h), λ h. absurd (let e = h.0 in cc))
-end_of_all g (n ∷ q) false = (λ h. absurd (false≢true h), λ h. absurd (false≢true h.1))
+-- paths that go on
 
-longer_none : (g : Graph) (j : NodeNo) (none : (n : Name) → g j.0 n ≡ None) (n : Name) (q : Path) (w : Bool) →
-    is_demanded (reach g (Some (Subset j))) (n ∷ q) w ≡ false
-longer_none g j none n q w =
-    demanded_under g j n q w ∙ (ap (λ o. is_demanded (reach g o) q w) (none n) ∙ demanded_none g q w)
+onto_append : (r q p : Path) → onto r q ++ p ≡ onto r (q ++ p)
+onto_append [] q p = refl
+onto_append (n ∷ r) q p = onto_append r (n ∷ q) p
 
-end_of_bare : (g : Graph) (j : NodeNo) → ((n : Name) → g j.0 n ≡ None) → IsEnd (reach g (Some (Subset j))) false
-end_of_bare g j none [] false = (λ h. (refl, refl), λ h. refl)
-end_of_bare g j none [] true = (λ h. absurd (false≢true h), λ h. absurd (false≢true (sym h.1)))
-end_of_bare g j none (n ∷ q) w =
-    (λ h. absurd (false≢true (sym (longer_none g j none n q w) ∙ h)), λ h. absurd (let e = h.0 in cc))
+onto_length : (r q : Path) → length (onto r q) ≡ length r + length q
+onto_length [] q = omega arith
+onto_length (n ∷ r) q = omega (arith, onto_length r (n ∷ q))
 
-of_end : (f : NameSet) (whole : Bool) → IsEnd f whole → (path p : Path) (w : Bool) →
-    IsShownBy path whole p w ↔ IsOfBelow path f p w
-of_end f whole end path p w = (
-  λ h. ⊎_elim (λ b. inl b) (λ own. inr ([], own.0 ∙ sym (append-nil path), (end [] w).1 (refl, own.1))) h,
-  λ h. ⊎_elim (λ b. inl b)
-      (λ own. let e = (end own.0 w).0 own.2 in inr (own.1 ∙ (ap (λ (q : Path). path ++ q) e.0 ∙ append-nil path), e.1)) h,
-)
+take_onto : (r q : Path) (m : ℕ) → m ≡ length r → take m (onto r q) ≡ onto r []
+take_onto r q m is =
+    let long : length (onto r []) ≡ m = omega (arith, onto_length r [], is) in
+    ap (λ (p : Path). take m p) (sym (onto_append r [] q)) ∙
+    (take-append-le m (onto r []) q (omega (arith, long)) ∙ take_all m (onto r []) (omega (arith, long)))
 
-pub shows_all : (g : Graph) (b : Below) (path : Path) (old new : Ends) → b ≡ All → ShowsLonger (IsShownBy path true) old new →
-    ShowsLonger (IsOfBelow path (reach g (Some b))) old new
-shows_all g b path old new is shown =
-    subst (λ (x : Below). ShowsLonger (IsOfBelow path (reach g (Some x))) old new) (sym is)
-    (shows_as (IsShownBy path true) (IsOfBelow path (reach g (Some All))) old new
-    (of_end (reach g (Some All)) true (end_of_all g) path) shown)
+-- a beginning of the path to a node leads to a node, and so it is demanded as a subset
+begun : (g : Graph) (r : Path) (k : ℕ) → leads g r k → (q : Path) (m : ℕ) → 0 < m → m ≤ length r →
+    is_demanded (rooted g) (take m (onto r q)) false ≡ true
+begun g [] k a q m some high = absurd (omega (arith, some, high))
+begun g (n ∷ r) k a q m some high = ⊎_elim
+    (λ (l : m < length r + 1). begun g r a.0 a.1 (n ∷ q) m some (omega (arith, l)))
+    (λ (l : length r + 1 ≤ m).
+    ap (λ (p : Path). is_demanded (rooted g) p false) (take_onto (n ∷ r) q m (omega (arith, l, high))) ∙
+    (demanded_at g r a.0 a.1 n [] false ∙ ap (λ o. is_demanded (reach g o) [] false) a.2))
+    (cases_lt m (length r + 1))
 
-none_listed : (es : List Entry) → length es ≡ 0 → (n : Name) → found es n ≡ None
-none_listed [] h n = refl
-none_listed (e ∷ es) h n = absurd (omega (arith, h))
+-- what the ends tell is demanded
 
-pub shows_bare : (nodes : List Node) (b : Below) (j : NodeNo) (path : Path) (old new : Ends) → b ≡ Subset j →
-    length (get_or (listings nodes) j.0 []) ≡ 0 → ShowsLonger (IsShownBy path false) old new →
-    ShowsLonger (IsOfBelow path (reach (entry nodes) (Some b))) old new
-shows_bare nodes b j path old new is bare shown =
-    let g = entry nodes in
-    subst (λ (x : Below). ShowsLonger (IsOfBelow path (reach g (Some x))) old new) (sym is)
-    (shows_as (IsShownBy path false) (IsOfBelow path (reach g (Some (Subset j)))) old new
-    (of_end (reach g (Some (Subset j))) false (end_of_bare g j (none_listed (get_or (listings nodes) j.0 []) bare)) path) shown)
+end_by : (bare whole : Bool) → cond bare (Some false) None ≡ Some whole → whole ≡ false
+end_by true whole e = sym (extent_is false whole e)
+end_by false whole e = absurd (no_extent whole e)
 
--- where a node has names, its path is told as a beginning of theirs
+end_told : (ls : List (List Entry)) (g : Graph) (b : Below) (whole : Bool) → end_of ls b ≡ Some whole →
+    is_demanded (reach g (Some b)) [] whole ≡ true
+end_told ls g All whole e = ap (λ w. is_demanded (reach g (Some All)) [] w) (sym (extent_is true whole e))
+end_told ls g (Subset j) whole e =
+    ap (λ w. is_demanded (reach g (Some (Subset j))) [] w) (end_by (length (get_or ls j.0 []) == 0) whole e)
 
-names_below : (g : Graph) (j : NodeNo) (path : Path) → 0 < length path → (p : Path) (w : Bool) →
-    IsOfNames path (below_node g j.0) p w ↔ IsOfBelow path (reach g (Some (Subset j))) p w
-names_below g j path named p w = (λ h. ⊎_elim to_begin to_below h, λ h. ⊎_elim from_begin from_below h)
-  where
-    to_begin : IsBegun path (length path + 1) p w → IsOfBelow path (reach g (Some (Subset j))) p w
-    to_begin (k, some, high, is, extent) = ⊎_elim
-        (λ (h : k < length path). inl (k, some, h, is, extent))
-        (λ (h : length path ≤ k). inr (
-          [],
-          is ∙ (take_all k path h ∙ sym (append-nil path)),
-          subst (λ (b : Bool). is_demanded (reach g (Some (Subset j))) [] b ≡ true) (sym extent) refl,
-        ))
-        (cases_lt k (length path))
+-- the path of an end is demanded, and its beginnings are
+told : (g : Graph) (k : ℕ) (n : Name) (path : Path) (whole : Bool) → IsPathTo g k n path → is_demanded (reach g (g k n)) [] whole ≡ true →
+    (p : Path) (w : Bool) →
+    IsShownBy path whole p w → is_demanded (rooted g) p w ≡ true
+told g k n path whole (r, a, is) has p w (inl (m, some, high, begins, extent)) =
+    let l = high in
+    let upto : m ≤ length r = omega (arith, l, ap length is, onto_length r (n ∷ [])) in
+    subst (λ (b : Bool). is_demanded (rooted g) p b ≡ true) (sym extent)
+    (ap (λ (q : Path). is_demanded (rooted g) q false) (begins ∙ ap (λ (q : Path). take m q) is) ∙ begun g r k a (n ∷ []) m some upto)
+told g k n path whole (r, a, is) has p w (inr (same, extent)) =
+    subst (λ (b : Bool). is_demanded (rooted g) p b ≡ true) (sym extent)
+    (ap (λ (q : Path). is_demanded (rooted g) q whole) (same ∙ is) ∙ (demanded_at g r k a n [] whole ∙ has))
 
-    to_below : IsBelowPath path (below_node g j.0) p w → IsOfBelow path (reach g (Some (Subset j))) p w
-    to_below ([], is, has) = absurd (false≢true (sym (demanded_nil g j.0 w) ∙ has))
-    to_below (n ∷ q, is, has) = inr (n ∷ q, is, demanded_under g j n q w ∙ (sym (demanded_name g j.0 n q w) ∙ has))
+-- what is demanded is told by an end
 
-    from_begin : IsBeginning path p w → IsOfNames path (below_node g j.0) p w
-    from_begin (k, some, high, is, extent) = inl (k, some, (let h = high in omega (arith, h)), is, extent)
-
-    nil_is : (b : Bool) → is_demanded (reach g (Some (Subset j))) [] b ≡ true → b ≡ false
-    nil_is false h = refl
-    nil_is true h = absurd (false≢true h)
-
-    from_below : IsBelowPath path (reach g (Some (Subset j))) p w → IsOfNames path (below_node g j.0) p w
-    from_below ([], is, has) = inl (
-      length path,
-      named,
-      omega arith,
-      is ∙ (append-nil path ∙ sym (take_all (length path) path (omega arith))),
-      nil_is w has,
-    )
-    from_below (n ∷ q, is, has) = inr (n ∷ q, is, demanded_name g j.0 n q w ∙ (sym (demanded_under g j n q w) ∙ has))
-
-pub shows_named : (g : Graph) (b : Below) (j : NodeNo) (path : Path) (old new : Ends) → b ≡ Subset j → 0 < length path →
-    ShowsLonger (IsOfNames path (below_node g j.0)) old new →
-    ShowsLonger (IsOfBelow path (reach g (Some b))) old new
-shows_named g b j path old new is named shown =
-    subst (λ (x : Below). ShowsLonger (IsOfBelow path (reach g (Some x))) old new) (sym is)
-    (shows_as (IsOfNames path (below_node g j.0)) (IsOfBelow path (reach g (Some (Subset j)))) old new
-    (names_below g j path named) shown)
-
--- the walk over the names of a node
-
-abbrev pub under : Path → Entry → Path
-under path e = path ++ string_bytes e.0 ∷ []
-
--- it is below one of these names
-abbrev pub IsOfEach : Path → Graph → List Entry → Shown
-IsOfEach path g es p w = (e : Entry) × Contains es e × IsBelowPath (under path e) (reach g (Some e.1)) p w
-
--- the first of them tells the beginnings of the path and the path
-abbrev pub IsWalked : Path → Graph → List Entry → Shown
-IsWalked path g es p w = ((0 < length es) × IsBegun path (length path + 1) p w) ⊎ IsOfEach path g es p w
-
-no_entry : (x : Entry) → Contains [] x → ⊥
-no_entry x (k, below, is) = omega (arith, below)
-
-pub walked_none : (path : Path) (g : Graph) (old : Ends) → ShowsLonger (IsWalked path g []) old old
-walked_none path g old p w = (
-  λ h. inl h,
-  λ h. ⊎_elim (λ was. was)
-      (λ none. ⊎_elim (λ b. let some = b.0 in absurd (omega (arith, some))) (λ each. absurd (no_entry each.0 each.1)) none) h,
-)
-
-walked_step : (path : Path) (g : Graph) (es : List Entry) (e : Entry) (p : Path) (w : Bool) →
-    (IsWalked path g es p w ⊎ IsOfBelow (under path e) (reach g (Some e.1)) p w) ↔ IsWalked path g (es ++ e ∷ []) p w
-walked_step path g es e p w = (
-  λ h. ⊎_elim (λ before. ⊎_elim (λ b. inl (some, b.1)) each before) (λ here. ⊎_elim beginning below here) h,
-  λ h. ⊎_elim (λ b. back b.1) (λ each. of_each each) h,
-)
-  where
-    long : length (under path e) ≡ length path + 1
-    long = length-append path (string_bytes e.0 ∷ [])
-
-    some : 0 < length (es ++ e ∷ [])
-    some = omega (arith, length-append es (e ∷ []))
-
-    each : IsOfEach path g es p w → IsWalked path g (es ++ e ∷ []) p w
-    each (x, among, at) = inr (x, Contains-append_left es (e ∷ []) x among, at)
-
-    beginning : IsBeginning (under path e) p w → IsWalked path g (es ++ e ∷ []) p w
-    beginning (k, l, h, is, extent) =
-        let u = h in
-        inl (
-          some,
-          (
-            k,
-            l,
-            omega (arith, u, long),
-            is ∙ take-append-le k path (string_bytes e.0 ∷ []) (omega (arith, u, long)),
-            extent,
-          ),
-        )
-
-    below : IsBelowPath (under path e) (reach g (Some e.1)) p w → IsWalked path g (es ++ e ∷ []) p w
-    below at = inr (e, Contains-push es e, at)
-
-    back : IsBegun path (length path + 1) p w → IsWalked path g es p w ⊎ IsOfBelow (under path e) (reach g (Some e.1)) p w
-    back (k, l, h, is, extent) =
-        let u = h in
-        inr (inl (
-          k,
-          l,
-          omega (arith, u, long),
-          is ∙ sym (take-append-le k path (string_bytes e.0 ∷ []) (omega (arith, u))),
-          extent,
-        ))
-
-    of_each : IsOfEach path g (es ++ e ∷ []) p w → IsWalked path g es p w ⊎ IsOfBelow (under path e) (reach g (Some e.1)) p w
-    of_each (x, among, at) = ⊎_elim
-        (λ was. inl (inr (x, was, at)))
-        (λ is. inr (inr (subst (λ (y : Entry). IsBelowPath (under path y) (reach g (Some y.1)) p w) (sym is) at)))
-        (Contains-push_cases es e x among)
-
-pub walked_more : (path here : Path) (g : Graph) (es : List Entry) (i : ℕ) (e : Entry) (old mid new : Ends) →
-    i < length es → e ≡ get_or es i e → here ≡ under path e →
-    ShowsLonger (IsWalked path g (take i es)) old mid → ShowsLonger (IsOfBelow here (reach g (Some e.1))) mid new →
-    ShowsLonger (IsWalked path g (take (i + 1) es)) old new
-walked_more path here g es i e old mid new within is at before now =
-    let more : take (i + 1) es ≡ take i es ++ e ∷ [] =
-    take_more es i e within ∙ ap (λ (x : Entry). take i es ++ x ∷ []) (sym is) in
-    subst (λ (l : List Entry). ShowsLonger (IsWalked path g l) old new) (sym more)
-    (shows_as (λ p w. IsWalked path g (take i es) p w ⊎ IsOfBelow (under path e) (reach g (Some e.1)) p w)
-    (IsWalked path g (take i es ++ e ∷ [])) old new (walked_step path g (take i es) e)
-    (shows_both (IsWalked path g (take i es)) (IsOfBelow (under path e) (reach g (Some e.1))) old mid new before
-    (subst (λ (p : Path). ShowsLonger (IsOfBelow p (reach g (Some e.1))) mid new) at now)))
-
--- at the end
+inside : {x y : Below} → Some x ≡ Some y → x ≡ y
+inside {x} {y} e = cc
 
 -- what a look-up finds is an entry
 abbrev IsFound : List Entry → Name → Below → Type 0
 IsFound es n b = (e : Entry) × Contains es e × (string_bytes e.0 ≡ n) × (e.1 ≡ b)
-
-inside : {x y : Below} → Some x ≡ Some y → x ≡ y
-inside {x} {y} e = cc
 
 entry_found : (es : List Entry) (n : Name) (b : Below) → found es n ≡ Some b → IsFound es n b
 entry_found [] n b h = absurd (let e = h in cc)
@@ -330,77 +265,167 @@ entry_found (e ∷ es) n b h = ⊎_elim
     (later.0, (suc k, omega (arith, l), later.1.2), later.2, later.3))
     (name_shows (string_bytes e.0) n)
 
-each_named : (g : Graph) (at : ℕ) (es : List Entry) (path : Path) → IsOnce es → ((n : Name) → g at n ≡ found es n) → (p : Path) (w : Bool) →
-    IsOfEach path g es p w ↔ IsBelowPath path (below_node g at) p w
-each_named g at es path once lists p w = (to_named, from_named)
-  where
-    to_named : IsOfEach path g es p w → IsBelowPath path (below_node g at) p w
-    to_named (e, (k, below, is), (q, at_q, has)) =
-        let n = string_bytes e.0 in (
-          n ∷ q,
-          at_q ∙ append_assoc path (n ∷ []) q,
-          demanded_name g at n q w ∙
-              (ap (λ o. is_demanded (reach g o) q w) (lists n ∙ found_read es once k e below (sym is)) ∙ has),
-        )
+-- a subset that has names
+abbrev HasNames : List (List Entry) → Below → Type 0
+HasNames ls b = (j : NodeNo) × (b ≡ Subset j) × (0 < length (get_or ls j.0 []))
 
-    by_look_up : (n : Name) (q : Path) (o : Option Below) → found es n ≡ o → p ≡ path ++ n ∷ q → is_demanded (reach g o) q w ≡ true →
-        IsOfEach path g es p w
-    by_look_up n q None look is has = absurd (false≢true (sym (demanded_none g q w) ∙ has))
-    by_look_up n q (Some b) look is has =
-        let own = entry_found es n b look in (
+some_names : (count : ℕ) → cond (count == 0) (Some false) None ≡ None → 0 < count
+some_names zero e = absurd (no_extent false (sym e))
+some_names (suc count) e = omega arith
+
+no_end : (ls : List (List Entry)) (b : Below) → end_of ls b ≡ None → HasNames ls b
+no_end ls All e = absurd (no_extent true (sym e))
+no_end ls (Subset j) e = (j, refl, some_names (length (get_or ls j.0 [])) e)
+
+ends_or_not : (ls : List (List Entry)) (b : Below) → ((whole : Bool) × (end_of ls b ≡ Some whole)) ⊎ HasNames ls b
+ends_or_not ls b = by (end_of ls b) refl
+  where
+    by : (o : Option Bool) → end_of ls b ≡ o → ((whole : Bool) × (end_of ls b ≡ Some whole)) ⊎ HasNames ls b
+    by None e = inr (no_end ls b e)
+    by (Some whole) e = inl (whole, e)
+
+module _ (nodes : List Node) (tree : IsTree (entry nodes) (length nodes)) where
+  -- an end whose path goes on from some names
+  record IsEndPast (r : Path) : Type 0 where
+    node : ℕ
+    name : Entry
+    path : Path
+    whole : Bool
+    rest : Path
+    within : node < length nodes
+    among : Contains (get_or (listings nodes) node []) name
+    leads_there : IsPathTo (entry nodes) node (string_bytes name.0) path
+    extent : end_of (listings nodes) name.1 ≡ Some whole
+    some : 0 < length rest
+    is : path ≡ onto r rest
+
+  entry_at : (k i : ℕ) (e : Entry) → i < length (get_or (listings nodes) k []) → e ≡ get_or (get_or (listings nodes) k []) i e →
+      entry nodes k (string_bytes e.0) ≡ Some e.1
+  entry_at k i e within is = found_read (get_or (listings nodes) k []) (once_at nodes k) i e within is
+
+  -- the end at a name, or else one past it
+  end_at : (k : ℕ) (r : Path) (e : Entry) → k < length nodes → leads (entry nodes) r k → Contains (get_or (listings nodes) k []) e →
+      ((j : NodeNo) → e.1 ≡ Subset j → 0 < length (get_or (listings nodes) j.0 []) → IsEndPast (string_bytes e.0 ∷ r)) → IsEndPast r
+  end_at k r e within a among further = ⊎_elim
+      (λ end. record {
+        node = k;
+        name = e;
+        path = onto r (string_bytes e.0 ∷ []);
+        whole = end.0;
+        rest = string_bytes e.0 ∷ [];
+        within = within;
+        among = among;
+        leads_there = (r, a, refl);
+        extent = end.1;
+        some = omega arith;
+        is = refl;
+      })
+      (λ more. let past = further more.0 more.1 more.2 in record {
+        node = past.node;
+        name = past.name;
+        path = past.path;
+        whole = past.whole;
+        rest = string_bytes e.0 ∷ past.rest;
+        within = past.within;
+        among = past.among;
+        leads_there = past.leads_there;
+        extent = past.extent;
+        some = omega arith;
+        is = past.is;
+      })
+      (ends_or_not (listings nodes) e.1)
+
+  -- past a node that has names there is an end
+  end_past : (fuel k : ℕ) (r : Path) → length nodes - k < fuel → k < length nodes → leads (entry nodes) r k →
+      0 < length (get_or (listings nodes) k []) → IsEndPast r
+  end_past zero k r h within a some = absurd (omega (arith, h))
+  end_past (suc fuel) k r h within a some =
+      let first = first_of (get_or (listings nodes) k []) some in
+      let e = first.0 in
+      let link = entry_at k 0 e some first.1 in
+      end_at k r e within a (0, some, sym first.1) (λ j is names.
+      let down : entry nodes k (string_bytes e.0) ≡ Some (Subset j) = link ∙ ap (λ (b : Below). Some b) is in
+      let l = tree.later k (string_bytes e.0) j down in
+      end_past fuel j.0 (string_bytes e.0 ∷ r) (omega (arith, h, l.0, l.1)) l.1 (k, a, down) names)
+
+  abbrev Told : Path → Bool → Type 0
+  Told p w = IsOfNodes (listings nodes) (length nodes) p w
+
+  told_past : (n : Name) (r : Path) (w : Bool) → w ≡ false → IsEndPast (n ∷ r) → Told (onto r (n ∷ [])) w
+  told_past n r w extent past = (
+    past.node,
+    past.within,
+    (past.name, past.among, (past.path, past.whole, past.leads_there, past.extent, inl begins)),
+  )
+    where
+      begins : IsBeginning past.path (onto r (n ∷ [])) w
+      begins = (
+        length r + 1,
+        omega arith,
+        omega (arith, past.some, ap length past.is, onto_length (n ∷ r) past.rest),
+        sym (ap (λ (p : Path). take (length r + 1) p) past.is ∙ take_onto (n ∷ r) past.rest (length r + 1) (omega arith)),
+        extent,
+      )
+
+  extent_of : (b : Below) (whole w : Bool) → end_of (listings nodes) b ≡ Some whole →
+      is_demanded (reach (entry nodes) (Some b)) [] w ≡ true → w ≡ whole
+  extent_of All whole w e h = demanded_all (entry nodes) w h ∙ extent_is true whole e
+  extent_of (Subset j) whole w e h =
+      demanded_subset (entry nodes) j w h ∙ sym (end_by (length (get_or (listings nodes) j.0 []) == 0) whole e)
+
+  told_here : (r : Path) (k : ℕ) (n : Name) (w : Bool) (b : Below) → leads (entry nodes) r k → entry nodes k n ≡ Some b →
+      is_demanded (reach (entry nodes) (Some b)) [] w ≡ true → Told (onto r (n ∷ [])) w
+  told_here r k n w b a link h =
+      let own = entry_found (get_or (listings nodes) k []) n b link in
+      ⊎_elim
+      (λ end. (
+        k,
+        node_there nodes k n b link,
+        (
           own.0,
           own.1,
           (
-            q,
-            is ∙ (ap (λ (m : Name). path ++ m ∷ q) (sym own.2) ∙ sym (append_assoc path (string_bytes own.0.0 ∷ []) q)),
-            ap (λ (x : Below). is_demanded (reach g (Some x)) q w) own.3 ∙ has,
+            onto r (n ∷ []),
+            end.0,
+            (r, a, ap (λ (m : Name). onto r (m ∷ [])) (sym own.2)),
+            ap (end_of (listings nodes)) own.3 ∙ end.1,
+            inr (refl, extent_of b end.0 w end.1 h),
           ),
-        )
+        ),
+      ))
+      (λ more.
+      let down : entry nodes k n ≡ Some (Subset more.0) = link ∙ ap (λ (x : Below). Some x) more.1 in
+      let l = tree.later k n more.0 down in
+      told_past n r w
+      (demanded_subset (entry nodes) more.0 w (sym (ap (λ (x : Below). is_demanded (reach (entry nodes) (Some x)) [] w) more.1) ∙ h))
+      (end_past (suc (length nodes)) more.0.0 (n ∷ r) (omega arith) l.1 (k, a, down) more.2))
+      (ends_or_not (listings nodes) b)
 
-    from_named : IsBelowPath path (below_node g at) p w → IsOfEach path g es p w
-    from_named ([], is, has) = absurd (false≢true (sym (demanded_nil g at w) ∙ has))
-    from_named (n ∷ q, is, has) = by_look_up n q (g at n) (sym (lists n)) is (sym (demanded_name g at n q w) ∙ has)
+  told_below : (q r : Path) (k : ℕ) (n : Name) (w : Bool) (o : Option Below) → leads (entry nodes) r k → entry nodes k n ≡ o →
+      is_demanded (reach (entry nodes) o) q w ≡ true → Told (onto r (n ∷ q)) w
+  told_below q r k n w None a link h = absurd (false≢true (sym (demanded_none (entry nodes) q w) ∙ h))
+  told_below [] r k n w (Some b) a link h = told_here r k n w b a link h
+  told_below (m ∷ q) r k n w (Some All) a link h = absurd (false≢true (sym (demanded_past (entry nodes) m q w) ∙ h))
+  told_below (m ∷ q) r k n w (Some (Subset j)) a link h =
+      told_below q (n ∷ r) j.0 m w (entry nodes j.0 m) (k, a, link) refl (sym (demanded_under (entry nodes) j m q w) ∙ h)
 
-pub walked_all : (nodes : List Node) (at : ℕ) (path : Path) (i : ℕ) (old new : Ends) →
-    IsOnce (get_or (listings nodes) at []) → 0 < length (get_or (listings nodes) at []) → length (get_or (listings nodes) at []) ≤ i →
-    ShowsLonger (IsWalked path (entry nodes) (take i (get_or (listings nodes) at []))) old new →
-    ShowsLonger (IsOfNames path (below_node (entry nodes) at)) old new
-walked_all nodes at path i old new once some all walked =
-    let es = get_or (listings nodes) at [] in
-    let g = entry nodes in
-    shows_as (IsWalked path g es) (IsOfNames path (below_node g at)) old new
-    (λ p w. (
-      λ h. ⊎_elim (λ b. inl b.1) (λ e. inr ((each_named g at es path once (λ n. refl) p w).0 e)) h,
-      λ h. ⊎_elim (λ b. inl (some, b)) (λ e. inr ((each_named g at es path once (λ n. refl) p w).1 e)) h,
-    ))
-    (subst (λ (l : List Entry). ShowsLonger (IsWalked path g l) old new) (take_all i es all) walked)
+  told_each : (p : Path) (w : Bool) → is_demanded (rooted (entry nodes)) p w ≡ true → Told p w
+  told_each [] w h = absurd (false≢true (sym (demanded_nil (entry nodes) 0 w) ∙ h))
+  told_each (n ∷ q) w h =
+      told_below q [] 0 n w (entry nodes 0 n) refl refl (sym (demanded_name (entry nodes) 0 n q w) ∙ h)
 
--- the whole set
+  told_only : (p : Path) (w : Bool) → Told p w → is_demanded (rooted (entry nodes)) p w ≡ true
+  told_only p w (k, within, (e, (i, l, at), (path, whole, leads_to, extent, shown))) =
+      told (entry nodes) k (string_bytes e.0) path whole leads_to
+      (ap (λ o. is_demanded (reach (entry nodes) o) [] whole) (entry_at k i e l (sym at)) ∙
+      end_told (listings nodes) (entry nodes) e.1 whole extent) p w shown
 
-pub ends_of_none : (nodes : List Node) (ends : Ends) → length (get_or (listings nodes) 0 []) ≡ 0 → ends ≡ [] →
-    AreEnds (below_node (entry nodes) 0) ends
-ends_of_none nodes ends bare none = subst (λ (l : Ends). AreEnds (below_node (entry nodes) 0) l) (sym none)
-    (λ p w. (
-      λ h. let below = h.1.1 in absurd (omega (arith, below)),
-      λ h. absurd (false≢true (sym (nothing_at p w) ∙ h)),
-    ))
-  where
-    nothing_at : (p : Path) (w : Bool) → is_demanded (below_node (entry nodes) 0) p w ≡ false
-    nothing_at [] w = demanded_nil (entry nodes) 0 w
-    nothing_at (n ∷ q) w = demanded_name (entry nodes) 0 n q w ∙
-        (ap (λ o. is_demanded (reach (entry nodes) o) q w) (none_listed (get_or (listings nodes) 0 []) bare n) ∙
-        demanded_none (entry nodes) q w)
-
-pub ends_of_names : (g : Graph) (old ends : Ends) (path : Path) → old ≡ [] → path ≡ [] →
-    ShowsLonger (IsOfNames path (below_node g 0)) old ends → AreEnds (below_node g 0) ends
-ends_of_names g old ends path none start shown =
-    let from_none : ShowsLonger (IsOfNames path (below_node g 0)) [] ends =
-    subst (λ (l : Ends). ShowsLonger (IsOfNames path (below_node g 0)) l ends) none shown in
-    let more : ShowsLonger (IsOfNames [] (below_node g 0)) [] ends =
-    subst (λ (q : Path). ShowsLonger (IsOfNames q (below_node g 0)) [] ends) start from_none in
-    λ p w. (
-      λ h. ⊎_elim (λ was. let below = was.1.1 in absurd (omega (arith, below)))
-          (λ own. ⊎_elim (λ b. let low = b.1 in let high = b.2 in absurd (omega (arith, low, high)))
-          (λ at. subst (λ (q : Path). is_demanded (below_node g 0) q w ≡ true) (sym at.1) at.2) own) ((more p w).0 h),
-      λ h. (more p w).1 (inr (inr (p, refl, h))),
-    )
+  -- all nodes have been looked at
+  pub ends_are : (count : ℕ) (ends : Ends) → count ≡ length nodes → ShowsLonger (IsOfNodes (listings nodes) count) [] ends →
+      AreEnds (rooted (entry nodes)) ends
+  ends_are count ends all shown =
+      let whole : ShowsLonger Told [] ends = subst (λ (m : ℕ). ShowsLonger (IsOfNodes (listings nodes) m) [] ends) all shown in
+      λ p w. (
+        λ h. ⊎_elim (λ was. let below = was.1.1 in absurd (omega (arith, below))) (λ x. told_only p w x) ((whole p w).0 h),
+        λ h. (whole p w).1 (inr (told_each p w h)),
+      )

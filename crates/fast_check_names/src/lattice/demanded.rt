@@ -1,12 +1,13 @@
 //! The ends of a set: the longest paths that it demands. The beginnings of each are told with it, so that no name is copied for them.
 
-ghost use Rattle.std.specs.Prelude.{◌≡◌, ◌<◌, [], Some, IfOk, OnOk, length, get_or, vec_len};
-ghost use Rattle.fast_check_names.specs.Graph.{entry, listings, reach, below_node, IsTree};
-ghost use Rattle.fast_check_names.specs.Names.{path_of, paths};
-ghost use Rattle.fast_check_names.specs.Ends.{IsShownBy, AreEnds};
-ghost use Rattle.fast_check_names.specs.Shown.{IsOfBelow, IsOfNames, ShowsLonger};
+ghost use Rattle.std.specs.Prelude.{◌≡◌, ◌<◌, [], Some, IfOk, OnOk, length, get_or};
+ghost use Rattle.fast_check_names.specs.Graph.{entry, listings, IsTree};
+ghost use Rattle.fast_check_names.specs.Names.{paths};
+ghost use Rattle.fast_check_names.specs.Ends.{AreEnds};
+ghost use Rattle.fast_check_names.specs.Shown.{end_of, AreListers, IsOfName, IsOfNames, ShowsLonger};
 
 use crate::lattice::calls::names_of;
+use crate::lattice::listers::{listers_of, path_to};
 use crate::lattice::named_subset::NamedSubset;
 use crate::lattice::node::{Below, Node};
 use std::alloc::{AllocError, Global};
@@ -20,64 +21,59 @@ pub struct PathEnd {
     pub is_whole: bool,
 }
 
-/// Adds an end.
+/// Whether a set ends with what stands under a name, and whole: None where names follow.
+fn end_of(nodes: &[Node], below: Below) -> Option<bool>
+    ensures { result ≡ end_of (listings nodes.now) below }
+{
+    let Below::Subset(no) = below else {
+        return Some(true);
+    };
+    if names_of(nodes, no.0).is_empty() {
+        return Some(false);
+    }
+    None
+}
+
+/// Adds the end at a name of node `at`, where the set ends there.
 fn push_end(
     alloc: Global,
-    path: &[String],
-    is_whole: bool,
-    out: &mut Vec<PathEnd>,
+    nodes: &[Node],
+    listers: &[(usize, usize)],
+    at: usize,
+    listed: &(String, Below),
+    ends: &mut Vec<PathEnd>,
 ) -> Result<(), AllocError>
-    ensures { OnOk result (ShowsLonger (IsShownBy (path_of path.now) is_whole) out.old.items out.new.items) }
+    requires within { at < length nodes.now }
+    requires tree { IsTree (entry nodes.now) (length nodes.now) }
+    requires len { length listers.now ≡ length nodes.now }
+    requires listers { AreListers (listings nodes.now) listers.now }
+    ensures { OnOk result (ShowsLonger (IsOfName (listings nodes.now) at listed.now) ends.old.items ends.new.items) }
 {
-    let names = path.to_vec(alloc)?;
-    out.push(PathEnd { names, is_whole })?;
+    let Some(is_whole) = end_of(nodes, listed.1) else {
+        return Ok(());
+    };
+    let names = path_to(alloc, nodes, listers, at, &listed.0)?;
+    ends.push(PathEnd { names, is_whole })?;
     Ok(())
 }
 
-/// Adds the ends of what stands below a path.
-#[cycle(ends)]
-fn push_below(
+/// Adds the ends at the names of node `at`.
+fn push_ends(
     alloc: Global,
     nodes: &[Node],
-    below: Below,
-    path: &mut Vec<String>,
-    out: &mut Vec<PathEnd>,
-) -> Result<(), AllocError>
-    requires tree { IsTree (entry nodes.now) (length nodes.now) }
-    requires named { 0 < vec_len path.old }
-    ensures same { OnOk result (path_of path.new.items ≡ path_of path.old.items) }
-    ensures shown { OnOk result (ShowsLonger (IsOfBelow (path_of path.old.items) (reach (entry nodes.now) (Some below))) out.old.items out.new.items) }
-{
-    match below {
-        Below::All => push_end(alloc, path.as_slice(), true, out),
-        Below::Subset(no) => {
-            if names_of(nodes, no.0).is_empty() {
-                return push_end(alloc, path.as_slice(), false, out);
-            }
-            push_names(alloc, nodes, no.0, path, out)
-        }
-    }
-}
-
-/// Adds the ends below a node with names, which tell the path to it among their beginnings.
-#[cycle(ends)]
-fn push_names(
-    alloc: Global,
-    nodes: &[Node],
+    listers: &[(usize, usize)],
     at: usize,
-    path: &mut Vec<String>,
-    out: &mut Vec<PathEnd>,
+    ends: &mut Vec<PathEnd>,
 ) -> Result<(), AllocError>
+    requires within { at < length nodes.now }
     requires tree { IsTree (entry nodes.now) (length nodes.now) }
-    requires some { 0 < length (get_or (listings nodes.now) at []) }
-    ensures same { OnOk result (path_of path.new.items ≡ path_of path.old.items) }
-    ensures shown { OnOk result (ShowsLonger (IsOfNames (path_of path.old.items) (below_node (entry nodes.now) at)) out.old.items out.new.items) }
+    requires len { length listers.now ≡ length nodes.now }
+    requires listers { AreListers (listings nodes.now) listers.now }
+    ensures { OnOk result (ShowsLonger (IsOfNames (listings nodes.now) at (get_or (listings nodes.now) at []))
+        ends.old.items ends.new.items) }
 {
-    let count = path.len();
-    for (name, below) in names_of(nodes, at) {
-        path.push(name.clone()?)?;
-        push_below(alloc, nodes, *below, path, out)?;
-        path.truncate(count);
+    for listed in names_of(nodes, at) {
+        push_end(alloc, nodes, listers, at, listed, ends)?;
     }
     Ok(())
 }
@@ -88,12 +84,11 @@ impl NamedSubset {
         ensures { IfOk result (λ ends. AreEnds (paths self.now) ends.items) }
     {
         let nodes = self.nodes.as_slice();
+        let listers = listers_of(alloc, nodes)?;
         let mut ends = Vec::new(alloc);
-        if names_of(nodes, 0).is_empty() {
-            return Ok(ends);
+        for at in 0..nodes.len() {
+            push_ends(alloc, nodes, listers.as_slice(), at, &mut ends)?;
         }
-        let mut path = Vec::new(alloc);
-        push_names(alloc, nodes, 0, &mut path, &mut ends)?;
         Ok(ends)
     }
 }

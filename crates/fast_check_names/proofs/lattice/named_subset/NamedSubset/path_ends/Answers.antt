@@ -1,17 +1,20 @@
-use Rattle.std.proofs.Common.{rules, ◌≡◌, ap, length}
-use Rattle.fast_check_names.specs.Names.{path_of}
-use Rattle.fast_check_names.specs.Graph.{entry}
-use Rattle.fast_check_names.proofs.Ends.{ends_of_none, ends_of_names}
+use Rattle.std.proofs.Common.{arith, [], subst, ℕ}
+use Rattle.fast_check_names.specs.Graph.{IsTree, entry, listings}
+use Rattle.fast_check_names.proofs.Ends.{shows_no_nodes, shows_node, ends_are}
 use Rattle.fast_check_names.proofs.lattice.named_subset.NamedSubset.path_ends.Goals as goal
 
-pub returns-then-is_empty : goal.returns-then-is_empty
-returns-then-is_empty c =
-    let empty : length c.names_of.result.now ≡ 0 = search rules in
-    ends_of_none c.args.self.now.nodes.items c.new-ends.result.items
-    (rw (c.names_of.ensures.names, c.as_slice-nodes.ensures.value) at empty) c.new-ends.ensures.items
+pub loop-at-init : goal.loop-at-init
+loop-at-init c = shows_no_nodes (listings c.as_slice-nodes.result.now) c.new-ends.result.items c.new-ends.ensures.items
+
+pub loop-at-preserved : goal.loop-at-preserved
+loop-at-preserved c =
+    shows_node (listings c.as_slice-nodes.result.now) c.loop-at.at [] c.loop-at.ends.items c.push_ends.new.ends.items
+    c.loop-at.invariant c.in_ok-push_ends.ensures
 
 pub returns : goal.returns
 returns c =
-    ends_of_names (entry c.args.self.now.nodes.items) c.new-ends.result.items c.push_names.new.out.items (path_of c.new-path.result.items)
-    c.new-ends.ensures.items (ap path_of c.new-path.ensures.items)
-    (rw c.as_slice-nodes.ensures.value at c.in_ok-push_names.ensures.shown)
+    let nodes = c.args.self.now.nodes.items in
+    let long = c.args.self.now.nodes.ok.0 in
+    ends_are nodes (subst (λ (m : ℕ). IsTree (entry nodes) m) long c.args.self.now.tree) c.loop-at.at c.loop-at.ends.items
+    (omega (arith, long, c.loop-at-test.false, c.loop-at.auto.at-end, c.as_slice-nodes.ensures.len))
+    (rw c.as_slice-nodes.ensures.value at c.loop-at.invariant)
