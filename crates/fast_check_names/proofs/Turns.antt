@@ -2,13 +2,9 @@
 use Rattle.std.proofs.Common.{◌≡◌, ◌≢◌, ◌∙◌, sym, ap, refl, subst, ⊎_elim, ℕ, zero, suc, ◌+◌, ◌<◌, ◌≤◌, true, eqb, List, [], ◌∷◌, ◌++◌}
 use Rattle.std.proofs.Common.{Option, Some, None, arith, length, get_or, AllPairs}
 use Rattle.std.specs.Prelude.{Vec}
-use Rattle.std.specs.List.{list_any}
 use Rattle.std.specs.declared.alloc.Global.{Global}
-use Rattle.std.proofs.lemmas.Bool.{false≢true, cases_lt, cases_order, or_cases, eqb-true}
-use Rattle.std.proofs.lemmas.Bool.Decides.{Decides-eqb}
+use Rattle.std.proofs.lemmas.Bool.{cases_lt, cases_order}
 use Rattle.std.proofs.lemmas.List.{get_or_default, length-append, get_or_append_left, get_or-append-add}
-use Rattle.std.proofs.lemmas.Map.Made.{IsDistinct-from_AllPairs}
-use Rattle.std.proofs.lemmas.Map.Steps.{length-le_from_distinct_below}
 use Rattle.fast_check_names.specs.declared.lattice.node.Node.{Node}
 use Rattle.fast_check_names.specs.declared.lattice.node.NodeNo.{NodeNo}
 use Rattle.fast_check_names.specs.declared.lattice.node.Below.{Below}
@@ -18,6 +14,7 @@ use Rattle.fast_check_names.specs.Graph.{Graph, entry, moved, Part, Path, ends, 
 use Rattle.fast_check_names.specs.Names.{IsSame}
 use Rattle.fast_check_names.specs.Queue.{nexts, IsCopyFrom}
 use Rattle.fast_check_names.proofs.Lists.{items_at, entry_front, entry_behind}
+use Rattle.fast_check_names.proofs.Apart.{IsReferred, apart, count_upto}
 use Rattle.fast_check_names.proofs.Queued.{found_copy, copy_range, copy_lists}
 use Rattle.fast_check_names.proofs.Walks.{is_after}
 
@@ -27,7 +24,6 @@ pub record AreCopied (g : Graph) (size at : ℕ) (q : ℕ → ℕ) (count i : �
   pub within : i ≤ count
   pub first : q 0 ≡ at
   pub low : (k : ℕ) → k < count → q k < size
-  pub above : (k : ℕ) → 0 < k → k < count → at < q k
   pub alike : (k : ℕ) (n : Name) → k < i → g (q k) n ≡ moved q (w k n)
   pub later : (k : ℕ) (n : Name) (j : NodeNo) → k < i → w k n ≡ Some (Subset j) → (k < j.0) × (j.0 < count)
   pub parent : (j : ℕ) → 0 < j → j < count → (p : ℕ × Name) × (p.0 < i) × (w p.0 p.1 ≡ Some (Subset (record { 0 = j })))
@@ -39,7 +35,6 @@ none_copied g size at q w within first = record {
   within = omega arith;
   first = first;
   low = λ k h. let z : k ≡ 0 = omega (arith, h) in let e : q k ≡ at = ap q z ∙ first in omega (arith, e, within);
-  above = λ k h l. absurd (omega (arith, h, l));
   alike = λ k n h. absurd (omega (arith, h));
   later = λ k n j h e. absurd (omega (arith, h));
   parent = λ j h l. absurd (omega (arith, h, l));
@@ -72,18 +67,10 @@ module _ (g w v : Graph) (size at i count long : ℕ) (q r : ℕ → ℕ) (tree 
     (here : (n : Name) → g (r i) n ≡ moved r (v i n))
     (range : (n : Name) (j : NodeNo) → v i n ≡ Some (Subset j) → (count ≤ j.0) × (j.0 < long))
     (listed : (j : ℕ) → count ≤ j → j < long → (n : Name) × (v i n ≡ Some (Subset (record { 0 = j })))) where
-  not_below : at ≤ r i
-  not_below = ⊎_elim
-      (λ (l : 0 < i). let a = are.above i l next in omega (arith, a, kept i next))
-      (λ (l : i ≤ 0). let z : i ≡ 0 = omega (arith, l) in let e : r i ≡ at = kept i next ∙ (ap q z ∙ are.first) in omega (arith, e))
-      (cases_lt 0 i)
-
-  new_node : (k : ℕ) → count ≤ k → k < long → (at < r k) × (r k < size)
+  new_node : (k : ℕ) → count ≤ k → k < long → r k < size
   new_node k low high =
       let l = listed k low high in
-      let t = tree.later (r i) l.0 (record { 0 = r k }) (here l.0 ∙ ap (moved r) l.1) in
-      let b = not_below in
-      (omega (arith, t.0, b), t.1)
+      (tree.later (r i) l.0 (record { 0 = r k }) (here l.0 ∙ ap (moved r) l.1)).1
 
   pub one_copied : AreCopied g size at r long (i + 1) v
   one_copied = record {
@@ -92,11 +79,7 @@ module _ (g w v : Graph) (size at i count long : ℕ) (q r : ℕ → ℕ) (tree 
     first = kept 0 are.some ∙ are.first;
     low = λ k h. ⊎_elim
         (λ (l : k < count). let a = are.low k l in omega (arith, a, kept k l))
-        (λ (l : count ≤ k). (new_node k l h).1)
-        (cases_lt k count);
-    above = λ k z h. ⊎_elim
-        (λ (l : k < count). let a = are.above k z l in omega (arith, a, kept k l))
-        (λ (l : count ≤ k). (new_node k l h).0)
+        (λ (l : count ≤ k). new_node k l h)
         (cases_lt k count);
     alike = λ k n h. ⊎_elim
         (λ (l : k < i).
@@ -117,73 +100,37 @@ module _ (g w v : Graph) (size at i count long : ℕ) (q r : ℕ → ℕ) (tree 
         (cases_lt j count);
   }
 
-subset_is : (i j : NodeNo) → Some (Subset i) ≡ Some (Subset j) → i.0 ≡ j.0
-subset_is i j e = let same : i ≡ j = cc in ap (λ (x : NodeNo). x.0) same
-
 none_no : (j : NodeNo) → None ≡ Some (Subset j) → ⊥
 none_no j e = cc
-
--- where a list has a number
-place_from : (ks : List ℕ) (x : ℕ) → list_any (eqb x) ks ≡ true → (k : ℕ) × (k < length ks) × (get_or ks k 0 ≡ x)
-place_from [] x t = absurd (false≢true t)
-place_from (y ∷ ks) x t = ⊎_elim
-    (λ (h : eqb x y ≡ true). (0, omega arith, sym (eqb-true x y h)))
-    (λ (h : list_any (eqb x) ks ≡ true). let p = place_from ks x h in (suc p.0, omega (arith, p.1), p.2))
-    (or_cases (eqb x y) (list_any (eqb x) ks) t)
 
 module _ (g w : Graph) (size at i count : ℕ) (q : ℕ → ℕ) (tree : IsTree g size) (are : AreCopied g size at q count i w) where
   -- a copy's reference comes from one of the node
   refers : (k : ℕ) (n : Name) (j : NodeNo) → k < i → w k n ≡ Some (Subset j) → g (q k) n ≡ Some (Subset (record { 0 = q j.0 }))
   refers k n j h e = are.alike k n h ∙ ap (moved q) e
 
+  referred : (j : ℕ) → 0 < j → j < count → IsReferred g w size q j
+  referred j z h =
+      let p = are.parent j z h in
+      record {
+        from = p.0.0;
+        name = p.0.1;
+        before = (are.later p.0.0 p.0.1 (record { 0 = j }) p.1 p.2).0;
+        lists = p.2;
+        refers = λ t. refers p.0.0 p.0.1 (record { 0 = j }) p.1 p.2;
+      }
+
   -- no node stands twice in the queue
-  apart : (most k m : ℕ) → k < m → m < most → m < count → q k ≡ q m → ⊥
-  apart zero k m h l c e = omega (arith, l)
-  apart (suc most) k m h l c e =
-      let p = are.parent m (omega (arith, h)) c in
-      let a = refers p.0.0 p.0.1 (record { 0 = m }) p.1 p.2 in
-      let b = are.later p.0.0 p.0.1 (record { 0 = m }) p.1 p.2 in ⊎_elim
-      (λ (some : 0 < k).
-      let o = are.parent k some (omega (arith, h, c)) in
-      let d = refers o.0.0 o.0.1 (record { 0 = k }) o.1 o.2 in
-      let f = are.later o.0.0 o.0.1 (record { 0 = k }) o.1 o.2 in
-      let same = tree.once (q o.0.0) o.0.1 (q p.0.0) p.0.1 (record { 0 = q m }) (d ∙ ap (λ x. Some (Subset (record { 0 = x }))) e) a in
-      ⊎_elim
-      (λ (s : o.0.0 ≡ p.0.0).
-      let number = subset_is (record { 0 = k }) (record { 0 = m })
-      (sym o.2 ∙ (ap (λ x. w x o.0.1) s ∙ (ap (λ x. w p.0.0 x) same.1 ∙ p.2))) in
-      omega (arith, number, h))
-      (⊎_elim
-      (λ (s : o.0.0 < p.0.0). apart most o.0.0 p.0.0 s (omega (arith, b.0, l)) (omega (arith, b.0, c)) same.0)
-      (λ (s : p.0.0 < o.0.0). apart most p.0.0 o.0.0 s (omega (arith, f.0, h, l)) (omega (arith, f.0, h, c)) (sym same.0)))
-      (cases_order o.0.0 p.0.0))
-      (λ (none : k ≤ 0).
-      let z : k ≡ 0 = omega (arith, none) in
-      let first : q k ≡ at = ap q z ∙ are.first in
-      let u = are.above m (omega (arith, h)) c in
-      omega (arith, u, first, e))
-      (cases_lt 0 k)
+  not_twice : (k m : ℕ) → k < m → m < count → q k ≡ q m → ⊥
+  not_twice k m h l = apart g w size at count q tree are.first referred k m h l (are.low m l)
 
   one_place : (k m : ℕ) → k < count → m < count → q k ≡ q m → k ≡ m
   one_place k m h l e = ⊎_elim (λ (s : k ≡ m). s) (⊎_elim
-      (λ (s : k < m). absurd (apart count k m s l l e))
-      (λ (s : m < k). absurd (apart count m k s h h (sym e)))) (cases_order k m)
+      (λ (s : k < m). absurd (not_twice k m s l e))
+      (λ (s : m < k). absurd (not_twice m k s h (sym e)))) (cases_order k m)
 
   -- so the queue is no longer than the nodes are many
-  module _ (ks : List ℕ) (long : length ks ≡ count) (is : (k : ℕ) → get_or ks k 0 ≡ q k) where
-    at_place : (k d : ℕ) → k < length ks → get_or ks k d ≡ q k
-    at_place k d h = get_or_default ks k d 0 h ∙ is k
-
-    differ : AllPairs (λ x y. x ≢ y) ks
-    differ k m d h l e = apart count k m h (omega (arith, l, long)) (omega (arith, l, long))
-        (sym (at_place k d (omega (arith, h, l))) ∙ (e ∙ at_place m d l))
-
-    pub count_bound : count ≤ size
-    count_bound = let b = length-le_from_distinct_below ks size
-        (IsDistinct-from_AllPairs Decides-eqb ks differ)
-        (λ x m. let p = place_from ks x m in
-        let h = are.low p.0 (omega (arith, p.1, long)) in
-        let e : x ≡ q p.0 = sym p.2 ∙ is p.0 in omega (arith, e, h)) in omega (arith, b, long)
+  pub count_bound : count ≤ size
+  count_bound = count_upto q count size are.low not_twice
 
   -- all are copied
   module _ (done : count ≤ i) (past : (k : ℕ) (n : Name) → i ≤ k → w k n ≡ None) where

@@ -1,4 +1,4 @@
-use Rattle.std.proofs.Common.{rules, arith, ◌≡◌, ◌<◌, ◌≤◌, ◌+◌, ◌∙◌, refl, subst, ap, sym, ℕ, length, get_or, vec_len}
+use Rattle.std.proofs.Common.{rules, arith, ◌≡◌, ◌<◌, ◌≤◌, ◌+◌, ◌∙◌, subst, ap, sym, ℕ, length, get_or, vec_len}
 use Rattle.std.proofs.lemmas.List.{length_push}
 use Rattle.fast_check_names.specs.declared.lattice.node.Node.{Node}
 use Rattle.fast_check_names.specs.Graph.{entry, below_node, IsTree}
@@ -28,7 +28,7 @@ queue-smaller c =
     let nodes = c.args.nodes.now in
     let queue = c.queue.queue.items in
     let bound : length queue ≤ length nodes = count_bound (entry nodes) (entry c.queue.copies.items) (length nodes) c.args.at c.queue.i
-    (length queue) (λ k. get_or queue k 0) c.requires.tree c.queue.invariant.are queue refl (λ k. refl) in
+    (length queue) (λ k. get_or queue k 0) c.requires.tree c.queue.invariant.are in
     let next = next_place c.queue.queue c.queue.i c.len.result c.len.ensures c.queue-test.true in omega (arith, bound, next)
 
 pub queue-preserved : goal.queue-preserved
