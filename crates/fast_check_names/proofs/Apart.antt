@@ -1,9 +1,12 @@
 -- A queue of nodes of a tree: each place but the first is listed at one before it. No node stands twice in such a queue.
 use Rattle.std.proofs.Common.{◌≡◌, ◌≢◌, ◌∙◌, sym, ap, ⊎_elim, ℕ, zero, suc, ◌<◌, ◌≤◌, true, eqb, List, [], ◌∷◌, Some, arith, map, length}
 use Rattle.std.proofs.Common.{get_or, AllPairs}
+use Rattle.std.specs.Prelude.{Vec}
 use Rattle.std.specs.List.{list_any, range_with_len}
+use Rattle.std.specs.declared.alloc.Global.{Global}
 use Rattle.std.proofs.lemmas.Bool.{false≢true, cases_lt, cases_order, or_cases, eqb-true}
 use Rattle.std.proofs.lemmas.Bool.Decides.{Decides-eqb}
+use Rattle.std.proofs.lemmas.List.{get_or_default}
 use Rattle.std.proofs.lemmas.List.FromFn.{length-map-range_with_len, get_or-map-range_with_len}
 use Rattle.std.proofs.lemmas.Map.Made.{IsDistinct-from_AllPairs}
 use Rattle.std.proofs.lemmas.Map.Steps.{length-le_from_distinct_below}
@@ -19,6 +22,13 @@ pub record IsReferred (g w : Graph) (size : ℕ) (q : ℕ → ℕ) (j : ℕ) : T
   pub before : from < j
   pub lists : w from name ≡ Some (Subset (record { 0 = j }))
   pub refers : q j < size → g (q from) name ≡ Some (Subset (record { 0 = q j }))
+
+-- the next place of a queue, and what stands there
+pub next_place : {X : Type 0} (queue : Vec X Global) (i count : ℕ) → count ≡ queue.len → i < count → i < length queue.items
+next_place queue i count e l = omega (arith, e, l, queue.ok.0)
+
+pub next_item : {X : Type 0} (queue : List X) (i : ℕ) (x d : X) → i < length queue → x ≡ get_or queue i x → x ≡ get_or queue i d
+next_item queue i x d l e = e ∙ get_or_default queue i x d l
 
 subset_is : (i j : NodeNo) → Some (Subset i) ≡ Some (Subset j) → i.0 ≡ j.0
 subset_is i j e = let same : i ≡ j = cc in ap (λ (x : NodeNo). x.0) same

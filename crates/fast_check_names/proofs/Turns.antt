@@ -47,13 +47,6 @@ one_queued nodes queue before at w none e within =
     subst Q (sym (e ∙ ap (λ xs. xs ++ at ∷ []) none))
     (none_copied (entry nodes) (length nodes) at (λ k. get_or (at ∷ []) k 0) w within refl)
 
--- the next place of a queue, and the number there
-pub next_place : (queue : Vec ℕ Global) (i count : ℕ) → count ≡ queue.len → i < count → i < length queue.items
-next_place queue i count e l = omega (arith, e, l, queue.ok.0)
-
-pub number_at : (queue : List ℕ) (i k : ℕ) → i < length queue → k ≡ get_or queue i k → k ≡ get_or queue i 0
-number_at queue i k l e = e ∙ get_or_default queue i k 0 l
-
 moved_same : (q r : ℕ → ℕ) (o : Option Below) → ((j : NodeNo) → o ≡ Some (Subset j) → q j.0 ≡ r j.0) → moved q o ≡ moved r o
 moved_same q r None h = refl
 moved_same q r (Some All) h = refl

@@ -7,7 +7,8 @@ use Rattle.fast_check_names.proofs.Lists.{graph_along}
 use Rattle.fast_check_names.proofs.Puts.{tree_along}
 use Rattle.fast_check_names.specs.Queue.{IsCopyFrom}
 use Rattle.fast_check_names.proofs.Copies.{past_none}
-use Rattle.fast_check_names.proofs.Turns.{one_queued, next_place, number_at, count_bound, next_copied, tree_copied, same_copied}
+use Rattle.fast_check_names.proofs.Apart.{next_place, next_item}
+use Rattle.fast_check_names.proofs.Turns.{one_queued, count_bound, next_copied, tree_copied, same_copied}
 use Rattle.fast_check_names.proofs.lattice.copies.copy_nodes.Goals as goal
 
 pub queue-init : goal.queue-init
@@ -20,7 +21,7 @@ queue-init c = record {
 pub bounds-nodes-index : goal.bounds-nodes-index
 bounds-nodes-index c =
     let next = next_place c.queue.queue c.queue.i c.len.result c.len.ensures c.queue-test.true in
-    subst (λ (k : ℕ). k < length c.args.nodes.now) (sym (number_at c.queue.queue.items c.queue.i c.index.result.now next c.index.ensures))
+    subst (λ (k : ℕ). k < length c.args.nodes.now) (sym (next_item c.queue.queue.items c.queue.i c.index.result.now 0 next c.index.ensures))
     (c.queue.invariant.are.low c.queue.i next)
 
 pub queue-smaller : goal.queue-smaller
@@ -39,7 +40,7 @@ queue-preserved c =
     let node : Node = c.index-nodes-index.result in
     let copy : Node = c.in_ok-copy.copy in
     let next = next_place c.queue.queue c.queue.i c.len.result c.len.ensures c.queue-test.true in
-    let at = number_at queue c.queue.i c.index.result.now next c.index.ensures in
+    let at = next_item queue c.queue.i c.index.result.now 0 next c.index.ensures in
     let is : node ≡ get_or nodes (get_or queue c.queue.i 0) node = c.index-nodes-index.is ∙ ap (λ k. get_or nodes k node) at in
     let lists : IsCopyFrom (length queue) node.names.items copy.names.items = search rules in
     rw (c.in_ok-push-2.ensures.items, c.in_ok-copy.ensures.queue)
