@@ -1,4 +1,4 @@
--- A queue of nodes of a tree: each place but the first is listed at one before it. No node stands twice in such a queue.
+-- A queue of nodes of a forest: each place but the first is listed at one before it. No node stands twice in such a queue.
 use Rattle.std.proofs.Common.{◌≡◌, ◌≢◌, ◌∙◌, sym, ap, ⊎_elim, ℕ, zero, suc, ◌<◌, ◌≤◌, true, eqb, List, [], ◌∷◌, Some, arith, map, length}
 use Rattle.std.proofs.Common.{get_or, AllPairs}
 use Rattle.std.specs.Prelude.{Vec}
@@ -13,9 +13,13 @@ use Rattle.std.proofs.lemmas.Map.Steps.{length-le_from_distinct_below}
 use Rattle.fast_check_names.specs.declared.lattice.node.NodeNo.{NodeNo}
 use Rattle.fast_check_names.specs.declared.lattice.node.Below.TheVariants.{Subset}
 use Rattle.fast_check_names.specs.Order.{Name}
-use Rattle.fast_check_names.specs.Graph.{Graph, IsTree}
+use Rattle.fast_check_names.specs.Graph.{Graph, IsTree, IsForest}
 
--- the place j is listed at one before it, and where it has a node of the tree, the node there lists that
+-- a tree is a forest
+pub forest_of : (g : Graph) (size : ℕ) → IsTree g size → IsForest g size
+forest_of g size tree = record { later = tree.later; once = tree.once }
+
+-- the place j is listed at one before it, and where it has a node of the forest, the node there lists that
 pub record IsReferred (g w : Graph) (size : ℕ) (q : ℕ → ℕ) (j : ℕ) : Type 0 where
   pub from : ℕ
   pub name : Name
@@ -33,7 +37,7 @@ next_item queue i x d l e = e ∙ get_or_default queue i x d l
 subset_is : (i j : NodeNo) → Some (Subset i) ≡ Some (Subset j) → i.0 ≡ j.0
 subset_is i j e = let same : i ≡ j = cc in ap (λ (x : NodeNo). x.0) same
 
-module _ (g w : Graph) (size at count : ℕ) (q : ℕ → ℕ) (tree : IsTree g size) (first : q 0 ≡ at)
+module _ (g w : Graph) (size at count : ℕ) (q : ℕ → ℕ) (forest : IsForest g size) (first : q 0 ≡ at)
     (referred : (j : ℕ) → 0 < j → j < count → IsReferred g w size q j) where
   -- each node stands behind the first
   behind : (most j : ℕ) → j < most → 0 < j → j < count → q j < size → at < q j
@@ -41,7 +45,7 @@ module _ (g w : Graph) (size at count : ℕ) (q : ℕ → ℕ) (tree : IsTree g 
   behind (suc most) j l some h t =
       let r = referred j some h in
       let b = r.before in
-      let later = tree.later (q r.from) r.name (record { 0 = q j }) (r.refers t) in ⊎_elim
+      let later = forest.later (q r.from) r.name (record { 0 = q j }) (r.refers t) in ⊎_elim
       (λ (z : 0 < r.from).
       let a = behind most r.from (omega (arith, b, l)) z (omega (arith, b, h)) (omega (arith, later.0, t)) in
       omega (arith, a, later.0))
@@ -57,12 +61,12 @@ module _ (g w : Graph) (size at count : ℕ) (q : ℕ → ℕ) (tree : IsTree g 
       let p = referred m (omega (arith, h)) c in
       let a = p.refers t in
       let b = p.before in
-      let low = tree.later (q p.from) p.name (record { 0 = q m }) a in ⊎_elim
+      let low = forest.later (q p.from) p.name (record { 0 = q m }) a in ⊎_elim
       (λ (some : 0 < k).
       let o = referred k some (omega (arith, h, c)) in
       let d = o.refers (omega (arith, e, t)) in
       let f = o.before in
-      let same = tree.once (q o.from) o.name (q p.from) p.name (record { 0 = q m })
+      let same = forest.once (q o.from) o.name (q p.from) p.name (record { 0 = q m })
       (d ∙ ap (λ x. Some (Subset (record { 0 = x }))) e) a in
       ⊎_elim
       (λ (s : o.from ≡ p.from).

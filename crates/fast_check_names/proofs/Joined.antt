@@ -15,7 +15,7 @@ use Rattle.fast_check_names.specs.Order.{Name, found}
 use Rattle.fast_check_names.specs.Graph.{Graph, entry, Part, Path, is_touched, ends, reach, below_node, IsTree, IsAfter}
 use Rattle.fast_check_names.specs.Names.{IsJoin}
 use Rattle.fast_check_names.specs.Pairs.{pair_at, both, with_pairs, IsMade}
-use Rattle.fast_check_names.proofs.Apart.{IsReferred, apart, count_upto}
+use Rattle.fast_check_names.proofs.Apart.{forest_of, IsReferred, apart, count_upto}
 use Rattle.fast_check_names.proofs.Lists.{entry_front, entry_behind}
 use Rattle.fast_check_names.proofs.Made.{with_same, pair_front}
 use Rattle.fast_check_names.proofs.Puts.{none_is, all_is}
@@ -230,14 +230,14 @@ module _ (g h w : Graph) (a b i count : ℕ) (start : Pair) (at : ℕ → Pair) 
   key_apart k j z s l e = ⊎_elim
       (λ (t : ((at j).first < a) × (key a (at j) ≡ (at j).first)). ⊎_elim
       (λ (u : ((at k).first < a) × (key a (at k) ≡ (at k).first)).
-      apart g w a start.first count (λ m. (at m).first) g_tree (ap (λ (x : Pair). x.first) are.first) first_referred k j s l t.0
+      apart g w a start.first count (λ m. (at m).first) (forest_of g a g_tree) (ap (λ (x : Pair). x.first) are.first) first_referred k j s l t.0
       (sym u.1 ∙ (e ∙ t.1)))
       (λ (u : (a ≤ (at k).first) × (key a (at k) ≡ a + (at k).second)). omega (arith, t.0, t.1, u.1, e))
       (key_is a (at k)))
       (λ (t : (a ≤ (at j).first) × (key a (at j) ≡ a + (at j).second)). ⊎_elim
       (λ (u : ((at k).first < a) × (key a (at k) ≡ (at k).first)). omega (arith, u.0, u.1, t.1, e))
       (λ (u : (a ≤ (at k).first) × (key a (at k) ≡ a + (at k).second)).
-      apart h w b start.second count (λ m. (at m).second) h_tree (ap (λ (x : Pair). x.second) are.first) second_referred k j s l
+      apart h w b start.second count (λ m. (at m).second) (forest_of h b h_tree) (ap (λ (x : Pair). x.second) are.first) second_referred k j s l
       (second_there j (omega (arith, s)) l t.0) (omega (arith, u.1, t.1, e)))
       (key_is a (at k)))
       (key_is a (at j))

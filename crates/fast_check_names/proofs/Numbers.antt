@@ -128,14 +128,14 @@ not_node : (b : Below) (k : ℕ) → (b ≡ Subset (record { 0 = k }) → ⊥) �
 not_node All k h = refl
 not_node (Subset j) k h = ne_eqb j.0 k (λ e. h (ap (λ i. Subset (record { 0 = i })) e))
 
-once_behind : (d : Entry) (es : List Entry) → IsOnce (d ∷ es) → IsOnce es
+pub once_behind : (d : Entry) (es : List Entry) → IsOnce (d ∷ es) → IsOnce es
 once_behind d es once i j l w same = once (suc i) (suc j) (omega (arith, l)) (omega (arith, w)) same
 
-first_absent : (d : Entry) (es : List Entry) → IsOnce (d ∷ es) → IsAbsentBefore es (string_bytes d.0) (length es)
+pub first_absent : (d : Entry) (es : List Entry) → IsOnce (d ∷ es) → IsAbsentBefore es (string_bytes d.0) (length es)
 first_absent d es once k l e = once 0 (suc k) (omega arith) (omega (arith, l)) (sym e)
 
 -- what is found behind the first is found
-found_behind : (d : Entry) (es : List Entry) → IsOnce (d ∷ es) → (n : Name) (b : Below) → found es n ≡ Some b → found (d ∷ es) n ≡ Some b
+pub found_behind : (d : Entry) (es : List Entry) → IsOnce (d ∷ es) → (n : Name) (b : Below) → found es n ≡ Some b → found (d ∷ es) n ≡ Some b
 found_behind d es once n b e = ⊎_elim
     (λ (t : (bytes_eq (string_bytes d.0) n ≡ true) × (string_bytes d.0 ≡ n)).
     let none : found es n ≡ None = ap (λ (m : Name). found es m) (sym t.1) ∙ found_none es (string_bytes d.0) (first_absent d es once) in

@@ -10,7 +10,7 @@ use Rattle.fast_check_names.specs.declared.lattice.node.NodeNo.{NodeNo}
 use Rattle.fast_check_names.specs.declared.lattice.node.Below.{Below}
 use Rattle.fast_check_names.specs.declared.lattice.node.Below.TheVariants.{All, Subset}
 use Rattle.fast_check_names.specs.Order.{Name, found}
-use Rattle.fast_check_names.specs.Graph.{Graph, entry, moved, Part, Path, ends, reach, below_node, IsTree, IsAfter}
+use Rattle.fast_check_names.specs.Graph.{Graph, entry, moved, Part, Path, ends, reach, below_node, IsTree, IsForest, IsAfter}
 use Rattle.fast_check_names.specs.Names.{IsSame}
 use Rattle.fast_check_names.specs.Queue.{nexts, IsCopyFrom}
 use Rattle.fast_check_names.proofs.Lists.{items_at, entry_front, entry_behind}
@@ -53,7 +53,7 @@ moved_same q r (Some All) h = refl
 moved_same q r (Some (Subset j)) h = ap (λ k. Some (Subset (record { 0 = k }))) (h j refl)
 
 -- the next node is copied, and those that it lists join the queue
-module _ (g w v : Graph) (size at i count long : ℕ) (q r : ℕ → ℕ) (tree : IsTree g size) (are : AreCopied g size at q count i w)
+module _ (g w v : Graph) (size at i count long : ℕ) (q r : ℕ → ℕ) (forest : IsForest g size) (are : AreCopied g size at q count i w)
     (next : i < count) (longer : count ≤ long)
     (kept : (k : ℕ) → k < count → r k ≡ q k)
     (front : (k : ℕ) (n : Name) → k < i → v k n ≡ w k n)
@@ -63,7 +63,7 @@ module _ (g w v : Graph) (size at i count long : ℕ) (q r : ℕ → ℕ) (tree 
   new_node : (k : ℕ) → count ≤ k → k < long → r k < size
   new_node k low high =
       let l = listed k low high in
-      (tree.later (r i) l.0 (record { 0 = r k }) (here l.0 ∙ ap (moved r) l.1)).1
+      (forest.later (r i) l.0 (record { 0 = r k }) (here l.0 ∙ ap (moved r) l.1)).1
 
   pub one_copied : AreCopied g size at r long (i + 1) v
   one_copied = record {
@@ -96,7 +96,7 @@ module _ (g w v : Graph) (size at i count long : ℕ) (q r : ℕ → ℕ) (tree 
 none_no : (j : NodeNo) → None ≡ Some (Subset j) → ⊥
 none_no j e = cc
 
-module _ (g w : Graph) (size at i count : ℕ) (q : ℕ → ℕ) (tree : IsTree g size) (are : AreCopied g size at q count i w) where
+module _ (g w : Graph) (size at i count : ℕ) (q : ℕ → ℕ) (forest : IsForest g size) (are : AreCopied g size at q count i w) where
   -- a copy's reference comes from one of the node
   refers : (k : ℕ) (n : Name) (j : NodeNo) → k < i → w k n ≡ Some (Subset j) → g (q k) n ≡ Some (Subset (record { 0 = q j.0 }))
   refers k n j h e = are.alike k n h ∙ ap (moved q) e
@@ -114,7 +114,7 @@ module _ (g w : Graph) (size at i count : ℕ) (q : ℕ → ℕ) (tree : IsTree 
 
   -- no node stands twice in the queue
   not_twice : (k m : ℕ) → k < m → m < count → q k ≡ q m → ⊥
-  not_twice k m h l = apart g w size at count q tree are.first referred k m h l (are.low m l)
+  not_twice k m h l = apart g w size at count q forest are.first referred k m h l (are.low m l)
 
   one_place : (k m : ℕ) → k < count → m < count → q k ≡ q m → k ≡ m
   one_place k m h l e = ⊎_elim (λ (s : k ≡ m). s) (⊎_elim
@@ -137,7 +137,7 @@ module _ (g w : Graph) (size at i count : ℕ) (q : ℕ → ℕ) (tree : IsTree 
           once = λ k n l m j e d.
               let a = in_copy k n j e in
               let b = in_copy l m j d in
-              let same = tree.once (q k) n (q l) m (record { 0 = q j.0 }) (refers k n j a e) (refers l m j b d) in
+              let same = forest.once (q k) n (q l) m (record { 0 = q j.0 }) (refers k n j a e) (refers l m j b d) in
               (one_place k l (omega (arith, a, bound)) (omega (arith, b, bound)) same.0, same.1);
           parent = λ j z h. let p = are.parent j z h in (p.0, p.2);
         }
@@ -164,13 +164,13 @@ module _ (g w : Graph) (size at i count : ℕ) (q : ℕ → ℕ) (tree : IsTree 
         ap (λ k. reach g (g k n) part p) are.first)
 
 -- the same over vectors: the node whose turn it is
-pub next_copied : (nodes copies : List Node) (queue : List ℕ) (at i : ℕ) (node copy : Node) → IsTree (entry nodes) (length nodes) →
+pub next_copied : (nodes copies : List Node) (queue : List ℕ) (at i : ℕ) (node copy : Node) → IsForest (entry nodes) (length nodes) →
     AreCopied (entry nodes) (length nodes) at (λ k. get_or queue k 0) (length queue) i (entry copies) → length copies ≡ i →
     i < length queue → node ≡ get_or nodes (get_or queue i 0) node →
     IsCopyFrom (length queue) node.names.items copy.names.items →
     AreCopied (entry nodes) (length nodes) at (λ k. get_or (queue ++ nexts node.names.items) k 0)
     (length (queue ++ nexts node.names.items)) (i + 1) (entry (copies ++ copy ∷ []))
-next_copied nodes copies queue at i node copy tree are count next is lists =
+next_copied nodes copies queue at i node copy forest are count next is lists =
     let es = node.names.items in
     let fs = copy.names.items in
     let long = length-append queue (nexts es) in
@@ -180,7 +180,7 @@ next_copied nodes copies queue at i node copy tree are count next is lists =
     let last : i ≡ length copies + 0 = omega (arith, count) in
     ap (λ m. entry (copies ++ copy ∷ []) m n) last ∙ entry_behind copies (copy ∷ []) 0 n in
     one_copied (entry nodes) (entry copies) (entry (copies ++ copy ∷ [])) (length nodes) at i (length queue) (length (queue ++ nexts es))
-    (λ k. get_or queue k 0) (λ k. get_or (queue ++ nexts es) k 0) tree are next (omega (arith, long)) kept
+    (λ k. get_or queue k 0) (λ k. get_or (queue ++ nexts es) k 0) forest are next (omega (arith, long)) kept
     (λ k n h. entry_front copies (copy ∷ []) k n (omega (arith, h, count)))
     (λ n.
     ap (λ m. entry nodes m n) (kept i next) ∙

@@ -2,7 +2,7 @@
 
 ghost use Rattle.std.specs.Prelude.{◌≡◌, ◌<◌, ◌++◌, IfOk, OnOk, Some, length, vec_len};
 ghost use Rattle.fast_check_names.specs.Order.{lists};
-ghost use Rattle.fast_check_names.specs.Graph.{entry, reach, below_node, IsTree, IsAfter};
+ghost use Rattle.fast_check_names.specs.Graph.{entry, reach, below_node, IsTree, IsForest, IsAfter};
 ghost use Rattle.fast_check_names.specs.Names.{paths, paths_below, IsSame};
 ghost use Rattle.fast_check_names.specs.Queue.{next_of, nexts, placed, IsCopyFrom};
 
@@ -62,7 +62,7 @@ fn copy_one(alloc: Global, node: &Node, queue: &mut Vec<usize>) -> Result<Node, 
 /// Copies of a node and of those below it.
 fn copy_nodes(alloc: Global, nodes: &[Node], at: usize) -> Result<Vec<Node>, AllocError>
     requires within { at < length nodes.now }
-    requires tree { IsTree (entry nodes.now) (length nodes.now) }
+    requires forest { IsForest (entry nodes.now) (length nodes.now) }
     ensures tree { IfOk result (λ copies. IsTree (entry copies.items) (vec_len copies)) }
     ensures same { IfOk result (λ copies. IsSame (below_node (entry copies.items) 0) (below_node (entry nodes.now) at)) }
 {
@@ -82,7 +82,7 @@ fn copy_nodes(alloc: Global, nodes: &[Node], at: usize) -> Result<Vec<Node>, All
 
 /// A copy of what stands below a node, in a vector of its own.
 pub(crate) fn copy_node(alloc: Global, nodes: &[Node], at: usize) -> Result<NamedSubset, AllocError>
-    requires { IsTree (entry nodes.now) (length nodes.now) }
+    requires { IsForest (entry nodes.now) (length nodes.now) }
     ensures { IfOk result (λ copy. IsSame (paths copy) (below_node (entry nodes.now) at)) }
 {
     if at >= nodes.len() {

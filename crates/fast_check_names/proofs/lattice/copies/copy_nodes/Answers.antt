@@ -29,7 +29,7 @@ queue-smaller c =
     let nodes = c.args.nodes.now in
     let queue = c.queue.queue.items in
     let bound : length queue ≤ length nodes = count_bound (entry nodes) (entry c.queue.copies.items) (length nodes) c.args.at c.queue.i
-    (length queue) (λ k. get_or queue k 0) c.requires.tree c.queue.invariant.are in
+    (length queue) (λ k. get_or queue k 0) c.requires.forest c.queue.invariant.are in
     let next = next_place c.queue.queue c.queue.i c.len.result c.len.ensures c.queue-test.true in omega (arith, bound, next)
 
 pub queue-preserved : goal.queue-preserved
@@ -46,7 +46,7 @@ queue-preserved c =
     rw (c.in_ok-push-2.ensures.items, c.in_ok-copy.ensures.queue)
     (record {
       count = length_push copies copy ∙ ap (λ k. k + 1) c.queue.invariant.count;
-      are = next_copied nodes copies queue c.args.at c.queue.i node copy c.requires.tree c.queue.invariant.are c.queue.invariant.count
+      are = next_copied nodes copies queue c.args.at c.queue.i node copy c.requires.forest c.queue.invariant.are c.queue.invariant.count
           next is
           lists;
     })
@@ -61,7 +61,7 @@ returns-clause-tree c =
     let same : length queue ≡ vec_len c.queue.copies = omega (arith, done, within, c.queue.invariant.count, c.queue.copies.ok.0) in
     tree_along copies c.note_all.new.nodes.items (vec_len c.queue.copies) (vec_len c.note_all.new.nodes) c.note_all.ensures.same
     c.note_all.ensures.len (subst (λ (m : ℕ). IsTree (entry copies) m) same
-    (tree_copied (entry nodes) (entry copies) (length nodes) c.args.at c.queue.i (length queue) (λ k. get_or queue k 0) c.requires.tree
+    (tree_copied (entry nodes) (entry copies) (length nodes) c.args.at c.queue.i (length queue) (λ k. get_or queue k 0) c.requires.forest
     c.queue.invariant.are done (λ k n h. past_none copies k (omega (arith, h, c.queue.invariant.count)) n)))
 
 pub returns-clause-same : goal.returns-clause-same
@@ -72,5 +72,5 @@ returns-clause-same c =
     let done : length queue ≤ c.queue.i = search rules in
     graph_along (λ g. IsSame (below_node g 0) (below_node (entry nodes) c.args.at)) copies c.note_all.new.nodes.items
     c.note_all.ensures.same
-    (same_copied (entry nodes) (entry copies) (length nodes) c.args.at c.queue.i (length queue) (λ k. get_or queue k 0) c.requires.tree
+    (same_copied (entry nodes) (entry copies) (length nodes) c.args.at c.queue.i (length queue) (λ k. get_or queue k 0) c.requires.forest
     c.queue.invariant.are done (λ k n h. past_none copies k (omega (arith, h, c.queue.invariant.count)) n))

@@ -1,0 +1,253 @@
+//! What a new set has beyond an old one is left of the new set by two passes over its nodes. A node lists later ones alone: so the first pass, from the
+//! first node on, notes for each node what the old set has at its place, and the second, from the last node back, takes the names out that lack nothing.
+
+ghost use Rattle.std.specs.Prelude.{◌≡◌, ◌<◌, ℕ, OnOk, IfOk, IsTrue, Some, true, false, cond, [], length, map, set, get_or, vec_len};
+ghost use Rattle.fast_check_names.specs.declared.lattice.node.NodeNo.{NodeNo};
+ghost use Rattle.fast_check_names.specs.Order.{Name, IsOnce};
+ghost use Rattle.fast_check_names.specs.Graph.{entry, listings, below_node, IsTree};
+ghost use Rattle.fast_check_names.specs.Names.{paths, IsDifference};
+ghost use Rattle.fast_check_names.specs.Numbers.{is_node};
+ghost use Rattle.fast_check_names.specs.Pruned.{under, place_at, has_names, lacks, lacks_at, marked, AreBeside, IsPruned};
+
+use crate::lattice::begins::{begins_of, note_begins};
+use crate::lattice::calls::names_of;
+use crate::lattice::copies::copy_node;
+use crate::lattice::listing::note_places;
+use crate::lattice::named_subset::NamedSubset;
+use crate::lattice::node::{Below, Node, NodeNo};
+use crate::lattice::nodes::find_at;
+use crate::lattice::order::sort_near;
+use std::alloc::{AllocError, Global};
+
+/// What the old set has under a name, below what it has at a place.
+fn held_under(old: &[Node], place: Option<Below>, name: &str) -> Option<Below>
+    ensures { result ≡ under (entry old.now) place name.now }
+{
+    let Some(place) = place else {
+        return None;
+    };
+    match place {
+        Below::All => Some(Below::All),
+        Below::Subset(no) => find_at(old, no.0, name),
+    }
+}
+
+/// What is noted for a node.
+fn noted(places: &[Option<Below>], at: usize) -> Option<Below>
+    ensures { result ≡ place_at places.now at }
+{
+    match places.get(at) {
+        None => Some(Below::Subset(NodeNo(0))),
+        Some(place) => *place,
+    }
+}
+
+/// Notes for the node of a subset that stands under a name what the old set has there.
+fn note_below(
+    places: &mut Vec<Option<Below>>,
+    old: &[Node],
+    place: Option<Below>,
+    name: &str,
+    below: Below,
+)
+    requires { (j : NodeNo) → below ≡ Below.Subset j → j.0 < vec_len places.old }
+    ensures len { vec_len places.new ≡ vec_len places.old }
+    ensures noted { (k : ℕ) → place_at places.new.items k ≡ cond (is_node below k) (under (entry old.now) place name.now) (place_at places.old.items k) }
+{
+    let Below::Subset(no) = below else {
+        return;
+    };
+    places[no.0] = held_under(old, place, name);
+}
+
+/// Notes for each node that node `at` lists what the old set has at its place.
+fn note_listed(places: &mut Vec<Option<Below>>, old: &[Node], nodes: &[Node], at: usize)
+    requires tree { IsTree (entry nodes.now) (length nodes.now) }
+    requires len { vec_len places.old ≡ length nodes.now }
+    ensures len { vec_len places.new ≡ vec_len places.old }
+    ensures listed { (n : Name) (j : NodeNo) → entry nodes.now at n ≡ Some (Below.Subset j) → place_at places.new.items j.0 ≡ under (entry old.now) (place_at places.old.items at) n }
+    ensures others { (k : ℕ) → ((n : Name) → entry nodes.now at n ≡ Some (Below.Subset (record { 0 = k })) → ⊥) → place_at places.new.items k ≡ place_at places.old.items k }
+{
+    let place = noted(places.as_slice(), at);
+    for (name, below) in names_of(nodes, at) {
+        note_below(places, old, place, name.as_str(), *below);
+    }
+}
+
+/// What the old set has at the place of each node of the new one.
+fn places_beside(
+    alloc: Global,
+    old: &[Node],
+    nodes: &[Node],
+) -> Result<Vec<Option<Below>>, AllocError>
+    requires { IsTree (entry nodes.now) (length nodes.now) }
+    ensures { IfOk result (λ places. AreBeside (entry old.now) (entry nodes.now) places.items) }
+{
+    let mut places = Vec::new(alloc);
+    places.resize(nodes.len(), Some(Below::Subset(NodeNo(0))))?;
+    for at in 0..nodes.len() {
+        note_listed(&mut places, old, nodes, at);
+    }
+    Ok(places)
+}
+
+/// Whether the old set, of which this is held under a name, lacks something of what stands there. A subset beside one has what is left of it.
+fn is_lacking(nodes: &[Node], held: Option<Below>, below: Below) -> bool
+    ensures { result ≡ lacks (has_names (listings nodes.now)) held below }
+{
+    let Some(held) = held else {
+        return true;
+    };
+    match (held, below) {
+        (Below::All, _) => false,
+        (Below::Subset(_), Below::All) => true,
+        (Below::Subset(_), Below::Subset(no)) => !names_of(nodes, no.0).is_empty(),
+    }
+}
+
+/// What the old set has under a name of a node at this place. For the node of a subset it is noted.
+fn held_at(
+    old: &[Node],
+    places: &[Option<Below>],
+    place: Option<Below>,
+    name: &str,
+    below: Below,
+) -> Option<Below>
+    requires { (j : NodeNo) → below ≡ Below.Subset j → place_at places.now j.0 ≡ under (entry old.now) place name.now }
+    ensures { result ≡ under (entry old.now) place name.now }
+{
+    match below {
+        Below::All => held_under(old, place, name),
+        Below::Subset(no) => noted(places, no.0),
+    }
+}
+
+/// Marks the names of node `at` of which the old set lacks something.
+fn mark_names(
+    marks: &mut Vec<bool>,
+    old: &[Node],
+    places: &[Option<Below>],
+    nodes: &[Node],
+    at: usize,
+) -> Result<(), AllocError>
+    requires { (n : Name) (j : NodeNo) → entry nodes.now at n ≡ Some (Below.Subset j) → place_at places.now j.0 ≡ under (entry old.now) (place_at places.now at) n }
+    ensures { OnOk result (marks.new.items ≡ map (lacks_at (has_names (listings nodes.now)) (under (entry old.now) (place_at places.now at))) (get_or (listings nodes.now) at [])) }
+{
+    marks.clear();
+    let place = noted(places, at);
+    for (name, below) in names_of(nodes, at) {
+        let held = held_at(old, places, place, name.as_str(), *below);
+        marks.push(is_lacking(nodes, held, *below))?;
+    }
+    Ok(())
+}
+
+/// Whether all are marked.
+fn are_marked(marks: &[bool]) -> bool
+    ensures { IsTrue result → (k : ℕ) → k < length marks.now → get_or marks.now k false ≡ true }
+{
+    for mark in marks {
+        if !*mark {
+            return false;
+        }
+    }
+    true
+}
+
+/// Keeps those of some names that are marked, in their order.
+fn keep_marked(names: &mut Vec<(String, Below)>, marks: &[bool])
+    requires { length marks.now ≡ vec_len names.old }
+    ensures { names.new.items ≡ marked marks.now names.old.items }
+{
+    let mut next = 0;
+    for i in 0..names.len() {
+        if !marks[i] {
+            continue;
+        }
+        names.swap(next, i);
+        next += 1;
+    }
+    names.truncate(next);
+}
+
+/// Keeps those names of a node that are marked, and sorts them anew.
+fn keep_names(node: &mut Node, marks: &[bool])
+    requires { length marks.now ≡ vec_len node.old.names }
+    ensures { node.new.names.items ≡ marked marks.now node.old.names.items }
+{
+    let alloc = *node.names.allocator();
+    keep_marked(&mut node.names, marks);
+    node.runs.clear();
+    node.begins = None;
+    let listed = node.names.as_slice();
+    note_begins(alloc, listed, &mut node.begins);
+    let begins = begins_of(&node.begins);
+    node.sorted = sort_near(listed, &mut node.runs, begins, alloc, 0, None);
+}
+
+/// Keeps those names of node `at` that are marked. Where all are, its order stays.
+fn keep_at(nodes: &mut Vec<Node>, at: usize, marks: &[bool])
+    requires within { at < vec_len nodes.old }
+    requires len { length marks.now ≡ length (get_or (listings nodes.old.items) at []) }
+    ensures len { vec_len nodes.new ≡ vec_len nodes.old }
+    ensures kept { listings nodes.new.items ≡ set (listings nodes.old.items) at (marked marks.now (get_or (listings nodes.old.items) at [])) }
+{
+    if are_marked(marks) {
+        return;
+    }
+    let node = &mut nodes[at];
+    keep_names(node, marks);
+    note_places(nodes, at, 0);
+}
+
+/// Takes the names out of which the old set lacks nothing. The last node comes first, so that what is left of the nodes that a node lists is known.
+fn prune(
+    alloc: Global,
+    nodes: &mut Vec<Node>,
+    old: &[Node],
+    places: &[Option<Below>],
+) -> Result<(), AllocError>
+    requires tree { IsTree (entry nodes.old.items) (vec_len nodes.old) }
+    requires beside { AreBeside (entry old.now) (entry nodes.old.items) places.now }
+    ensures len { vec_len nodes.new ≡ vec_len nodes.old }
+    ensures pruned { OnOk result (IsPruned (entry old.now) (place_at places.now) (entry nodes.old.items) (listings nodes.new.items)) }
+{
+    let mut marks = Vec::new(alloc);
+    let mut left = nodes.len();
+    'nodes: while left > 0 {
+        left -= 1;
+        mark_names(&mut marks, old, places, nodes.as_slice(), left)?;
+        keep_at(nodes, left, marks.as_slice());
+    }
+    Ok(())
+}
+
+/// Whether each node but the root is still listed.
+fn are_listed(nodes: &[Node], places: &[Option<Below>]) -> bool
+    ensures { IsTrue result → (j : ℕ) → 0 < j → j < length nodes.now → lacks (has_names (listings nodes.now)) (place_at places.now j) (Below.Subset (record { 0 = j })) ≡ true }
+{
+    for at in 1..nodes.len() {
+        let place = noted(places, at);
+        if !is_lacking(nodes, place, Below::Subset(NodeNo(at))) {
+            return false;
+        }
+    }
+    true
+}
+
+/// What a new set has beyond the nodes of an old one: the nodes that are left of it, or a copy of those that are still listed, where some are not.
+pub(crate) fn difference(
+    alloc: Global,
+    old: &[Node],
+    new: NamedSubset,
+) -> Result<NamedSubset, AllocError>
+    ensures { IfOk result (λ rest. IsDifference (below_node (entry old.now) 0) (paths new) (paths rest)) }
+{
+    let mut nodes = new.nodes;
+    let places = places_beside(alloc, old, nodes.as_slice())?;
+    prune(alloc, &mut nodes, old, places.as_slice())?;
+    if are_listed(nodes.as_slice(), places.as_slice()) {
+        return Ok(NamedSubset { nodes });
+    }
+    copy_node(alloc, nodes.as_slice(), 0)
+}
