@@ -1,6 +1,6 @@
 -- Two trees are joined in the order of a queue of pairs: the pair at place k is at k, and w lists what the nodes that are made list.
 use Rattle.std.proofs.Common.{◌≡◌, ◌∙◌, sym, ap, refl, subst, ⊎_elim, ◌⊎◌, inl, inr, ℕ, ◌+◌, ◌<◌, ◌≤◌, ◌-◌, Bool, true, false, ◌||◌, cond, ltb}
-use Rattle.std.proofs.Common.{List, [], ◌∷◌, ◌++◌, Option, Some, None, arith, length, get_or}
+use Rattle.std.proofs.Common.{List, [], ◌∷◌, ◌++◌, Option, Some, None, arith, length}
 use Rattle.std.proofs.Math.Bool.{or-true}
 use Rattle.std.proofs.lemmas.Bool.{cases_lt, lt-ltb, le-ltb}
 use Rattle.std.proofs.lemmas.List.{length-append}
@@ -18,7 +18,7 @@ use Rattle.fast_check_names.specs.Pairs.{pair_at, both, with_pairs, IsMade}
 use Rattle.fast_check_names.proofs.Apart.{forest_of, IsReferred, apart, count_upto}
 use Rattle.fast_check_names.proofs.Lists.{entry_front, entry_behind}
 use Rattle.fast_check_names.proofs.Made.{with_same, pair_front}
-use Rattle.fast_check_names.proofs.Puts.{none_is, all_is}
+use Rattle.fast_check_names.proofs.Puts.{none_is}
 use Rattle.fast_check_names.proofs.Walks.{or_false, or_itself, is_after}
 
 -- of a queue of count pairs the first i are joined

@@ -8,10 +8,10 @@ ghost use Rattle.fast_check_names.specs.Names.{paths, IsJoin};
 ghost use Rattle.fast_check_names.specs.Pairs.{alone, beside, both, numbered, pairs_of, IsMade, IsPushed};
 
 use crate::lattice::begins::{begins_of, note_begins};
+use crate::lattice::calls::names_of;
 use crate::lattice::listing::note_all;
 use crate::lattice::named_subset::NamedSubset;
 use crate::lattice::node::{Below, Listing, Node, NodeNo};
-use crate::lattice::calls::names_of;
 use crate::lattice::nodes::find_at;
 use crate::lattice::order::sort_near;
 use std::alloc::{AllocError, Global};
@@ -177,7 +177,11 @@ fn order_of(alloc: Global, at: NodeAt) -> Result<(Vec<Vec<usize>>, usize), Alloc
 }
 
 /// A node of some names, in the order of the node whose names they begin with, as far as there is memory.
-fn ordered_node(alloc: Global, names: Vec<(String, Below)>, like: NodeAt) -> Result<Node, AllocError>
+fn ordered_node(
+    alloc: Global,
+    names: Vec<(String, Below)>,
+    like: NodeAt,
+) -> Result<Node, AllocError>
     requires once { IsOnce names.items }
     requires behind { (rest : List Name) × (names_in names.items ≡ names_in (get_or (listings like.nodes.now) like.no []) ++ rest) }
     ensures { IfOk result (λ node. node.names.items ≡ names.items) }

@@ -1,4 +1,4 @@
-use Rattle.std.proofs.Common.{rules, arith, ◌≡◌, ◌<◌, ◌≤◌, ◌+◌, ◌∙◌, subst, ap, ℕ, length, get_or, vec_len}
+use Rattle.std.proofs.Common.{rules, arith, ◌≡◌, ◌≤◌, ◌+◌, ◌∙◌, subst, ap, ℕ, length, vec_len}
 use Rattle.std.proofs.lemmas.List.{length_push}
 use Rattle.fast_check_names.specs.declared.lattice.node.Node.{Node}
 use Rattle.fast_check_names.specs.declared.lattice.joins.Pair.{Pair}
