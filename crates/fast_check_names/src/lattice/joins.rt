@@ -63,13 +63,13 @@ fn both_beside(below: Below, more: Option<Below>, none: usize) -> Both
 fn both_alone(below: Below, none: usize) -> Both
     ensures { result ≡ alone none below }
 {
-    match below {
-        Below::All => Both::Whole,
-        Below::Subset(second) => Both::Nodes(Pair {
-            first: none,
-            second: second.0,
-        }),
-    }
+    let Below::Subset(second) = below else {
+        return Both::Whole;
+    };
+    Both::Nodes(Pair {
+        first: none,
+        second: second.0,
+    })
 }
 
 /// What is listed: all, or the place of the pair, which joins the queue.
