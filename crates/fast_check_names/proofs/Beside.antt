@@ -9,7 +9,7 @@ use Rattle.fast_check_names.specs.declared.lattice.node.Below.TheVariants.{Subse
 use Rattle.fast_check_names.specs.Order.{Name, Entry, found, IsOnce}
 use Rattle.fast_check_names.specs.Graph.{Graph, IsTree}
 use Rattle.fast_check_names.specs.Numbers.{is_node, lists_node}
-use Rattle.fast_check_names.specs.Pruned.{under, place_at}
+use Rattle.fast_check_names.specs.Pruned.{under, place_at, AreNoted, AreOthersSame}
 use Rattle.fast_check_names.proofs.Extends.{itself}
 use Rattle.fast_check_names.proofs.Numbers.{is_node_of, once_behind, found_behind}
 
@@ -66,19 +66,17 @@ noted_listed u (e ∷ es) k p v once listed same = ⊎_elim
 -- the nodes before i have been looked at
 pub record IsNoting (g h : Graph) (i : ℕ) (places : List (Option Below)) : Type 0 where
   pub first : place_at places 0 ≡ Some (Subset (record { 0 = 0 }))
-  pub each : (k : ℕ) (n : Name) (j : NodeNo) → k < i → h k n ≡ Some (Subset j) → place_at places j.0 ≡ under g (place_at places k) n
+  pub each : (k : ℕ) → k < i → AreNoted g (place_at places k) (h k) places
 
 -- the next node
 pub one_noted : (g h : Graph) (size i : ℕ) (old new : List (Option Below)) → IsTree h size → IsNoting g h i old →
-    ((n : Name) (j : NodeNo) → h i n ≡ Some (Subset j) → place_at new j.0 ≡ under g (place_at old i) n) →
-    ((k : ℕ) → ((n : Name) → h i n ≡ Some (Subset (record { 0 = k })) → ⊥) → place_at new k ≡ place_at old k) →
-    IsNoting g h (i + 1) new
+    AreNoted g (place_at old i) (h i) new → AreOthersSame (h i) old new → IsNoting g h (i + 1) new
 one_noted g h size i old new tree is listed others = record {
   first = upto 0 (omega arith) ∙ is.first;
-  each = λ k n j l e. ⊎_elim
+  each = λ k l n j e. ⊎_elim
       (λ (s : k < i).
       others j.0 (λ m d. let same = tree.once k n i m j e d in omega (arith, same.0, s)) ∙
-      (is.each k n j s e ∙ ap (λ (p : Option Below). under g p n) (sym (upto k (omega (arith, s))))))
+      (is.each k s n j e ∙ ap (λ (p : Option Below). under g p n) (sym (upto k (omega (arith, s))))))
       (λ (s : i ≤ k).
       let same : i ≡ k = omega (arith, l, s) in
       listed n j (ap (λ (m : ℕ). h m n) same ∙ e) ∙

@@ -37,7 +37,8 @@ pub once_marked : (ms : List Bool) (es : List Entry) → IsOnce es → IsOnce (m
 once_marked [] es once = none_once
 once_marked (m ∷ ms) [] once = none_once
 once_marked (true ∷ ms) (e ∷ es) once =
-    once_first e (marked ms es) (absent_marked ms es (string_bytes e.0) (first_absent e es once)) (once_marked ms es (once_behind e es once))
+    once_first e (marked ms es) (absent_marked ms es (string_bytes e.0) (first_absent e es once))
+    (once_marked ms es (once_behind e es once))
 once_marked (false ∷ ms) (e ∷ es) once = once_marked ms es (once_behind e es once)
 
 -- where all are marked, all are kept

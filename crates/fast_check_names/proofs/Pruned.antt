@@ -10,7 +10,8 @@ use Rattle.fast_check_names.specs.declared.lattice.node.Below.TheVariants.{All, 
 use Rattle.fast_check_names.specs.Order.{Name, Entry, found, IsOnce}
 use Rattle.fast_check_names.specs.Graph.{Touched, Graph, listed, reach, below_node, subset_of, IsTree, IsForest}
 use Rattle.fast_check_names.specs.Names.{nothing, everything, IsSame, IsDifference, IsRestBelow}
-use Rattle.fast_check_names.specs.Pruned.{under, place_at, is_filled, has_names, lacks, lacks_at, marked, left_of, AreBeside, IsPruned}
+use Rattle.fast_check_names.specs.Pruned.{under, place_at, is_filled, has_names, lacks, lacks_at, marks_at, marked, kept_at, left_of, AreBeside}
+use Rattle.fast_check_names.specs.Pruned.{IsPruned, AreLeft}
 use Rattle.fast_check_names.proofs.Walks.{name_shows}
 use Rattle.fast_check_names.proofs.Places.{found_none}
 use Rattle.fast_check_names.proofs.Puts.{none_is, all_is}
@@ -88,16 +89,15 @@ found_marked filled held (e ∷ es) once n =
     (name_shows (string_bytes e.0) n)
 
 -- the nodes from a number on list what is left, and those before list what they listed
-pub record IsPruning (g : Graph) (place : ℕ → Option Below) (h : Graph) (from : ℕ) (ls : List (List Entry)) : Type 0 where
+pub record IsPruning (g : Graph) (places : List (Option Below)) (h : Graph) (from : ℕ) (ls : List (List Entry)) : Type 0 where
   pub before : (k : ℕ) (n : Name) → k < from → listed ls k n ≡ h k n
-  pub done : (k : ℕ) (n : Name) → from ≤ k → listed ls k n ≡ left_of (has_names ls) (under g (place k) n) (h k n)
+  pub done : (k : ℕ) (n : Name) → from ≤ k → listed ls k n ≡ left_of (has_names ls) (under g (place_at places k) n) (h k n)
 
 -- the node before
-module _ (g : Graph) (place : ℕ → Option Below) (h : Graph) (size from at : ℕ) (ls new : List (List Entry)) (tree : IsTree h size)
-    (is : IsPruning g place h from ls)
+module _ (g : Graph) (places : List (Option Below)) (h : Graph) (size from at : ℕ) (ls new : List (List Entry)) (tree : IsTree h size)
+    (is : IsPruning g places h from ls)
     (next : at + 1 ≡ from) (within : at < length ls) (once : IsOnce (get_or ls at [])) (marks : List Bool)
-    (marks_are : marks ≡ map (lacks_at (has_names ls) (under g (place at))) (get_or ls at []))
-    (new_is : new ≡ set ls at (marked marks (get_or ls at []))) where
+    (marks_are : marks ≡ marks_at g places ls at) (new_is : new ≡ kept_at marks at ls) where
   here : (k : ℕ) → k ≡ at → get_or new k [] ≡ marked marks (get_or ls at [])
   here k e = ap (λ (xs : List (List Entry)). get_or xs k []) new_is ∙
       (ap (λ (m : ℕ). get_or (set ls at (marked marks (get_or ls at []))) m []) e ∙
@@ -108,18 +108,18 @@ module _ (g : Graph) (place : ℕ → Option Below) (h : Graph) (size from at : 
 
   -- what is left of a node from the one on that is pruned hangs on later ones alone
   as_before : (k : ℕ) (n : Name) → at ≤ k →
-      left_of (has_names new) (under g (place k) n) (h k n) ≡ left_of (has_names ls) (under g (place k) n) (h k n)
-  as_before k n l = left_same (has_names ls) (has_names new) (under g (place k) n) (h k n)
+      left_of (has_names new) (under g (place_at places k) n) (h k n) ≡ left_of (has_names ls) (under g (place_at places k) n) (h k n)
+  as_before k n l = left_same (has_names ls) (has_names new) (under g (place_at places k) n) (h k n)
       (λ j e. ap is_filled (other j.0 (λ s. let b = tree.later k n j e in omega (arith, s, b.0, l))))
 
-  pruned_here : (k : ℕ) (n : Name) → k ≡ at → listed new k n ≡ left_of (has_names new) (under g (place k) n) (h k n)
+  pruned_here : (k : ℕ) (n : Name) → k ≡ at → listed new k n ≡ left_of (has_names new) (under g (place_at places k) n) (h k n)
   pruned_here k n e =
       ap (λ (es : List Entry). found es n) (here k e ∙ ap (λ (ms : List Bool). marked ms (get_or ls at [])) marks_are) ∙
-      (found_marked (has_names ls) (under g (place at)) (get_or ls at []) once n ∙
-      (ap (left_of (has_names ls) (under g (place at) n)) (is.before at n (omega (arith, next))) ∙
-      (ap (λ (m : ℕ). left_of (has_names ls) (under g (place m) n) (h m n)) (sym e) ∙ sym (as_before k n (omega (arith, e))))))
+      (found_marked (has_names ls) (under g (place_at places at)) (get_or ls at []) once n ∙
+      (ap (left_of (has_names ls) (under g (place_at places at) n)) (is.before at n (omega (arith, next))) ∙
+      (ap (λ (m : ℕ). left_of (has_names ls) (under g (place_at places m) n) (h m n)) (sym e) ∙ sym (as_before k n (omega (arith, e))))))
 
-  pub one_pruned : IsPruning g place h at new
+  pub one_pruned : IsPruning g places h at new
   one_pruned = record {
     before = λ k n l. ap (λ (es : List Entry). found es n) (other k (λ e. omega (arith, e, l))) ∙ is.before k n (omega (arith, l, next));
     done = λ k n l. ⊎_elim
@@ -133,7 +133,7 @@ module _ (g : Graph) (place : ℕ → Option Below) (h : Graph) (size from at : 
 
 -- where all nodes are pruned
 module _ (g h : Graph) (places : List (Option Below)) (beside : AreBeside g h places) (ls : List (List Entry))
-    (is : IsPruned g (place_at places) h ls) where
+    (is : IsPruned g places h ls) where
   was : (k : ℕ) (n : Name) (j : NodeNo) → listed ls k n ≡ Some (Subset j) → h k n ≡ Some (Subset j)
   was k n j e = left_is (has_names ls) (under g (place_at places k) n) (h k n) (Subset j) (sym (is k n) ∙ e)
 
@@ -146,7 +146,7 @@ module _ (g h : Graph) (places : List (Option Below)) (beside : AreBeside g h pl
 
   -- and a tree, where each node is still listed
   pub tree_left : (size : ℕ) → IsTree h size →
-      ((j : ℕ) → 0 < j → j < size → lacks (has_names ls) (place_at places j) (Subset (record { 0 = j })) ≡ true) → IsTree (listed ls) size
+      AreLeft places ls size → IsTree (listed ls) size
   tree_left size tree all = record {
     later = λ k n j e. tree.later k n j (was k n j e);
     once = λ k n l m j e d. tree.once k n l m j (was k n j e) (was l m j d);

@@ -1,6 +1,7 @@
 -- Inner: no contract of a public call cites what stands here.
 -- What is left of a set whose names go where another set has all that stands below them.
-use Rattle.std.specs.Prelude.{ℕ, ◌≡◌, Bool, true, false, List, [], ◌∷◌, Option, Some, None, get_or, cond, string_bytes}
+use Rattle.std.specs.Prelude.{ℕ, ◌≡◌, ◌<◌, Bool, true, false, List, [], ◌∷◌, map, Option, Some, None, get_or, set, cond}
+use Rattle.std.specs.Prelude.{string_bytes}
 use Rattle.fast_check_names.specs.declared.lattice.node.NodeNo.{NodeNo}
 use Rattle.fast_check_names.specs.declared.lattice.node.Below.{Below}
 use Rattle.fast_check_names.specs.declared.lattice.node.Below.TheVariants.{All, Subset}
@@ -17,12 +18,21 @@ under g (Some (Subset j)) n = g j.0 n
 abbrev pub place_at : List (Option Below) → ℕ → Option Below
 place_at places k = get_or places k (Some (Subset (record { 0 = 0 })))
 
+-- for the node of each subset that is listed is noted what stands under its name, below a place
+abbrev pub AreNoted : Graph → Option Below → (Name → Option Below) → List (Option Below) → Type 0
+AreNoted g place listed places = (n : Name) (j : NodeNo) → listed n ≡ Some (Subset j) →
+    place_at places j.0 ≡ under g place n
+
 -- for each node of h is noted what g has at its place: for the first the root, and for another what stands under its
 -- name, below the place of the node that lists it
 pub record AreBeside (g h : Graph) (places : List (Option Below)) : Type 0 where
   pub first : place_at places 0 ≡ Some (Subset (record { 0 = 0 }))
-  pub each : (k : ℕ) (n : Name) (j : NodeNo) → h k n ≡ Some (Subset j) →
-      place_at places j.0 ≡ under g (place_at places k) n
+  pub each : (k : ℕ) → AreNoted g (place_at places k) (h k) places
+
+-- for a node that is not listed is noted what was
+abbrev pub AreOthersSame : (Name → Option Below) → List (Option Below) → List (Option Below) → Type 0
+AreOthersSame listed old new = (k : ℕ) → ((n : Name) → listed n ≡ Some (Subset (record { 0 = k })) → ⊥) →
+    place_at new k ≡ place_at old k
 
 -- whether a list has names
 abbrev pub is_filled : List Entry → Bool
@@ -44,11 +54,19 @@ lacks filled (Some (Subset o)) (Subset j) = filled j.0
 abbrev pub lacks_at : (ℕ → Bool) → (Name → Option Below) → Entry → Bool
 lacks_at filled held e = lacks filled (held (string_bytes e.0)) e.1
 
+-- for each name of a node, whether what g has at its place lacks something of what stands there
+abbrev pub marks_at : Graph → List (Option Below) → List (List Entry) → ℕ → List Bool
+marks_at g places ls k = map (lacks_at (has_names ls) (under g (place_at places k))) (get_or ls k [])
+
 -- those of a list that are marked
 abbrev pub marked : List Bool → List Entry → List Entry
 marked [] es = []
 marked (m ∷ ms) [] = []
 marked (m ∷ ms) (e ∷ es) = cond m (e ∷ marked ms es) (marked ms es)
+
+-- one node keeps those of its names that are marked
+abbrev pub kept_at : List Bool → ℕ → List (List Entry) → List (List Entry)
+kept_at marks k ls = set ls k (marked marks (get_or ls k []))
 
 -- what is left under a name
 abbrev pub left_of : (ℕ → Bool) → Option Below → Option Below → Option Below
@@ -56,5 +74,11 @@ left_of filled held None = None
 left_of filled held (Some b) = cond (lacks filled held b) (Some b) None
 
 -- each node of h lists what is left beside g
-abbrev pub IsPruned : Graph → (ℕ → Option Below) → Graph → List (List Entry) → Type 0
-IsPruned g place h ls = (k : ℕ) (n : Name) → listed ls k n ≡ left_of (has_names ls) (under g (place k) n) (h k n)
+abbrev pub IsPruned : Graph → List (Option Below) → Graph → List (List Entry) → Type 0
+IsPruned g places h ls = (k : ℕ) (n : Name) →
+    listed ls k n ≡ left_of (has_names ls) (under g (place_at places k) n) (h k n)
+
+-- of each subset but the root something is left
+abbrev pub AreLeft : List (Option Below) → List (List Entry) → ℕ → Type 0
+AreLeft places ls size = (j : ℕ) → 0 < j → j < size →
+    lacks (has_names ls) (place_at places j) (Subset (record { 0 = j })) ≡ true

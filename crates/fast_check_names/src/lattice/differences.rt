@@ -1,13 +1,14 @@
-//! What a new set has beyond an old one is left of the new set by two passes over its nodes. A node lists later ones alone: so the first pass, from the
-//! first node on, notes for each node what the old set has at its place, and the second, from the last node back, takes the names out that lack nothing.
+//! What a new set has beyond an old one is what two passes leave of the new set's nodes. A node lists later ones alone. So the first pass
+//! goes forwards, and notes for each node what the old set has at its place; the second goes back from the last node, and takes out each
+//! name below which nothing is new.
 
-ghost use Rattle.std.specs.Prelude.{◌≡◌, ◌<◌, ℕ, OnOk, IfOk, IsTrue, Some, true, false, cond, [], length, map, set, get_or, vec_len};
+ghost use Rattle.std.specs.Prelude.{◌≡◌, ◌<◌, ℕ, OnOk, IfOk, IsTrue, Some, true, false, cond, length, get_or, [], vec_len};
 ghost use Rattle.fast_check_names.specs.declared.lattice.node.NodeNo.{NodeNo};
-ghost use Rattle.fast_check_names.specs.Order.{Name, IsOnce};
 ghost use Rattle.fast_check_names.specs.Graph.{entry, listings, below_node, IsTree};
 ghost use Rattle.fast_check_names.specs.Names.{paths, IsDifference};
 ghost use Rattle.fast_check_names.specs.Numbers.{is_node};
-ghost use Rattle.fast_check_names.specs.Pruned.{under, place_at, has_names, lacks, lacks_at, marked, AreBeside, IsPruned};
+ghost use Rattle.fast_check_names.specs.Pruned.{under, place_at, has_names, lacks, marks_at, marked, kept_at, AreNoted, AreOthersSame};
+ghost use Rattle.fast_check_names.specs.Pruned.{AreBeside, IsPruned, AreLeft};
 
 use crate::lattice::begins::{begins_of, note_begins};
 use crate::lattice::calls::names_of;
@@ -32,7 +33,7 @@ fn held_under(old: &[Node], place: Option<Below>, name: &str) -> Option<Below>
     }
 }
 
-/// What is noted for a node.
+/// What the old set has at the place of a node, as it is noted. What is not there stands for the root.
 fn noted(places: &[Option<Below>], at: usize) -> Option<Below>
     ensures { result ≡ place_at places.now at }
 {
@@ -42,7 +43,7 @@ fn noted(places: &[Option<Below>], at: usize) -> Option<Below>
     }
 }
 
-/// Notes for the node of a subset that stands under a name what the old set has there.
+/// Notes for the node of a subset that stands under a name, below a place, what the old set has there.
 fn note_below(
     places: &mut Vec<Option<Below>>,
     old: &[Node],
@@ -52,7 +53,8 @@ fn note_below(
 )
     requires { (j : NodeNo) → below ≡ Below.Subset j → j.0 < vec_len places.old }
     ensures len { vec_len places.new ≡ vec_len places.old }
-    ensures noted { (k : ℕ) → place_at places.new.items k ≡ cond (is_node below k) (under (entry old.now) place name.now) (place_at places.old.items k) }
+    ensures noted { (k : ℕ) → place_at places.new.items k
+        ≡ cond (is_node below k) (under (entry old.now) place name.now) (place_at places.old.items k) }
 {
     let Below::Subset(no) = below else {
         return;
@@ -65,8 +67,8 @@ fn note_listed(places: &mut Vec<Option<Below>>, old: &[Node], nodes: &[Node], at
     requires tree { IsTree (entry nodes.now) (length nodes.now) }
     requires len { vec_len places.old ≡ length nodes.now }
     ensures len { vec_len places.new ≡ vec_len places.old }
-    ensures listed { (n : Name) (j : NodeNo) → entry nodes.now at n ≡ Some (Below.Subset j) → place_at places.new.items j.0 ≡ under (entry old.now) (place_at places.old.items at) n }
-    ensures others { (k : ℕ) → ((n : Name) → entry nodes.now at n ≡ Some (Below.Subset (record { 0 = k })) → ⊥) → place_at places.new.items k ≡ place_at places.old.items k }
+    ensures listed { AreNoted (entry old.now) (place_at places.old.items at) (entry nodes.now at) places.new.items }
+    ensures others { AreOthersSame (entry nodes.now at) places.old.items places.new.items }
 {
     let place = noted(places.as_slice(), at);
     for (name, below) in names_of(nodes, at) {
@@ -91,7 +93,8 @@ fn places_beside(
     Ok(places)
 }
 
-/// Whether the old set, of which this is held under a name, lacks something of what stands there. A subset beside one has what is left of it.
+/// Whether what the old set has under a name lacks something of what stands there in the new one. Of a subset beside a subset that is known
+/// once its node is pruned: something is lacking where it still has names.
 fn is_lacking(nodes: &[Node], held: Option<Below>, below: Below) -> bool
     ensures { result ≡ lacks (has_names (listings nodes.now)) held below }
 {
@@ -105,7 +108,7 @@ fn is_lacking(nodes: &[Node], held: Option<Below>, below: Below) -> bool
     }
 }
 
-/// What the old set has under a name of a node at this place. For the node of a subset it is noted.
+/// What the old set has under a name, below a place. For a name with a subset it is noted, so that each name is looked up once.
 fn held_at(
     old: &[Node],
     places: &[Option<Below>],
@@ -122,7 +125,7 @@ fn held_at(
     }
 }
 
-/// Marks the names of node `at` of which the old set lacks something.
+/// Marks those names of node `at` of which the old set lacks something.
 fn mark_names(
     marks: &mut Vec<bool>,
     old: &[Node],
@@ -130,8 +133,8 @@ fn mark_names(
     nodes: &[Node],
     at: usize,
 ) -> Result<(), AllocError>
-    requires { (n : Name) (j : NodeNo) → entry nodes.now at n ≡ Some (Below.Subset j) → place_at places.now j.0 ≡ under (entry old.now) (place_at places.now at) n }
-    ensures { OnOk result (marks.new.items ≡ map (lacks_at (has_names (listings nodes.now)) (under (entry old.now) (place_at places.now at))) (get_or (listings nodes.now) at [])) }
+    requires { AreNoted (entry old.now) (place_at places.now at) (entry nodes.now at) places.now }
+    ensures { OnOk result (marks.new.items ≡ marks_at (entry old.now) places.now (listings nodes.now) at) }
 {
     marks.clear();
     let place = noted(places, at);
@@ -190,7 +193,7 @@ fn keep_at(nodes: &mut Vec<Node>, at: usize, marks: &[bool])
     requires within { at < vec_len nodes.old }
     requires len { length marks.now ≡ length (get_or (listings nodes.old.items) at []) }
     ensures len { vec_len nodes.new ≡ vec_len nodes.old }
-    ensures kept { listings nodes.new.items ≡ set (listings nodes.old.items) at (marked marks.now (get_or (listings nodes.old.items) at [])) }
+    ensures kept { listings nodes.new.items ≡ kept_at marks.now at (listings nodes.old.items) }
 {
     if are_marked(marks) {
         return;
@@ -200,7 +203,8 @@ fn keep_at(nodes: &mut Vec<Node>, at: usize, marks: &[bool])
     note_places(nodes, at, 0);
 }
 
-/// Takes the names out of which the old set lacks nothing. The last node comes first, so that what is left of the nodes that a node lists is known.
+/// Takes out each name of which the old set lacks nothing. The last node comes first, so that it is known what is left of those that a node
+/// lists.
 fn prune(
     alloc: Global,
     nodes: &mut Vec<Node>,
@@ -210,7 +214,7 @@ fn prune(
     requires tree { IsTree (entry nodes.old.items) (vec_len nodes.old) }
     requires beside { AreBeside (entry old.now) (entry nodes.old.items) places.now }
     ensures len { vec_len nodes.new ≡ vec_len nodes.old }
-    ensures pruned { OnOk result (IsPruned (entry old.now) (place_at places.now) (entry nodes.old.items) (listings nodes.new.items)) }
+    ensures pruned { OnOk result (IsPruned (entry old.now) places.now (entry nodes.old.items) (listings nodes.new.items)) }
 {
     let mut marks = Vec::new(alloc);
     let mut left = nodes.len();
@@ -222,9 +226,9 @@ fn prune(
     Ok(())
 }
 
-/// Whether each node but the root is still listed.
+/// Whether each node but the root is still listed: of each something is left.
 fn are_listed(nodes: &[Node], places: &[Option<Below>]) -> bool
-    ensures { IsTrue result → (j : ℕ) → 0 < j → j < length nodes.now → lacks (has_names (listings nodes.now)) (place_at places.now j) (Below.Subset (record { 0 = j })) ≡ true }
+    ensures { IsTrue result → AreLeft places.now (listings nodes.now) (length nodes.now) }
 {
     for at in 1..nodes.len() {
         let place = noted(places, at);
@@ -235,7 +239,8 @@ fn are_listed(nodes: &[Node], places: &[Option<Below>]) -> bool
     true
 }
 
-/// What a new set has beyond the nodes of an old one: the nodes that are left of it, or a copy of those that are still listed, where some are not.
+/// What a new set has beyond the nodes of an old one: its own nodes, as they are left; or, where some of them are no longer listed, a copy of
+/// those that are.
 pub(crate) fn difference(
     alloc: Global,
     old: &[Node],

@@ -1,6 +1,5 @@
 use Rattle.std.proofs.Common.{◌≡◌, ◌≤◌, vec_len}
 use Rattle.fast_check_names.specs.Graph.{entry, listings}
-use Rattle.fast_check_names.specs.Pruned.{place_at}
 use Rattle.fast_check_names.proofs.Pruned.{IsPruning}
 use Rattle.fast_check_names.proofs.lattice.differences.prune.Given as goal
 
@@ -8,7 +7,7 @@ abbrev pub invariant-nodes : goal.invariant-nodes
 invariant-nodes l = record {
   len : vec_len l.nodes ≡ vec_len l.initial.nodes;
   upto : l.left ≤ vec_len l.nodes;
-  pruning : IsPruning (entry l.old) (place_at l.places) (entry l.initial.nodes.items) l.left (listings l.nodes.items);
+  pruning : IsPruning (entry l.old) l.places (entry l.initial.nodes.items) l.left (listings l.nodes.items);
 }
 
 abbrev pub decreases-nodes : goal.decreases-nodes
