@@ -3,7 +3,6 @@ use Rattle.std.proofs.Common.{◌≡◌, ◌∙◌, sym, ap, refl, ⊎_elim, ℕ
 use Rattle.std.proofs.Common.{Option, Some, arith, length, get_or, take, string_bytes}
 use Rattle.std.proofs.lemmas.Bool.{false≢true, cases_Bool, cases_lt, or_left}
 use Rattle.std.proofs.lemmas.List.{take_more, take_all}
-use Rattle.fast_check_names.specs.declared.lattice.node.NodeNo.{NodeNo}
 use Rattle.fast_check_names.specs.declared.lattice.node.Below.{Below}
 use Rattle.fast_check_names.specs.declared.lattice.node.Below.TheVariants.{Subset}
 use Rattle.fast_check_names.specs.Order.{Name, Entry, found, IsOnce}

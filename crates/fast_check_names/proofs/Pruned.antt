@@ -10,8 +10,8 @@ use Rattle.fast_check_names.specs.declared.lattice.node.Below.TheVariants.{All, 
 use Rattle.fast_check_names.specs.Order.{Name, Entry, found, IsOnce}
 use Rattle.fast_check_names.specs.Graph.{Touched, Graph, listed, reach, below_node, subset_of, IsTree, IsForest}
 use Rattle.fast_check_names.specs.Names.{nothing, everything, IsSame, IsDifference, IsRestBelow}
-use Rattle.fast_check_names.specs.Pruned.{under, place_at, is_filled, has_names, lacks, lacks_at, marks_at, marked, kept_at, left_of, AreBeside}
-use Rattle.fast_check_names.specs.Pruned.{IsPruned, AreLeft}
+use Rattle.fast_check_names.specs.Pruned.{under, place_at, is_filled, has_names, lacks, lacks_at, marks_at, marked, kept_at, left_of}
+use Rattle.fast_check_names.specs.Pruned.{AreBeside, IsPruned, AreLeft}
 use Rattle.fast_check_names.proofs.Walks.{name_shows}
 use Rattle.fast_check_names.proofs.Places.{found_none}
 use Rattle.fast_check_names.proofs.Puts.{none_is, all_is}

@@ -239,8 +239,8 @@ fn are_listed(nodes: &[Node], places: &[Option<Below>]) -> bool
     true
 }
 
-/// What a new set has beyond the nodes of an old one: its own nodes, as they are left; or, where some of them are no longer listed, a copy of
-/// those that are.
+/// What a new set has beyond the nodes of an old one: its own nodes, as they are left; or, where some are listed no longer, a copy of those
+/// that are.
 pub(crate) fn difference(
     alloc: Global,
     old: &[Node],

@@ -1,6 +1,6 @@
 //! Two sets are joined in one pass over a queue of pairs of their nodes: each pair whose node is made puts those that stand below it at the end.
 
-ghost use Rattle.std.specs.Prelude.{◌≡◌, ◌++◌, ◌∷◌, [], ℕ, List, IfOk, OnOk, Some, None, MatchOption, length, get_or, string_bytes, vec_len};
+ghost use Rattle.std.specs.Prelude.{◌≡◌, ◌++◌, [], List, IfOk, OnOk, Some, None, MatchOption, length, get_or, string_bytes, vec_len};
 ghost use Rattle.fast_check_names.specs.declared.lattice.node.NodeNo.{NodeNo};
 ghost use Rattle.fast_check_names.specs.Order.{Name, IsOnce, IsOrder, names_in, lists, found};
 ghost use Rattle.fast_check_names.specs.Graph.{entry, listings, below_node, IsTree};

@@ -16,8 +16,8 @@ use crate::lattice::covers::write_all;
 use crate::lattice::listing::{note, noted_number};
 use crate::lattice::node::{Below, Listing, Node, NodeNo};
 
-/// So many nodes go at most: each one that takes a place is looked for twice.
-const FEW: usize = 4;
+/// So many nodes go at most: for each one that takes a place, the name is looked for twice under which it stands.
+const FEW: usize = 64;
 
 /// Where a stretch ends that goes on with the nodes that a list leads to, if these come next, in turn.
 fn end_past(names: &[(String, Below)], end: usize, size: usize) -> Option<usize>
