@@ -13,11 +13,7 @@ use Rattle.std.proofs.lemmas.Map.Steps.{length-le_from_distinct_below}
 use Rattle.fast_check_names.specs.declared.lattice.node.NodeNo.{NodeNo}
 use Rattle.fast_check_names.specs.declared.lattice.node.Below.TheVariants.{Subset}
 use Rattle.fast_check_names.specs.Order.{Name}
-use Rattle.fast_check_names.specs.Graph.{Graph, IsTree, IsForest}
-
--- a tree is a forest
-pub forest_of : (g : Graph) (size : ℕ) → IsTree g size → IsForest g size
-forest_of g size tree = record { later = tree.later; once = tree.once }
+use Rattle.fast_check_names.specs.Graph.{Graph, IsForest}
 
 -- the place j is listed at one before it, and where it has a node of the forest, the node there lists that
 pub record IsReferred (g w : Graph) (size : ℕ) (q : ℕ → ℕ) (j : ℕ) : Type 0 where
@@ -34,7 +30,7 @@ next_place queue i count e l = omega (arith, e, l, queue.ok.0)
 pub next_item : {X : Type 0} (queue : List X) (i : ℕ) (x d : X) → i < length queue → x ≡ get_or queue i x → x ≡ get_or queue i d
 next_item queue i x d l e = e ∙ get_or_default queue i x d l
 
-subset_is : (i j : NodeNo) → Some (Subset i) ≡ Some (Subset j) → i.0 ≡ j.0
+pub subset_is : (i j : NodeNo) → Some (Subset i) ≡ Some (Subset j) → i.0 ≡ j.0
 subset_is i j e = let same : i ≡ j = cc in ap (λ (x : NodeNo). x.0) same
 
 module _ (g w : Graph) (size at count : ℕ) (q : ℕ → ℕ) (forest : IsForest g size) (first : q 0 ≡ at)

@@ -1,4 +1,4 @@
--- Two trees are joined in the order of a queue of pairs: the pair at place k is at k, and w lists what the nodes that are made list.
+-- Two forests are joined in the order of a queue of pairs: the pair at place k is at k, and w lists what the nodes that are made list.
 use Rattle.std.proofs.Common.{◌≡◌, ◌∙◌, sym, ap, refl, subst, ⊎_elim, ◌⊎◌, inl, inr, ℕ, ◌+◌, ◌<◌, ◌≤◌, ◌-◌, Bool, true, false, ◌||◌, cond, ltb}
 use Rattle.std.proofs.Common.{List, [], ◌∷◌, ◌++◌, Option, Some, None, arith, length}
 use Rattle.std.proofs.Math.Bool.{or-true}
@@ -12,14 +12,15 @@ use Rattle.fast_check_names.specs.declared.lattice.joins.Pair.{Pair}
 use Rattle.fast_check_names.specs.declared.lattice.joins.Both.{Both}
 use Rattle.fast_check_names.specs.declared.lattice.joins.Both.TheVariants.{Whole, Nodes}
 use Rattle.fast_check_names.specs.Order.{Name, found}
-use Rattle.fast_check_names.specs.Graph.{Graph, entry, Part, Path, is_touched, ends, reach, below_node, IsTree, IsAfter}
+use Rattle.fast_check_names.specs.Graph.{Graph, entry, Part, Path, is_touched, ends, reach, below_node, IsTree, IsForest, IsAfter}
 use Rattle.fast_check_names.specs.Names.{IsJoin}
 use Rattle.fast_check_names.specs.Pairs.{pair_at, both, with_pairs, IsMade}
-use Rattle.fast_check_names.proofs.Apart.{forest_of, IsReferred, apart, count_upto}
+use Rattle.fast_check_names.proofs.Apart.{IsReferred, apart, count_upto}
 use Rattle.fast_check_names.proofs.Lists.{entry_front, entry_behind}
 use Rattle.fast_check_names.proofs.Made.{with_same, pair_front}
 use Rattle.fast_check_names.proofs.Puts.{none_is}
-use Rattle.fast_check_names.proofs.Walks.{or_false, or_itself, is_after}
+use Rattle.fast_check_names.proofs.Queued.{none_no_subset}
+use Rattle.fast_check_names.proofs.Walks.{or_false, or_itself, is_after, forest_after}
 
 -- of a queue of count pairs the first i are joined
 pub record AreJoined (g h : Graph) (a b : ℕ) (start : Pair) (at : ℕ → Pair) (count i : ℕ) (w : Graph) : Type 0 where
@@ -93,9 +94,6 @@ module _ (g h w v : Graph) (a b i count long : ℕ) (start : Pair) (at to : ℕ 
         (λ (s : count ≤ j). let n = listed j s l in ((i, n.0), omega arith, n.1))
         (cases_lt j count);
   }
-
-none_no : (j : NodeNo) → None ≡ Some (Subset j) → ⊥
-none_no j e = cc
 
 void_no : (x : Pair) → None ≡ Some (Nodes x) → ⊥
 void_no x e = cc
@@ -182,7 +180,7 @@ key_is a x = ⊎_elim
     (λ (l : a ≤ x.first). inr (l, ap (λ c. cond c x.first (a + x.second)) (le-ltb x.first a l)))
     (cases_lt x.first a)
 
-module _ (g h w : Graph) (a b i count : ℕ) (start : Pair) (at : ℕ → Pair) (g_tree : IsTree g a) (h_tree : IsTree h b)
+module _ (g h w : Graph) (a b i count : ℕ) (start : Pair) (at : ℕ → Pair) (g_forest : IsForest g a) (h_forest : IsForest h b)
     (are : AreJoined g h a b start at count i w) where
   listed_pair : (k : ℕ) (n : Name) (j : ℕ) → k < i → w k n ≡ Some (Subset (record { 0 = j })) →
       both a b (g (at k).first n) (h (at k).second n) ≡ Some (Nodes (at j))
@@ -210,11 +208,12 @@ module _ (g h w : Graph) (a b i count : ℕ) (start : Pair) (at : ℕ → Pair) 
         refers = second_is a b (g (at p.0.0).first p.0.1) (h (at p.0.0).second p.0.1) (at j) (listed_pair p.0.0 p.0.1 j p.1 p.2);
       }
 
-  some_node : (j : ℕ) → 0 < j → j < count → ((at j).first < a) ⊎ ((at j).second < b)
+  -- each pair but the first has a node of one of the two
+  pub some_node : (j : ℕ) → 0 < j → j < count → ((at j).first < a) ⊎ ((at j).second < b)
   some_node j z l =
       let p = are.parent j z l in
       some_is a b (g (at p.0.0).first p.0.1) (h (at p.0.0).second p.0.1) (at j) (listed_pair p.0.0 p.0.1 j p.1 p.2)
-      (is_after g a g_tree 0 (at p.0.0).first p.0.1 (omega arith)) (is_after h b h_tree 0 (at p.0.0).second p.0.1 (omega arith))
+      (forest_after g a g_forest 0 (at p.0.0).first p.0.1 (omega arith)) (forest_after h b h_forest 0 (at p.0.0).second p.0.1 (omega arith))
 
   second_there : (j : ℕ) → 0 < j → j < count → a ≤ (at j).first → (at j).second < b
   second_there j z l none = ⊎_elim (λ (t : (at j).first < a). absurd (omega (arith, t, none))) (λ (t : (at j).second < b). t)
@@ -230,14 +229,14 @@ module _ (g h w : Graph) (a b i count : ℕ) (start : Pair) (at : ℕ → Pair) 
   key_apart k j z s l e = ⊎_elim
       (λ (t : ((at j).first < a) × (key a (at j) ≡ (at j).first)). ⊎_elim
       (λ (u : ((at k).first < a) × (key a (at k) ≡ (at k).first)).
-      apart g w a start.first count (λ m. (at m).first) (forest_of g a g_tree) (ap (λ (x : Pair). x.first) are.first) first_referred k j s l t.0
+      apart g w a start.first count (λ m. (at m).first) g_forest (ap (λ (x : Pair). x.first) are.first) first_referred k j s l t.0
       (sym u.1 ∙ (e ∙ t.1)))
       (λ (u : (a ≤ (at k).first) × (key a (at k) ≡ a + (at k).second)). omega (arith, t.0, t.1, u.1, e))
       (key_is a (at k)))
       (λ (t : (a ≤ (at j).first) × (key a (at j) ≡ a + (at j).second)). ⊎_elim
       (λ (u : ((at k).first < a) × (key a (at k) ≡ (at k).first)). omega (arith, u.0, u.1, t.1, e))
       (λ (u : (a ≤ (at k).first) × (key a (at k) ≡ a + (at k).second)).
-      apart h w b start.second count (λ m. (at m).second) (forest_of h b h_tree) (ap (λ (x : Pair). x.second) are.first) second_referred k j s l
+      apart h w b start.second count (λ m. (at m).second) h_forest (ap (λ (x : Pair). x.second) are.first) second_referred k j s l
       (second_there j (omega (arith, s)) l t.0) (omega (arith, u.1, t.1, e)))
       (key_is a (at k)))
       (key_is a (at j))
@@ -255,7 +254,7 @@ module _ (g h w : Graph) (a b i count : ℕ) (start : Pair) (at : ℕ → Pair) 
   module _ (done : count ≤ i) (past : (k : ℕ) (n : Name) → i ≤ k → w k n ≡ None) (g_past : (n : Name) → g a n ≡ None)
       (h_past : (n : Name) → h b n ≡ None) where
     in_nodes : (k : ℕ) (n : Name) (j : NodeNo) → w k n ≡ Some (Subset j) → k < i
-    in_nodes k n j e = ⊎_elim (λ (l : k < i). l) (λ (l : i ≤ k). absurd (none_no j (sym (past k n l) ∙ e))) (cases_lt k i)
+    in_nodes k n j e = ⊎_elim (λ (l : k < i). l) (λ (l : i ≤ k). absurd (none_no_subset j (sym (past k n l) ∙ e))) (cases_lt k i)
 
     pub tree_joined : IsTree w count
     tree_joined = record {
@@ -324,8 +323,8 @@ next_joined g h a b start nodes queue longer i node are count next made =
     (λ n m j e d. made.once n m j (sym (turn n) ∙ e) (sym (turn m) ∙ d))
     (λ j low high. let l = made.each j low high in (l.0, turn l.0 ∙ l.1))
 
-pub one_queued : (g h : Graph) (a b : ℕ) (start : Pair) (queue before : List Pair) (w : Graph) → before ≡ [] → queue ≡ before ++ start ∷ [] →
+pub pair_queued : (g h : Graph) (a b : ℕ) (start : Pair) (queue before : List Pair) (w : Graph) → before ≡ [] → queue ≡ before ++ start ∷ [] →
     AreJoined g h a b start (pair_at queue) (length queue) 0 w
-one_queued g h a b start queue before w none e =
+pair_queued g h a b start queue before w none e =
     let Q : List Pair → Type 0 = λ q. AreJoined g h a b start (pair_at q) (length q) 0 w in
     subst Q (sym (e ∙ ap (λ ps. ps ++ start ∷ []) none)) (none_joined g h a b start (pair_at (start ∷ [])) w refl)

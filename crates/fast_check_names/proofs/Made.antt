@@ -13,20 +13,16 @@ use Rattle.fast_check_names.specs.declared.lattice.joins.Both.{Both}
 use Rattle.fast_check_names.specs.declared.lattice.joins.Both.TheVariants.{Whole, Nodes}
 use Rattle.fast_check_names.specs.Order.{Name, Entry, found, names_in, IsOnce, IsAbsentBefore}
 use Rattle.fast_check_names.specs.Pairs.{pair_at, alone, beside, both, both_so_far, pairs_of, numbered, with_pairs, IsPushed, IsMade}
+use Rattle.fast_check_names.proofs.Apart.{subset_is}
 use Rattle.fast_check_names.proofs.Built.{new_name, one_more}
 use Rattle.fast_check_names.proofs.Extends.{no_place}
 use Rattle.fast_check_names.proofs.Places.{names_push, once_push, found_push}
+use Rattle.fast_check_names.proofs.Queued.{none_no_subset}
 use Rattle.fast_check_names.proofs.Roots.{none_once}
 use Rattle.fast_check_names.proofs.Walks.{name_shows}
 
-none_no_subset : (j : NodeNo) → None ≡ Some (Subset j) → ⊥
-none_no_subset j e = cc
-
 all_no_subset : (j : NodeNo) → Some All ≡ Some (Subset j) → ⊥
 all_no_subset j e = cc
-
-subset_is : (i j : NodeNo) → Some (Subset i) ≡ Some (Subset j) → i.0 ≡ j.0
-subset_is i j e = let same : i ≡ j = cc in ap (λ (x : NodeNo). x.0) same
 
 pub with_none : (at : ℕ → Pair) (o : Option Below) → None ≡ with_pairs at o → o ≡ None
 with_none at None e = refl

@@ -109,7 +109,7 @@ found_copy q count (x ∷ es) (y ∷ fs) is h n =
 all_no_subset : (j : NodeNo) → All ≡ Subset j → ⊥
 all_no_subset j e = cc
 
-none_no_subset : (j : NodeNo) → None ≡ Some (Subset j) → ⊥
+pub none_no_subset : (j : NodeNo) → None ≡ Some (Subset j) → ⊥
 none_no_subset j e = cc
 
 below_is : (b c : Below) → Some b ≡ Some c → b ≡ c
@@ -138,6 +138,32 @@ copy_range count (x ∷ es) (y ∷ fs) is n j e =
     (λ (f : (bytes_eq (string_bytes y.0) n ≡ false) × (string_bytes y.0 ≡ n → ⊥)).
     let there = copy_range (count + length (next_of x.1)) es fs is.2 n j (sym (ap (λ b. cond b (Some y.1) (found fs n)) f.0) ∙ e) in
     (omega (arith, there.0), omega (arith, there.1, long)))
+    (name_shows (string_bytes y.0) n)
+
+-- each place under one name
+pub copy_once : (count : ℕ) (es fs : List Entry) → IsCopyFrom count es fs → (n m : Name) (j : NodeNo) → found fs n ≡ Some (Subset j) →
+    found fs m ≡ Some (Subset j) → n ≡ m
+copy_once count [] [] is n m j e d = absurd (none_no_subset j e)
+copy_once count [] (y ∷ fs) is n m j e d = absurd is
+copy_once count (x ∷ es) [] is n m j e d = absurd is
+copy_once count (x ∷ es) (y ∷ fs) is n m j e d =
+    let here : (l : Name) → found (y ∷ fs) l ≡ Some (Subset j) → bytes_eq (string_bytes y.0) l ≡ true → j.0 < count + length (next_of x.1) =
+    λ l h t. (head_range count x.1 y.1 j is.1 (below_is y.1 (Subset j) (sym (ap (λ b. cond b (Some y.1) (found fs l)) t) ∙ h))).1 in
+    let behind : (l : Name) → found (y ∷ fs) l ≡ Some (Subset j) → bytes_eq (string_bytes y.0) l ≡ false → found fs l ≡ Some (Subset j) =
+    λ l h f. sym (ap (λ b. cond b (Some y.1) (found fs l)) f) ∙ h in
+    let later : (l : Name) → found fs l ≡ Some (Subset j) → count + length (next_of x.1) ≤ j.0 =
+    λ l h. (copy_range (count + length (next_of x.1)) es fs is.2 l j h).0 in ⊎_elim
+    (λ (t : (bytes_eq (string_bytes y.0) n ≡ true) × (string_bytes y.0 ≡ n)). ⊎_elim
+    (λ (s : (bytes_eq (string_bytes y.0) m ≡ true) × (string_bytes y.0 ≡ m)). sym t.1 ∙ s.1)
+    (λ (s : (bytes_eq (string_bytes y.0) m ≡ false) × (string_bytes y.0 ≡ m → ⊥)).
+    absurd (omega (arith, here n e t.0, later m (behind m d s.0))))
+    (name_shows (string_bytes y.0) m))
+    (λ (t : (bytes_eq (string_bytes y.0) n ≡ false) × (string_bytes y.0 ≡ n → ⊥)). ⊎_elim
+    (λ (s : (bytes_eq (string_bytes y.0) m ≡ true) × (string_bytes y.0 ≡ m)).
+    absurd (omega (arith, here m d s.0, later n (behind n e t.0))))
+    (λ (s : (bytes_eq (string_bytes y.0) m ≡ false) × (string_bytes y.0 ≡ m → ⊥)).
+    copy_once (count + length (next_of x.1)) es fs is.2 n m j (behind n e t.0) (behind m d s.0))
+    (name_shows (string_bytes y.0) m))
     (name_shows (string_bytes y.0) n)
 
 head_lists : (count : ℕ) (b c : Below) (j : ℕ) → c ≡ placed count b → count ≤ j → j < count + length (next_of b) →

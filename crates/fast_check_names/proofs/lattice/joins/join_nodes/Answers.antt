@@ -10,13 +10,14 @@ use Rattle.fast_check_names.proofs.Lists.{graph_along}
 use Rattle.fast_check_names.proofs.Puts.{tree_along}
 use Rattle.fast_check_names.proofs.Copies.{past_none}
 use Rattle.fast_check_names.proofs.Apart.{next_place, next_item}
-use Rattle.fast_check_names.proofs.Joined.{one_queued, next_joined, pairs_bound, tree_joined, same_joined}
+use Rattle.fast_check_names.proofs.Joined.{pair_queued, next_joined, pairs_bound, tree_joined, same_joined}
+use Rattle.fast_check_names.proofs.Walks.{forest_of}
 use Rattle.fast_check_names.proofs.lattice.joins.join_nodes.Goals as goal
 
 pub queue-init : goal.queue-init
 queue-init c = record {
   count = ap length c.new-nodes.ensures.items;
-  are = one_queued (entry c.args.old.nodes.now) (entry c.args.new.nodes.now) (length c.args.old.nodes.now) (length c.args.new.nodes.now)
+  are = pair_queued (entry c.args.old.nodes.now) (entry c.args.new.nodes.now) (length c.args.old.nodes.now) (length c.args.new.nodes.now)
       (record { first = c.args.old.no; second = c.args.new.no }) c.push.new.self.items c.new-queue.result.items
       (entry c.new-nodes.result.items) c.new-queue.ensures.items c.in_ok-push.ensures.items;
 }
@@ -28,7 +29,8 @@ queue-smaller c =
     let queue = c.queue.queue.items in
     let bound : length queue ≤ length old + length new + 1 =
     pairs_bound (entry old) (entry new) (entry c.queue.nodes.items) (length old) (length new) c.queue.i (length queue)
-    (record { first = c.args.old.no; second = c.args.new.no }) (pair_at queue) c.requires.old_tree c.requires.new_tree
+    (record { first = c.args.old.no; second = c.args.new.no }) (pair_at queue)
+    (forest_of (entry old) (length old) c.requires.old_tree) (forest_of (entry new) (length new) c.requires.new_tree)
     c.queue.invariant.are in
     let next = next_place c.queue.queue c.queue.i c.len.result c.len.ensures c.queue-test.true in omega (arith, bound, next)
 
@@ -65,7 +67,8 @@ returns-clause-tree c =
     tree_along nodes c.note_all.new.nodes.items (vec_len c.queue.nodes) (vec_len c.note_all.new.nodes) c.note_all.ensures.same
     c.note_all.ensures.len (subst (λ (m : ℕ). IsTree (entry nodes) m) same
     (tree_joined (entry old) (entry new) (entry nodes) (length old) (length new) c.queue.i (length queue)
-    (record { first = c.args.old.no; second = c.args.new.no }) (pair_at queue) c.requires.old_tree c.requires.new_tree
+    (record { first = c.args.old.no; second = c.args.new.no }) (pair_at queue)
+    (forest_of (entry old) (length old) c.requires.old_tree) (forest_of (entry new) (length new) c.requires.new_tree)
     c.queue.invariant.are done (λ k n h. past_none nodes k (omega (arith, h, c.queue.invariant.count)) n)
     (past_none old (length old) (omega arith)) (past_none new (length new) (omega arith))))
 
@@ -79,6 +82,7 @@ returns-clause-join c =
     graph_along (λ g. IsJoin (below_node (entry old) c.args.old.no) (below_node (entry new) c.args.new.no) (below_node g 0))
     nodes c.note_all.new.nodes.items c.note_all.ensures.same
     (same_joined (entry old) (entry new) (entry nodes) (length old) (length new) c.queue.i (length queue)
-    (record { first = c.args.old.no; second = c.args.new.no }) (pair_at queue) c.requires.old_tree c.requires.new_tree
+    (record { first = c.args.old.no; second = c.args.new.no }) (pair_at queue)
+    (forest_of (entry old) (length old) c.requires.old_tree) (forest_of (entry new) (length new) c.requires.new_tree)
     c.queue.invariant.are done (λ k n h. past_none nodes k (omega (arith, h, c.queue.invariant.count)) n)
     (past_none old (length old) (omega arith)) (past_none new (length new) (omega arith)))
