@@ -1,4 +1,4 @@
--- Two forests are joined in the order of a queue of pairs: the pair at place k is at k, and w lists what the nodes that are made list.
+-- Two forests are joined in the order of a queue of pairs: g and h are the forests, at k is the pair at place k, and w is what is made.
 use Rattle.std.proofs.Common.{◌≡◌, ◌∙◌, sym, ap, refl, subst, ⊎_elim, ◌⊎◌, inl, inr, ℕ, ◌+◌, ◌<◌, ◌≤◌, ◌-◌, Bool, true, false, ◌||◌, cond, ltb}
 use Rattle.std.proofs.Common.{List, [], ◌∷◌, ◌++◌, Option, Some, None, arith, length}
 use Rattle.std.proofs.Math.Bool.{or-true}
@@ -22,7 +22,7 @@ use Rattle.fast_check_names.proofs.Puts.{none_is}
 use Rattle.fast_check_names.proofs.Queued.{none_no_subset}
 use Rattle.fast_check_names.proofs.Walks.{or_false, or_itself, is_after, forest_after}
 
--- of a queue of count pairs the first i are joined
+-- of a queue of count pairs the first i are joined; a and b are no nodes of g and of h
 pub record AreJoined (g h : Graph) (a b : ℕ) (start : Pair) (at : ℕ → Pair) (count i : ℕ) (w : Graph) : Type 0 where
   pub some : 0 < count
   pub within : i ≤ count

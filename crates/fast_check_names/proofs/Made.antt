@@ -12,7 +12,7 @@ use Rattle.fast_check_names.specs.declared.lattice.joins.Pair.{Pair}
 use Rattle.fast_check_names.specs.declared.lattice.joins.Both.{Both}
 use Rattle.fast_check_names.specs.declared.lattice.joins.Both.TheVariants.{Whole, Nodes}
 use Rattle.fast_check_names.specs.Order.{Name, Entry, found, names_in, IsOnce, IsAbsentBefore}
-use Rattle.fast_check_names.specs.Pairs.{pair_at, alone, beside, both, both_so_far, pairs_of, numbered, with_pairs, IsPushed, IsMade}
+use Rattle.fast_check_names.specs.Pairs.{pair_at, alone, beside, both, pairs_of, numbered, with_pairs, IsPushed, IsMade}
 use Rattle.fast_check_names.proofs.Apart.{subset_is}
 use Rattle.fast_check_names.proofs.Built.{new_name, one_more}
 use Rattle.fast_check_names.proofs.Extends.{no_place}
@@ -169,6 +169,11 @@ module _ (es fs : List Entry) (queue longer : List Pair) (name : Name) (x : Both
         ((n : Name) → w n ≡ cond (bytes_eq name n) (Some x) (m n)) → IsMade before longer (found fs) w
     push_made before m w made means = subst (λ (q : List Pair). IsMade before q (found fs) w) (sym pushed.queued)
         (made_more before queue (found es) (found fs) m w made name x lack push_found means)
+
+-- what comes of what either has under a name, where not all names came yet: o came of the second set, and p is what it has
+abbrev pub both_so_far : ℕ → ℕ → Option Below → Option Below → Option Below → Option Both
+both_so_far a b None o p = both a b None o
+both_so_far a b (Some c) o p = Some (beside b c p)
 
 -- of a pair the first i names of the one list and the first j of the other are listed
 pub record AreListed (a b : ℕ) (es fs : List Entry) (p : Name → Option Below) (before queue : List Pair) (names : List Entry) (i j : ℕ) :

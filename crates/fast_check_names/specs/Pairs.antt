@@ -32,22 +32,17 @@ both a b None None = None
 both a b None (Some c) = Some (alone a c)
 both a b (Some c) p = Some (beside b c p)
 
--- the same where only some names came, with what stands there: q in the first set, o in the second, of which p is all
-abbrev pub both_so_far : ℕ → ℕ → Option Below → Option Below → Option Below → Option Both
-both_so_far a b None o p = both a b None o
-both_so_far a b (Some c) o p = Some (beside b c p)
-
 -- the pair that joins the queue, if it is one
 abbrev pub pairs_of : Both → List Pair
 pairs_of Whole = []
 pairs_of (Nodes pair) = pair ∷ []
 
--- what is listed of it where the queue has count pairs
+-- what is listed of it, where the queue has count pairs
 abbrev pub numbered : ℕ → Both → Below
 numbered count Whole = All
 numbered count (Nodes pair) = Subset (record { 0 = count })
 
--- what is listed, by the pairs at the places
+-- what is listed, with the pair at a place for the place
 abbrev pub with_pairs : (ℕ → Pair) → Option Below → Option Both
 with_pairs at None = None
 with_pairs at (Some All) = Some Whole
