@@ -27,10 +27,10 @@ use Rattle.fast_check_names.proofs.Stretches.{once_at}
 abbrev pub Ends : Type 0
 Ends = List PathEnd
 
-abbrev pub Shown : Type 1
+abbrev Shown : Type 1
 Shown = Path → Bool → Type 0
 
-abbrev pub shown_of : PathEnd → Shown
+abbrev shown_of : PathEnd → Shown
 shown_of e p w = IsShownBy (path_of e.names.items) e.is_whole p w
 
 shows_one : (old : Ends) (e : PathEnd) → ShowsLonger (shown_of e) old (old ++ e ∷ [])
@@ -69,11 +69,6 @@ no_extent a e = cc
 one_path : (g : Graph) (size : ℕ) → IsTree g size → (k : ℕ) (n : Name) (p q : Path) → IsPathTo g k n p → IsPathTo g k n q → p ≡ q
 one_path g size tree k n p q a b =
     a.2 ∙ (ap (λ (r : Path). onto r (n ∷ [])) (leads_once g size tree a.0 b.0 k k refl a.1 b.1) ∙ sym b.2)
-
-pub shows_no_end : (ls : List (List Entry)) (k : ℕ) (e : Entry) (old : Ends) → None ≡ end_of ls e.1 →
-    ShowsLonger (IsOfName ls k e) old old
-shows_no_end ls k e old none =
-    shows_nothing (IsOfName ls k e) old (λ p w x. no_extent x.1 (none ∙ x.3))
 
 pub shows_end : (ls : List (List Entry)) (size k : ℕ) (e : Entry) (old new : Ends) (end : PathEnd) → IsTree (listed ls) size →
     Some end.is_whole ≡ end_of ls e.1 → IsPathTo (listed ls) k (string_bytes e.0) (path_of end.names.items) → new ≡ old ++ end ∷ [] →

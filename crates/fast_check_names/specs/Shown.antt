@@ -19,11 +19,11 @@ Lister = ℕ × ℕ
 abbrev pub noted : List Lister → ℕ → Lister
 noted listers j = get_or listers j (0, 0)
 
--- a node lists another at a place
+-- node j is listed there
 abbrev pub IsListedAt : List (List Entry) → ℕ → Lister → Type 0
 IsListedAt ls j p = IsPlaceOf (get_or ls p.0 []) j p.1
 
--- of each node but the first, where it is listed
+-- of each node but the first it is noted where it is listed
 abbrev pub AreListers : List (List Entry) → List Lister → Type 0
 AreListers ls listers = (j : ℕ) → 0 < j → j < length ls → IsListedAt ls j (noted listers j)
 
