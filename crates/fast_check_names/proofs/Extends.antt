@@ -1,11 +1,11 @@
 -- What a set gains at one node.
-use Rattle.std.proofs.Common.{◌≡◌, ◌∙◌, sym, ap, refl, subst, ⊎_elim, ℕ, suc, ◌<◌, ◌≤◌, Bool, true, false, ◌&&◌, ◌||◌, cond, List, []}
+use Rattle.std.proofs.Common.{◌≡◌, ◌∙◌, sym, ap, refl, subst, ⊎_elim, ℕ, suc, ◌<◌, Bool, true, false, ◌&&◌, ◌||◌, cond, List, []}
 use Rattle.std.proofs.Common.{◌∷◌, ◌++◌, Option, Some, None, arith, length, get_or, string_bytes, append_assoc}
 use Rattle.std.specs.Option.{is_some}
 use Rattle.std.specs.Prelude.{Vec, vec_len}
 use Rattle.std.specs.declared.alloc.Global.{Global}
 use Rattle.std.specs.Str.{bytes_eq}
-use Rattle.std.proofs.lemmas.Bool.{false≢true, or_right, cases_lt}
+use Rattle.std.proofs.lemmas.Bool.{false≢true, or_right}
 use Rattle.std.proofs.lemmas.List.{append-nil, get_or_append_left, get_or_default}
 use Rattle.fast_check_names.specs.declared.lattice.node.Node.{Node}
 use Rattle.fast_check_names.specs.declared.lattice.node.NodeNo.{NodeNo}
@@ -21,7 +21,7 @@ use Rattle.fast_check_names.proofs.Walks.{name_shows, descends, or_false}
 use Rattle.fast_check_names.proofs.Places.{some_entry, found_first, found_none, once_before, once_push}
 use Rattle.fast_check_names.proofs.Puts.{all_is, none_is}
 use Rattle.fast_check_names.proofs.Alike.{touched_some}
-use Rattle.fast_check_names.proofs.Copies.{subset_reach, past_nothing}
+use Rattle.fast_check_names.proofs.Copies.{subset_reach}
 
 pub itself : (n : Name) → bytes_eq n n ≡ true
 itself n = ⊎_elim (λ (t : (bytes_eq n n ≡ true) × (n ≡ n)). t.0) (λ (t : (bytes_eq n n ≡ false) × (n ≡ n → ⊥)). absurd (t.1 refl))
@@ -154,11 +154,6 @@ joined_by_rest old new rest joined new_set rest_set least join part p = join par
 pub joined_with_nothing : (old rest : NameSet) → IsSame rest nothing → IsJoin old rest old
 joined_with_nothing old rest none part p = or_false (old part p) ∙ ap (λ b. old part p || b) (sym (none part p))
 
--- a set of names that is not empty has a root
-pub has_root : (nodes : List Node) (n : Name) → below_node (entry nodes) 0 Touched (n ∷ []) ≡ true → 0 < length nodes
-has_root nodes n some = ⊎_elim (λ (h : 0 < length nodes). h)
-    (λ (h : length nodes ≤ 0). absurd (false≢true (sym (past_nothing nodes 0 h Touched (n ∷ [])) ∙ some))) (cases_lt 0 (length nodes))
-
 -- a set is its nodes
 pub same_set : (s t : NamedSubset) → s.nodes ≡ t.nodes → s ≡ t
 same_set s t e =
@@ -185,6 +180,3 @@ names_lacked g h s at other apart same n some =
 -- the same element of a list and of a longer one
 pub same_element : (xs ys : List Node) (i : ℕ) (a b : Node) → i < length xs → a ≡ get_or (xs ++ ys) i a → b ≡ get_or xs i b → a ≡ b
 same_element xs ys i a b h ea eb = ea ∙ (get_or_append_left xs ys a i h ∙ (get_or_default xs i a b h ∙ sym eb))
-
-pub entry_same : (x y : Entry) → Some x ≡ Some y → x ≡ y
-entry_same x y e = cc
