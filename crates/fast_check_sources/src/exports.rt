@@ -11,17 +11,16 @@ use fast_check_name_demands::NameDemand;
 use fast_check_names::{Exports, ImportedExports, NamedSubset};
 use std::alloc::{AllocError, Global};
 
-/// What is asked below a name, where a path goes on below it that is touched.
+/// What is asked below a name, where a path goes on below it that is touched. The last name stands inmost.
 fn exports_below(alloc: Global, parts: &[String]) -> Result<Exports, AllocError>
     ensures { IfOk result (λ below. IsSame (paths_below below) (touched_below (path_of parts.now))) }
 {
-    match parts.split_first() {
-        None => Ok(Exports::subset(alloc)),
-        Some((first, rest)) => {
-            let below = exports_below(alloc, rest)?;
-            Ok(Exports::Subset(one_name(alloc, first.as_str(), below)?))
-        }
+    let mut below = Exports::subset(alloc);
+    for place in (0..parts.len()).rev() {
+        let names = one_name(alloc, parts[place].as_str(), below)?;
+        below = Exports::Subset(names);
     }
+    Ok(below)
 }
 
 /// The set of one name, and what is asked below it.
