@@ -92,6 +92,7 @@ def keys_with_other_values():
 
 
 ONE = [shapes.url(0)]
+TWO = [shapes.url(0), shapes.url(1)]
 # what a run shows, the shape and its size, and the modules that are answered (with their skeletons where these are not empty), or the line of the refusal
 CASES = [
     ("hostile_ring_of_aliases", shapes.alias_ring(1000), ONE),
@@ -102,6 +103,14 @@ CASES = [
     ("hostile_ring_of_re_exports_of_all", *a_ring_of_re_exports_of_all(1000)),
     ("hostile_nested_namespaces", shapes.nested_namespaces(1000), ONE),
     ("hostile_path_of_names", shapes.path_of_names(10_000), ONE),
+    # longer than the stack would hold by a call for each name
+    ("hostile_path_behind_a_file", shapes.path_behind_a_file(70_000), TWO),
+    ("hostile_paths_that_part_behind_a_file", shapes.paths_that_part_behind_a_file(40_000), TWO),
+    ("hostile_path_through_files", shapes.path_through_files(50), sorted(shapes.url(place) for place in range(51))),
+    ("hostile_path_through_aliases", shapes.path_through_aliases(50), ONE),
+    ("hostile_parts_through_aliases", shapes.parts_through_aliases(50), ONE),
+    ("hostile_askers_through_aliases", shapes.askers_through_aliases(50), ONE),
+    ("hostile_paths_covered", shapes.paths_covered_of_many_lengths(50), TWO),
     ("hostile_long_name", *a_long_name(100_000)),
     ("hostile_exports_of_a_symbol", exports_of_a_symbol(3000), ONE),
     ("hostile_members_asked_for", shapes.members_asked_for(50), ONE),

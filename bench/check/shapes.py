@@ -3,8 +3,10 @@
 
 A line for each shape: the largest number, its megabytes, the status, the processor seconds of the three sizes (each twice the one before; of three runs
 the quickest), the bytes held a byte of the largest, and the exponent by which seconds grow with bytes, fitted to the three. The first size is doubled until a run takes
-a tenth of a second, or the input has 4 MB; of two shapes it has an end. An exponent above 1.2 is told, and so is a run that ends by a signal; then the status is 1. A shape that is
-known to grow with the square (SECURITY.md) is told as such, and only a run that ends by a signal counts against it.
+a tenth of a second, or the input has 4 MB. An exponent above 1.2 is told, and so is a run that ends by a signal; then the status is 1.
+
+From some shapes more demands follow than they have bytes: as many as the product of two of their lengths. Of these the seconds are fitted to the demands in place of the bytes,
+and a line says so. One shape is known to grow with the square of both (SECURITY.md): that is told, and only a run that ends by a signal counts against it.
 
 Usage: bench/check/shapes.py PROGRAM [SHAPE ..]
 """
@@ -18,9 +20,7 @@ import tempfile
 HOST = "https://host.example/"
 FIRST, LEAST_SECONDS, MOST_BYTES, MOST_EXPONENT, RUNS = 500, 0.1, 4_000_000, 1.2, 3
 # The shape that is known to grow with the square.
-WITH_THE_SQUARE = ("path_through_files",)
-# The number at which the first size of a shape ends: four times that has to fit the stack, or the memory.
-LAST = {"path_behind_a_file": 8_000, "path_through_files": 500}
+WITH_THE_SQUARE = ("paths_covered_of_many_lengths",)
 RANGES = [[1, 9]]
 NO_TEXT = {"media_type": "TypeScript", "text": "", "program": {"Module": {"span": [1, 1], "body": []}}, "comments": {}}
 
@@ -91,6 +91,8 @@ def single(symbols, exports, **more):
 
 
 SHAPES = {}
+# Of the shapes from which more follows than they have bytes.
+DEMANDS = {}
 
 
 def shape(made):
@@ -98,14 +100,28 @@ def shape(made):
     return made
 
 
+def shape_by(demands):
+    """A shape from which so many demands follow, each of them counted by its names."""
+
+    def noted(made):
+        DEMANDS[made.__name__] = demands
+        return shape(made)
+
+    return noted
+
+
 @shape
 def alias_ring(n):
     return single([symbol(i, target(f"s{i % n + 1}")) for i in range(1, n + 1)], [["s1", 1]])
 
 
+def alias_chain_of(n, last):
+    return [symbol(i, target(f"s{i + 1}")) for i in range(1, n)] + last
+
+
 @shape
 def alias_chain(n):
-    return single([symbol(i, target(f"s{i + 1}")) for i in range(1, n)] + [symbol(n, definition())], [["s1", 1]])
+    return single(alias_chain_of(n, [symbol(n, definition())]), [["s1", 1]])
 
 
 @shape
@@ -161,6 +177,15 @@ def path_behind_a_file(n):
     return request(module(url(0), asks, [["s1", 1]]), module(url(1), gives, [["N", 1]]))
 
 
+@shape_by(lambda n: n * n)
+def paths_that_part_behind_a_file(n):
+    """Two such paths, which differ in the last name: what is left of one is compared with what is left of the other, name by name."""
+    asks = [symbol(i, part("f", *["N"] * n, last)) for i, last in ((1, "x"), (2, "y"))]
+    gives = [symbol(1, definition(is_ts_namespace=True), name="N", exports=[["N", 1], ["x", 2], ["y", 3]]),
+             *(symbol(i, definition(), parent=1, name=name) for i, name in ((2, "x"), (3, "y")))]
+    return request(module(url(0), [*asks, symbol(3, file_ref(url(1), "N"), name="f")], [["s1", 1], ["s2", 2]]), module(url(1), gives, [["N", 1]]))
+
+
 @shape
 def namespaces_behind_a_file(n):
     """The same of a path through namespaces in one another."""
@@ -168,12 +193,36 @@ def namespaces_behind_a_file(n):
     return request(module(url(0), asks, [["s1", 1]]), module(url(1), in_one_another(n), [["s1", 1]]))
 
 
-@shape
+@shape_by(lambda n: n * n)
 def path_through_files(n):
     """A path of names that is asked of a module, which asks the next one for it, and so on: each of them is asked for all that is left of it."""
     asks = [symbol(1, part("f", *["N"] * n)), symbol(2, file_ref(url(1), "N"), name="f")]
     through = [module(url(i), [symbol(1, file_ref(url(i + 1), "N"), name="N")], [["N", 1]]) for i in range(1, n)]
     return request(module(url(0), asks, [["s1", 1]]), *through, module(url(n), [symbol(1, definition(), name="N")], [["N", 1]]))
+
+
+@shape
+def path_through_aliases(n):
+    """A path of names that is asked of the first of a chain of aliases."""
+    last = [symbol(n, definition(is_ts_namespace=True), exports=[["N", n]])]
+    return single([*alias_chain_of(n, last), symbol(n + 1, part("s1", *["N"] * n))], [[f"s{n + 1}", n + 1]])
+
+
+@shape_by(lambda n: n * n)
+def parts_through_aliases(n):
+    """Parts of a namespace that are asked of the first of a chain of aliases: each alias is asked for each of them."""
+    parts = [symbol(n + i, definition(), parent=n, name=f"x{i}") for i in range(1, n + 1)]
+    last = [symbol(n, definition(is_ts_namespace=True), exports=[[f"x{i}", n + i] for i in range(1, n + 1)])]
+    asks = [symbol(2 * n + i, part("s1", f"x{i}")) for i in range(1, n + 1)]
+    return single([*alias_chain_of(n, last), *parts, *asks], [[f"s{2 * n + i}", 2 * n + i] for i in range(1, n + 1)])
+
+
+@shape_by(lambda n: n * n)
+def askers_through_aliases(n):
+    """One part that many declarations ask of the first of a chain of aliases: each of them gets its own faults, and so is followed by itself."""
+    last = [symbol(n, definition(is_ts_namespace=True), exports=[["x", n + 1]]), symbol(n + 1, definition(), parent=n, name="x")]
+    asks = [symbol(n + 1 + i, part("s1", "x")) for i in range(1, n + 1)]
+    return single([*alias_chain_of(n, last), *asks], [[f"s{n + 1 + i}", n + 1 + i] for i in range(1, n + 1)])
 
 
 @shape
@@ -260,12 +309,27 @@ def names_of_a_module(n):
     return request(module(url(0), asks, names), module(url(1), gives, names))
 
 
-@shape
-def names_covered(n):
-    """One declaration asks by import types for a name below each name of a module, and then for all of each name."""
-    asks = [import_type(url(1), f"s{i}", "x") for i in range(1, n + 1)] + [import_type(url(1), f"s{i}") for i in range(1, n + 1)]
+def covered(n, parts):
+    """One declaration asks by import types for a path below each name of a module, and then for all of each name."""
+    asks = [import_type(url(1), f"s{i}", *parts(i)) for i in range(1, n + 1)] + [import_type(url(1), f"s{i}") for i in range(1, n + 1)]
     names = [[f"s{i}", i] for i in range(1, n + 1)]
     return request(module(url(0), [symbol(1, definition(*asks))], [["s1", 1]]), module(url(1), [symbol(i, definition()) for i in range(1, n + 1)], names))
+
+
+@shape
+def names_covered(n):
+    return covered(n, lambda i: ["x"])
+
+
+@shape
+def paths_covered(n):
+    return covered(n, lambda i: ["x"] * 6)
+
+
+@shape
+def paths_covered_of_many_lengths(n):
+    """Where the nodes of one path cannot take the places of another's, a cover costs a walk over the set."""
+    return covered(n, lambda i: ["x"] * (1 + i % 7))
 
 
 @shape
@@ -324,17 +388,19 @@ def exponent(points):
 
 
 def measure(program, name):
-    """Prints the line of a shape. Answers whether it grows as it may, or is known not to."""
-    n, last = FIRST, LAST.get(name, math.inf)
+    """Prints the line of a shape. Answers whether it grows as it may."""
+    n = FIRST
     first = spent(program, SHAPES[name](n))
-    while first[2] < LEAST_SECONDS and first[0] < MOST_BYTES and first[1] < 3 and n < last:
+    while first[2] < LEAST_SECONDS and first[0] < MOST_BYTES and first[1] < 3:
         n *= 2
         first = spent(program, SHAPES[name](n))
-    runs = [first] + [spent(program, SHAPES[name](size)) for size in (2 * n, 4 * n)]
-    grows = exponent([(size, seconds) for size, _, seconds, _ in runs])
+    numbers = (n, 2 * n, 4 * n)
+    runs = [first] + [spent(program, SHAPES[name](size)) for size in numbers[1:]]
+    demands = DEMANDS.get(name)
+    grows = exponent([(demands(number) if demands else ran[0], ran[2]) for number, ran in zip(numbers, runs)])
     size, _, _, held = runs[-1]
     is_good = (grows <= MOST_EXPONENT or name in WITH_THE_SQUARE) and all(status in (0, 1, 2) for _, status, _, _ in runs)
-    said = "  too much" if not is_good else "  with the square, as is known" if grows > MOST_EXPONENT else ""
+    said = "  too much" if not is_good else "  with the square, as is known" if grows > MOST_EXPONENT else "  by demands" if demands else ""
     statuses = "/".join(str(each) for each in sorted({status for _, status, _, _ in runs}))
     seconds = " ".join(f"{each:8.2f}" for _, _, each, _ in runs)
     print(f"{name:28} {4 * n:8} {size / 1e6:8.2f} {statuses:>6} {seconds} {held / size:8.0f} {grows:8.2f}{said}", flush=True)

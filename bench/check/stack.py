@@ -92,7 +92,11 @@ TABLES = {
     "chain of aliases": (shapes.alias_chain, (10, 1000, 1_000_000)),
     "path of names": (shapes.path_of_names, (10, 1000, 100_000)),
     "own parents": (shapes.own_parents, (10, 1000, 100_000)),
-    "path behind a file": (shapes.path_behind_a_file, (10, 100, 300)),
+    "path behind a file": (shapes.path_behind_a_file, (10, 1000, 1_000_000)),
+    "paths that part behind a file": (shapes.paths_that_part_behind_a_file, (10, 1000, 10_000)),
+    "namespaces behind a file": (shapes.namespaces_behind_a_file, (10, 1000, 100_000)),
+    "path through files": (shapes.path_through_files, (10, 100, 1000)),
+    "paths covered": (shapes.paths_covered_of_many_lengths, (10, 100, 1000)),
 }
 
 
