@@ -170,11 +170,11 @@ def path_of_names(n):
 
 
 @shape
-def path_behind_a_file(n):
+def path_behind_a_file(n, name="N"):
     """A path of names that is asked of another module, where each name stands below the one before."""
-    asks = [symbol(1, part("f", *["N"] * n)), symbol(2, file_ref(url(1), "N"), name="f")]
-    gives = [symbol(1, definition(is_ts_namespace=True), name="N", exports=[["N", 1]])]
-    return request(module(url(0), asks, [["s1", 1]]), module(url(1), gives, [["N", 1]]))
+    asks = [symbol(1, part("f", *[name] * n)), symbol(2, file_ref(url(1), name), name="f")]
+    gives = [symbol(1, definition(is_ts_namespace=True), name=name, exports=[[name, 1]])]
+    return request(module(url(0), asks, [["s1", 1]]), module(url(1), gives, [[name, 1]]))
 
 
 @shape_by(lambda n: n * n)
