@@ -67,6 +67,13 @@ def slashes_at_the_end():
     return shapes.request(first, second, shapes.module(urls[2], own, [["s1", 1]])), urls
 
 
+def a_qualified_name_without_names():
+    """A reference into another module by a qualified name that has no names behind its first."""
+    asks = [shapes.symbol(1, shapes.part("f")), shapes.symbol(2, shapes.file_ref(shapes.url(1), "N"), name="f")]
+    gives = [shapes.symbol(1, shapes.definition(), name="N")]
+    return shapes.request(shapes.module(shapes.url(0), asks, [["s1", 1]]), shapes.module(shapes.url(1), gives, [["N", 1]]))
+
+
 def documented(text):
     return [1, [{"kind": "Block", "span": [1, 9], "text": f"* {text} "}]]
 
@@ -110,6 +117,7 @@ CASES = [
     ("hostile_path_through_aliases", shapes.path_through_aliases(50), ONE),
     ("hostile_parts_through_aliases", shapes.parts_through_aliases(50), ONE),
     ("hostile_askers_through_aliases", shapes.askers_through_aliases(50), ONE),
+    ("hostile_qualified_name_without_names", a_qualified_name_without_names(), TWO),
     ("hostile_paths_covered", shapes.paths_covered_of_many_lengths(50), TWO),
     ("hostile_long_name", *a_long_name(100_000)),
     ("hostile_exports_of_a_symbol", exports_of_a_symbol(3000), ONE),
