@@ -6,7 +6,7 @@ the quickest), the bytes held a byte of the largest, and the exponent by which s
 a tenth of a second, or the input has 4 MB. An exponent above 1.2 is told, and so is a run that ends by a signal; then the status is 1.
 
 From some shapes more demands follow than they have bytes: as many as the product of two of their lengths. Of these the seconds are fitted to the demands in place of the bytes,
-and a line says so. One shape is known to grow with the square of both (SECURITY.md): that is told, and only a run that ends by a signal counts against it.
+and a line says so. Three shapes are known to grow with the square where no more follows (SECURITY.md): that is told, and only a run that ends by a signal counts against them.
 
 Usage: bench/check/shapes.py PROGRAM [SHAPE ..]
 """
@@ -19,8 +19,10 @@ import tempfile
 
 HOST = "https://host.example/"
 FIRST, LEAST_SECONDS, MOST_BYTES, MOST_EXPONENT, RUNS = 500, 0.1, 4_000_000, 1.2, 3
-# The shape that is known to grow with the square.
-WITH_THE_SQUARE = ("paths_covered_of_many_lengths",)
+# The shapes that are known to grow with the square, though no more follows from them: none of these squares needs to be.
+WITH_THE_SQUARE = ("paths_that_part_behind_a_file", "path_through_files", "paths_covered_of_many_lengths")
+# The number at which the first size of a shape ends: four times that has to fit the memory.
+LAST = {"path_through_files": 500}
 RANGES = [[1, 9]]
 NO_TEXT = {"media_type": "TypeScript", "text": "", "program": {"Module": {"span": [1, 1], "body": []}}, "comments": {}}
 
@@ -177,7 +179,7 @@ def path_behind_a_file(n, name="N"):
     return request(module(url(0), asks, [["s1", 1]]), module(url(1), gives, [[name, 1]]))
 
 
-@shape_by(lambda n: n * n)
+@shape
 def paths_that_part_behind_a_file(n):
     """Two such paths, which differ in the last name: what is left of one is compared with what is left of the other, name by name."""
     asks = [symbol(i, part("f", *["N"] * n, last)) for i, last in ((1, "x"), (2, "y"))]
@@ -193,7 +195,7 @@ def namespaces_behind_a_file(n):
     return request(module(url(0), asks, [["s1", 1]]), module(url(1), in_one_another(n), [["s1", 1]]))
 
 
-@shape_by(lambda n: n * n)
+@shape
 def path_through_files(n):
     """A path of names that is asked of a module, which asks the next one for it, and so on: each of them is asked for all that is left of it."""
     asks = [symbol(1, part("f", *["N"] * n)), symbol(2, file_ref(url(1), "N"), name="f")]
@@ -389,9 +391,9 @@ def exponent(points):
 
 def measure(program, name):
     """Prints the line of a shape. Answers whether it grows as it may."""
-    n = FIRST
+    n, last = FIRST, LAST.get(name, math.inf)
     first = spent(program, SHAPES[name](n))
-    while first[2] < LEAST_SECONDS and first[0] < MOST_BYTES and first[1] < 3:
+    while first[2] < LEAST_SECONDS and first[0] < MOST_BYTES and first[1] < 3 and n < last:
         n *= 2
         first = spent(program, SHAPES[name](n))
     numbers = (n, 2 * n, 4 * n)
