@@ -15,7 +15,7 @@ use Rattle.fast_check_name_demands.specs.demands.Account.{root, step, alike, ref
 use Rattle.fast_check_name_demands.specs.Files.{files}
 use Rattle.fast_check_search.specs.declared.found.Found.{Found}
 use Rattle.fast_check_search.specs.SymbolWorklist.{Grows, CoversEach}
-use Rattle.fast_check_search.specs.Found.{IsFound, Gains, IsOnTheWay}
+use Rattle.fast_check_search.specs.Found.{IsFound, Adds, Gains, IsOnTheWay}
 use Rattle.fast_check_search.proofs.Each.{Contains_none, Contains_only}
 
 -- lists that grow
@@ -71,17 +71,34 @@ asked_all asks i account le h = subst (λ (x : List Demand). CoversEach x accoun
 
 -- what is found
 
+-- all of these come behind
+pub adds_all : {X : Type 0} (these old new : List X) → new ≡ old ++ these → Adds these old new
+adds_all {X} these old new e = record {
+  more = these;
+  is = e;
+  parts = λ x t. t;
+  whole = λ x t. subst (λ (xs : List X). Contains xs x) (sym e) (Contains-append_right old these x t);
+}
+
+-- nothing comes behind, since they are there
+pub adds_none : {X : Type 0} (these old : List X) → ((x : X) → Contains these x → Contains old x) → Adds these old old
+adds_none these old h = record { more = []; is = sym (append-nil old); parts = λ x t. absurd (Contains_none x t); whole = h }
+
+-- what was there is there
+pub adds_kept : {X : Type 0} (these old new : List X) → Adds these old new → (x : X) → Contains old x → Contains new x
+adds_kept {X} these old new a x t = subst (λ (xs : List X). Contains xs x) (sym a.is) (Contains-append_left old a.more x t)
+
 yielded_more : {X : Type 0} (gives : Demand → List X) (account : List Demand) (d : Demand) (old new : List X) → IsYield gives account old →
-    new ≡ old ++ gives d → IsYield gives (account ++ d ∷ []) new
-yielded_more {X} gives account d old new y e = record {
+    Adds (gives d) old new → IsYield gives (account ++ d ∷ []) new
+yielded_more {X} gives account d old new y a = record {
   sound = λ r t. ⊎_elim
       (λ before. let h = y.sound r before in (h.0, Contains-append_left account (d ∷ []) h.0 h.1, h.2))
-      (λ now. (d, Contains-push account d, now))
-      (Contains-append_cases old (gives d) r (subst (λ (x : List X). Contains x r) e t));
-  complete = λ f r t u. subst (λ (x : List X). Contains x r) (sym e) (⊎_elim
-      (λ before. Contains-append_left old (gives d) r (y.complete f r before u))
-      (λ here. Contains-append_right old (gives d) r (subst (λ (x : Demand). Contains (gives x) r) (sym here) u))
-      (Contains-push_cases account d f t));
+      (λ now. (d, Contains-push account d, a.parts r now))
+      (Contains-append_cases old a.more r (subst (λ (x : List X). Contains x r) a.is t));
+  complete = λ f r t u. ⊎_elim
+      (λ before. adds_kept (gives d) old new a r (y.complete f r before u))
+      (λ here. a.whole r (subst (λ (x : Demand). Contains (gives x) r) (sym here) u))
+      (Contains-push_cases account d f t);
 }
 
 nothing_yet : {X : Type 0} (gives : Demand → List X) → IsYield gives [] []
@@ -101,9 +118,9 @@ found_more : (t : Tables) (account : List Demand) (d : Demand) (old new : Found)
     IsFound t (account ++ d ∷ []) new
 found_more t account d old new f g = record {
   public = yielded_more (ranges t) account d _ _ f.public g.public;
-  implementing = yielded_more (implementations t) account d _ _ f.implementing g.implementing;
-  faulty = yielded_more (faults t) account d _ _ f.faulty g.faulty;
-  outside = yielded_more (files t) account d _ _ f.outside g.outside;
+  implementing = yielded_more (implementations t) account d _ _ f.implementing (adds_all (implementations t d) _ _ g.implementing);
+  faulty = yielded_more (faults t) account d _ _ f.faulty (adds_all (faults t d) _ _ g.faulty);
+  outside = yielded_more (files t) account d _ _ f.outside (adds_all (files t d) _ _ g.outside);
 }
 
 module _ (t : Tables) (roots : List Demand) where

@@ -1,17 +1,6 @@
--- Demands that compare alike are one.
-use Rattle.std.proofs.Common.{rules, ◌≡◌, ◌∙◌, ap, refl, ℕ, ◌==◌, Bool, true, false, ◌&&◌, List, [], ◌∷◌, String, string_bytes}
+-- Demands whose keys compare alike ask for one thing.
+use Rattle.std.proofs.Common.{◌≡◌, ◌∙◌, refl, ℕ, ◌==◌, ◌&&◌, Some}
 use Rattle.std.specs.Ordering.{is_eq, nat_cmp, ordering_then}
-use Rattle.std.specs.Cmp.Lexicographic.{slice_cmp}
-use Rattle.std.specs.declared.alloc.Global.{Global}
-use Rattle.std.specs.declared.cmp.Ordering.{Ordering}
-use Rattle.std.specs.declared.cmp.Ordering.TheVariants.{Less, Equal, Greater}
-use Rattle.std.specs.String.{string_cmp}
-use Rattle.std.proofs.lemmas.Map.Text.{is_eq-slice_cmp}
-use Rattle.std.proofs.lemmas.Bool.{eq-eqb, and_from}
-use Rattle.std.specs.Str.{bytes_eq}
-use Rattle.fast_check_names.specs.Names.{path_of}
-use Rattle.fast_check_name_demands.specs.demands.symbol_demands.contracts.demand.SymbolDemandOrd.TheImpl as order
-use Rattle.fast_check_name_demands.specs.demands.symbol_demands.contracts.demand.AskOrd.TheImpl as ask_order
 use Rattle.fast_check_name_demands.specs.demands.symbol_demands.contracts.demand.NamespaceOrd.TheImpl as namespace_order
 use Rattle.fast_check_name_demands.specs.demands.symbol_demands.contracts.demand.ExtentOrd.TheImpl as extent_order
 use Rattle.fast_check_name_demands.specs.demands.symbol_demands.declared.demand.Namespace.{Namespace}
@@ -20,33 +9,17 @@ use Rattle.fast_check_name_demands.specs.demands.symbol_demands.declared.demand.
 use Rattle.fast_check_name_demands.specs.demands.symbol_demands.declared.demand.Extent.TheVariants.{Touched, Whole}
 use Rattle.fast_check_name_demands.specs.demands.symbol_demands.declared.demand.Ask.{Ask}
 use Rattle.fast_check_name_demands.specs.demands.symbol_demands.declared.demand.Ask.TheVariants.{Reference, Child, Path}
-use Rattle.fast_check_name_demands.specs.demands.symbol_demands.declared.demand.SymbolDemand.{SymbolDemand}
-use Rattle.fast_check_name_demands.specs.demands.Demands.{Demand, demand_of, asked_of}
-use Rattle.fast_check_name_demands.specs.demands.Account.{same_namespace, same_extent, same_path, same_asked, same}
-use Rattle.fast_check_search.specs.contracts.done.DoneDemandOrd.TheImpl as key_order
-use Rattle.fast_check_search.specs.declared.done.DoneDemand.{DoneDemand}
-use Rattle.fast_check_search.specs.Done.{names_of, key_of}
-use Rattle.fast_check_search.proofs.Same.{same_is}
-
-pub then_equal : (a b : Ordering) → is_eq (ordering_then a b) ≡ (is_eq a && is_eq b)
-then_equal Less b = refl
-then_equal Equal b = refl
-then_equal Greater b = refl
-
-pub and_same : (a b c d : Bool) → a ≡ b → c ≡ d → (a && c) ≡ (b && d)
-and_same a b c d e f = cc
-
-pub numbers_compare : (a b : ℕ) → is_eq (nat_cmp a b) ≡ (a == b)
-numbers_compare a b = search rules
-
-pub names_compare : (xs ys : List (String Global)) → is_eq (slice_cmp string_cmp xs ys) ≡ same_path (path_of xs) (path_of ys)
-names_compare [] [] = refl
-names_compare [] (y ∷ ys) = refl
-names_compare (x ∷ xs) [] = refl
-names_compare (x ∷ xs) (y ∷ ys) = then_equal (string_cmp x y) (slice_cmp string_cmp xs ys) ∙
-    and_same (is_eq (string_cmp x y)) (bytes_eq (string_bytes x) (string_bytes y)) (is_eq (slice_cmp string_cmp xs ys))
-    (same_path (path_of xs) (path_of ys))
-    (is_eq-slice_cmp (string_bytes x) (string_bytes y)) (names_compare xs ys)
+use Rattle.fast_check_names.specs.Names.{path_of}
+use Rattle.fast_check_name_demands.specs.demands.Demands.{asked_of}
+use Rattle.fast_check_name_demands.specs.demands.Account.{same_namespace, same_extent, same_path, same_asked, alike}
+use Rattle.fast_check_search.specs.contracts.done.DoneDemandOrd.TheImpl as order
+use Rattle.fast_check_search.specs.contracts.done.DoneAskOrd.TheImpl as ask_order
+use Rattle.fast_check_search.specs.declared.done.NumberedDemand.{NumberedDemand}
+use Rattle.fast_check_search.specs.declared.numbers.PathNumbers.{PathNumbers}
+use Rattle.fast_check_search.specs.Done.{asked_path, key_ask, key_of, IsNumbered}
+use Rattle.fast_check_search.specs.Numbers.{number_of, IsNumbering}
+use Rattle.fast_check_search.specs.SymbolWorklist.{demanded}
+use Rattle.fast_check_search.proofs.Numbering.{then_equal, and_same, numbers_compare, numbers_tell}
 
 namespaces_compare : (a b : Namespace) → is_eq (namespace_order.cmp-value.it a b) ≡ same_namespace a b
 namespaces_compare Value Value = refl
@@ -60,52 +33,31 @@ extents_compare Touched Whole = refl
 extents_compare Whole Touched = refl
 extents_compare Whole Whole = refl
 
-asks_compare : (a b : Ask) → is_eq (ask_order.cmp-value.it a b) ≡ same_asked (asked_of a) (asked_of b)
-asks_compare (Reference n) (Reference m) = namespaces_compare n m
-asks_compare (Reference n) (Child m) = refl
-asks_compare (Reference n) (Path q y) = refl
-asks_compare (Child n) (Reference m) = refl
-asks_compare (Child n) (Child m) = namespaces_compare n m
-asks_compare (Child n) (Path q y) = refl
-asks_compare (Path p x) (Reference m) = refl
-asks_compare (Path p x) (Child m) = refl
-asks_compare (Path p x) (Path q y) = then_equal (slice_cmp string_cmp p.now q.now) (extent_order.cmp-value.it x y) ∙
-    and_same (is_eq (slice_cmp string_cmp p.now q.now)) (same_path (path_of p.now) (path_of q.now)) (is_eq (extent_order.cmp-value.it x y))
-    (same_extent x y)
-    (names_compare p.now q.now) (extents_compare x y)
+module _ (w : PathNumbers) (numbering : IsNumbering w) where
+  asks_compare : (a b : Ask) (k l : ℕ) → number_of w (asked_path (asked_of a)) ≡ Some k → number_of w (asked_path (asked_of b)) ≡ Some l →
+      is_eq (ask_order.cmp-value.it (key_ask a k) (key_ask b l)) ≡ same_asked (asked_of a) (asked_of b)
+  asks_compare (Reference n) (Reference m) k l e f = namespaces_compare n m
+  asks_compare (Reference n) (Child m) k l e f = refl
+  asks_compare (Reference n) (Path q y) k l e f = refl
+  asks_compare (Child n) (Reference m) k l e f = refl
+  asks_compare (Child n) (Child m) k l e f = namespaces_compare n m
+  asks_compare (Child n) (Path q y) k l e f = refl
+  asks_compare (Path p x) (Reference m) k l e f = refl
+  asks_compare (Path p x) (Child m) k l e f = refl
+  asks_compare (Path p x) (Path q y) k l e f = then_equal (nat_cmp k l) (extent_order.cmp-value.it x y) ∙
+      and_same _ (same_path (path_of p.now) (path_of q.now)) _ (same_extent x y)
+      (numbers_compare k l ∙ numbers_tell w numbering (path_of p.now) (path_of q.now) k l e f) (extents_compare x y)
 
-pub compares : (a b : SymbolDemand) → is_eq (order.cmp-value.it a b) ≡ same (demand_of a) (demand_of b)
-compares a b =
-    then_equal (nat_cmp a.symbol.0 b.symbol.0) (ordering_then (ask_order.cmp-value.it a.ask b.ask) (nat_cmp a.referrer.0 b.referrer.0)) ∙
-    and_same _ (a.symbol.0 == b.symbol.0) _ (same_asked (asked_of a.ask) (asked_of b.ask) && (a.referrer.0 == b.referrer.0))
-    (numbers_compare a.symbol.0 b.symbol.0)
-    (then_equal (ask_order.cmp-value.it a.ask b.ask) (nat_cmp a.referrer.0 b.referrer.0) ∙
-    and_same _ (same_asked (asked_of a.ask) (asked_of b.ask)) _ (a.referrer.0 == b.referrer.0) (asks_compare a.ask b.ask)
-    (numbers_compare a.referrer.0 b.referrer.0))
-
--- and so do their keys
-key_alike : (m n : ℕ) (b : Bool) → (b ≡ true → m ≡ n) → ((m == n) && b) ≡ b
-key_alike m n true h = and_from (m == n) true (eq-eqb m n (h refl)) refl
-key_alike m n false h = and_none (m == n)
-  where
-    and_none : (c : Bool) → (c && false) ≡ false
-    and_none true = refl
-    and_none false = refl
-
-pub keys_compare : (a b : SymbolDemand) → is_eq (key_order.cmp-value.it (key_of a) (key_of b)) ≡ same (demand_of a) (demand_of b)
-keys_compare a b =
-    let m = names_of (demand_of a).asked in
-    let n = names_of (demand_of b).asked in
-    then_equal (nat_cmp m n) (order.cmp-value.it a b) ∙
-    (and_same _ (m == n) _ (same (demand_of a) (demand_of b)) (numbers_compare m n) (compares a b) ∙
-    key_alike m n (same (demand_of a) (demand_of b)) (λ e. ap (λ (d : Demand). names_of d.asked) (same_is (demand_of a) (demand_of b) e)))
-
--- a key by its parts
-abbrev key : ℕ → SymbolDemand → DoneDemand
-key n d = record { names = n; demand = d }
-
-key_by : (m n : ℕ) (a b : SymbolDemand) → m ≡ n → a ≡ b → key m a ≡ key n b
-key_by m n a b e f = ap (λ (x : ℕ). key x a) e ∙ ap (λ (y : SymbolDemand). key n y) f
-
-pub key_made : (k : DoneDemand) (d : SymbolDemand) → k.names ≡ names_of (demand_of d).asked → k.demand ≡ d → k ≡ key_of d
-key_made k d e f = key_by k.names (names_of (demand_of d).asked) k.demand d e f
+  pub keys_compare : (a b : NumberedDemand) → IsNumbered w (demanded a) a.path → IsNumbered w (demanded b) b.path →
+      is_eq (order.cmp-value.it (key_of a) (key_of b)) ≡ alike (demanded a) (demanded b)
+  keys_compare a b e f =
+      let s = a.demand.symbol.0 in
+      let t = b.demand.symbol.0 in
+      let r = (key_of a).referrer.0 in
+      let u = (key_of b).referrer.0 in
+      let c = ask_order.cmp-value.it (key_of a).ask (key_of b).ask in
+      then_equal (nat_cmp s t) (ordering_then c (nat_cmp r u)) ∙
+      and_same _ (s == t) _ (same_asked (asked_of a.demand.ask) (asked_of b.demand.ask) && (r == u)) (numbers_compare s t)
+      (then_equal c (nat_cmp r u) ∙
+      and_same _ (same_asked (asked_of a.demand.ask) (asked_of b.demand.ask)) _ (r == u)
+      (asks_compare a.demand.ask b.demand.ask a.path b.path e f) (numbers_compare r u))

@@ -2,6 +2,9 @@ pub mod Same
 pub mod Each
 pub mod Inside
 pub mod Closure
+pub mod Numbering
+pub mod Rests
 pub mod Compared
 pub mod Kept
+pub mod Opened
 pub mod Own

@@ -1,3 +1,4 @@
+pub mod Numbers
 pub mod Done
 pub mod SymbolWorklist
 pub mod Found

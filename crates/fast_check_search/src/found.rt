@@ -2,18 +2,22 @@
 ghost use Rattle.std.specs.Prelude.{◌≡◌, List, [], map, IfOk, OnOk, ◌++◌, option_map, option_to_list};
 ghost use Rattle.fast_check_name_demands.specs.demands.Demands.{Demand, demand_of};
 ghost use Rattle.fast_check_name_demands.specs.demands.Account.{IsAccount, IsYield};
-ghost use Rattle.fast_check_name_demands.specs.demands.Yields.{fault_seen};
+ghost use Rattle.fast_check_name_demands.specs.demands.Yields.{fault_seen, ranges};
 ghost use Rattle.fast_check_name_demands.specs.demands.Rules.{names};
-ghost use Rattle.fast_check_search.specs.Found.{IsFound, Gains, AreTableRanges};
-ghost use Rattle.fast_check_search.specs.SymbolWorklist.{asked, IsKept, Grows, CoversEach};
+ghost use Rattle.fast_check_search.specs.Found.{IsFound, Adds, Gains, declared, AreOpened, AreTableRanges};
+ghost use Rattle.fast_check_search.specs.Done.{IsNumbered};
+ghost use Rattle.fast_check_search.specs.SymbolWorklist.{demanded, asked, IsKept, Grows, CoversEach};
 
-use crate::worklist::SymbolWorklist;
+use crate::done::NumberedDemand;
+use crate::numbers::NumberedPath;
+use crate::worklist::{SymbolWorklist, asked_path};
 use fast_check_name_demands::demands::{
-    CheckedTables, SourceRange, SymbolDemand, SymbolFault, demands_of, fault_of,
+    Ask, CheckedTables, SourceRange, SymbolDemand, SymbolFault, SymbolId, demands_of, fault_of,
     push_implementations, push_ranges,
 };
 use fast_check_name_demands::{FileWants, push_files};
 use std::alloc::{AllocError, Global};
+use std::collections::BTreeSet;
 
 /// What the demands of a module make public, what is wrong with them, and what they ask of other files. Each may stand here more than once.
 #[derive(Drop)]
@@ -41,6 +45,43 @@ fn push_fault<'a>(
     }
 }
 
+/// Adds the declarations of a symbol to which a path leads, unless they were added before.
+fn add_declared(
+    tables: &CheckedTables,
+    demand: SymbolDemand<'_>,
+    opened: &mut BTreeSet<SymbolId>,
+    out: &mut Vec<SourceRange>,
+) -> Result<(), AllocError>
+    requires opened { AreOpened tables.now opened.old out.old.items }
+    requires path { ranges tables.now (demand_of demand) ≡ declared tables.now demand.symbol }
+    ensures opened { OnOk result (AreOpened tables.now opened.new out.new.items) }
+    ensures ranges { OnOk result (Adds (ranges tables.now (demand_of demand.entry)) out.old.items out.new.items) }
+{
+    if opened.contains(&demand.symbol) {
+        return Ok(());
+    }
+    push_ranges(tables, demand, out)?;
+    opened.insert(demand.symbol)?;
+    Ok(())
+}
+
+/// Adds the ranges that a demand makes public: those of a symbol once, however many paths lead to it.
+fn add_ranges(
+    tables: &CheckedTables,
+    demand: SymbolDemand<'_>,
+    opened: &mut BTreeSet<SymbolId>,
+    out: &mut Vec<SourceRange>,
+) -> Result<(), AllocError>
+    requires { AreOpened tables.now opened.old out.old.items }
+    ensures opened { OnOk result (AreOpened tables.now opened.new out.new.items) }
+    ensures ranges { OnOk result (Adds (ranges tables.now (demand_of demand.entry)) out.old.items out.new.items) }
+{
+    match demand.ask {
+        Ask::Reference(_) | Ask::Child(_) => push_ranges(tables, demand, out),
+        Ask::Path(_, _) => add_declared(tables, demand, opened, out),
+    }
+}
+
 impl<'a> Found<'a> {
     fn new(alloc: Global) -> Found<'a>
         ensures ranges { result.ranges.items ≡ [] }
@@ -56,11 +97,18 @@ impl<'a> Found<'a> {
         }
     }
 
-    /// Adds what one demand makes public, what is wrong with it, and what it asks of other files.
-    fn add(&mut self, tables: &'a CheckedTables, demand: SymbolDemand<'a>) -> Result<(), AllocError>
-        ensures { OnOk result (Gains tables.now (demand_of demand.entry) self.old self.new) }
+    /// Adds what one demand makes public, what is wrong with it, and what it asks of other files. The declarations of these symbols are public already.
+    fn add(
+        &mut self,
+        tables: &'a CheckedTables,
+        demand: SymbolDemand<'a>,
+        opened: &mut BTreeSet<SymbolId>,
+    ) -> Result<(), AllocError>
+        requires { AreOpened tables.now opened.old self.old.ranges.items }
+        ensures opened { OnOk result (AreOpened tables.now opened.new self.new.ranges.items) }
+        ensures gains { OnOk result (Gains tables.now (demand_of demand.entry) self.old self.new) }
     {
-        push_ranges(tables, demand, &mut self.ranges)?;
+        add_ranges(tables, demand, opened, &mut self.ranges)?;
         push_implementations(tables, demand, &mut self.implementations)?;
         push_fault(fault_of(tables, demand), &mut self.faults)?;
         push_files(tables, demand, &mut self.files)
@@ -71,16 +119,22 @@ impl<'a> Found<'a> {
 fn ask_named<'a>(
     alloc: Global,
     tables: &'a CheckedTables,
-    demand: SymbolDemand<'a>,
+    demand: NumberedDemand<'a>,
     work: &mut SymbolWorklist<'a>,
 ) -> Result<(), AllocError>
-    requires { IsKept work.old }
+    requires kept { IsKept work.old }
+    requires number { IsNumbered work.old.paths (demanded demand) demand.path }
     ensures kept { OnOk result (IsKept work.new) }
-    ensures grown { OnOk result (Grows (names tables.now (demand_of demand.entry)) (asked work.old) (asked work.new)) }
-    ensures covered { OnOk result (CoversEach (names tables.now (demand_of demand.entry)) (asked work.new)) }
+    ensures grown { OnOk result (Grows (names tables.now (demanded demand.entry)) (asked work.old) (asked work.new)) }
+    ensures covered { OnOk result (CoversEach (names tables.now (demanded demand.entry)) (asked work.new)) }
 {
+    let NumberedDemand { demand, path } = demand;
     let named = demands_of(alloc, tables, demand)?;
-    work.ask_all(named.as_slice())
+    let path = NumberedPath {
+        names: asked_path(demand.ask),
+        number: path,
+    };
+    work.ask_all(path, named.as_slice())
 }
 
 /// All that follows from these demands within a module: what it makes public, what is wrong with it, and what it asks of other files.
@@ -97,12 +151,13 @@ pub fn search<'a>(
     ensures own_implementations { IfOk result (λ found. AreTableRanges tables.now found.implementations.items) }
 {
     let mut work = SymbolWorklist::new(alloc);
-    work.ask_all(roots)?;
+    work.ask_all(NumberedPath::none(), roots)?;
     let mut found = Found::new(alloc);
+    let mut opened = BTreeSet::new(alloc);
     let mut next = 0;
     while next < work.len() {
         let demand = work.at(next);
-        found.add(tables, demand)?;
+        found.add(tables, demand.demand, &mut opened)?;
         ask_named(alloc, tables, demand, &mut work)?;
         next += 1;
     }

@@ -3,6 +3,7 @@
 
 mod done;
 mod found;
+mod numbers;
 mod worklist;
 
 pub use found::{Found, search};

@@ -1,12 +1,15 @@
 //! The demands of a search: those that were asked for, with a cursor.
-ghost use Rattle.std.specs.Prelude.{◌≡◌, [], length, slice_get, Some, ◌<◌, OnOk};
-ghost use Rattle.std.specs.List.{list_any};
-ghost use Rattle.fast_check_name_demands.specs.demands.Demands.{demand_of};
-ghost use Rattle.fast_check_name_demands.specs.demands.Account.{essence as essence_of, referred as referred_of, alike, IsCovered};
-ghost use Rattle.fast_check_search.specs.SymbolWorklist.{asked, IsKept, Grows, CoversEach};
-ghost use Rattle.std.specs.Prelude.{map, ◌∷◌};
+ghost use Rattle.std.specs.Prelude.{◌≡◌, [], ◌∷◌, length, map, slice_get, Some, ◌<◌, OnOk};
+ghost use Rattle.std.specs.List.{list_any, Contains};
+ghost use Rattle.fast_check_names.specs.Names.{path_of};
+ghost use Rattle.fast_check_name_demands.specs.demands.Demands.{Demand, asked_of, demand_of};
+ghost use Rattle.fast_check_name_demands.specs.demands.Account.{referred as referred_of, alike, IsCovered};
+ghost use Rattle.fast_check_search.specs.Done.{asked_path, IsNumbered};
+ghost use Rattle.fast_check_search.specs.Numbers.{number_of, Follows};
+ghost use Rattle.fast_check_search.specs.SymbolWorklist.{demanded, asked, IsKept, Grows, CoversEach};
 
-use crate::done::{DoneDemand, done_demand};
+use crate::done::{DoneDemand, NumberedDemand, done_demand};
+use crate::numbers::{NumberedPath, PathNumbers};
 use fast_check_name_demands::demands::{Ask, SymbolDemand};
 use std::alloc::{AllocError, Global};
 use std::collections::BTreeSet;
@@ -14,21 +17,20 @@ use std::collections::BTreeSet;
 /// The demands that were asked for, in order, none of them twice.
 #[derive(Drop)]
 pub struct SymbolWorklist<'a> {
-    demands: Vec<SymbolDemand<'a>>,
+    demands: Vec<NumberedDemand<'a>>,
     /// The same demands, each by what tells it from others.
-    done: BTreeSet<DoneDemand<'a>>,
+    done: BTreeSet<DoneDemand>,
+    /// The numbers of their paths.
+    paths: PathNumbers<'a>,
 }
 
-/// What tells a demand from others: who asks plays a part for a path alone.
-fn essence(demand: SymbolDemand<'_>) -> SymbolDemand<'_>
-    ensures { demand_of result ≡ essence_of (demand_of demand.entry) }
+/// The path that is asked for; none where a symbol itself is.
+pub fn asked_path(ask: Ask<'_>) -> &[String]
+    ensures { path_of result.now ≡ asked_path (asked_of ask.entry) }
 {
-    match demand.ask {
-        Ask::Reference(_) | Ask::Child(_) => SymbolDemand {
-            referrer: demand.symbol,
-            ..demand
-        },
-        Ask::Path(_, _) => demand,
+    match ask {
+        Ask::Reference(_) | Ask::Child(_) => &[],
+        Ask::Path(names, _) => names,
     }
 }
 
@@ -54,6 +56,7 @@ impl<'a> SymbolWorklist<'a> {
         SymbolWorklist {
             demands: Vec::new(alloc),
             done: BTreeSet::new(alloc),
+            paths: PathNumbers::new(alloc),
         }
     }
 
@@ -65,45 +68,72 @@ impl<'a> SymbolWorklist<'a> {
     }
 
     /// The demand at a place.
-    pub fn at(&self, place: usize) -> SymbolDemand<'a>
-        requires { place < length (asked self.now) }
-        ensures { slice_get (asked self.now) place ≡ Some (demand_of result) }
+    pub fn at(&self, place: usize) -> NumberedDemand<'a>
+        requires kept { IsKept self.now }
+        requires within { place < length (asked self.now) }
+        ensures demand { slice_get (asked self.now) place ≡ Some (demanded result) }
+        ensures number { IsNumbered self.now.paths (demanded result) result.path }
     {
         self.demands[place]
     }
 
     /// Whether a demand that asks for the same was asked for.
-    fn has(&self, demand: SymbolDemand<'a>) -> bool
-        requires { IsKept self.now }
+    fn has(&self, demand: SymbolDemand<'a>, path: usize) -> bool
+        requires kept { IsKept self.now }
+        requires number { IsNumbered self.now.paths (demand_of demand) path }
         ensures { result ≡ list_any (alike (demand_of demand.entry)) (asked self.now) }
     {
-        self.done.contains(&done_demand(essence(demand)))
+        self.done
+            .contains(&done_demand(NumberedDemand { demand, path }))
     }
 
-    /// Asks for a demand, unless what it asks for was asked for before.
-    pub fn ask(&mut self, demand: SymbolDemand<'a>) -> Result<(), AllocError>
-        requires { IsKept self.old }
+    /// Asks for a demand, whose path has this number, unless what it asks for was asked for before.
+    fn ask_numbered(&mut self, demand: SymbolDemand<'a>, path: usize) -> Result<(), AllocError>
+        requires kept { IsKept self.old }
+        requires number { IsNumbered self.old.paths (demand_of demand) path }
         ensures kept { OnOk result (IsKept self.new) }
         ensures grown { OnOk result (Grows (demand_of demand.entry ∷ []) (asked self.old) (asked self.new)) }
         ensures covered { OnOk result (IsCovered (asked self.new) (demand_of demand.entry)) }
+        ensures paths { OnOk result (self.new.paths ≡ self.old.paths) }
     {
-        if self.has(demand) || self.has(referred(demand)) {
+        if self.has(demand, path) || self.has(referred(demand), path) {
             return Ok(());
         }
-        self.demands.push(demand)?;
-        self.done.insert(done_demand(essence(demand)))?;
+        let numbered = NumberedDemand { demand, path };
+        self.demands.push(numbered)?;
+        self.done.insert(done_demand(numbered))?;
         Ok(())
     }
 
-    /// Asks for each of these.
-    pub fn ask_all(&mut self, demands: &[SymbolDemand<'a>]) -> Result<(), AllocError>
-        requires { IsKept self.old }
+    /// Asks for a demand that follows where a path is followed.
+    fn ask(&mut self, path: NumberedPath<'a>, demand: SymbolDemand<'a>) -> Result<(), AllocError>
+        requires kept { IsKept self.old }
+        requires number { number_of self.old.paths (path_of path.names.now) ≡ Some path.number }
+        requires follows { Follows (path_of path.names.now) (asked_path (asked_of demand.ask)) }
+        ensures kept { OnOk result (IsKept self.new) }
+        ensures number { OnOk result (number_of self.new.paths (path_of path.entry.names.now) ≡ Some path.entry.number) }
+        ensures grown { OnOk result (Grows (demand_of demand.entry ∷ []) (asked self.old) (asked self.new)) }
+        ensures covered { OnOk result (IsCovered (asked self.new) (demand_of demand.entry)) }
+    {
+        let number = self.paths.number_after(path, asked_path(demand.ask))?;
+        self.ask_numbered(demand, number)
+    }
+
+    /// Asks for each of these, which follow where a path is followed.
+    pub fn ask_all(
+        &mut self,
+        path: NumberedPath<'a>,
+        demands: &[SymbolDemand<'a>],
+    ) -> Result<(), AllocError>
+        requires kept { IsKept self.old }
+        requires number { number_of self.old.paths (path_of path.names.now) ≡ Some path.number }
+        requires follow { (d : Demand) → Contains (map demand_of demands.now) d → Follows (path_of path.names.now) (asked_path d.asked) }
         ensures kept { OnOk result (IsKept self.new) }
         ensures grown { OnOk result (Grows (map demand_of demands.now) (asked self.old) (asked self.new)) }
         ensures covered { OnOk result (CoversEach (map demand_of demands.now) (asked self.new)) }
     {
         for demand in demands {
-            self.ask(*demand)?;
+            self.ask(path, *demand)?;
         }
         Ok(())
     }

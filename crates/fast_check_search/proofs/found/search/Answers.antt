@@ -1,11 +1,15 @@
 use Rattle.std.proofs.Common.{ap, map, length, arith, ◌≤◌}
+use Rattle.std.specs.BTreeMap.{is_at}
+use Rattle.std.specs.List.{list_any}
 use Rattle.std.proofs.lemmas.Option.{get_or_from_slice_get}
+use Rattle.fast_check_symbols.specs.contracts.symbol_id.SymbolIdOrd.TheImpl as order
 use Rattle.fast_check_name_demands.specs.demands.Demands.{demand_of}
 use Rattle.fast_check_name_demands.specs.demands.Yields.{fault_seen}
 use Rattle.fast_check_search.specs.Universe.{limit}
-use Rattle.fast_check_search.specs.SymbolWorklist.{asked}
+use Rattle.fast_check_search.specs.SymbolWorklist.{demanded, asked}
 use Rattle.fast_check_search.proofs.Closure.{begun, turned, ended, nothing_found}
 use Rattle.fast_check_search.proofs.Inside.{few_asked}
+use Rattle.fast_check_search.proofs.Opened.{opened_none}
 use Rattle.fast_check_search.proofs.Own.{own_found, own_found_implementations}
 use Rattle.fast_check_search.proofs.found.search.Goals as goal
 
@@ -18,6 +22,8 @@ loop-next-init c =
           (rw c.new-work.ensures.demands at a.grown) a.covered
           (nothing_found c.args.tables.now c.new-found.result f.ranges f.implementations (ap (map fault_seen) f.faults) f.files);
       kept = a.kept;
+      opened = opened_none c.args.tables.now c.new-opened.result c.new-found.result.ranges.items
+          (λ s. ap (list_any (is_at (order.cmp-value.it s))) c.new-opened.ensures.empty);
     }
 
 pub loop-next-preserved : goal.loop-next-preserved
@@ -26,10 +32,11 @@ loop-next-preserved c =
     let i = c.loop-next.invariant in
     record {
       way = turned c.args.tables.now (map demand_of c.args.roots.now) (asked c.loop-next.work) (asked c.ask_named.new.work) c.loop-next.next
-          (demand_of c.at-demand.result) c.loop-next.found c.add.new.self
+          (demanded c.at-demand.result) c.loop-next.found c.add.new.self
           i.way (omega (arith, c.len.ensures, c.loop-next-test.true))
-          (get_or_from_slice_get (asked c.loop-next.work) c.loop-next.next _ _ c.at-demand.ensures) a.grown a.covered c.in_ok-add.ensures;
+          (get_or_from_slice_get (asked c.loop-next.work) c.loop-next.next _ _ c.at-demand.ensures.demand) a.grown a.covered c.in_ok-add.ensures.gains;
       kept = a.kept;
+      opened = c.in_ok-add.ensures.opened;
     }
 
 pub returns-clause-account : goal.returns-clause-account

@@ -1,28 +1,23 @@
-use Rattle.std.proofs.Common.{◌≡◌, ◌∙◌, sym, subst, true, false}
-use Rattle.std.specs.List.{list_any}
-use Rattle.fast_check_name_demands.specs.demands.Demands.{demand_of}
-use Rattle.fast_check_name_demands.specs.demands.Account.{alike}
-use Rattle.std.specs.BTreeSet.{Updates}
-use Rattle.fast_check_search.specs.contracts.done.DoneDemandOrd.TheImpl as order
-use Rattle.fast_check_search.specs.declared.done.DoneDemand.{DoneDemand}
+use Rattle.std.proofs.Common.{◌∙◌, ap, refl}
+use Rattle.std.proofs.lemmas.Result.{on_ok_weaker}
+use Rattle.fast_check_names.specs.Names.{path_of}
 use Rattle.fast_check_search.specs.declared.worklist.SymbolWorklist.{SymbolWorklist}
-use Rattle.fast_check_search.specs.SymbolWorklist.{asked}
-use Rattle.fast_check_search.proofs.Compared.{key_made}
-use Rattle.fast_check_search.proofs.Kept.{kept_one, covered_one}
+use Rattle.fast_check_search.specs.declared.numbers.PathNumbers.{PathNumbers}
+use Rattle.fast_check_search.specs.Numbers.{number_of}
+use Rattle.fast_check_search.proofs.Kept.{kept_numbered}
+use Rattle.fast_check_search.proofs.Numbering.{number_kept}
 use Rattle.fast_check_search.proofs.worklist.SymbolWorklist.ask.Goals as goal
 
-abbrev after : goal.In_ok-insert → SymbolWorklist
-after c = record { demands = c.push.new.self; done = c.insert.new.self }
+pub ask_numbered-requires-clause-kept : goal.ask_numbered-requires-clause-kept
+ask_numbered-requires-clause-kept c =
+    let old : SymbolWorklist = c.args.self.now in
+    kept_numbered old (record { demands = old.demands; done = old.done; paths = c.number_after.new.self }) c.requires.kept refl refl
+    c.in_ok-number.ensures.numbering c.in_ok-number.ensures.kept
 
-fresh : (c : goal.In_ok-insert) → list_any (alike (demand_of c.args.demand)) (asked c.args.self.now) ≡ false
-fresh c = sym c.has.ensures ∙ c.if-has.false
-
-pub returns-clause-kept : goal.returns-clause-kept
-returns-clause-kept c =
-    let is = key_made c.done_demand.result c.essence.result c.done_demand.ensures.names c.done_demand.ensures.demand in
-    kept_one c.args.self.now (after c) c.args.demand c.essence.result c.requires c.in_ok-push.ensures.items c.essence.ensures
-    (subst (λ (k : DoneDemand). Updates order.cmp-value.it c.args.self.now.done c.insert.new.self k true) is c.in_ok-insert.ensures.updates)
-    (fresh c)
-
-pub returns-clause-covered : goal.returns-clause-covered
-returns-clause-covered c = covered_one c.args.self.now (after c) c.args.demand c.in_ok-push.ensures.items
+pub returns-clause-number : goal.returns-clause-number
+returns-clause-number c =
+    let p = path_of c.args.path.names.now in
+    on_ok_weaker c.ask_numbered.result
+    (λ e. ap (λ (w : PathNumbers). number_of w p) e ∙
+    number_kept c.args.self.now.paths c.number_after.new.self c.in_ok-number.ensures.kept p c.args.path.number c.requires.number)
+    c.ask_numbered.ensures.paths

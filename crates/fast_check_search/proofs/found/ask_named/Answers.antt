@@ -1,0 +1,15 @@
+use Rattle.std.proofs.Common.{◌∙◌, sym, subst, List}
+use Rattle.std.specs.List.{Contains}
+use Rattle.fast_check_names.specs.Names.{Path}
+use Rattle.fast_check_name_demands.specs.demands.Demands.{Demand}
+use Rattle.fast_check_search.specs.Done.{asked_path}
+use Rattle.fast_check_search.specs.Numbers.{Follows}
+use Rattle.fast_check_search.specs.SymbolWorklist.{demanded}
+use Rattle.fast_check_search.proofs.Rests.{follow}
+use Rattle.fast_check_search.proofs.found.ask_named.Goals as goal
+
+pub ask_all-requires-clause-follow : goal.ask_all-requires-clause-follow
+ask_all-requires-clause-follow c d h =
+    subst (λ (p : Path). Follows p (asked_path d.asked)) (sym c.asked_path.ensures)
+    (follow c.args.tables.now (demanded c.args.demand) d
+    (subst (λ (ds : List Demand). Contains ds d) (c.as_slice.ensures ∙ c.in_ok-named.ensures) h))

@@ -1,0 +1,30 @@
+use Rattle.std.proofs.Common.{◌≡◌, ◌∙◌, sym, refl, subst, true, false}
+use Rattle.std.specs.List.{list_any}
+use Rattle.std.specs.BTreeSet.{Updates}
+use Rattle.fast_check_name_demands.specs.demands.Demands.{demand_of}
+use Rattle.fast_check_name_demands.specs.demands.Account.{alike}
+use Rattle.fast_check_search.specs.contracts.done.DoneDemandOrd.TheImpl as order
+use Rattle.fast_check_search.specs.declared.done.DoneDemand.{DoneDemand}
+use Rattle.fast_check_search.specs.declared.done.NumberedDemand.{NumberedDemand}
+use Rattle.fast_check_search.specs.declared.worklist.SymbolWorklist.{SymbolWorklist}
+use Rattle.fast_check_search.specs.SymbolWorklist.{asked}
+use Rattle.fast_check_search.proofs.Kept.{kept_one, covered_one}
+use Rattle.fast_check_search.proofs.worklist.SymbolWorklist.ask_numbered.Goals as goal
+
+abbrev after : goal.In_ok-insert → SymbolWorklist
+after c = record { demands = c.push.new.self; done = c.insert.new.self; paths = c.args.self.now.paths }
+
+abbrev one : goal.In_ok-insert → NumberedDemand
+one c = record { demand = c.args.demand; path = c.args.path }
+
+fresh : (c : goal.In_ok-insert) → list_any (alike (demand_of c.args.demand)) (asked c.args.self.now) ≡ false
+fresh c = sym c.has.ensures ∙ c.if-has.false
+
+pub returns-clause-kept : goal.returns-clause-kept
+returns-clause-kept c = kept_one c.args.self.now (after c) (one c) c.requires.kept c.requires.number c.in_ok-push.ensures.items refl
+    (subst (λ (k : DoneDemand). Updates order.cmp-value.it c.args.self.now.done c.insert.new.self k true) c.done_demand.ensures
+    c.in_ok-insert.ensures.updates)
+    (fresh c)
+
+pub returns-clause-covered : goal.returns-clause-covered
+returns-clause-covered c = covered_one c.args.self.now (after c) (one c) c.in_ok-push.ensures.items
