@@ -2,7 +2,6 @@
 use Rattle.std.proofs.Common.{◌≡◌, ◌∙◌, sym, ap, refl, subst, ⊎_elim, inl, inr, ◌⊎◌, ℕ, zero, suc, ◌+◌, ◌-◌, ◌<◌, ◌≤◌, Bool, true, false}
 use Rattle.std.proofs.Common.{◌&&◌, ◌||◌, not, cond, eqb, leb, ltb, List, [], ◌∷◌, Option, Some, None, arith, length, get_or, take, drop}
 use Rattle.std.specs.List.{SwappedAt}
-use Rattle.std.specs.Option.{MatchOption, is_some}
 use Rattle.std.specs.Str.{bytes_eq}
 use Rattle.std.proofs.lemmas.Bool.{false≢true, cases_Bool, cases_lt, cases_eq, eqb-true, eq-eqb, ne_eqb, lt-ltb, le-ltb, le-leb, lt-leb}
 use Rattle.std.proofs.lemmas.List.{get_or-map, get_or-take, take-map, length-map, at_drop_all, at_drop_more}
@@ -15,7 +14,7 @@ use Rattle.fast_check_names.specs.Graph.{Graph, IsTree, IsWritten, entry, listin
 use Rattle.fast_check_names.specs.Names.{whole_below, IsAdded}
 use Rattle.fast_check_names.specs.Numbers.{is_node, lists_node, IsWithout}
 use Rattle.fast_check_names.specs.Stretch.{is_within, is_outside, fallen, IsPlaceOf}
-use Rattle.fast_check_names.specs.Stretch.{IsParentOutside, LacksParentOutside, HangOutside, IsFilling, HangApart, AreLowered, AreFilled}
+use Rattle.fast_check_names.specs.Stretch.{IsParentOutside, LacksParentOutside, IsFilling, HangApart, AreLowered, AreFilled}
 use Rattle.fast_check_names.proofs.Grafts.{at_or_not}
 use Rattle.fast_check_names.proofs.Places.{some_entry, agrees, once_before, found_first}
 use Rattle.fast_check_names.proofs.Numbers.{listed_node, lists_taken, node_listed, read_moved}
@@ -191,21 +190,25 @@ pub parent_found : (nodes : List Node) (k node i : ℕ) → IsPlaceOf (get_or (l
     entry nodes k (name_at (get_or (listings nodes) k []) i) ≡ Some (Subset (record { 0 = node }))
 parent_found nodes k node i p = place_found (get_or (listings nodes) k []) (once_at nodes k) node i p
 
-pub match_some : {X : Type 0} (A : Type 0) (B : X → Type 0) (o : Option X) → is_some o ≡ true → MatchOption o A B → (x : X) × B x
-match_some A B None e m = absurd (false≢true e)
-match_some A B (Some x) e m = (x, m)
+-- each node from a number on is listed by one before the end of a stretch, or by one that does not stand before the least
+abbrev pub HangFrom : Graph → ℕ → ℕ → ℕ → Type 0
+HangFrom g end least from = (k : ℕ) (n : Name) (j : NodeNo) → g k n ≡ Some (Subset j) → from ≤ j.0 → end ≤ k → least ≤ k
 
-pub hang_more : (nodes : List Node) (size gone from node : ℕ) → IsTree (entry nodes) size → HangOutside (entry nodes) gone from node →
-    (p : ℕ × ℕ) × IsParentOutside (listings nodes) gone from node p → HangOutside (entry nodes) gone from (node + 1)
-hang_more nodes size gone from node tree before p k n j e low high = ⊎_elim
-    (λ (l : j.0 < node). before k n j e low l)
-    (λ (l : node ≤ j.0).
-    let same : j.0 ≡ node = omega (arith, l, high) in
-    let this = parent_found nodes p.0.0 j.0 p.0.1
-    (subst (λ (m : ℕ). IsPlaceOf (get_or (listings nodes) p.0.0 []) m p.0.1) (sym same) p.1.2) in
-    let o = tree.once k n p.0.0 (name_at (get_or (listings nodes) p.0.0 []) p.0.1) j e this in
-    subst (λ (m : ℕ). (m < gone) ⊎ (from ≤ m)) (sym o.0) p.1.0)
-    (cases_lt j.0 node)
+pub hang_more : (nodes : List Node) (size gone end least next from node to : ℕ) (p : ℕ × ℕ) → IsTree (entry nodes) size →
+    HangFrom (entry nodes) end least from → from ≡ node + 1 → to ≡ node → IsParentOutside (listings nodes) gone end node p →
+    next ≤ least → (end ≤ p.0 → next ≤ p.0) → HangFrom (entry nodes) end next to
+hang_more nodes size gone end least next from node to p tree before step is parent less here k n j e low high = ⊎_elim
+    (λ (l : node < j.0). let b : least ≤ k = before k n j e (omega (arith, l, step)) high in omega (arith, b, less))
+    (λ (l : j.0 ≤ node).
+    let same : j.0 ≡ node = omega (arith, l, low, is) in
+    let this = parent_found nodes p.0 j.0 p.1
+    (subst (λ (m : ℕ). IsPlaceOf (get_or (listings nodes) p.0 []) m p.1) (sym same) parent.2) in
+    let o = tree.once k n p.0 (name_at (get_or (listings nodes) p.0 []) p.1) j e this in
+    let b : next ≤ p.0 = here (omega (arith, high, o.0)) in omega (arith, b, o.0))
+    (cases_lt node j.0)
+
+pub hang_apart : (g : Graph) (end least from : ℕ) → HangFrom g end least from → from ≤ least → HangApart g end from
+hang_apart g end least from is upto k n j e low high = let b : least ≤ k = is k n j e low high in omega (arith, b, upto)
 
 -- other numbers
 pub moved_same : (f h : ℕ → ℕ) (o : Option Below) → ((j : NodeNo) → o ≡ Some (Subset j) → f j.0 ≡ h j.0) → moved f o ≡ moved h o
@@ -218,88 +221,189 @@ moved_none f None e = refl
 moved_none f (Some All) e = refl
 moved_none f (Some (Subset j)) e = ap (λ (m : ℕ). Some (Subset (record { 0 = m }))) (e j refl)
 
-pub fallen_in : (low high by k : ℕ) → low ≤ k → k < high → fallen low high by k ≡ k - by
-fallen_in low high by k a b = ap (λ c. cond c (k - by) k) (within_is low high k a b)
+-- where a number falls to
+fallen_stays : (gone end from k : ℕ) → k < from → fallen gone end from k ≡ k
+fallen_stays gone end from k a =
+    ap (λ c. cond c k (cond (ltb k (from + (end - gone))) (k - (from - gone)) (k - (end - gone)))) (lt-ltb k from a)
 
-pub fallen_out : (low high by k : ℕ) → (k < low) ⊎ (high ≤ k) → fallen low high by k ≡ k
-fallen_out low high by k s = ap (λ c. cond c (k - by) k) (not_within low high k s)
+abbrev IsFirst : ℕ → ℕ → ℕ → ℕ → Type 0
+IsFirst gone end from k = (k < from + (end - gone)) × (fallen gone end from k ≡ k - (from - gone))
 
-fallen_other : (low high by k : ℕ) → (k ≡ high → ⊥) → fallen low (high + 1) by k ≡ fallen low high by k
-fallen_other low high by k d = ⊎_elim
-    (λ (s : (low ≤ k) × (k < high)).
-    fallen_in low (high + 1) by k s.0 (omega (arith, s.1)) ∙ sym (fallen_in low high by k s.0 s.1))
-    (λ (s : (k < low) ⊎ (high ≤ k)). fallen_out low (high + 1) by k (⊎_elim
-    (λ (a : k < low). inl a)
-    (λ (a : high ≤ k). inr (⊎_elim (λ (l : k < high + 1). absurd (d (omega (arith, l, a)))) (λ (l : high + 1 ≤ k). l)
-    (cases_lt k (high + 1)))) s) ∙
-    sym (fallen_out low high by k s))
-    (side low high k)
+abbrev IsRest : ℕ → ℕ → ℕ → ℕ → Type 0
+IsRest gone end from k = (from + (end - gone) ≤ k) × (fallen gone end from k ≡ k - (end - gone))
 
--- a number that did not fall yet
-not_fallen : (low high by j : ℕ) → fallen low high by j ≡ high → j ≡ high
-not_fallen low high by j e = ⊎_elim
-    (λ (s : (low ≤ j) × (j < high)). absurd (omega (arith, s.1, fallen_in low high by j s.0 s.1, e)))
-    (λ (s : (j < low) ⊎ (high ≤ j)). sym (fallen_out low high by j s) ∙ e)
-    (side low high j)
+fallen_is : (gone end from k : ℕ) → from ≤ k → IsFirst gone end from k ⊎ IsRest gone end from k
+fallen_is gone end from k a =
+    let far = ap (λ c. cond c k (cond (ltb k (from + (end - gone))) (k - (from - gone)) (k - (end - gone)))) (le-ltb k from a) in ⊎_elim
+    (λ (b : k < from + (end - gone)).
+    inl (b, far ∙ ap (λ c. cond c (k - (from - gone)) (k - (end - gone))) (lt-ltb k (from + (end - gone)) b)))
+    (λ (b : from + (end - gone) ≤ k).
+    inr (b, far ∙ ap (λ c. cond c (k - (from - gone)) (k - (end - gone))) (le-ltb k (from + (end - gone)) b)))
+    (cases_lt k (from + (end - gone)))
+
+fallen_upto : (gone end from k : ℕ) → fallen gone end from k ≤ k
+fallen_upto gone end from k = ⊎_elim
+    (λ (a : k < from). omega (arith, fallen_stays gone end from k a))
+    (λ (a : from ≤ k). ⊎_elim
+    (λ (s : IsFirst gone end from k). omega (arith, s.1))
+    (λ (s : IsRest gone end from k). omega (arith, s.1)) (fallen_is gone end from k a))
+    (cases_lt k from)
+
+-- the first ones, as many as go, and the others
+fallen_first : (gone end from k : ℕ) → from ≤ k → k - from < end - gone → k - (from - gone) ≡ fallen gone end from k
+fallen_first gone end from k a b = ⊎_elim
+    (λ (s : IsFirst gone end from k). sym s.1)
+    (λ (s : IsRest gone end from k). absurd (omega (arith, s.0, a, b))) (fallen_is gone end from k a)
+
+fallen_rest : (gone end from k : ℕ) → from ≤ k → end - gone ≤ k - from → k - (end - gone) ≡ fallen gone end from k
+fallen_rest gone end from k a b = ⊎_elim
+    (λ (s : IsFirst gone end from k). absurd (omega (arith, s.0, a, b)))
+    (λ (s : IsRest gone end from k). sym s.1) (fallen_is gone end from k a)
+
+module _ (gone end from : ℕ) (some : gone < end) (behind : end ≤ from) where
+  fallen_rises : (j k : ℕ) → from ≤ j → j < k → fallen gone end from j < fallen gone end from k
+  fallen_rises j k low less = ⊎_elim
+      (λ (s : IsFirst gone end from j). ⊎_elim
+      (λ (t : IsFirst gone end from k). omega (arith, s.1, t.1, low, less, some, behind))
+      (λ (t : IsRest gone end from k). omega (arith, s.0, s.1, t.0, t.1, low, less, some, behind))
+      (fallen_is gone end from k (omega (arith, low, less))))
+      (λ (s : IsRest gone end from j). ⊎_elim
+      (λ (t : IsFirst gone end from k). absurd (omega (arith, s.0, t.0, less)))
+      (λ (t : IsRest gone end from k). omega (arith, s.0, s.1, t.1, less))
+      (fallen_is gone end from k (omega (arith, low, less))))
+      (fallen_is gone end from j low)
+
+  -- to where none stays that does not fall
+  fallen_side : (k : ℕ) → from ≤ k → ((gone ≤ fallen gone end from k) × (fallen gone end from k < end)) ⊎ (from ≤ fallen gone end from k)
+  fallen_side k low = ⊎_elim
+      (λ (s : IsFirst gone end from k). inl (omega (arith, s.1, low, some, behind), omega (arith, s.0, s.1, low, some, behind)))
+      (λ (s : IsRest gone end from k). inr (omega (arith, s.0, s.1)))
+      (fallen_is gone end from k low)
+
+  fallen_least : (k : ℕ) → from ≤ k → gone ≤ fallen gone end from k
+  fallen_least k low = ⊎_elim
+      (λ (s : (gone ≤ fallen gone end from k) × (fallen gone end from k < end)). s.0)
+      (λ (s : from ≤ fallen gone end from k). omega (arith, s, some, behind))
+      (fallen_side k low)
+
+  fallen_less : (k : ℕ) → from ≤ k → fallen gone end from k < k
+  fallen_less k low = ⊎_elim
+      (λ (s : IsFirst gone end from k). omega (arith, s.1, low, some, behind))
+      (λ (s : IsRest gone end from k). omega (arith, s.1, low, some, behind))
+      (fallen_is gone end from k low)
+
+  -- a place that is filled is none of those that stay and do not move
+  places_apart : (at k : ℕ) → from ≤ at → k < from → is_outside gone end k ≡ true → k ≡ fallen gone end from at → ⊥
+  places_apart at k low less t e = ⊎_elim
+      (λ (s : (gone ≤ fallen gone end from at) × (fallen gone end from at < end)). ⊎_elim
+      (λ (b : k < gone). omega (arith, b, e, s.0))
+      (λ (b : end ≤ k). omega (arith, b, e, s.1))
+      (outside_from gone end k t))
+      (λ (s : from ≤ fallen gone end from at). omega (arith, s, e, less))
+      (fallen_side at low)
+
+-- where those before a number have fallen
+abbrev pub fallen_before : ℕ → ℕ → ℕ → ℕ → ℕ → ℕ
+fallen_before gone end from high k = cond (ltb k high) (fallen gone end from k) k
+
+module _ (gone end from high : ℕ) where
+  before_in : (k : ℕ) → k < high → fallen_before gone end from high k ≡ fallen gone end from k
+  before_in k a = ap (λ c. cond c (fallen gone end from k) k) (lt-ltb k high a)
+
+  before_out : (k : ℕ) → high ≤ k → fallen_before gone end from high k ≡ k
+  before_out k a = ap (λ c. cond c (fallen gone end from k) k) (le-ltb k high a)
+
+  before_upto : (k : ℕ) → fallen_before gone end from high k ≤ k
+  before_upto k = ⊎_elim
+      (λ (a : k < high). omega (arith, before_in k a, fallen_upto gone end from k))
+      (λ (a : high ≤ k). omega (arith, before_out k a))
+      (cases_lt k high)
+
+  -- a number that did not fall yet
+  not_fallen : (j : ℕ) → fallen_before gone end from high j ≡ high → j ≡ high
+  not_fallen j e = ⊎_elim
+      (λ (a : j < high). absurd (omega (arith, a, before_upto j, e)))
+      (λ (a : high ≤ j). sym (before_out j a) ∙ e)
+      (cases_lt j high)
+
+before_other : (gone end from high k : ℕ) → (k ≡ high → ⊥) → fallen_before gone end from (high + 1) k ≡ fallen_before gone end from high k
+before_other gone end from high k d = ⊎_elim
+    (λ (a : k < high). before_in gone end from (high + 1) k (omega (arith, a)) ∙ sym (before_in gone end from high k a))
+    (λ (a : high ≤ k).
+    let b : high + 1 ≤ k = ⊎_elim (λ (l : k < high + 1). absurd (d (omega (arith, l, a)))) (λ (l : high + 1 ≤ k). l)
+    (cases_lt k (high + 1)) in
+    before_out gone end from (high + 1) k b ∙ sym (before_out gone end from high k a))
+    (cases_lt k high)
+
+-- none has fallen
+before_none : (gone end from k : ℕ) → fallen_before gone end from from k ≡ k
+before_none gone end from k = ⊎_elim
+    (λ (a : k < from). before_in gone end from from k a ∙ fallen_stays gone end from k a)
+    (λ (a : from ≤ k). before_out gone end from from k a)
+    (cases_lt k from)
 
 no_is : (i j : NodeNo) → i.0 ≡ j.0 → i ≡ j
 no_is i j e k = record { 0 = e k }
 
-module _ (g : Graph) (size gone from node : ℕ) (tree : IsTree g size) (nodes : List Node) (low : from ≤ node)
-    (is : AreLowered g gone from node (entry nodes)) where
-  abbrev by : ℕ
-  by = from - gone
+module _ (g : Graph) (size gone end from node : ℕ) (tree : IsTree g size) (nodes : List Node) (low : from ≤ node)
+    (is : AreLowered g gone from (fallen_before gone end from node) (entry nodes)) where
+  abbrev was : ℕ → ℕ
+  was = fallen_before gone end from node
 
-  outside : (k : ℕ) (n : Name) → is_outside gone from k ≡ true → entry nodes k n ≡ moved (fallen from node by) (g k n)
-  outside k n t = is k n ∙ ap (λ b. cond b (moved (fallen from node by) (g k n)) (g k n)) t
+  abbrev next : ℕ → ℕ
+  next = fallen_before gone end from (node + 1)
+
+  outside : (k : ℕ) (n : Name) → is_outside gone from k ≡ true → entry nodes k n ≡ moved was (g k n)
+  outside k n t = is k n ∙ ap (λ b. cond b (moved was (g k n)) (g k n)) t
 
   -- what does not lead to the node stays
   other : (w : Graph) (k : ℕ) (n : Name) → w k n ≡ entry nodes k n →
       (is_outside gone from k ≡ true → (j : NodeNo) → g k n ≡ Some (Subset j) → j.0 ≡ node → ⊥) →
-      w k n ≡ cond (is_outside gone from k) (moved (fallen from (node + 1) by) (g k n)) (g k n)
+      w k n ≡ cond (is_outside gone from k) (moved next (g k n)) (g k n)
   other w k n same lacks = ⊎_elim
       (λ (t : is_outside gone from k ≡ true).
       same ∙ (outside k n t ∙
-      (moved_same (fallen from node by) (fallen from (node + 1) by) (g k n)
-      (λ j e. sym (fallen_other from node by j.0 (λ d. lacks t j e d))) ∙
-      ap (λ b. cond b (moved (fallen from (node + 1) by) (g k n)) (g k n)) (sym t))))
+      (moved_same was next (g k n) (λ j e. sym (before_other gone end from node j.0 (λ d. lacks t j e d))) ∙
+      ap (λ b. cond b (moved next (g k n)) (g k n)) (sym t))))
       (λ (t : is_outside gone from k ≡ false).
-      same ∙ (is k n ∙ (ap (λ b. cond b (moved (fallen from node by) (g k n)) (g k n)) t ∙
-      ap (λ b. cond b (moved (fallen from (node + 1) by) (g k n)) (g k n)) (sym t))))
+      same ∙ (is k n ∙ (ap (λ b. cond b (moved was (g k n)) (g k n)) t ∙ ap (λ b. cond b (moved next (g k n)) (g k n)) (sym t))))
       (cases_Bool (is_outside gone from k))
 
-  pub lowered_past : LacksParentOutside (listings nodes) gone from node → AreLowered g gone from (node + 1) (entry nodes)
+  pub lowered_past : LacksParentOutside (listings nodes) gone from node →
+      AreLowered g gone from (fallen_before gone end from (node + 1)) (entry nodes)
   lowered_past lacks k n = other (entry nodes) k n refl
       (λ t j e d.
-      let held : entry nodes k n ≡ Some (Subset j) = outside k n t ∙ (ap (moved (fallen from node by)) e ∙
-      ap (λ (m : ℕ). Some (Subset (record { 0 = m }))) (fallen_out from node by j.0 (inr (omega (arith, d))))) in
+      let held : entry nodes k n ≡ Some (Subset j) = outside k n t ∙ (ap (moved was) e ∙
+      ap (λ (m : ℕ). Some (Subset (record { 0 = m }))) (before_out gone end from node j.0 (omega (arith, d)))) in
       let l = (tree.later k n j e).0 in
       false≢true (sym (lacks k (outside_from gone from k t) (omega (arith, l, d))) ∙
       subst (λ (m : ℕ). lists_node (get_or (listings nodes) k []) m ≡ true) d (listed_node (get_or (listings nodes) k []) n j held)))
 
-  pub lowered_more : (w : Graph) (p : ℕ × ℕ) → IsParentOutside (listings nodes) gone from node p →
-      IsWritten (entry nodes) p.0 (name_at (get_or (listings nodes) p.0 []) p.1) (Some (Subset (record { 0 = node - by }))) w →
-      AreLowered g gone from (node + 1) w
-  lowered_more w p parent written k n =
+  pub lowered_more : (w : Graph) (p : ℕ × ℕ) (number : ℕ) → IsParentOutside (listings nodes) gone from node p →
+      number ≡ fallen gone end from node →
+      IsWritten (entry nodes) p.0 (name_at (get_or (listings nodes) p.0 []) p.1) (Some (Subset (record { 0 = number }))) w →
+      AreLowered g gone from (fallen_before gone end from (node + 1)) w
+  lowered_more w p number parent number_is written k n =
       let name = name_at (get_or (listings nodes) p.0 []) p.1 in
-      let z : Option Below = Some (Subset (record { 0 = node - by })) in
+      let z : Option Below = Some (Subset (record { 0 = number })) in
       let t = outside_is gone from p.0 parent.0 in
-      let back = moved_back (fallen from node by) (g p.0 name) (record { 0 = node })
+      let back = moved_back was (g p.0 name) (record { 0 = node })
       (sym (outside p.0 name t) ∙ parent_found nodes p.0 node p.1 parent.2) in
-      let same : back.0.0 ≡ node = not_fallen from node by back.0.0 (sym back.2) in
-      let was : g p.0 name ≡ Some (Subset (record { 0 = node })) = back.1 ∙
+      let same : back.0.0 ≡ node = not_fallen gone end from node back.0.0 (sym back.2) in
+      let first : g p.0 name ≡ Some (Subset (record { 0 = node })) = back.1 ∙
       ap (λ (x : NodeNo). Some (Subset x)) (no_is back.0 (record { 0 = node }) same) in
       ⊎_elim
       (λ (s : (k ≡ p.0) × (name ≡ n) × ((eqb k p.0 && bytes_eq name n) ≡ true)).
       let here : g k n ≡ Some (Subset (record { 0 = node })) = subst (λ (m : Name). g k m ≡ Some (Subset (record { 0 = node }))) s.1
-      (subst (λ (i : ℕ). g i name ≡ Some (Subset (record { 0 = node }))) (sym s.0) was) in
+      (subst (λ (i : ℕ). g i name ≡ Some (Subset (record { 0 = node }))) (sym s.0) first) in
       written k n ∙ (ap (λ b. cond b z (entry nodes k n)) s.2 ∙
-      sym (ap (λ b. cond b (moved (fallen from (node + 1) by) (g k n)) (g k n)) (ap (is_outside gone from) s.0 ∙ t) ∙
-      (ap (moved (fallen from (node + 1) by)) here ∙
-      ap (λ (m : ℕ). Some (Subset (record { 0 = m }))) (fallen_in from (node + 1) by node low (omega arith))))))
+      sym (ap (λ b. cond b (moved next (g k n)) (g k n)) (ap (is_outside gone from) s.0 ∙ t) ∙
+      (ap (moved next) here ∙
+      ap (λ (m : ℕ). Some (Subset (record { 0 = m })))
+      (before_in gone end from (node + 1) node (omega arith) ∙ sym number_is)))))
       (λ s. other w k n (written k n ∙ ap (λ b. cond b z (entry nodes k n)) s)
       (λ u j e d.
-      let o = tree.once k n p.0 name j e (was ∙ ap (λ (x : NodeNo). Some (Subset x)) (sym (no_is j (record { 0 = node }) d))) in
+      let o = tree.once k n p.0 name j e (first ∙ ap (λ (x : NodeNo). Some (Subset x)) (sym (no_is j (record { 0 = node }) d))) in
       false≢true (sym s ∙ (ap (λ b. b && bytes_eq name n) (eq-eqb k p.0 o.0) ∙ itself_at name n (sym o.1)))))
       (at_or_not k p.0 name n)
     where
@@ -316,89 +420,87 @@ either_same true x y e = sym e
 either_same false x y e = refl
 
 -- no number has fallen
-pub lowered_none : (g : Graph) (gone from : ℕ) → AreLowered g gone from from g
-lowered_none g gone from k n = either_same (is_outside gone from k) (g k n) (moved (fallen from from (from - gone)) (g k n))
-    (not_moved (fallen from from (from - gone)) (g k n) (λ i. fallen_out from from (from - gone) i (cases_lt i from)))
+pub lowered_none : (g : Graph) (gone end from : ℕ) → AreLowered g gone from (fallen_before gone end from from) g
+lowered_none g gone end from k n = either_same (is_outside gone from k) (g k n) (moved (fallen_before gone end from from) (g k n))
+    (not_moved (fallen_before gone end from from) (g k n) (λ i. before_none gone end from i))
 
--- where no node has such a number
-pub lowered_short : (g w : Graph) (gone from high size : ℕ) → size ≤ from → IsTree g size → AreLowered g gone from high w →
-    AreLowered g gone from size w
-lowered_short g w gone from high size s tree is k n =
+-- all have
+pub lowered_all : (g w : Graph) (gone end from high size : ℕ) → size ≤ high → IsTree g size →
+    AreLowered g gone from (fallen_before gone end from high) w → AreLowered g gone from (fallen gone end from) w
+lowered_all g w gone end from high size all tree is k n =
     is k n ∙ ap (λ (o : Option Below). cond (is_outside gone from k) o (g k n))
-    (moved_same (fallen from high (from - gone)) (fallen from size (from - gone)) (g k n)
-    (λ j e. let l = (tree.later k n j e).1 in fallen_out from high (from - gone) j.0 (inl (omega (arith, l, s))) ∙
-    sym (fallen_out from size (from - gone) j.0 (inl (omega (arith, l, s))))))
+    (moved_same (fallen_before gone end from high) (fallen gone end from) (g k n)
+    (λ j e. let l = (tree.later k n j e).1 in before_in gone end from high j.0 (omega (arith, l, all))))
 
--- a place that is filled is none of those that stay and do not move
-places_apart : (size gone end from at k : ℕ) → IsFilling size gone end from → from ≤ at → at < size → k < from →
-    is_outside gone end k ≡ true → k ≡ at - (from - gone) → ⊥
-places_apart size gone end from at k filling low within less t e = ⊎_elim
-    (λ (b : k < gone). omega (arith, b, e, low, filling.some, filling.behind))
-    (λ (b : end ≤ k). ⊎_elim
-    (λ (c : from ≡ end). omega (arith, less, b, c))
-    (λ (c : size + gone ≡ from + end). omega (arith, b, c, e, within, low, filling.some, filling.behind))
-    filling.enough)
-    (outside_from gone end k t)
+pub filled_none : (gone end from : ℕ) (ls : List (List Entry)) → AreFilled gone end (fallen_before gone end from from) ls ls
+filled_none gone end from ls k l t = ap (λ (m : ℕ). get_or ls m []) (before_none gone end from k)
 
 module _ (size gone end from at : ℕ) (old : List (List Entry)) (xs : List Node) (filling : IsFilling size gone end from)
-    (long : length old ≡ size) (same : length xs ≡ size) (low : from ≤ at) (is : AreFilled gone end from at old (listings xs)) where
-  apart : (k : ℕ) → at < size → is_outside gone end k ≡ true → fallen from at (from - gone) k ≡ at - (from - gone) → ⊥
-  apart k within t e = ⊎_elim
-      (λ (s : (from ≤ k) × (k < at)). let f = fallen_in from at (from - gone) k s.0 s.1 in omega (arith, f, e, s.0, s.1))
-      (λ (s : (k < from) ⊎ (at ≤ k)).
-      let f = fallen_out from at (from - gone) k s in ⊎_elim
-      (λ (a : k < from). places_apart size gone end from at k filling low within a t (sym f ∙ e))
-      (λ (a : at ≤ k). omega (arith, a, f, e, filling.some, filling.behind, low)) s)
-      (side from at k)
+    (long : length old ≡ size) (same : length xs ≡ size) (low : from ≤ at)
+    (is : AreFilled gone end (fallen_before gone end from at) old (listings xs)) where
+  apart : (k : ℕ) → is_outside gone end k ≡ true → fallen_before gone end from at k ≡ fallen gone end from at → ⊥
+  apart k t e = ⊎_elim
+      (λ (s : k < at). ⊎_elim
+      (λ (a : k < from). places_apart gone end from filling.some filling.behind at k low a t
+      (sym (fallen_stays gone end from k a) ∙ (sym (before_in gone end from at k s) ∙ e)))
+      (λ (a : from ≤ k).
+      let r = fallen_rises gone end from filling.some filling.behind k at a s in
+      let f = before_in gone end from at k s in omega (arith, r, f, e))
+      (cases_lt k from))
+      (λ (s : at ≤ k).
+      let f = before_out gone end from at k s in
+      let r = fallen_less gone end from filling.some filling.behind at low in omega (arith, f, r, e, s))
+      (cases_lt k at)
 
-  pub filled_more : (ys : List Node) → at < size → length ys ≡ size → SwappedAt xs ys (at - (from - gone)) at →
-      AreFilled gone end from (at + 1) old (listings ys)
-  filled_more ys within count swapped k l t = ⊎_elim
+  pub filled_more : (ys : List Node) (number : ℕ) → number ≡ fallen gone end from at → at < size → length ys ≡ size →
+      SwappedAt xs ys number at → AreFilled gone end (fallen_before gone end from (at + 1)) old (listings ys)
+  filled_more ys number number_is within count swapped k l t = ⊎_elim
       (λ (e : k ≡ at).
-      ap (λ (m : ℕ). get_or (listings ys) m []) (fallen_in from (at + 1) (from - gone) k (omega (arith, e, low)) (omega (arith, e)) ∙
-      ap (λ (m : ℕ). m - (from - gone)) e) ∙
-      (read_moved xs ys (at - (from - gone)) at (omega (arith, within, count)) (omega (arith, within, same)) swapped.0 ∙
-      (ap (λ (m : ℕ). get_or (listings xs) m []) (sym e ∙ sym (fallen_out from at (from - gone) k (inr (omega (arith, e))))) ∙ is k l t)))
+      ap (λ (m : ℕ). get_or (listings ys) m []) (before_in gone end from (at + 1) k (omega (arith, e)) ∙
+      (ap (λ (m : ℕ). fallen gone end from m) e ∙ sym number_is)) ∙
+      (read_moved xs ys number at (omega (arith, within, count, number_is, fallen_upto gone end from at)) (omega (arith, within, same))
+      swapped.0 ∙
+      (ap (λ (m : ℕ). get_or (listings xs) m []) (sym e ∙ sym (before_out gone end from at k (omega (arith, e)))) ∙ is k l t)))
       (λ (d : k ≡ at → ⊥).
-      let less : fallen from at (from - gone) k < size = ⊎_elim
-      (λ (s : (from ≤ k) × (k < at)). omega (arith, fallen_in from at (from - gone) k s.0 s.1, l, long))
-      (λ (s : (k < from) ⊎ (at ≤ k)). omega (arith, fallen_out from at (from - gone) k s, l, long)) (side from at k) in
-      ap (λ (m : ℕ). get_or (listings ys) m []) (fallen_other from at (from - gone) k d) ∙
-      (read_moved xs ys (fallen from at (from - gone) k) (fallen from at (from - gone) k) (omega (arith, less, count))
-      (omega (arith, less, same))
-      (λ x. swapped.2 (fallen from at (from - gone) k) x (λ e. apart k within t e) (λ e. d (not_fallen from at (from - gone) k e))) ∙
+      let to : ℕ = fallen_before gone end from at k in
+      let less : to < size = omega (arith, before_upto gone end from at k, l, long) in
+      ap (λ (m : ℕ). get_or (listings ys) m []) (before_other gone end from at k d) ∙
+      (read_moved xs ys to to (omega (arith, less, count)) (omega (arith, less, same))
+      (λ x. swapped.2 to x (λ e. apart k t (e ∙ number_is)) (λ e. d (not_fallen gone end from at k e))) ∙
       is k l t))
       (cases_eq k at)
 
 numbers_within : (size gone end from k : ℕ) → IsFilling size gone end from → k < size → is_outside gone end k ≡ true →
-    fallen from size (from - gone) k + (end - gone) < size
+    fallen gone end from k + (end - gone) < size
 numbers_within size gone end from k filling l t = ⊎_elim
-    (λ (s : (from ≤ k) × (k < size)).
-    let f = fallen_in from size (from - gone) k s.0 s.1 in ⊎_elim
-    (λ (c : from ≡ end). omega (arith, f, c, s.0, l, filling.some))
-    (λ (c : size + gone ≡ from + end). omega (arith, f, c, s.0, l, filling.some, filling.behind)) filling.enough)
-    (λ (s : (k < from) ⊎ (size ≤ k)).
-    let f = fallen_out from size (from - gone) k s in
-    let r : k < from = ⊎_elim (λ (r : k < from). r) (λ (r : size ≤ k). absurd (omega (arith, r, l))) s in ⊎_elim
+    (λ (r : k < from).
+    let f = fallen_stays gone end from k r in ⊎_elim
     (λ (b : k < gone). omega (arith, f, b, filling.some, filling.behind, filling.within))
     (λ (b : end ≤ k). ⊎_elim
     (λ (c : from ≡ end). absurd (omega (arith, r, b, c)))
-    (λ (c : size + gone ≡ from + end). omega (arith, f, r, c, filling.some))
+    (λ (c : from + (end - gone) ≤ size). omega (arith, f, r, c))
     filling.enough)
     (outside_from gone end k t))
-    (side from size k)
+    (λ (r : from ≤ k). ⊎_elim
+    (λ (s : IsFirst gone end from k). ⊎_elim
+    (λ (c : from ≡ end). omega (arith, s.1, c, r, l, filling.some))
+    (λ (c : from + (end - gone) ≤ size). omega (arith, s.0, s.1, c, r, filling.some, filling.behind))
+    filling.enough)
+    (λ (s : IsRest gone end from k). omega (arith, s.0, s.1, l))
+    (fallen_is gone end from k r))
+    (cases_lt k from)
 
 pub filled_end : (size gone end from at left : ℕ) (old : List (List Entry)) (xs ys : List Node) → IsFilling size gone end from →
-    length old ≡ size → AreFilled gone end from at old (listings xs) → at ≡ size → left + (end - gone) ≡ size → ys ≡ take left xs →
-    AreFilled gone end from size old (listings ys)
+    length old ≡ size → AreFilled gone end (fallen_before gone end from at) old (listings xs) → size ≤ at → left + (end - gone) ≡ size →
+    ys ≡ take left xs → AreFilled gone end (fallen gone end from) old (listings ys)
 filled_end size gone end from at left old xs ys filling long is done count cut k l t =
     let h : Node → List Entry = λ y. y.names.items in
-    let to = fallen from size (from - gone) k in
+    let to = fallen gone end from k in
     let more = numbers_within size gone end from k filling (omega (arith, l, long)) t in
     ap (λ (zs : List Node). get_or (listings zs) to []) cut ∙
     (ap (λ (zs : List (List Entry)). get_or zs to []) (sym (take-map h left xs)) ∙
     (get_or-take left (listings xs) to [] (omega (arith, more, count)) ∙
-    (ap (λ (m : ℕ). get_or (listings xs) (fallen from m (from - gone) k) []) (sym done) ∙ is k l t)))
+    (ap (λ (m : ℕ). get_or (listings xs) m []) (sym (before_in gone end from at k (omega (arith, l, long, done)))) ∙ is k l t)))
 
 module _ (g : Graph) (size gone end from count : ℕ) (tree : IsTree g size) (filling : IsFilling size gone end from)
     (hang : HangApart g end from) (count_is : count + (end - gone) ≡ size) where
@@ -406,67 +508,79 @@ module _ (g : Graph) (size gone end from count : ℕ) (tree : IsTree g size) (fi
   f = is_outside gone end
 
   abbrev to : ℕ → ℕ
-  to = fallen from size (from - gone)
-
-  falls : (k : ℕ) → from ≤ k → k < size → to k ≡ k - (from - gone)
-  falls k a b = fallen_in from size (from - gone) k a b
-
-  stays : (k : ℕ) → k < from → to k ≡ k
-  stays k a = fallen_out from size (from - gone) k (inl a)
+  to = fallen gone end from
 
   rises : (k : ℕ) (n : Name) (j : NodeNo) → f k ≡ true → f j.0 ≡ true → g k n ≡ Some (Subset j) → to k < to j.0
   rises k n j a b e =
       let l = tree.later k n j e in ⊎_elim
-      (λ (r : j.0 < from). let s : k < from = omega (arith, r, l.0) in omega (arith, stays j.0 r, stays k s, l.0))
+      (λ (r : j.0 < from).
+      let s : k < from = omega (arith, r, l.0) in omega (arith, fallen_stays gone end from j.0 r, fallen_stays gone end from k s, l.0))
       (λ (r : from ≤ j.0). ⊎_elim
       (λ (s : k < from). ⊎_elim
-      (λ (u : k < gone). omega (arith, falls j.0 r l.1, stays k s, u, r, filling.some, filling.behind))
+      (λ (u : k < gone).
+      omega (arith, fallen_least gone end from filling.some filling.behind j.0 r, fallen_stays gone end from k s, u))
       (λ (u : end ≤ k). let v = hang k n j e r u in absurd (omega (arith, v, s)))
       (outside_from gone end k a))
-      (λ (s : from ≤ k). omega (arith, falls j.0 r l.1, falls k s (omega (arith, l.0, l.1)), l.0, s, filling.some, filling.behind))
+      (λ (s : from ≤ k). fallen_rises gone end from filling.some filling.behind k j.0 s l.0)
       (cases_lt k from))
       (cases_lt j.0 from)
 
   one : (j k : ℕ) → j < size → k < size → f j ≡ true → f k ≡ true → to j ≡ to k → j ≡ k
   one j k w v a b e = ⊎_elim
       (λ (r : j < from). ⊎_elim
-      (λ (s : k < from). omega (arith, stays j r, stays k s, e))
-      (λ (s : from ≤ k). absurd (places_apart size gone end from k j filling s v r a (sym (stays j r) ∙ (e ∙ falls k s v))))
+      (λ (s : k < from). sym (fallen_stays gone end from j r) ∙ (e ∙ fallen_stays gone end from k s))
+      (λ (s : from ≤ k). absurd (places_apart gone end from filling.some filling.behind k j s r a
+      (sym (fallen_stays gone end from j r) ∙ e)))
       (cases_lt k from))
       (λ (r : from ≤ j). ⊎_elim
-      (λ (s : k < from). absurd (places_apart size gone end from j k filling r w s b (sym (stays k s) ∙ (sym e ∙ falls j r w))))
-      (λ (s : from ≤ k). omega (arith, falls j r w, falls k s v, e, r, s))
+      (λ (s : k < from). absurd (places_apart gone end from filling.some filling.behind j k r s b
+      (sym (fallen_stays gone end from k s) ∙ sym e)))
+      (λ (s : from ≤ k). both j k r s e)
       (cases_lt k from))
       (cases_lt j from)
-
-  moves : (m : ℕ) → gone ≤ m → m + (from - gone) < size → (k : ℕ) × (k < size) × (f k ≡ true) × (to k ≡ m)
-  moves m low within =
-      let k : ℕ = m + (from - gone) in
-      let high : from ≤ k = omega (arith, low, filling.some, filling.behind) in
-      (k, within, outside_is gone end k (inr (omega (arith, high, filling.behind))), omega (arith, falls k high within))
+    where
+      both : (j k : ℕ) → from ≤ j → from ≤ k → to j ≡ to k → j ≡ k
+      both j k r s e = ⊎_elim
+          (λ (a : j < k). let u = fallen_rises gone end from filling.some filling.behind j k r a in absurd (omega (arith, u, e)))
+          (λ (a : k ≤ j). ⊎_elim
+          (λ (b : k < j). let u = fallen_rises gone end from filling.some filling.behind k j s b in absurd (omega (arith, u, e)))
+          (λ (b : j ≤ k). omega (arith, a, b))
+          (cases_lt k j))
+          (cases_lt j k)
 
   onto : (m : ℕ) → m < count → (k : ℕ) × (k < size) × (f k ≡ true) × (to k ≡ m)
   onto m less = ⊎_elim
-      (λ (a : m < gone). (
-        m,
-        omega (arith, a, filling.some, filling.behind, filling.within),
-        outside_is gone end m (inl a),
-        stays m (omega (arith, a, filling.some, filling.behind)),
+      (λ (a : m < from). ⊎_elim
+      (λ (b : (gone ≤ m) × (m < end)).
+      let k : ℕ = m + (from - gone) in
+      let high : from ≤ k = omega (arith, b.0, filling.some, filling.behind) in
+      let first : k - from < end - gone = omega (arith, b.0, b.1, filling.some, filling.behind) in
+      let within : k < size = ⊎_elim
+      (λ (c : from ≡ end). omega (arith, c, less, count_is))
+      (λ (c : from + (end - gone) ≤ size). omega (arith, c, b.1, filling.some, filling.behind))
+      filling.enough in (
+        k,
+        within,
+        outside_is gone end k (inr (omega (arith, high, filling.behind))),
+        sym (fallen_first gone end from k high first) ∙ (omega (arith, filling.some, filling.behind)),
       ))
-      (λ (a : gone ≤ m). ⊎_elim
-      (λ (c : from ≡ end). moves m a (omega (arith, c, less, count_is)))
-      (λ (c : size + gone ≡ from + end). ⊎_elim
-      (λ (b : m < end). moves m a (omega (arith, b, c, filling.some, filling.behind)))
-      (λ (b : end ≤ m).
-      let r : m < from = omega (arith, less, count_is, c, filling.some) in
-      (m, omega (arith, r, filling.within), outside_is gone end m (inr b), stays m r))
-      (cases_lt m end))
-      filling.enough)
-      (cases_lt m gone)
+      (λ (b : (m < gone) ⊎ (end ≤ m)).
+      (m, omega (arith, less, count_is), outside_is gone end m b, fallen_stays gone end from m a))
+      (side gone end m))
+      (λ (a : from ≤ m).
+      let k : ℕ = m + (end - gone) in
+      let high : from ≤ k = omega (arith, a) in
+      let rest : end - gone ≤ k - from = omega (arith, a) in (
+        k,
+        omega (arith, less, count_is),
+        outside_is gone end k (inr (omega (arith, high, filling.behind))),
+        sym (fallen_rest gone end from k high rest) ∙ (omega arith),
+      ))
+      (cases_lt m from)
 
   pub renamed : IsRenamed g size f to count
   renamed = record {
-    first = stays 0 (omega (arith, filling.some, filling.behind));
+    first = fallen_stays gone end from 0 (omega (arith, filling.some, filling.behind));
     rises = rises;
     one = one;
     within = λ k l t. omega (arith, numbers_within size gone end from k filling l t, count_is);
@@ -478,12 +592,12 @@ module _ (nodes lowered written all : List Node) (size count at : ℕ) (name : N
     (tree : IsTree (entry nodes) size) (link : entry nodes at name ≡ Some (Subset first))
     (without : IsWithout (entry nodes) first.0 (is_outside first.0 end))
     (filling : IsFilling size first.0 end from) (hang : HangApart (entry nodes) end from)
-    (are_lowered : AreLowered (entry nodes) first.0 from size (entry lowered))
+    (are_lowered : AreLowered (entry nodes) first.0 from (fallen first.0 end from) (entry lowered))
     (is_written : IsWritten (entry lowered) at name (Some All) (entry written))
-    (filled : AreFilled first.0 end from size (listings written) (listings all)) (same : length written ≡ size)
+    (filled : AreFilled first.0 end (fallen first.0 end from) (listings written) (listings all)) (same : length written ≡ size)
     (count_is : count + (end - first.0) ≡ size) (long : length all ≡ count) where
   abbrev number : ℕ → ℕ
-  number = fallen from size (from - first.0)
+  number = fallen first.0 end from
 
   abbrev h : Graph
   h k n = cond (eqb k at && bytes_eq name n) (Some All) (entry nodes k n)
@@ -496,10 +610,10 @@ module _ (nodes lowered written all : List Node) (size count at : ℕ) (name : N
       let high : end ≤ k = ⊎_elim (λ (a : k < first.0). absurd (omega (arith, a, s.0))) (λ (a : end ≤ k). a)
       (outside_from first.0 end k t) in
       ap (λ b. cond b (moved number (entry nodes k n)) (entry nodes k n)) u ∙
-      sym (moved_none number (entry nodes k n) (λ j e. fallen_out from size (from - first.0) j.0 (⊎_elim
-      (λ (a : j.0 < from). inl a)
+      sym (moved_none number (entry nodes k n) (λ j e. ⊎_elim
+      (λ (a : j.0 < from). fallen_stays first.0 end from j.0 a)
       (λ (a : from ≤ j.0). let v = hang k n j e a high in absurd (omega (arith, v, s.1)))
-      (cases_lt j.0 from)))))
+      (cases_lt j.0 from))))
       (cases_Bool (is_outside first.0 from k))
 
   left : (k : ℕ) (n : Name) → k < size → is_outside first.0 end k ≡ true → entry all (number k) n ≡ moved number (h k n)

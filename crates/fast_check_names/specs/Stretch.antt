@@ -17,9 +17,11 @@ is_within low high k = leb low k && ltb k high
 abbrev pub is_outside : ℕ → ℕ → ℕ → Bool
 is_outside low high k = not (is_within low high k)
 
--- the number of a node, where those of a stretch fall
+-- the number of a node once those from one on have moved down: the first of them, as many as go, to the places of those
+-- that go, and the others by as many
 abbrev pub fallen : ℕ → ℕ → ℕ → ℕ → ℕ
-fallen low high by k = cond (is_within low high k) (k - by) k
+fallen gone end from k =
+    cond (ltb k from) k (cond (ltb k (from + (end - gone))) (k - (from - gone)) (k - (end - gone)))
 
 -- what stands at a place of a list
 abbrev pub below_at : List Entry → ℕ → Below
@@ -44,33 +46,27 @@ abbrev pub LacksParentOutside : List (List Entry) → ℕ → ℕ → ℕ → Ty
 LacksParentOutside ls low high node = (k : ℕ) → (k < low) ⊎ (high ≤ k) → k < node →
     lists_node (get_or ls k []) node ≡ false
 
--- each node that lists one from a number on stands outside of a stretch
-abbrev pub HangOutside : Graph → ℕ → ℕ → ℕ → Type 0
-HangOutside g low from high = (k : ℕ) (n : Name) (j : NodeNo) → g k n ≡ Some (Subset j) → from ≤ j.0 → j.0 < high →
-    (k < low) ⊎ (from ≤ k)
-
 -- what goes is a stretch, and not empty
 pub record IsStretch (size gone end : ℕ) : Type 0 where
   pub some : gone < end
   pub within : end ≤ size
 
--- the nodes from one on take the places of those that go: all that stand behind, or the last ones, as many as go
+-- the nodes from one on move down: all that stand behind those that go, or the last ones, at least as many as go
 pub record IsFilling (size gone end from : ℕ) : Type 0 where
   pub some : gone < end
   pub behind : end ≤ from
   pub within : from ≤ size
-  pub enough : (from ≡ end) ⊎ (size + gone ≡ from + end)
+  pub enough : (from ≡ end) ⊎ (from + (end - gone) ≤ size)
 
--- no node that is left behind the stretch lists one of those that take its places
+-- no node that is left behind the stretch lists one of those that move
 abbrev pub HangApart : Graph → ℕ → ℕ → Type 0
 HangApart g end from = (k : ℕ) (n : Name) (j : NodeNo) → g k n ≡ Some (Subset j) → from ≤ j.0 → end ≤ k → from ≤ k
 
--- the numbers from one on and before another fall, where they stand outside of a stretch
-abbrev pub AreLowered : Graph → ℕ → ℕ → ℕ → Graph → Type 0
-AreLowered g gone from high w = (k : ℕ) (n : Name) → w k n ≡ cond (is_outside gone from k)
-    (moved (fallen from high (from - gone)) (g k n)) (g k n)
+-- what is listed outside of a stretch has other numbers
+abbrev pub AreLowered : Graph → ℕ → ℕ → (ℕ → ℕ) → Graph → Type 0
+AreLowered g low high to w = (k : ℕ) (n : Name) → w k n ≡ cond (is_outside low high k) (moved to (g k n)) (g k n)
 
 -- each list of a node that stays stands where its number leads
-abbrev pub AreFilled : ℕ → ℕ → ℕ → ℕ → List (List Entry) → List (List Entry) → Type 0
-AreFilled gone end from high old new = (k : ℕ) → k < length old → is_outside gone end k ≡ true →
-    get_or new (fallen from high (from - gone) k) [] ≡ get_or old k []
+abbrev pub AreFilled : ℕ → ℕ → (ℕ → ℕ) → List (List Entry) → List (List Entry) → Type 0
+AreFilled gone end to old new = (k : ℕ) → k < length old → is_outside gone end k ≡ true →
+    get_or new (to k) [] ≡ get_or old k []

@@ -1,5 +1,6 @@
-//! Where few nodes go and they stand in one stretch, the last ones take their places, as many as go. That takes no memory, and no walk over the nodes:
-//! only the names are looked for under which the last ones stand, first where each of these notes that it is listed.
+//! Where few nodes go and they stand in one stretch, a block of nodes at the end moves down, and the first of these, as many as go, take their places. That
+//! takes no memory, and no walk over the nodes: only the names are looked for under which the nodes of the block stand, first where each of these notes that
+//! it is listed.
 
 ghost use Rattle.std.specs.Prelude.{◌≡◌, ◌<◌, ◌≤◌, ◌+◌, ◌-◌, ℕ, true, false, IsTrue, IfSome, Some, ◌∷◌, [], vec_len, length, is_some, get_or};
 ghost use Rattle.std.specs.Option.{MatchOption};
@@ -8,16 +9,19 @@ ghost use Rattle.fast_check_names.specs.Order.{name_at};
 ghost use Rattle.fast_check_names.specs.Graph.{entry, listings, IsTree, IsWritten};
 ghost use Rattle.fast_check_names.specs.Names.{whole_below, IsAdded};
 ghost use Rattle.fast_check_names.specs.Numbers.{is_node, lists_node, IsWithout};
-ghost use Rattle.fast_check_names.specs.Stretch.{is_within, is_outside, IsPlaceOf, IsStretch, IsFilling, HangOutside, HangApart, AreLowered};
-ghost use Rattle.fast_check_names.specs.Stretch.{AreFilled, IsParentAmong, LacksParentAmong, IsParentOutside, LacksParentOutside};
+ghost use Rattle.fast_check_names.specs.Stretch.{is_within, is_outside, fallen, IsPlaceOf, IsStretch, IsFilling, HangApart, AreLowered, AreFilled};
+ghost use Rattle.fast_check_names.specs.Stretch.{IsParentAmong, LacksParentAmong, IsParentOutside, LacksParentOutside};
 
 use crate::lattice::calls::names_of;
 use crate::lattice::covers::write_all;
 use crate::lattice::listing::{note, noted_number};
 use crate::lattice::node::{Below, Listing, Node, NodeNo};
 
-/// So many nodes go at most: for each one that takes a place, the name is looked for twice under which it stands.
+/// So many nodes go at most.
 const FEW: usize = 64;
+
+/// So many nodes move at most, unless those are all behind the ones that go: for each of them, the name is looked for twice under which it stands.
+const BLOCK: usize = 256;
 
 /// Where a stretch ends that goes on with the nodes that a list leads to, if these come next, in turn.
 fn end_past(names: &[(String, Below)], end: usize, size: usize) -> Option<usize>
@@ -138,22 +142,42 @@ fn parent_outside(nodes: &[Node], low: usize, high: usize, no: usize) -> Option<
     }
 }
 
-/// Whether each node that lists one from a number on stands outside of a stretch.
-fn hang_outside(nodes: &[Node], gone: usize, from: usize) -> bool
-    requires low { gone ≤ from }
-    requires tree { IsTree (entry nodes.now) (length nodes.now) }
-    ensures { IsTrue result → HangOutside (entry nodes.now) gone from (length nodes.now) }
+/// The lesser of two numbers of nodes, where the second node stands behind a stretch; else the first.
+fn least_behind(least: usize, end: usize, at: usize) -> usize
+    ensures upto { result ≤ least }
+    ensures behind { end ≤ at → result ≤ at }
 {
-    for no in from..nodes.len() {
-        if parent_outside(nodes, gone, from, no).is_none() {
-            return false;
-        }
+    if at < end {
+        return least;
     }
-    true
+    least.min(at)
 }
 
-/// From which node on the nodes take the places of those that go: None where too many go, or where one that is left behind the stretch lists one of
-/// these.
+/// The last node from which on at least as many stand as go, where no node that is left behind the stretch lists one of these: None where these would be
+/// too many.
+fn last_block(nodes: &[Node], gone: usize, end: usize) -> Option<usize>
+    requires stretch { IsStretch (length nodes.now) gone end }
+    requires tree { IsTree (entry nodes.now) (length nodes.now) }
+    ensures filling { IfSome result (IsFilling (length nodes.now) gone end) }
+    ensures hang { IfSome result (HangApart (entry nodes.now) end) }
+{
+    let size = nodes.len();
+    let most = BLOCK.min(size - end);
+    let mut least = size;
+    for behind in 0..most {
+        let from = size - 1 - behind;
+        let Some(parent) = parent_outside(nodes, gone, end, from) else {
+            return None;
+        };
+        least = least_behind(least, end, parent.0);
+        if from <= least && size - from >= end - gone {
+            return Some(from);
+        }
+    }
+    None
+}
+
+/// From which node on the nodes move down: None where too many go, or would move.
 fn first_to_move(nodes: &[Node], gone: usize, end: usize) -> Option<usize>
     requires stretch { IsStretch (length nodes.now) gone end }
     requires tree { IsTree (entry nodes.now) (length nodes.now) }
@@ -164,18 +188,13 @@ fn first_to_move(nodes: &[Node], gone: usize, end: usize) -> Option<usize>
     if count > FEW {
         return None;
     }
-    let behind = nodes.len() - end;
-    if behind <= count {
+    if nodes.len() - end <= count {
         return Some(end);
     }
-    let from = nodes.len() - count;
-    if !hang_outside(nodes, gone, from) {
-        return None;
-    }
-    Some(from)
+    last_block(nodes, gone, end)
 }
 
-/// Where the nodes end that go with one, and from which node on others take their places: None where they are not few, or not easily filled.
+/// Where the nodes end that go with one, and from which node on others move down: None where they are not few, or not easily filled.
 pub(crate) fn end_and_first(nodes: &[Node], gone: usize) -> Option<(usize, usize)>
     requires within { gone < length nodes.now }
     requires tree { IsTree (entry nodes.now) (length nodes.now) }
@@ -204,47 +223,58 @@ fn write_number(nodes: &mut Vec<Node>, at: usize, place: usize, no: usize)
     node.names[place].1 = Below::Subset(NodeNo(no));
 }
 
-/// Where a node is listed once the nodes from one on have moved down.
-fn lowered(at: usize, place: usize, from: usize, by: usize) -> Listing {
-    if at < from {
-        return Listing {
-            node: noted_number(at),
-            place: noted_number(place),
-        };
+/// The number of a node once those from one on have moved down.
+fn lowered_number(gone: usize, end: usize, from: usize, no: usize) -> usize
+    requires some { gone < end }
+    requires behind { end ≤ from }
+    ensures { result ≡ fallen gone end from no }
+{
+    if no < from {
+        return no;
     }
+    if no - from < end - gone {
+        return no - (from - gone);
+    }
+    no - (end - gone)
+}
+
+/// Where a node is listed once those from one on have moved down.
+fn lowered(gone: usize, end: usize, from: usize, at: usize, place: usize) -> Listing
+    requires some { gone < end }
+    requires behind { end ≤ from }
+{
     Listing {
-        node: noted_number(at.saturating_sub(by)),
+        node: noted_number(lowered_number(gone, end, from, at)),
         place: noted_number(place),
     }
 }
 
-/// The numbers from one on fall to the places of those that go.
-fn lower(nodes: &mut Vec<Node>, gone: usize, from: usize)
-    requires low { gone ≤ from }
+/// The numbers from one on fall.
+fn lower(nodes: &mut Vec<Node>, gone: usize, end: usize, from: usize)
+    requires some { gone < end }
+    requires behind { end ≤ from }
     requires tree { IsTree (entry nodes.old.items) (vec_len nodes.old) }
     ensures len { vec_len nodes.new ≡ vec_len nodes.old }
-    ensures lowered { AreLowered (entry nodes.old.items) gone from (vec_len nodes.old) (entry nodes.new.items) }
+    ensures lowered { AreLowered (entry nodes.old.items) gone from (fallen gone end from) (entry nodes.new.items) }
 {
-    let by = from - gone;
     for no in from..nodes.len() {
         let Some((at, place)) = parent_outside(nodes.as_slice(), gone, from, no) else {
             continue;
         };
-        write_number(nodes, at, place, no - by);
-        note(nodes, no, lowered(at, place, from, by));
+        write_number(nodes, at, place, lowered_number(gone, end, from, no));
+        note(nodes, no, lowered(gone, end, from, at, place));
     }
 }
 
-/// The nodes from one on take the places of those that go, in their order, and what is then at the end goes.
+/// The nodes from one on move down, in their order, and what is then at the end goes.
 fn fill(nodes: &mut Vec<Node>, gone: usize, end: usize, from: usize)
     requires { IsFilling (vec_len nodes.old) gone end from }
     ensures len { vec_len nodes.new + (end - gone) ≡ vec_len nodes.old }
-    ensures filled { AreFilled gone end from (vec_len nodes.old) (listings nodes.old.items) (listings nodes.new.items) }
+    ensures filled { AreFilled gone end (fallen gone end from) (listings nodes.old.items) (listings nodes.new.items) }
 {
     let left = nodes.len() - (end - gone);
-    let by = from - gone;
     for at in from..nodes.len() {
-        nodes.swap(at - by, at);
+        nodes.swap(lowered_number(gone, end, from, at), at);
     }
     nodes.truncate(left);
 }
@@ -267,7 +297,7 @@ pub(crate) fn take_out(
     ensures tree { IsTree (entry nodes.new.items) (vec_len nodes.new) }
     ensures added { IsAdded (entry nodes.old.items) at (whole_below (name.now ∷ [])) (entry nodes.new.items) }
 {
-    lower(nodes, gone, from);
+    lower(nodes, gone, end, from);
     write_all(nodes, at, name);
     fill(nodes, gone, end, from);
 }

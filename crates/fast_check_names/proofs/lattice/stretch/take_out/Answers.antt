@@ -1,7 +1,5 @@
-use Rattle.std.proofs.Common.{arith, ◌≡◌, ℕ, subst}
+use Rattle.std.proofs.Common.{arith, ◌≡◌}
 use Rattle.fast_check_names.specs.declared.lattice.node.NodeNo.{NodeNo}
-use Rattle.fast_check_names.specs.Graph.{listings}
-use Rattle.fast_check_names.specs.Stretch.{AreFilled}
 use Rattle.fast_check_names.proofs.Stretches.{tree_out, added_out}
 use Rattle.fast_check_names.proofs.lattice.stretch.take_out.Goals as goal
 
@@ -14,11 +12,9 @@ returns-clause-tree c =
     let written = c.write_all.new.nodes in
     let all = c.fill.new.nodes in
     let size : written.len ≡ old.len = omega (arith, c.write_all.ensures.len, c.lower.ensures.len) in
-    let filled = subst (λ (m : ℕ). AreFilled c.args.gone c.args.end from m (listings written.items) (listings all.items)) size
-    c.fill.ensures.filled in
     tree_out old.items lowered.items written.items all.items old.len all.len c.args.at c.args.name.now gone c.args.end from
     c.requires.tree c.requires.listed c.requires.without c.requires.filling c.requires.hang c.lower.ensures.lowered
-    c.write_all.ensures.written filled (omega (arith, size, written.ok.0)) (omega (arith, size, c.fill.ensures.len))
+    c.write_all.ensures.written c.fill.ensures.filled (omega (arith, size, written.ok.0)) (omega (arith, size, c.fill.ensures.len))
     (omega (arith, all.ok.0))
 
 pub returns-clause-added : goal.returns-clause-added
@@ -30,9 +26,7 @@ returns-clause-added c =
     let written = c.write_all.new.nodes in
     let all = c.fill.new.nodes in
     let size : written.len ≡ old.len = omega (arith, c.write_all.ensures.len, c.lower.ensures.len) in
-    let filled = subst (λ (m : ℕ). AreFilled c.args.gone c.args.end from m (listings written.items) (listings all.items)) size
-    c.fill.ensures.filled in
     added_out old.items lowered.items written.items all.items old.len all.len c.args.at c.args.name.now gone c.args.end from
     c.requires.tree c.requires.listed c.requires.without c.requires.filling c.requires.hang c.lower.ensures.lowered
-    c.write_all.ensures.written filled (omega (arith, size, written.ok.0)) (omega (arith, size, c.fill.ensures.len))
+    c.write_all.ensures.written c.fill.ensures.filled (omega (arith, size, written.ok.0)) (omega (arith, size, c.fill.ensures.len))
     (omega (arith, all.ok.0))
