@@ -1,4 +1,4 @@
-//! Where few nodes go and they stand in one stretch, a block of nodes at the end moves down, and the first of these, as many as go, take their places. That
+//! Where the nodes that go stand in one stretch, a block of nodes at the end moves down, and the first of these, as many as go, take their places. That
 //! takes no memory, and no walk over the nodes: only the names are looked for under which the nodes of the block stand, first where each of these notes that
 //! it is listed.
 
@@ -17,10 +17,8 @@ use crate::lattice::covers::write_all;
 use crate::lattice::listing::{note, noted_number};
 use crate::lattice::node::{Below, Listing, Node, NodeNo};
 
-/// So many nodes go at most.
-const FEW: usize = 64;
-
-/// So many nodes move at most, unless those are all behind the ones that go: for each of them, the name is looked for twice under which it stands.
+/// So many nodes move at most, or twice as many as go, unless those are all behind the ones that go: for each of them, the name is looked for twice under
+/// which it stands.
 const BLOCK: usize = 256;
 
 /// Where a stretch ends that goes on with the nodes that a list leads to, if these come next, in turn.
@@ -162,7 +160,7 @@ fn last_block(nodes: &[Node], gone: usize, end: usize) -> Option<usize>
     ensures hang { IfSome result (HangApart (entry nodes.now) end) }
 {
     let size = nodes.len();
-    let most = BLOCK.min(size - end);
+    let most = BLOCK.max((end - gone).saturating_mul(2)).min(size - end);
     let mut least = size;
     for behind in 0..most {
         let from = size - 1 - behind;
@@ -177,24 +175,20 @@ fn last_block(nodes: &[Node], gone: usize, end: usize) -> Option<usize>
     None
 }
 
-/// From which node on the nodes move down: None where too many go, or would move.
+/// From which node on the nodes move down: None where too many would move.
 fn first_to_move(nodes: &[Node], gone: usize, end: usize) -> Option<usize>
     requires stretch { IsStretch (length nodes.now) gone end }
     requires tree { IsTree (entry nodes.now) (length nodes.now) }
     ensures filling { IfSome result (IsFilling (length nodes.now) gone end) }
     ensures hang { IfSome result (HangApart (entry nodes.now) end) }
 {
-    let count = end - gone;
-    if count > FEW {
-        return None;
-    }
-    if nodes.len() - end <= count {
+    if nodes.len() - end <= end - gone {
         return Some(end);
     }
     last_block(nodes, gone, end)
 }
 
-/// Where the nodes end that go with one, and from which node on others move down: None where they are not few, or not easily filled.
+/// Where the nodes end that go with one, and from which node on others move down: None where their places are not easily filled.
 pub(crate) fn end_and_first(nodes: &[Node], gone: usize) -> Option<(usize, usize)>
     requires within { gone < length nodes.now }
     requires tree { IsTree (entry nodes.now) (length nodes.now) }
