@@ -1,5 +1,5 @@
 -- How paths are numbered.
-use Rattle.std.proofs.Common.{rules, ◌≡◌, ◌∙◌, sym, ap, refl, ⊎_elim, ◌⊎◌, inl, inr, ℕ, ◌+◌, ◌-◌, ◌<◌, ◌==◌, Bool, true, false, ◌&&◌}
+use Rattle.std.proofs.Common.{rules, ◌≡◌, ◌∙◌, sym, ap, refl, ⊎_elim, ◌⊎◌, inl, inr, ℕ, ◌+◌, ◌-◌, ◌<◌, ◌==◌, Bool, true, false, ◌&&◌, ◌≤◌}
 use Rattle.std.proofs.Common.{cond, List, [], ◌∷◌, ◌++◌, length, get_or, drop, Option, Some, None, arith}
 use Rattle.std.specs.Cmp.Lexicographic.{slice_cmp, bytes_decides}
 use Rattle.std.specs.Map.{lookup, KeepsOthers}
@@ -82,10 +82,20 @@ kept : (eq : NamedRest → NamedRest → Bool) (test : NamedRest → Bool) (old 
 unfolding KeepsOthers
 kept eq test old new h = h
 
+-- no path stands before the newest one
+pub noted_none : (w : PathNumbers) → IsNumbering w → (rest : ℕ) (n : Name) → length w.rests.items ≤ rest → number_before w rest n ≡ None
+noted_none w numbering rest n l = none_of (number_before w rest n)
+    (λ m e. let a = numbering.within rest n m e in omega (arith, a.0, a.1, l))
+  where
+    none_of : (o : Option ℕ) → ((m : ℕ) → o ≡ Some m → ⊥) → o ≡ None
+    none_of None h = refl
+    none_of (Some m) h = absurd (h m refl)
+
 -- a path gets the next number
 module _ (old new : PathNumbers) (key : NamedRest) (number : ℕ) (numbering : IsNumbering old)
     (absent : get order.cmp-value.it old.numbers key ≡ None) (put : Updates order.cmp-value.it old.numbers new.numbers key (Some number))
-    (noted : new.rests.items ≡ old.rests.items ++ key.rest ∷ []) (next : number ≡ length old.rests.items + 1) where
+    (noted : new.rests.items ≡ old.rests.items ++ key.rest ∷ []) (next : number ≡ length old.rests.items + 1)
+    (low : key.rest ≤ length old.rests.items) where
   here : (rest : ℕ) (n : Name) → is_named rest n key ≡ true → number_before new rest n ≡ Some number
   here rest n t = found_by new rest n key t ∙ put.1
 
@@ -113,7 +123,7 @@ module _ (old new : PathNumbers) (key : NamedRest) (number : ℕ) (numbering : I
   pub numbering_put : IsNumbering new
   numbering_put = record {
     within = λ rest n m e. ⊎_elim
-        (λ (c : (rest ≡ key.rest) × (n ≡ key.name.now) × (m ≡ number)). (omega (arith, c.2, next), omega (arith, c.2, next, long)))
+        (λ (c : (rest ≡ key.rest) × (n ≡ key.name.now) × (m ≡ number)). (omega (arith, c.0, c.2, next, low), omega (arith, c.2, next, long)))
         (λ (c : number_before old rest n ≡ Some m). let a = numbering.within rest n m c in (a.0, omega (arith, a.1, long)))
         (came rest n m e);
     noted = λ rest n m e.
@@ -184,7 +194,7 @@ module _ (w : PathNumbers) (numbering : IsNumbering w) where
       (0 < m) × (number_of w p ≡ Some (get_or w.rests.items (m - 1) 0))
   rest_noted n p m e =
       let a = then_some (λ r. number_before w r n) (number_of w p) m e in
-      ((numbering.within a.0 n m a.2).0, a.1 ∙ ap Some (sym (numbering.noted a.0 n m a.2)))
+      (omega (arith, (numbering.within a.0 n m a.2).0), a.1 ∙ ap Some (sym (numbering.noted a.0 n m a.2)))
 
   -- no two paths have one number
   pub number_once : (p q : Path) (m : ℕ) → number_of w p ≡ Some m → number_of w q ≡ Some m → p ≡ q
@@ -205,6 +215,14 @@ module _ (w : PathNumbers) (numbering : IsNumbering w) where
     where
       both : (n o : Name) (p q : Path) → n ≡ o → p ≡ q → n ∷ p ≡ o ∷ q
       both n o p q e f = cc
+
+  pub number_upto : (p : Path) (m : ℕ) → number_of w p ≡ Some m → m ≤ length w.rests.items
+  number_upto [] m e = omega (arith, zero_is m e)
+    where
+      zero_is : (a : ℕ) → Some 0 ≡ Some a → 0 ≡ a
+      zero_is a e = cc
+  number_upto (n ∷ p) m e =
+      let a = then_some (λ r. number_before w r n) (number_of w p) m e in (numbering.within a.0 n m a.2).1
 
   -- so numbers tell paths apart
   pub numbers_tell : (p q : Path) (k l : ℕ) → number_of w p ≡ Some k → number_of w q ≡ Some l → (k == l) ≡ same_path p q

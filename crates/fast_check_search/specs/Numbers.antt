@@ -21,9 +21,9 @@ abbrev pub number_of : PathNumbers → Path → Option ℕ
 number_of w [] = Some 0
 number_of w (n ∷ p) = option_and_then (λ rest. number_before w rest n) (number_of w p)
 
--- no two paths with names have one number, none has number 0, and of each the number of the rest is noted
+-- no two paths with names have one number, each has a number behind that of its rest, which is noted
 pub record IsNumbering (w : PathNumbers) : Type 0 where
-  pub within : (rest : ℕ) (n : Name) (m : ℕ) → number_before w rest n ≡ Some m → (0 < m) × (m ≤ length w.rests.items)
+  pub within : (rest : ℕ) (n : Name) (m : ℕ) → number_before w rest n ≡ Some m → (rest < m) × (m ≤ length w.rests.items)
   pub noted : (rest : ℕ) (n : Name) (m : ℕ) → number_before w rest n ≡ Some m → get_or w.rests.items (m - 1) 0 ≡ rest
   pub once : (rest : ℕ) (n : Name) (m : ℕ) (other : ℕ) (o : Name) → number_before w rest n ≡ Some m →
       number_before w other o ≡ Some m → n ≡ o

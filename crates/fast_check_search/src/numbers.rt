@@ -1,6 +1,6 @@
 //! Paths by numbers. Paths of the same names have one number, so what is left of two paths is told apart at once, however long it is.
 
-ghost use Rattle.std.specs.Prelude.{◌≡◌, [], ◌∷◌, Some, IfOk, OnOk};
+ghost use Rattle.std.specs.Prelude.{◌≡◌, ◌≤◌, [], ◌∷◌, length, Some, IfOk, OnOk};
 ghost use Rattle.fast_check_names.specs.Names.{Name, Path, path_of};
 ghost use Rattle.fast_check_search.specs.Numbers.{number_before, number_of, IsNumbering, Keeps, Follows};
 
@@ -53,20 +53,31 @@ impl<'a> PathNumbers<'a> {
         }
     }
 
+    /// The number of the path that has a name before a path of this number, if it has one. None stands before the newest path.
+    fn noted(&self, rest: usize, name: &'a str) -> Option<usize>
+        requires { IsNumbering self.now }
+        ensures { result ≡ number_before self.now rest name.now }
+    {
+        if rest >= self.rests.len() {
+            return None;
+        }
+        self.numbers.get(&NamedRest { rest, name }).copied()
+    }
+
     /// The number of the path that has a name before a path of this number.
     fn before(&mut self, rest: usize, name: &'a str) -> Result<usize, AllocError>
-        requires { IsNumbering self.old }
+        requires numbering { IsNumbering self.old }
+        requires within { rest ≤ length self.old.rests.items }
         ensures numbering { OnOk result (IsNumbering self.new) }
         ensures kept { OnOk result (Keeps self.old self.new) }
         ensures number { IfOk result (λ m. number_before self.new rest name.now ≡ Some m) }
     {
-        let path = NamedRest { rest, name };
-        if let Some(number) = self.numbers.get(&path).copied() {
+        if let Some(number) = self.noted(rest, name) {
             return Ok(number);
         }
         self.rests.push(rest)?;
         let number = self.rests.len();
-        self.numbers.insert(path, number)?;
+        self.numbers.insert(NamedRest { rest, name }, number)?;
         Ok(number)
     }
 

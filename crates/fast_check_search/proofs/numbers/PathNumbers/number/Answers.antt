@@ -3,8 +3,15 @@ use Rattle.std.specs.String.{string_bytes}
 use Rattle.std.proofs.lemmas.List.{length-map, get_or-map}
 use Rattle.fast_check_names.specs.Names.{Name, path_of}
 use Rattle.fast_check_search.specs.Numbers.{number_before}
-use Rattle.fast_check_search.proofs.Numbering.{number_kept, numbered_more}
+use Rattle.fast_check_search.proofs.Numbering.{number_kept, number_upto, numbered_more}
 use Rattle.fast_check_search.proofs.numbers.PathNumbers.number.Goals as goal
+
+pub before-requires : goal.before-requires
+before-requires c = record {
+  numbering = c.loop-i.invariant.numbering;
+  within = number_upto c.loop-i.self c.loop-i.invariant.numbering
+      (drop (length (path_of c.args.names.now) - c.loop-i.i) (path_of c.args.names.now)) c.loop-i.number c.loop-i.invariant.number;
+}
 
 pub loop-i-preserved : goal.loop-i-preserved
 loop-i-preserved c =
