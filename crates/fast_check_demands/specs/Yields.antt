@@ -1,7 +1,7 @@
 -- What a demand makes public, and what is wrong with it.
-use Rattle.std.specs.Prelude.{Bool, false, cond, not, ◌&&◌, List, [], ◌∷◌, map, Option, Some, None, length, take}
+use Rattle.std.specs.Prelude.{Bool, false, cond, not, ◌&&◌, List, [], ◌∷◌, ◌++◌, map, Option, Some, None, length, take}
 use Rattle.std.specs.Prelude.{option_to_list, leb}
-use Rattle.std.specs.List.{flat_map, filter}
+use Rattle.std.specs.List.{flat_map, filter, list_any}
 use Rattle.fast_check_names.specs.Names.{Name, Path, path_of}
 use Rattle.fast_check_syntax.specs.declared.source.SourceRange.{SourceRange}
 use Rattle.fast_check_symbol_demands.specs.symbols.declared.symbol_id.SymbolId.{SymbolId}
@@ -27,23 +27,35 @@ decl_ranges decls = map (λ x. x.range) decls
 abbrev pub is_within : SourceRange → SourceRange → Bool
 is_within r inner = leb r.start.0 inner.start.0 && leb inner.end.0 r.end.0
 
--- the ranges of a symbol's declarations that lie outside of a range
-abbrev pub outside : SourceRange → Symbol → List SourceRange
-outside r s = decl_ranges (filter (λ x. not (is_within r x.range)) s.decls.items)
+-- a range lies outside of another, where there is one
+abbrev pub is_outside : Option SourceRange → SourceRange → Bool
+is_outside None inner = false
+is_outside (Some r) inner = not (is_within r inner)
 
--- the properties that are assigned to a function stand outside of it, and are public with it
-abbrev pub expando_ranges : Tables → SourceRange → List (Name × SymbolId) → List SourceRange
-expando_ranges t r exports = flat_map (λ e. each_of (outside r) (symbol_of e.1 t.symbols)) exports
+-- properties are assigned to a function that is bound in the namespace and does not implement overloads
+abbrev pub has_properties : Namespace → SymbolDecl → Bool
+has_properties n x = binds x n && (is_function x && not (is_implementation x))
 
--- a declaration is public by its range, and a function with its expando properties, unless it implements overloads
-abbrev pub decl_yields : Tables → Namespace → List (Name × SymbolId) → SymbolDecl → List SourceRange
-decl_yields t n exports x =
-    cond (binds x n)
-    (x.range ∷ cond (is_function x && not (is_implementation x)) (expando_ranges t x.range exports) []) []
+-- the properties of a function stand outside of one of its declarations
+abbrev pub stands_outside : Namespace → List SymbolDecl → SourceRange → Bool
+stands_outside n decls r = list_any (λ x. has_properties n x && not (is_within x.range r)) decls
 
--- a private member makes nothing public
+-- the declarations of what a symbol exports
+abbrev pub ranges_at : Tables → SymbolId → List SourceRange
+ranges_at t id = each_of (λ s. decl_ranges s.decls.items) (symbol_of id t.symbols)
+
+abbrev pub export_ranges : Tables → List (Name × SymbolId) → List SourceRange
+export_ranges t exports = flat_map (λ e. ranges_at t e.1) exports
+
+-- they are among these
+abbrev pub property_ranges : Tables → Namespace → Symbol → List SourceRange
+property_ranges t n s = filter (stands_outside n s.decls.items) (export_ranges t s.exports)
+
+-- each declaration that binds the name is public by its range, and a function with its properties; a private member
+-- makes nothing public
 abbrev pub symbol_ranges : Tables → Namespace → Symbol → List SourceRange
-symbol_ranges t n s = cond s.is_private_member [] (flat_map (decl_yields t n s.exports) s.decls.items)
+symbol_ranges t n s = cond s.is_private_member []
+    (decl_ranges (filter (λ x. binds x n) s.decls.items) ++ property_ranges t n s)
 
 -- by a path each declaration is public
 abbrev pub asked_ranges : Tables → Asked → Symbol → List SourceRange

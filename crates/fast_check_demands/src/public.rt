@@ -1,13 +1,11 @@
 //! The ranges that a demand makes public, and those of implementations.
-ghost use Rattle.std.specs.Prelude.{◌≡◌, ◌++◌, not, ◌&&◌, option_map, OnOk};
+ghost use Rattle.std.specs.Prelude.{◌≡◌, ◌++◌, not, ◌&&◌, ◌||◌, option_map, OnOk};
 ghost use Rattle.fast_check_symbol_demands.specs.symbols.Exports.{seen_export};
-ghost use Rattle.fast_check_symbol_demands.specs.symbols.Symbols.{symbol_of};
-ghost use Rattle.std.specs.List.{flat_map, filter};
-ghost use Rattle.std.specs.Option.{option_copied};
+ghost use Rattle.std.specs.List.{filter};
 ghost use Rattle.fast_check_symbol_demands.specs.Demands.{demand_of, asked_of};
 ghost use Rattle.fast_check_symbol_demands.specs.Decls.{binds as binds_in, is_implementation as implements};
 ghost use Rattle.fast_check_symbol_demands.specs.Rules.{each_of};
-ghost use Rattle.fast_check_demands.specs.Yields.{decl_ranges, is_within, outside, expando_ranges, decl_yields, symbol_ranges, asked_ranges, ranges, symbol_implementations, asked_implementations, implementations};
+ghost use Rattle.fast_check_demands.specs.Yields.{decl_ranges, is_within, is_outside, has_properties, stands_outside, ranges_at, export_ranges, property_ranges, symbol_ranges, asked_ranges, ranges, symbol_implementations, asked_implementations, implementations};
 
 use fast_check_symbol_demands::symbols::{
     CheckedTables, Symbol, SymbolDecl, SymbolExports, SymbolId,
@@ -15,7 +13,7 @@ use fast_check_symbol_demands::symbols::{
 use fast_check_symbol_demands::{
     Ask, Namespace, SymbolDemand, binds, is_function, is_implementation,
 };
-use fast_check_syntax::SourceRange;
+use fast_check_syntax::{SourcePos, SourceRange};
 use std::alloc::AllocError;
 
 fn push_all(decls: &[SymbolDecl], out: &mut Vec<SourceRange>) -> Result<(), AllocError>
@@ -33,12 +31,51 @@ fn is_within(range: SourceRange, inner: SourceRange) -> bool
     range.start.0 <= inner.start.0 && inner.end.0 <= range.end.0
 }
 
+/// Whether properties may be assigned to a declaration: to a function of the namespace that implements no overloads.
+fn has_properties(decl: &SymbolDecl, namespace: Namespace) -> bool
+    ensures { result ≡ has_properties namespace decl.now }
+{
+    binds(decl, namespace) && is_function(decl) && !is_implementation(decl)
+}
+
+/// The range that lies within two ranges, from the later start to the earlier end.
+fn shared(first: SourceRange, second: SourceRange) -> SourceRange
+    ensures { (r : SourceRange) → is_within result r ≡ (is_within first r && is_within second r) }
+{
+    SourceRange {
+        start: SourcePos(first.start.0.max(second.start.0)),
+        end: SourcePos(first.end.0.min(second.end.0)),
+    }
+}
+
+fn shared_with(first: Option<SourceRange>, second: SourceRange) -> SourceRange
+    ensures { (r : SourceRange) → not (is_within result r) ≡ (is_outside first r || not (is_within second r)) }
+{
+    match first {
+        None => second,
+        Some(first) => shared(first, second),
+    }
+}
+
+/// The range that lies within all functions among declarations: what does not lie within it stands outside of one of them.
+fn shared_range(decls: &[SymbolDecl], namespace: Namespace) -> Option<SourceRange>
+    ensures { (r : SourceRange) → is_outside result r ≡ stands_outside namespace decls.now r }
+{
+    let mut common = None;
+    for decl in decls {
+        if has_properties(decl, namespace) {
+            common = Some(shared_with(common, decl.range));
+        }
+    }
+    common
+}
+
 fn push_outside(
     range: SourceRange,
     decls: &[SymbolDecl],
     out: &mut Vec<SourceRange>,
 ) -> Result<(), AllocError>
-    ensures { OnOk result (out.new.items ≡ out.old.items ++ decl_ranges (filter (λ x. not (is_within range x.range)) decls.now)) }
+    ensures { OnOk result (out.new.items ≡ out.old.items ++ filter (λ r. not (is_within range r)) (decl_ranges decls.now)) }
 {
     for decl in decls {
         if !is_within(range, decl.range) {
@@ -49,77 +86,73 @@ fn push_outside(
 }
 
 fn push_outside_at(
+    tables: &CheckedTables,
     range: SourceRange,
-    symbol: Option<&Symbol>,
+    id: SymbolId,
     out: &mut Vec<SourceRange>,
 ) -> Result<(), AllocError>
-    ensures { OnOk result (out.new.items ≡ out.old.items ++ each_of (outside range) (option_copied symbol.entry)) }
+    ensures { OnOk result (out.new.items ≡ out.old.items ++ filter (λ r. not (is_within range r)) (ranges_at tables.now id)) }
 {
-    match symbol {
+    match tables.symbol(id) {
         None => Ok(()),
         Some(symbol) => push_outside(range, symbol.decls.as_slice(), out),
     }
 }
 
-fn push_expando(
+fn push_export(
     tables: &CheckedTables,
     range: SourceRange,
     export: Option<(&str, SymbolId)>,
     out: &mut Vec<SourceRange>,
 ) -> Result<(), AllocError>
-    ensures { OnOk result (out.new.items ≡ out.old.items ++ each_of (λ e. each_of (outside range) (symbol_of e.1 tables.now.symbols))
-        (option_map seen_export export.entry)) }
+    ensures { OnOk result (out.new.items ≡ out.old.items ++ filter (λ r. not (is_within range r))
+        (each_of (λ e. ranges_at tables.now e.1) (option_map seen_export export.entry))) }
 {
     match export {
         None => Ok(()),
-        Some((_, export)) => push_outside_at(range, tables.symbol(export), out),
+        Some((_, export)) => push_outside_at(tables, range, export, out),
     }
 }
 
-fn push_expandos(
+fn push_exports(
     tables: &CheckedTables,
     range: SourceRange,
     exports: &SymbolExports,
     out: &mut Vec<SourceRange>,
 ) -> Result<(), AllocError>
-    ensures { OnOk result (out.new.items ≡ out.old.items ++ expando_ranges tables.now range exports.now) }
+    ensures { OnOk result (out.new.items ≡ out.old.items ++ filter (λ r. not (is_within range r)) (export_ranges tables.now exports.now)) }
 {
     for place in 0..exports.len() {
-        push_expando(tables, range, exports.at(place), out)?;
+        push_export(tables, range, exports.at(place), out)?;
     }
     Ok(())
 }
 
-fn push_decl(
+fn push_properties(
     tables: &CheckedTables,
     namespace: Namespace,
-    exports: &SymbolExports,
-    decl: &SymbolDecl,
+    symbol: &Symbol,
     out: &mut Vec<SourceRange>,
 ) -> Result<(), AllocError>
-    ensures { OnOk result (out.new.items ≡ out.old.items ++ decl_yields tables.now namespace exports.now decl.now) }
+    ensures { OnOk result (out.new.items ≡ out.old.items ++ property_ranges tables.now namespace symbol.now) }
 {
-    if !binds(decl, namespace) {
-        return Ok(());
+    match shared_range(symbol.decls.as_slice(), namespace) {
+        None => Ok(()),
+        Some(range) => push_exports(tables, range, &symbol.exports, out),
     }
-    out.push(decl.range)?;
-    if is_function(decl) && !is_implementation(decl) {
-        return push_expandos(tables, decl.range, exports, out);
-    }
-    Ok(())
 }
 
-fn push_decls(
-    tables: &CheckedTables,
+fn push_bound(
     namespace: Namespace,
-    exports: &SymbolExports,
     decls: &[SymbolDecl],
     out: &mut Vec<SourceRange>,
 ) -> Result<(), AllocError>
-    ensures { OnOk result (out.new.items ≡ out.old.items ++ flat_map (decl_yields tables.now namespace exports.now) decls.now) }
+    ensures { OnOk result (out.new.items ≡ out.old.items ++ decl_ranges (filter (λ x. binds_in x namespace) decls.now)) }
 {
     for decl in decls {
-        push_decl(tables, namespace, exports, decl, out)?;
+        if binds(decl, namespace) {
+            out.push(decl.range)?;
+        }
     }
     Ok(())
 }
@@ -135,13 +168,8 @@ fn push_symbol(
     if symbol.is_private_member {
         return Ok(());
     }
-    push_decls(
-        tables,
-        namespace,
-        &symbol.exports,
-        symbol.decls.as_slice(),
-        out,
-    )
+    push_bound(namespace, symbol.decls.as_slice(), out)?;
+    push_properties(tables, namespace, symbol, out)
 }
 
 fn push_asked(

@@ -1,5 +1,5 @@
 -- What a demand makes public is declared in its module.
-use Rattle.std.proofs.Common.{Bool, true, false, cond, not, ◌&&◌, List, [], ◌∷◌, map}
+use Rattle.std.proofs.Common.{Bool, true, false, cond, ◌&&◌, List, [], ◌∷◌, ◌++◌, map}
 use Rattle.std.specs.List.{Contains, flat_map, filter}
 use Rattle.std.proofs.lemmas.List.Elements.{Contains-append_left}
 use Rattle.fast_check_names.specs.Names.{Name}
@@ -11,15 +11,14 @@ use Rattle.fast_check_symbols.specs.Symbols.{symbol_of, has_id}
 use Rattle.fast_check_symbols.specs.Tables.{Tables, table_ranges}
 use Rattle.fast_check_name_demands.specs.demands.symbol_demands.declared.demand.Namespace.{Namespace}
 use Rattle.fast_check_name_demands.specs.demands.Demands.{Demand, Asked, by_reference, as_child, by_path}
-use Rattle.fast_check_name_demands.specs.demands.Decls.{binds, is_implementation, is_function}
-use Rattle.fast_check_name_demands.specs.demands.Rules.{each_of}
-use Rattle.fast_check_name_demands.specs.demands.Yields.{decl_ranges, is_within, outside, expando_ranges, decl_yields, symbol_ranges}
+use Rattle.fast_check_name_demands.specs.demands.Decls.{binds, is_implementation}
+use Rattle.fast_check_name_demands.specs.demands.Yields.{decl_ranges, stands_outside, ranges_at, export_ranges, property_ranges}
 use Rattle.fast_check_name_demands.specs.demands.Yields.{asked_ranges, ranges, symbol_implementations, asked_implementations}
-use Rattle.fast_check_name_demands.specs.demands.Yields.{implementations}
+use Rattle.fast_check_name_demands.specs.demands.Yields.{symbol_ranges, implementations}
 use Rattle.fast_check_name_demands.specs.demands.Account.{IsYield}
 use Rattle.fast_check_search.specs.Found.{AreTableRanges}
 use Rattle.fast_check_search.proofs.Each.{Contains_first, Contains_later, contains_map, contains_flat_map, Each, each_nil}
-use Rattle.fast_check_search.proofs.Each.{each_cons, each_map, each_flat, each_cond, each_each_of}
+use Rattle.fast_check_search.proofs.Each.{each_cons, each_append, each_map, each_flat, each_cond, each_each_of}
 use Rattle.fast_check_search.proofs.Inside.{last_inside}
 
 each_filter : {X : Type 0} (P : X → Type 0) (test : X → Bool) (xs : List X) → Each P xs → Each P (filter test xs)
@@ -42,22 +41,20 @@ module _ (t : Tables) where
   own_all : (decls : List SymbolDecl) → Each (λ (x : SymbolDecl). Q x.range) decls → Each Q (decl_ranges decls)
   own_all decls f = each_map Q (λ x. x.range) decls f
 
-  own_expandos : (r : SourceRange) (exports : List (Name × SymbolId)) → Each Q (expando_ranges t r exports)
-  own_expandos r exports = each_flat Q (λ e. each_of (outside r) (symbol_of e.1 t.symbols)) exports
-      (λ e _. each_each_of Q (outside r) (symbol_of e.1 t.symbols)
-      (λ s u. own_all (filter (λ x. not (is_within r x.range)) s.decls.items)
-      (each_filter (λ (x : SymbolDecl). Q x.range) (λ x. not (is_within r x.range)) s.decls.items
-      (own_decl s (last_inside (has_id e.1) t.symbols s u)))))
+  own_exports : (exports : List (Name × SymbolId)) → Each Q (export_ranges t exports)
+  own_exports exports = each_flat Q (λ e. ranges_at t e.1) exports
+      (λ e _. each_each_of Q (λ s. decl_ranges s.decls.items) (symbol_of e.1 t.symbols)
+      (λ s u. own_all s.decls.items (own_decl s (last_inside (has_id e.1) t.symbols s u))))
+
+  own_filtered : (test : SymbolDecl → Bool) (s : Symbol) → Contains t.symbols s → Each Q (decl_ranges (filter test s.decls.items))
+  own_filtered test s h = own_all (filter test s.decls.items)
+      (each_filter (λ (x : SymbolDecl). Q x.range) test s.decls.items (own_decl s h))
 
   own_symbol : (n : Namespace) (s : Symbol) → Contains t.symbols s → Each Q (symbol_ranges t n s)
-  own_symbol n s h = each_cond Q s.is_private_member [] (flat_map (decl_yields t n s.exports) s.decls.items) (each_nil Q)
-      (each_flat Q (decl_yields t n s.exports) s.decls.items
-      (λ x g. each_cond Q (binds x n)
-      (x.range ∷ cond (is_function x && not (is_implementation x)) (expando_ranges t x.range s.exports) []) []
-      (each_cons Q x.range (cond (is_function x && not (is_implementation x)) (expando_ranges t x.range s.exports) []) (own_decl s h x g)
-      (each_cond Q (is_function x && not (is_implementation x)) (expando_ranges t x.range s.exports) [] (own_expandos x.range s.exports)
-      (each_nil Q)))
-      (each_nil Q)))
+  own_symbol n s h = each_cond Q s.is_private_member [] (decl_ranges (filter (λ x. binds x n) s.decls.items) ++ property_ranges t n s)
+      (each_nil Q)
+      (each_append Q (decl_ranges (filter (λ x. binds x n) s.decls.items)) (property_ranges t n s) (own_filtered (λ x. binds x n) s h)
+      (each_filter Q (stands_outside n s.decls.items) (export_ranges t s.exports) (own_exports s.exports)))
 
   own_asked : (a : Asked) (s : Symbol) → Contains t.symbols s → Each Q (asked_ranges t a s)
   own_asked (by_reference n) s h = own_symbol n s h
@@ -71,8 +68,7 @@ module _ (t : Tables) where
   own_implementing : (n : Namespace) (s : Symbol) → Contains t.symbols s → Each Q (symbol_implementations n s)
   own_implementing n s h = each_cond Q s.is_private_member [] (decl_ranges (filter (λ x. binds x n && is_implementation x) s.decls.items))
       (each_nil Q)
-      (own_all (filter (λ x. binds x n && is_implementation x) s.decls.items)
-      (each_filter (λ (x : SymbolDecl). Q x.range) (λ x. binds x n && is_implementation x) s.decls.items (own_decl s h)))
+      (own_filtered (λ x. binds x n && is_implementation x) s h)
 
   own_asked_implementations : (a : Asked) (s : Symbol) → Contains t.symbols s → Each Q (asked_implementations a s)
   own_asked_implementations (by_reference n) s h = own_implementing n s h
