@@ -1,5 +1,5 @@
 -- Packages whose items are used, among findings and among answers.
-use Rattle.std.proofs.Common.{◌≡◌, ◌∙◌, refl, sym, ap, subst, ℕ, Bool, true, false, ◌&&◌, ◌||◌, List, [], ◌∷◌, ◌++◌, map, Option, Some}
+use Rattle.std.proofs.Common.{◌≡◌, ◌∙◌, refl, sym, ap, subst, Bool, true, false, ◌&&◌, ◌||◌, List, [], ◌∷◌, ◌++◌, map, Option, Some}
 use Rattle.std.proofs.Common.{None, ⊎_elim, arith, append-nil, append_assoc}
 use Rattle.std.specs.List.{list_any, flat_map, Contains, IsDistinct}
 use Rattle.std.proofs.lemmas.Bool.{false≢true}

@@ -1,6 +1,7 @@
 pub mod Maps
 pub mod Sets
 pub mod Converted
+pub mod Collected
 pub mod Joined
 pub mod FoundSays
 pub mod Diagnosed

@@ -24,7 +24,7 @@ use Rattle.fast_check_package_ranges.specs.Parts.{lookup_text, lookup_package}
 use Rattle.fast_check_package_ranges.specs.Answers.{diagnoses_missing, diagnoses_untyped_entry, diagnoses_untyped, diagnose_alike, is_so}
 use Rattle.fast_check_package_ranges.specs.Answers.{module_answer, package_answer, answer, module_diagnostics, package_diagnostics}
 use Rattle.fast_check_package_ranges.specs.Answers.{diagnostics_of, cached_of}
-use Rattle.fast_check_package_ranges.specs.Made.{is_foreign, AreModuleAnswers, IsPackageAnswer, ArePackageAnswers}
+use Rattle.fast_check_package_ranges.specs.Made.{is_foreign, AreModuleAnswers, ArePackageAnswers}
 
 -- an item that passes
 or_true : (b c : Bool) → c ≡ true → (b || c) ≡ true

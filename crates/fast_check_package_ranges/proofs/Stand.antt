@@ -1,5 +1,5 @@
 -- Answers say what findings say, or stand for the items that are used.
-use Rattle.std.proofs.Common.{◌≡◌, ◌∙◌, sym, ap, subst, ℕ, Bool, true, false, List, [], Option, ⊎_elim, arith}
+use Rattle.std.proofs.Common.{◌≡◌, ◌∙◌, sym, ap, subst, true, false, List, [], Option, ⊎_elim, arith}
 use Rattle.std.specs.List.{list_any, flat_map, Contains, IsDistinct}
 use Rattle.std.specs.BTreeMap.{BTreeMap}
 use Rattle.std.proofs.lemmas.Bool.{cases_Bool, false≢true}

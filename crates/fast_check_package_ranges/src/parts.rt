@@ -1,6 +1,6 @@
 //! What was found of modules and packages, joined over the turns.
 
-ghost use Rattle.std.specs.Prelude.{◌≡◌, [], ◌&&◌, ◌||◌, OnOk, IfOk};
+ghost use Rattle.std.specs.Prelude.{◌≡◌, [], ◌&&◌, ◌||◌, OnOk};
 ghost use Rattle.std.specs.List.{list_any};
 ghost use Rattle.url.specs.Parts.{serialize};
 ghost use Rattle.fast_check_packages.specs.Package.{Nv, nv_of};
@@ -131,15 +131,6 @@ impl JoinedPackage {
         self.dependencies.append(&mut dependencies)?;
         add_modules(&mut self.modules, modules)
     }
-
-    /// What was found in one turn.
-    fn of(alloc: Global, found: FoundPackage) -> Result<JoinedPackage, AllocError>
-        ensures { IfOk result (λ parts. (q : Question) → package_says parts q ≡ found_says found q) }
-    {
-        let mut parts = JoinedPackage::new(alloc);
-        parts.join(found)?;
-        Ok(parts)
-    }
 }
 
 /// Adds what was found of a package.
@@ -152,15 +143,8 @@ pub fn add_package(
     ensures { OnOk result ((nv : Nv) (q : Question) →
         packages_say packages.new.entries nv q ≡ (packages_say packages.old.entries nv q || (same_nv nv (nv_of «package») && found_says found q))) }
 {
-    match packages.remove(&package) {
-        None => {
-            let parts = JoinedPackage::of(alloc, found)?;
-            packages.insert(package, parts)?;
-        }
-        Some(mut parts) => {
-            parts.join(found)?;
-            packages.insert(package, parts)?;
-        }
-    }
-    Ok(())
+    let parts = packages
+        .entry(package)?
+        .or_insert(JoinedPackage::new(alloc));
+    parts.join(found)
 }

@@ -1,5 +1,4 @@
-use Rattle.std.proofs.Common.{◌∙◌, sym, ap, cond, Some}
-use Rattle.fast_check_packages.specs.Package.{nv_of}
+use Rattle.std.proofs.Common.{◌∙◌, ap, cond, Some}
 use Rattle.fast_check_package_ranges.specs.Parts.{is_package, lookup_package}
 use Rattle.fast_check_package_ranges.proofs.Maps.{package_one, package_total, lookup_after}
 use Rattle.fast_check_package_ranges.proofs.Put.{put_none, put_more}
