@@ -1,4 +1,6 @@
 pub use Rattle.fast_check_symbol_demands.proofs.EachAt
 pub mod Touched
+pub mod Adds
+mod Done
 mod Outside
 pub mod Yielded

@@ -1,19 +1,16 @@
 -- Filters of what a loop gathers, and filters by tests that are alike.
 use Rattle.std.proofs.Common.{◌≡◌, ◌∙◌, sym, ap, refl, ℕ, ◌+◌, Bool, true, false, cond, List, [], ◌∷◌, ◌++◌}
-use Rattle.std.proofs.Common.{map, take, slice_get, append_assoc}
+use Rattle.std.proofs.Common.{map, take, slice_get}
 use Rattle.std.specs.List.{filter, flat_map}
 use Rattle.std.proofs.lemmas.List.Elements.{filter-append}
 use Rattle.fast_check_symbol_demands.specs.Rules.{each_of}
 use Rattle.fast_check_symbol_demands.proofs.EachAt.{each_more}
 
 -- after the place i
-pub filter_more_of : {X Y : Type 0} (p : Y → Bool) (f : X → List Y) (xs : List X) (i : ℕ) (start out : List Y) →
-    out ≡ start ++ filter p (flat_map f (take i xs)) →
-    out ++ filter p (each_of f (slice_get xs i)) ≡ start ++ filter p (flat_map f (take (i + 1) xs))
-filter_more_of p f xs i start out e = ap (λ ys. ys ++ filter p (each_of f (slice_get xs i))) e ∙
-    (append_assoc start (filter p (flat_map f (take i xs))) (filter p (each_of f (slice_get xs i))) ∙
-    ap (λ ys. start ++ ys) (sym (filter-append p (flat_map f (take i xs)) (each_of f (slice_get xs i))) ∙
-    ap (filter p) (each_more f xs i [] (flat_map f (take i xs)) refl)))
+pub filter_more : {X Y : Type 0} (p : Y → Bool) (f : X → List Y) (xs : List X) (i : ℕ) →
+    filter p (flat_map f (take i xs)) ++ filter p (each_of f (slice_get xs i)) ≡ filter p (flat_map f (take (i + 1) xs))
+filter_more p f xs i = sym (filter-append p (flat_map f (take i xs)) (each_of f (slice_get xs i))) ∙
+    ap (filter p) (each_more f xs i [] (flat_map f (take i xs)) refl)
 
 pub filter_of_map : {X Y : Type 0} (p : Y → Bool) (f : X → Y) (xs : List X) → filter p (map f xs) ≡ map f (filter (λ x. p (f x)) xs)
 filter_of_map p f [] = refl

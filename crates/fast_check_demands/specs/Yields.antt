@@ -1,7 +1,7 @@
 -- What a demand makes public, and what is wrong with it.
-use Rattle.std.specs.Prelude.{Bool, false, cond, not, ◌&&◌, List, [], ◌∷◌, ◌++◌, map, Option, Some, None, length, take}
-use Rattle.std.specs.Prelude.{option_to_list, leb}
-use Rattle.std.specs.List.{flat_map, filter, list_any}
+use Rattle.std.specs.Prelude.{◌≡◌, Bool, false, cond, not, ◌&&◌, List, [], ◌∷◌, ◌++◌, map, Option, Some, None, length}
+use Rattle.std.specs.Prelude.{take, option_to_list, leb}
+use Rattle.std.specs.List.{Contains, flat_map, filter, list_any}
 use Rattle.fast_check_names.specs.Names.{Name, Path, path_of}
 use Rattle.fast_check_syntax.specs.declared.source.SourceRange.{SourceRange}
 use Rattle.fast_check_symbol_demands.specs.symbols.declared.symbol_id.SymbolId.{SymbolId}
@@ -66,6 +66,13 @@ asked_ranges t (by_path path extent) s = decl_ranges s.decls.items
 -- the ranges that a demand makes public
 abbrev pub ranges : Tables → Demand → List SourceRange
 ranges t d = each_of (asked_ranges t d.asked) (symbol_of d.symbol t.symbols)
+
+-- what comes behind is of these, and all of these are there
+pub record Adds {X : Type 0} (these old new : List X) : Type 0 where
+  pub more : List X
+  pub is : new ≡ old ++ more
+  pub parts : (x : X) → Contains more x → Contains these x
+  pub whole : (x : X) → Contains these x → Contains new x
 
 -- implementations of overloads
 

@@ -5,7 +5,8 @@ ghost use Rattle.std.specs.List.{filter};
 ghost use Rattle.fast_check_symbol_demands.specs.Demands.{demand_of, asked_of};
 ghost use Rattle.fast_check_symbol_demands.specs.Decls.{binds as binds_in, is_implementation as implements};
 ghost use Rattle.fast_check_symbol_demands.specs.Rules.{each_of};
-ghost use Rattle.fast_check_demands.specs.Yields.{decl_ranges, is_within, is_outside, has_properties, stands_outside, ranges_at, export_ranges, property_ranges, symbol_ranges, asked_ranges, ranges, symbol_implementations, asked_implementations, implementations};
+ghost use Rattle.fast_check_demands.specs.Yields.{decl_ranges, is_within, is_outside, has_properties, stands_outside, ranges_at, export_ranges, property_ranges, symbol_ranges, asked_ranges, ranges, Adds, symbol_implementations, asked_implementations, implementations};
+ghost use Rattle.fast_check_demands.specs.Done.{outside_at, AreThere};
 
 use fast_check_symbol_demands::symbols::{
     CheckedTables, Symbol, SymbolDecl, SymbolExports, SymbolId,
@@ -15,6 +16,7 @@ use fast_check_symbol_demands::{
 };
 use fast_check_syntax::{SourcePos, SourceRange};
 use std::alloc::AllocError;
+use std::collections::BTreeSet;
 
 fn push_all(decls: &[SymbolDecl], out: &mut Vec<SourceRange>) -> Result<(), AllocError>
     ensures { OnOk result (out.new.items ≡ out.old.items ++ decl_ranges decls.now) }
@@ -91,7 +93,7 @@ fn push_outside_at(
     id: SymbolId,
     out: &mut Vec<SourceRange>,
 ) -> Result<(), AllocError>
-    ensures { OnOk result (out.new.items ≡ out.old.items ++ filter (λ r. not (is_within range r)) (ranges_at tables.now id)) }
+    ensures { OnOk result (out.new.items ≡ out.old.items ++ outside_at tables.now range id) }
 {
     match tables.symbol(id) {
         None => Ok(()),
@@ -99,31 +101,55 @@ fn push_outside_at(
     }
 }
 
+/// Pushes the declarations of a symbol that do not lie within the range, unless it is done.
+fn push_once(
+    tables: &CheckedTables,
+    range: SourceRange,
+    id: SymbolId,
+    done: &mut BTreeSet<SymbolId>,
+    out: &mut Vec<SourceRange>,
+) -> Result<(), AllocError>
+    requires { AreThere tables.now range done.old out.old.items }
+    ensures adds { OnOk result (Adds (outside_at tables.now range id) out.old.items out.new.items) }
+    ensures there { OnOk result (AreThere tables.now range done.new out.new.items) }
+{
+    if done.insert(id)? {
+        push_outside_at(tables, range, id, out)
+    } else {
+        Ok(())
+    }
+}
+
 fn push_export(
     tables: &CheckedTables,
     range: SourceRange,
     export: Option<(&str, SymbolId)>,
+    done: &mut BTreeSet<SymbolId>,
     out: &mut Vec<SourceRange>,
 ) -> Result<(), AllocError>
-    ensures { OnOk result (out.new.items ≡ out.old.items ++ filter (λ r. not (is_within range r))
-        (each_of (λ e. ranges_at tables.now e.1) (option_map seen_export export.entry))) }
+    requires { AreThere tables.now range done.old out.old.items }
+    ensures adds { OnOk result (Adds (filter (λ r. not (is_within range r))
+        (each_of (λ e. ranges_at tables.now e.1) (option_map seen_export export.entry))) out.old.items out.new.items) }
+    ensures there { OnOk result (AreThere tables.now range done.new out.new.items) }
 {
     match export {
         None => Ok(()),
-        Some((_, export)) => push_outside_at(tables, range, export, out),
+        Some((_, id)) => push_once(tables, range, id, done, out),
     }
 }
 
+/// Pushes the declarations of the exported symbols that do not lie within the range, those of each symbol once.
 fn push_exports(
     tables: &CheckedTables,
     range: SourceRange,
     exports: &SymbolExports,
     out: &mut Vec<SourceRange>,
 ) -> Result<(), AllocError>
-    ensures { OnOk result (out.new.items ≡ out.old.items ++ filter (λ r. not (is_within range r)) (export_ranges tables.now exports.now)) }
+    ensures { OnOk result (Adds (filter (λ r. not (is_within range r)) (export_ranges tables.now exports.now)) out.old.items out.new.items) }
 {
+    let mut done = BTreeSet::new(*out.allocator());
     for place in 0..exports.len() {
-        push_export(tables, range, exports.at(place), out)?;
+        push_export(tables, range, exports.at(place), &mut done, out)?;
     }
     Ok(())
 }
@@ -134,7 +160,7 @@ fn push_properties(
     symbol: &Symbol,
     out: &mut Vec<SourceRange>,
 ) -> Result<(), AllocError>
-    ensures { OnOk result (out.new.items ≡ out.old.items ++ property_ranges tables.now namespace symbol.now) }
+    ensures { OnOk result (Adds (property_ranges tables.now namespace symbol.now) out.old.items out.new.items) }
 {
     match shared_range(symbol.decls.as_slice(), namespace) {
         None => Ok(()),
@@ -163,7 +189,7 @@ fn push_symbol(
     symbol: &Symbol,
     out: &mut Vec<SourceRange>,
 ) -> Result<(), AllocError>
-    ensures { OnOk result (out.new.items ≡ out.old.items ++ symbol_ranges tables.now namespace symbol.now) }
+    ensures { OnOk result (Adds (symbol_ranges tables.now namespace symbol.now) out.old.items out.new.items) }
 {
     if symbol.is_private_member {
         return Ok(());
@@ -178,7 +204,7 @@ fn push_asked(
     symbol: &Symbol,
     out: &mut Vec<SourceRange>,
 ) -> Result<(), AllocError>
-    ensures { OnOk result (out.new.items ≡ out.old.items ++ asked_ranges tables.now (asked_of demand.entry.ask) symbol.now) }
+    ensures { OnOk result (Adds (asked_ranges tables.now (asked_of demand.entry.ask) symbol.now) out.old.items out.new.items) }
 {
     match demand.ask {
         Ask::Reference(namespace) | Ask::Child(namespace) => {
@@ -194,7 +220,7 @@ pub fn push_ranges(
     demand: SymbolDemand<'_>,
     out: &mut Vec<SourceRange>,
 ) -> Result<(), AllocError>
-    ensures { OnOk result (out.new.items ≡ out.old.items ++ ranges tables.now (demand_of demand.entry)) }
+    ensures { OnOk result (Adds (ranges tables.now (demand_of demand.entry)) out.old.items out.new.items) }
 {
     match tables.symbol(demand.symbol) {
         None => Ok(()),

@@ -6,16 +6,17 @@ use Rattle.std.proofs.lemmas.Bool.{or_left, or_right, or_cases}
 use Rattle.std.proofs.lemmas.List.{take_more, take_all, take-append-le}
 use Rattle.std.proofs.lemmas.List.Folds.{list_any-append}
 use Rattle.std.proofs.lemmas.List.Elements.{Contains-get_or, Contains-push_cases, Contains-push, Contains-append_left}
-use Rattle.std.proofs.lemmas.List.Elements.{Contains-append_right, Contains-append_cases}
+use Rattle.std.proofs.lemmas.List.Elements.{Contains-append_cases}
 use Rattle.fast_check_symbols.specs.Tables.{Tables}
 use Rattle.fast_check_name_demands.specs.demands.Demands.{Demand}
 use Rattle.fast_check_name_demands.specs.demands.Rules.{names}
-use Rattle.fast_check_name_demands.specs.demands.Yields.{ranges, implementations, faults, fault_seen}
+use Rattle.fast_check_name_demands.specs.demands.Yields.{ranges, Adds, implementations, faults, fault_seen}
 use Rattle.fast_check_name_demands.specs.demands.Account.{root, step, alike, referred, IsCovered, IsAccount, IsYield}
 use Rattle.fast_check_name_demands.specs.Files.{files}
+use Rattle.fast_check_demands.proofs.Adds.{adds_all, adds_kept}
 use Rattle.fast_check_search.specs.declared.found.Found.{Found}
 use Rattle.fast_check_search.specs.SymbolWorklist.{Grows, CoversEach}
-use Rattle.fast_check_search.specs.Found.{IsFound, Adds, Gains, IsOnTheWay}
+use Rattle.fast_check_search.specs.Found.{IsFound, Gains, IsOnTheWay}
 use Rattle.fast_check_search.proofs.Each.{Contains_none, Contains_only}
 
 -- lists that grow
@@ -70,23 +71,6 @@ pub asked_all : (asks : List Demand) (i : ℕ) (account : List Demand) → lengt
 asked_all asks i account le h = subst (λ (x : List Demand). CoversEach x account) (take_all i asks le) h
 
 -- what is found
-
--- all of these come behind
-pub adds_all : {X : Type 0} (these old new : List X) → new ≡ old ++ these → Adds these old new
-adds_all {X} these old new e = record {
-  more = these;
-  is = e;
-  parts = λ x t. t;
-  whole = λ x t. subst (λ (xs : List X). Contains xs x) (sym e) (Contains-append_right old these x t);
-}
-
--- nothing comes behind, since they are there
-pub adds_none : {X : Type 0} (these old : List X) → ((x : X) → Contains these x → Contains old x) → Adds these old old
-adds_none these old h = record { more = []; is = sym (append-nil old); parts = λ x t. absurd (Contains_none x t); whole = h }
-
--- what was there is there
-pub adds_kept : {X : Type 0} (these old new : List X) → Adds these old new → (x : X) → Contains old x → Contains new x
-adds_kept {X} these old new a x t = subst (λ (xs : List X). Contains xs x) (sym a.is) (Contains-append_left old a.more x t)
 
 yielded_more : {X : Type 0} (gives : Demand → List X) (account : List Demand) (d : Demand) (old new : List X) → IsYield gives account old →
     Adds (gives d) old new → IsYield gives (account ++ d ∷ []) new

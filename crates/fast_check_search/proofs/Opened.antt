@@ -8,8 +8,9 @@ use Rattle.fast_check_syntax.specs.declared.source.SourceRange.{SourceRange}
 use Rattle.fast_check_symbols.specs.Tables.{Tables}
 use Rattle.fast_check_symbols.specs.contracts.symbol_id.SymbolIdOrd.TheImpl as order
 use Rattle.fast_check_symbols.specs.declared.symbol_id.SymbolId.{SymbolId}
-use Rattle.fast_check_search.specs.Found.{Adds, declared, AreOpened}
-use Rattle.fast_check_search.proofs.Closure.{adds_kept}
+use Rattle.fast_check_demands.proofs.Adds.{adds_kept}
+use Rattle.fast_check_name_demands.specs.demands.Yields.{ranges_at, Adds}
+use Rattle.fast_check_search.specs.Found.{AreOpened}
 use Rattle.fast_check_search.proofs.Numbering.{numbers_compare}
 
 -- no symbol yet
@@ -18,19 +19,19 @@ pub opened_none : (t : Tables) (opened : sorted.BTreeSet SymbolId) (found : List
 opened_none t opened found h s y r m = absurd (false≢true (sym (h s) ∙ y))
 
 -- more is found
-pub opened_kept : (t : Tables) (opened : sorted.BTreeSet SymbolId) (these old new : List SourceRange) → Adds these old new →
-    AreOpened t opened old → AreOpened t opened new
-opened_kept t opened these old new a h s u r m = adds_kept these old new a r (h s u r m)
+pub opened_kept : (t : Tables) (opened : sorted.BTreeSet SymbolId) (these old new : List SourceRange) → AreOpened t opened old →
+    Adds these old new → AreOpened t opened new
+opened_kept t opened these old new h a s u r m = adds_kept these old new a r (h s u r m)
 
 -- one symbol more
 pub opened_more : (t : Tables) (opened more : sorted.BTreeSet SymbolId) (symbol : SymbolId) (old new : List SourceRange) →
-    Adds (declared t symbol) old new → AreOpened t opened old → sorted.Updates order.cmp-value.it opened more symbol true →
+    Adds (ranges_at t symbol) old new → AreOpened t opened old → sorted.Updates order.cmp-value.it opened more symbol true →
     AreOpened t more new
 opened_more t opened more symbol old new a h u s y r m = ⊎_elim
     (λ (e : is_eq (order.cmp-value.it symbol s) ≡ true).
-    a.whole r (subst (λ (x : SymbolId). Contains (declared t x) r) (sym (same s e)) m))
+    a.whole r (subst (λ (x : SymbolId). Contains (ranges_at t x) r) (sym (same s e)) m))
     (λ (f : is_eq (order.cmp-value.it symbol s) ≡ false).
-    adds_kept (declared t symbol) old new a r
+    adds_kept (ranges_at t symbol) old new a r
     (h s (sym (cond-false (is_eq (order.cmp-value.it symbol s)) true (sorted.contains order.cmp-value.it opened s) f) ∙ (sym (u.0 s) ∙ y)) r m))
     (cases_Bool (is_eq (order.cmp-value.it symbol s)))
   where

@@ -4,14 +4,13 @@ use Rattle.std.specs.Prelude.{◌≡◌, ℕ, ◌≤◌, true, List, ◌++◌, l
 use Rattle.std.specs.BTreeSet.{BTreeSet, contains}
 use Rattle.std.specs.List.{Contains}
 use Rattle.fast_check_syntax.specs.declared.source.SourceRange.{SourceRange}
-use Rattle.fast_check_symbols.specs.Symbols.{symbol_of}
 use Rattle.fast_check_symbols.specs.Tables.{Tables, table_ranges}
 use Rattle.fast_check_symbols.specs.contracts.symbol_id.SymbolIdOrd.TheImpl as order
 use Rattle.fast_check_symbols.specs.declared.symbol_id.SymbolId.{SymbolId}
 use Rattle.fast_check_name_demands.specs.demands.Demands.{Demand}
-use Rattle.fast_check_name_demands.specs.demands.Rules.{names, each_of}
+use Rattle.fast_check_name_demands.specs.demands.Rules.{names}
 use Rattle.fast_check_name_demands.specs.demands.Account.{Chained, IsCovered, IsYield}
-use Rattle.fast_check_name_demands.specs.demands.Yields.{decl_ranges, ranges, implementations, faults, fault_seen}
+use Rattle.fast_check_name_demands.specs.demands.Yields.{ranges_at, ranges, Adds, implementations, faults, fault_seen}
 use Rattle.fast_check_name_demands.specs.Files.{files}
 use Rattle.fast_check_search.specs.declared.found.Found.{Found}
 
@@ -26,21 +25,10 @@ pub record IsFound (t : Tables) (account : List Demand) (found : Found) : Type 0
 abbrev pub AreTableRanges : Tables → List SourceRange → Type 0
 AreTableRanges t found = (r : SourceRange) → Contains found r → Contains (table_ranges t.symbols t.re_exports) r
 
--- what comes behind is of these, and all of these are there
-pub record Adds {X : Type 0} (these old new : List X) : Type 0 where
-  pub more : List X
-  pub is : new ≡ old ++ more
-  pub parts : (x : X) → Contains more x → Contains these x
-  pub whole : (x : X) → Contains these x → Contains new x
-
--- the declarations of a symbol
-abbrev pub declared : Tables → SymbolId → List SourceRange
-declared t symbol = each_of (λ s. decl_ranges s.decls.items) (symbol_of symbol t.symbols)
-
 -- of each of these symbols all declarations are public
 abbrev pub AreOpened : Tables → BTreeSet SymbolId → List SourceRange → Type 0
 AreOpened t opened found = (s : SymbolId) → contains order.cmp-value.it opened s ≡ true → (r : SourceRange) →
-    Contains (declared t s) r → Contains found r
+    Contains (ranges_at t s) r → Contains found r
 
 -- what one more demand adds
 pub record Gains (t : Tables) (d : Demand) (old new : Found) : Type 0 where

@@ -2,9 +2,9 @@
 ghost use Rattle.std.specs.Prelude.{◌≡◌, List, [], map, IfOk, OnOk, ◌++◌, option_map, option_to_list};
 ghost use Rattle.fast_check_name_demands.specs.demands.Demands.{Demand, demand_of};
 ghost use Rattle.fast_check_name_demands.specs.demands.Account.{IsAccount, IsYield};
-ghost use Rattle.fast_check_name_demands.specs.demands.Yields.{fault_seen, ranges};
+ghost use Rattle.fast_check_name_demands.specs.demands.Yields.{fault_seen, ranges, ranges_at, Adds};
 ghost use Rattle.fast_check_name_demands.specs.demands.Rules.{names};
-ghost use Rattle.fast_check_search.specs.Found.{IsFound, Adds, Gains, declared, AreOpened, AreTableRanges};
+ghost use Rattle.fast_check_search.specs.Found.{IsFound, Gains, AreOpened, AreTableRanges};
 ghost use Rattle.fast_check_search.specs.Done.{IsNumbered};
 ghost use Rattle.fast_check_search.specs.SymbolWorklist.{demanded, asked, IsKept, Grows, CoversEach};
 
@@ -53,7 +53,7 @@ fn add_declared(
     out: &mut Vec<SourceRange>,
 ) -> Result<(), AllocError>
     requires opened { AreOpened tables.now opened.old out.old.items }
-    requires path { ranges tables.now (demand_of demand) ≡ declared tables.now demand.symbol }
+    requires path { ranges tables.now (demand_of demand) ≡ ranges_at tables.now demand.symbol }
     ensures opened { OnOk result (AreOpened tables.now opened.new out.new.items) }
     ensures ranges { OnOk result (Adds (ranges tables.now (demand_of demand.entry)) out.old.items out.new.items) }
 {

@@ -1,5 +1,5 @@
-use Rattle.std.proofs.Common.{◌∙◌, sym, arith}
-use Rattle.fast_check_search.proofs.Numbering.{found_at, noted_none}
+use Rattle.std.proofs.Common.{◌∙◌, sym}
+use Rattle.fast_check_search.proofs.Numbering.{found_at}
 use Rattle.fast_check_search.proofs.numbers.PathNumbers.noted.Goals as goal
 
 pub returns : goal.returns
