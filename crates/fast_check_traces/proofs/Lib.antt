@@ -1,2 +1,6 @@
 pub mod Named
+pub mod Firsts
+pub mod Leads
+pub mod Names
 pub mod OwnRanges
+pub mod Through

@@ -10,11 +10,9 @@ use Rattle.fast_check_modules.specs.symbols.Tables.{table_ranges}
 use Rattle.fast_check_search.specs.Found.{AreTableRanges}
 use Rattle.fast_check_search.proofs.Each.{Contains_first, Contains_later, contains_map, Each, each_nil, each_one, each_map, each_flat}
 use Rattle.fast_check_search.proofs.Each.{each_cond}
-use Rattle.fast_check_name_demands.specs.declared.want.NameDemand.{NameDemand as Single}
-use Rattle.fast_check_name_demands.specs.Files.{names_of}
 use Rattle.fast_check_traces.specs.declared.modules.TracedModule.{TracedModule}
 use Rattle.fast_check_traces.specs.Modules.{own_tables, own_export, answer_of, first_with}
-use Rattle.fast_check_traces.specs.Wants.{node_ranges, first_range, path_ranges, re_export_ranges}
+use Rattle.fast_check_traces.specs.Wants.{node_ranges, first_range, path_ranges, re_export_ranges, AreRangesThrough}
 
 -- what is found is there
 found_inside : {X : Type 0} (test : X → Bool) (xs : List X) (x : X) → find test xs ≡ Some x → Contains xs x
@@ -63,5 +61,6 @@ module _ (m : TracedModule) where
   own_demand (whole_at []) = each_nil Own
   own_demand (whole_at (n ∷ p)) = own_path n
 
-  pub own_re_exports : (names : List Single) → AreTableRanges (own_tables m) (flat_map (λ w. re_export_ranges m (names_of w)) names)
-  own_re_exports names = each_flat Own (λ w. re_export_ranges m (names_of w)) names (λ w _. own_demand (names_of w))
+  pub own_re_exports : (names : List NameDemand) (found : List SourceRange) → AreRangesThrough m names found →
+      AreTableRanges (own_tables m) found
+  own_re_exports names found h = λ r c. each_flat Own (re_export_ranges m) names (λ d _. own_demand d) r (h.sound r c)

@@ -1,5 +1,5 @@
 //! A module that is followed: what its names ask of its symbols and of other modules.
-ghost use Rattle.std.specs.Prelude.{◌≡◌, List, IfOk};
+ghost use Rattle.std.specs.Prelude.{◌≡◌, List, map, IfOk};
 ghost use Rattle.std.specs.List.{flat_map};
 ghost use Rattle.fast_check_demands.specs.Demands.{Demand};
 ghost use Rattle.fast_check_demands.specs.Account.{IsAccount};
@@ -7,11 +7,11 @@ ghost use Rattle.fast_check_search.specs.Found.{IsFound, AreTableRanges};
 ghost use Rattle.fast_check_name_demands.specs.Files.{names_of};
 ghost use Rattle.fast_check_traces.specs.Modules.{own_tables as tables_at};
 ghost use Rattle.fast_check_traces.specs.Roots.{roots};
-ghost use Rattle.fast_check_traces.specs.Wants.{re_export_ranges as ranges_through, module_wants};
+ghost use Rattle.fast_check_traces.specs.Wants.{AreRangesThrough, module_wants};
 
 use crate::list::ModuleWants;
 use crate::modules::{TracedModule, own_tables};
-use crate::re_exports::{re_export_ranges, wants_of};
+use crate::re_exports::re_exports_of;
 use crate::roots::roots_of;
 use fast_check_demands::SourceRange;
 use fast_check_name_demands::NameDemand;
@@ -38,7 +38,7 @@ pub fn trace<'a>(
     ensures account { IfOk result (λ t. (account : List Demand)
         × IsAccount (tables_at traced.entry) (flat_map (λ d. roots (tables_at traced.entry) (names_of d)) demands.now) account
         × IsFound (tables_at traced.entry) account t.found) }
-    ensures re_exports { IfOk result (λ t. t.re_export_ranges.items ≡ flat_map (λ d. ranges_through traced.entry (names_of d)) demands.now) }
+    ensures re_exports { IfOk result (λ t. AreRangesThrough traced.entry (map names_of demands.now) t.re_export_ranges.items) }
     ensures wants { IfOk result (λ t. t.wants ≡ flat_map (λ d. module_wants traced.entry (names_of d)) demands.now) }
 
     // What is public is of the module's own ranges, so a module of these tables admits it.
@@ -49,9 +49,10 @@ pub fn trace<'a>(
     let tables = own_tables(traced);
     let roots = roots_of(alloc, tables, demands)?;
     let found = search(alloc, tables, roots.as_slice())?;
+    let (re_export_ranges, wants) = re_exports_of(alloc, traced, demands)?;
     Ok(Traced {
         found,
-        re_export_ranges: re_export_ranges(alloc, traced, demands)?,
-        wants: wants_of(alloc, traced, demands)?,
+        re_export_ranges,
+        wants,
     })
 }

@@ -4,6 +4,7 @@
 mod follow;
 mod list;
 mod modules;
+mod origins;
 mod re_exports;
 mod roots;
 

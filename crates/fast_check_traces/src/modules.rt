@@ -1,7 +1,7 @@
 //! The tables and the exports of a module that is followed.
 ghost use Rattle.std.specs.Prelude.{◌≡◌, is_some};
 ghost use Rattle.std.specs.Option.{option_copied};
-ghost use Rattle.fast_check_traces.specs.Modules.{tables_in, own_tables, own_export, answer_of, first_with, answer_to};
+ghost use Rattle.fast_check_traces.specs.Modules.{tables_in, own_tables, own_export, led_to, answer_of, first_with};
 
 use fast_check_demands::CheckedTables;
 use fast_check_graph::{AnyModuleInfo, ModuleGraph, RootSymbol};
@@ -42,14 +42,25 @@ pub fn own_export(tables: &CheckedTables, name: &str) -> Option<SymbolId>
     symbol.exports.get(name)
 }
 
-/// The module that answers a name behind a re-export of all.
-fn answer_of<'a>(traced: TracedModule<'a>, name: &str, node: &ReExportAllNode) -> Option<&'a Url>
-    ensures { option_copied result ≡ answer_of traced.entry name.now node.now }
+/// The module that a re-export of all leads to.
+pub fn led_to<'a>(traced: TracedModule<'a>, node: &ReExportAllNode) -> Option<&'a AnyModuleInfo>
+    ensures { option_copied result ≡ led_to traced.entry node.now }
 {
     let specifier = traced
         .graph
         .resolve_dependency(node.specifier.as_str(), traced.info.specifier())?;
-    let module = traced.root_symbol.module_from_specifier(specifier)?;
+    traced.root_symbol.module_from_specifier(specifier)
+}
+
+/// The module that answers a name behind a re-export of all.
+pub fn answer_of<'a>(
+    traced: TracedModule<'a>,
+    name: &str,
+    node: &ReExportAllNode,
+) -> Option<&'a Url>
+    ensures { option_copied result ≡ answer_of traced.entry name.now node.now }
+{
+    let module = led_to(traced, node)?;
     tables_of(module).resolved_export(name)
 }
 
@@ -74,12 +85,4 @@ pub fn first_with<'a>(traced: TracedModule<'a>, name: &str) -> Option<&'a ReExpo
     ensures { option_copied result ≡ first_with traced.entry name.now (own_tables traced.entry).re_exports }
 {
     find_node(traced, name, own_tables(traced).re_export_all_nodes())
-}
-
-/// The module that answers a name behind the first re-export of all that has it.
-pub fn answer_to<'a>(traced: TracedModule<'a>, name: &str) -> Option<&'a Url>
-    ensures { option_copied result ≡ answer_to traced.entry name.now }
-{
-    let node = first_with(traced, name)?;
-    answer_of(traced, name, node)
 }

@@ -1,19 +1,27 @@
-//! Re-exports: which are public, and what they ask of other modules.
-ghost use Rattle.std.specs.Prelude.{◌≡◌, ◌∷◌, [], ◌++◌, map, OnOk, IfOk, string_bytes};
-ghost use Rattle.std.specs.Option.{option_copied};
-ghost use Rattle.std.specs.List.{flat_map};
-ghost use Rattle.fast_check_names.specs.Names.{path_of};
-ghost use Rattle.fast_check_name_demands.specs.Files.{names_of, path_demand};
-ghost use Rattle.fast_check_traces.specs.Modules.{own_tables as tables_at};
-ghost use Rattle.fast_check_traces.specs.Wants.{re_exported, answered, node_ranges, first_range, path_ranges, re_export_ranges, answered_at, path_wants, module_wants};
+//! Re-exports of all: which are public, and what they ask of other modules.
+ghost use Rattle.std.specs.Prelude.{◌≡◌, [], ◌++◌, ◌||◌, not, cond, is_some, map, option_map, OnOk, IfOk, string_bytes};
+ghost use Rattle.std.specs.List.{flat_map, list_any};
+ghost use Rattle.fast_check_name_demands.specs.Files.{names_of};
+ghost use Rattle.fast_check_traces.specs.Wants.{re_exported, node_ranges, AreRangesThrough, answered_at, path_wants, module_wants};
+ghost use Rattle.fast_check_traces.specs.Origins.{origin_of, AreOriginsOf, first_only, name_firsts, name_shows_all, firsts, shows_all};
 
 use crate::list::{ModuleWant, ModuleWants};
-use crate::modules::{TracedModule, answer_to, first_with, own_export, own_tables};
-use fast_check_demands::{Extent, SourceRange};
+use crate::modules::{TracedModule, own_export, own_tables};
+use crate::origins::{Origin, Origins};
+use fast_check_demands::{CheckedTables, SourceRange};
 use fast_check_modules::ReExportAllNode;
 use fast_check_name_demands::NameDemand;
 use std::alloc::{AllocError, Global};
-use url::Url;
+
+/// What demands of a module show of its re-exports of all, and ask of other modules.
+#[derive(Drop)]
+struct ReExports<'a> {
+    /// The ranges of those that are the first to have a name.
+    firsts: Vec<SourceRange>,
+    /// Whether all of them are public.
+    is_whole: bool,
+    wants: ModuleWants<'a>,
+}
 
 fn push_all_ranges(nodes: &[ReExportAllNode], out: &mut Vec<SourceRange>) -> Result<(), AllocError>
     ensures { OnOk result (out.new.items ≡ out.old.items ++ node_ranges nodes.now) }
@@ -24,80 +32,18 @@ fn push_all_ranges(nodes: &[ReExportAllNode], out: &mut Vec<SourceRange>) -> Res
     Ok(())
 }
 
-fn push_first_range(
-    traced: TracedModule<'_>,
-    first: Option<&ReExportAllNode>,
+/// Adds all of them, if all are public.
+fn push_whole(
+    nodes: &[ReExportAllNode],
+    is_whole: bool,
     out: &mut Vec<SourceRange>,
 ) -> Result<(), AllocError>
-    ensures { OnOk result (out.new.items ≡ out.old.items ++ first_range (tables_at traced.entry).re_exports (option_copied first.entry)) }
+    ensures { OnOk result (out.new.items ≡ out.old.items ++ cond is_whole (node_ranges nodes.now) []) }
 {
-    match first {
-        None => push_all_ranges(own_tables(traced).re_export_all_nodes(), out),
-        Some(node) => {
-            out.push(node.range)?;
-            Ok(())
-        }
+    if is_whole {
+        return push_all_ranges(nodes, out);
     }
-}
-
-fn push_path_ranges(
-    traced: TracedModule<'_>,
-    name: &str,
-    out: &mut Vec<SourceRange>,
-) -> Result<(), AllocError>
-    ensures { OnOk result (out.new.items ≡ out.old.items ++ path_ranges traced.entry name.now) }
-{
-    match own_export(own_tables(traced), name) {
-        Some(_) => Ok(()),
-        None => push_first_range(traced, first_with(traced, name), out),
-    }
-}
-
-fn push_named_ranges(
-    traced: TracedModule<'_>,
-    first: &str,
-    rest: &[String],
-    extent: Extent,
-    out: &mut Vec<SourceRange>,
-) -> Result<(), AllocError>
-    ensures { OnOk result (out.new.items ≡ out.old.items ++ re_export_ranges traced.entry (path_demand (first.now ∷ path_of rest.now) extent)) }
-{
-    match extent {
-        Extent::Touched | Extent::Whole => push_path_ranges(traced, first, out),
-    }
-}
-
-fn push_ranges(
-    traced: TracedModule<'_>,
-    demand: NameDemand<'_>,
-    out: &mut Vec<SourceRange>,
-) -> Result<(), AllocError>
-    ensures { OnOk result (out.new.items ≡ out.old.items ++ re_export_ranges traced.entry (names_of demand.entry)) }
-{
-    match demand {
-        NameDemand::AllButDefault | NameDemand::All => {
-            push_all_ranges(own_tables(traced).re_export_all_nodes(), out)
-        }
-        NameDemand::There => Ok(()),
-        NameDemand::Path(first, rest, extent) => {
-            push_named_ranges(traced, first, rest, extent, out)
-        }
-    }
-}
-
-/// The ranges of the re-exports of all through which the demands of a module go.
-pub fn re_export_ranges(
-    alloc: Global,
-    traced: TracedModule<'_>,
-    demands: &[NameDemand<'_>],
-) -> Result<Vec<SourceRange>, AllocError>
-    ensures { IfOk result (λ out. out.items ≡ flat_map (λ d. re_export_ranges traced.entry (names_of d)) demands.now) }
-{
-    let mut out = Vec::new(alloc);
-    for demand in demands {
-        push_ranges(traced, *demand, &mut out)?;
-    }
-    Ok(out)
+    Ok(())
 }
 
 fn push_all_wants<'a>(
@@ -112,61 +58,127 @@ fn push_all_wants<'a>(
     Ok(())
 }
 
-fn push_answered<'a>(
-    answer: Option<&'a Url>,
-    demand: NameDemand<'a>,
-    out: &mut ModuleWants<'a>,
-) -> Result<(), AllocError>
-    ensures { OnOk result (out.new ≡ out.old ++ answered_at (names_of demand.entry) (option_copied answer.entry)) }
-{
-    match answer {
-        None => Ok(()),
-        Some(module) => out.push(ModuleWant::Answered(module, demand)),
-    }
-}
-
-fn push_path_wants<'a>(
-    traced: TracedModule<'a>,
-    first: &str,
-    demand: NameDemand<'a>,
-    out: &mut ModuleWants<'a>,
-) -> Result<(), AllocError>
-    ensures { OnOk result (out.new ≡ out.old ++ path_wants traced.entry first.now (names_of demand.entry)) }
-{
-    match own_export(own_tables(traced), first) {
-        Some(_) => Ok(()),
-        None => push_answered(answer_to(traced, first), demand, out),
-    }
-}
-
-#[tactic(auto, using(crate::proofs::Named::named_there))]
-fn push_wants<'a>(
-    traced: TracedModule<'a>,
-    demand: NameDemand<'a>,
-    out: &mut ModuleWants<'a>,
-) -> Result<(), AllocError>
-    ensures { OnOk result (out.new ≡ out.old ++ module_wants traced.entry (names_of demand.entry)) }
-{
+fn goes_behind(tables: &CheckedTables, demand: NameDemand<'_>) -> bool {
     match demand {
-        NameDemand::AllButDefault | NameDemand::All => {
-            push_all_wants(own_tables(traced).re_export_all_nodes(), out)
-        }
-        NameDemand::There => Ok(()),
-        NameDemand::Path(first, _, _) => push_path_wants(traced, first, demand, out),
+        NameDemand::Path(first, _, _) => own_export(tables, first).is_none(),
+        _ => false,
     }
 }
 
-/// What the demands of a module ask of other modules, by what it exports again.
-pub fn wants_of<'a>(
+/// How many names are looked for behind the re-exports of all.
+fn names_behind(tables: &CheckedTables, demands: &[NameDemand<'_>]) -> usize {
+    demands
+        .iter()
+        .filter(|demand| goes_behind(tables, **demand))
+        .count()
+}
+
+impl<'a> ReExports<'a> {
+    /// Adds a name by where it comes from. A name that comes from nowhere makes all of them public.
+    fn push_origin(
+        &mut self,
+        origin: Option<Origin<'a>>,
+        demand: NameDemand<'a>,
+    ) -> Result<(), AllocError>
+        ensures firsts { OnOk result (self.new.firsts.items ≡ self.old.firsts.items ++ first_only (option_map origin_of origin.entry)) }
+        ensures whole { OnOk result (self.new.is_whole ≡ (self.old.is_whole || not (is_some (option_map origin_of origin.entry)))) }
+        ensures wants { OnOk result (self.new.wants
+            ≡ self.old.wants ++ answered_at (names_of demand.entry) (option_map (λ a. a.1) (option_map origin_of origin.entry))) }
+    {
+        match origin {
+            None => {
+                self.is_whole = true;
+                Ok(())
+            }
+            Some(origin) => {
+                self.firsts.push(origin.node.range)?;
+                self.wants.push(ModuleWant::Answered(origin.module, demand))
+            }
+        }
+    }
+
+    /// Adds a name, unless the module exports it itself.
+    fn push_named(
+        &mut self,
+        traced: TracedModule<'a>,
+        origins: &Origins<'a>,
+        first: &str,
+        demand: NameDemand<'a>,
+    ) -> Result<(), AllocError>
+        requires { AreOriginsOf traced origins.now }
+        ensures firsts { OnOk result (self.new.firsts.items ≡ self.old.firsts.items ++ name_firsts traced.entry first.now) }
+        ensures whole { OnOk result (self.new.is_whole ≡ (self.old.is_whole || name_shows_all traced.entry first.now)) }
+        ensures wants { OnOk result (self.new.wants ≡ self.old.wants ++ path_wants traced.entry first.now (names_of demand.entry)) }
+    {
+        match own_export(own_tables(traced), first) {
+            Some(_) => Ok(()),
+            None => self.push_origin(origins.find(first), demand),
+        }
+    }
+
+    /// Adds a demand.
+    fn push(
+        &mut self,
+        traced: TracedModule<'a>,
+        origins: &Origins<'a>,
+        demand: NameDemand<'a>,
+    ) -> Result<(), AllocError>
+        requires { AreOriginsOf traced origins.now }
+        ensures firsts { OnOk result (self.new.firsts.items ≡ self.old.firsts.items ++ firsts traced.entry (names_of demand.entry)) }
+        ensures whole { OnOk result (self.new.is_whole ≡ (self.old.is_whole || shows_all traced.entry (names_of demand.entry))) }
+        ensures wants { OnOk result (self.new.wants ≡ self.old.wants ++ module_wants traced.entry (names_of demand.entry)) }
+    {
+        match demand {
+            NameDemand::AllButDefault | NameDemand::All => {
+                self.is_whole = true;
+                push_all_wants(own_tables(traced).re_export_all_nodes(), &mut self.wants)
+            }
+            NameDemand::There => Ok(()),
+            NameDemand::Path(first, _, _) => self.push_named(traced, origins, first, demand),
+        }
+    }
+}
+
+fn gather<'a>(
     alloc: Global,
     traced: TracedModule<'a>,
     demands: &[NameDemand<'a>],
-) -> Result<ModuleWants<'a>, AllocError>
-    ensures { IfOk result (λ out. out ≡ flat_map (λ d. module_wants traced.entry (names_of d)) demands.now) }
+) -> Result<ReExports<'a>, AllocError>
+    ensures firsts { IfOk result (λ out. out.firsts.items ≡ flat_map (λ d. firsts traced.entry (names_of d)) demands.now) }
+    ensures whole { IfOk result (λ out. out.is_whole ≡ list_any (λ d. shows_all traced.entry (names_of d)) demands.now) }
+    ensures wants { IfOk result (λ out. out.wants ≡ flat_map (λ d. module_wants traced.entry (names_of d)) demands.now) }
 {
-    let mut out = ModuleWants::new(alloc);
+    let names = names_behind(own_tables(traced), demands);
+    let origins = Origins::new(alloc, traced, names)?;
+    let mut out = ReExports {
+        firsts: Vec::new(alloc),
+        is_whole: false,
+        wants: ModuleWants::new(alloc),
+    };
     for demand in demands {
-        push_wants(traced, *demand, &mut out)?;
+        out.push(traced, &origins, *demand)?;
     }
     Ok(out)
+}
+
+/// The ranges of the re-exports of all that the demands of a module make public, and what the demands ask of other modules by what it exports again.
+pub fn re_exports_of<'a>(
+    alloc: Global,
+    traced: TracedModule<'a>,
+    demands: &[NameDemand<'a>],
+) -> Result<(Vec<SourceRange>, ModuleWants<'a>), AllocError>
+    ensures ranges { IfOk result (λ r. AreRangesThrough traced.entry (map names_of demands.now) r.0.items) }
+    ensures wants { IfOk result (λ r. r.1 ≡ flat_map (λ d. module_wants traced.entry (names_of d)) demands.now) }
+{
+    let ReExports {
+        firsts: mut ranges,
+        is_whole,
+        wants,
+    } = gather(alloc, traced, demands)?;
+    push_whole(
+        own_tables(traced).re_export_all_nodes(),
+        is_whole,
+        &mut ranges,
+    )?;
+    Ok((ranges, wants))
 }

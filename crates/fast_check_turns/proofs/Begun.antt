@@ -1,6 +1,6 @@
 -- What follows from a path that is touched follows from a longer one that begins with it.
 use Rattle.std.proofs.Common.{◌≡◌, ◌∙◌, sym, ap, refl, subst, Bool, true, false, ◌&&◌, not, List, [], ◌∷◌, ◌++◌, Option, Some, None}
-use Rattle.std.proofs.Common.{⊎_elim, ◌⊎◌, cond, is_some}
+use Rattle.std.proofs.Common.{⊎_elim, cond, is_some}
 use Rattle.std.specs.List.{list_any, Contains}
 use Rattle.std.specs.Str.{bytes_eq}
 use Rattle.std.specs.Cmp.Lexicographic.{bytes_decides}

@@ -299,9 +299,9 @@ module _ (k : Known) (nv : Nv) (t : Text) (m : TracedModule) (here : module_at k
   recorded_gift : Gift (recorded nv (own_text m))
   recorded_gift = let d = asked_some x in names_gift d.0 (recorded nv (own_text m)) d.1 (Contains_first (recorded nv (own_text m)) _)
 
-  again_gift : (r : SourceRange) → Contains (flat_map (re_export_ranges m) listed) r → Gift (public nv (own_text m) r)
+  again_gift : (r : SourceRange) → Contains a.again r → Gift (public nv (own_text m) r)
   again_gift r c =
-      let d = flat_contains (re_export_ranges m) listed r c in
+      let d = flat_contains (re_export_ranges m) listed r (a.found_again.sound r c) in
       let y = public nv (own_text m) r in
       names_gift d.0 y (listed_asked d.0 d.1)
       (Contains_later (recorded nv (own_text m)) _ y
@@ -358,7 +358,7 @@ module _ (k : Known) (nv : Nv) (t : Text) (m : TracedModule) (here : module_at k
 
   shown_gift : (r : SourceRange) → Contains shown r → Gift (public nv (own_text m) r)
   shown_gift r c = ⊎_elim (λ l. public_gift r l) (λ i. again_gift r i)
-      (Contains-append_cases a.declared (flat_map (re_export_ranges m) listed) r
+      (Contains-append_cases a.declared a.again r
       (subst (λ (rs : List SourceRange). Contains rs r) a.ranges_are c))
 
   given_sound : Each Gift given
@@ -373,7 +373,7 @@ module _ (k : Known) (nv : Nv) (t : Text) (m : TracedModule) (here : module_at k
   abbrev IsGiven : Yield → Type 0
   IsGiven y = Contains given y
 
-  among : (r : SourceRange) → Contains (a.declared ++ flat_map (re_export_ranges m) listed) r → Contains shown r
+  among : (r : SourceRange) → Contains (a.declared ++ a.again) r → Contains shown r
   among r c = subst (λ (rs : List SourceRange). Contains rs r) (sym a.ranges_are) c
 
   in_shown : (r : SourceRange) → Contains shown r → IsGiven (public nv (own_text m) r)
@@ -418,9 +418,9 @@ module _ (k : Known) (nv : Nv) (t : Text) (m : TracedModule) (here : module_at k
       again_in : (r : SourceRange) → Contains (re_export_ranges m d) r → IsGiven (public nv (own_text m) r)
       again_in r i =
           ⊎_elim
-          (λ l. in_shown r (among r (Contains-append_right a.declared (flat_map (re_export_ranges m) listed) r
-          (contains_flat_map (re_export_ranges m) listed l.0 r l.1
-          (subst (λ (rs : List SourceRange). Contains rs r) (goes_again m d l.0 l.2) i)))))
+          (λ l. in_shown r (among r (Contains-append_right a.declared a.again r
+          (a.found_again.complete r (contains_flat_map (re_export_ranges m) listed l.0 r l.1
+          (subst (λ (rs : List SourceRange). Contains rs r) (goes_again m d l.0 l.2) i))))))
           (λ e. absurd (Contains_none r (subst (λ (z : NameDemand). Contains (re_export_ranges m z) r) e i)))
           (asked_listed d h)
 
@@ -429,7 +429,7 @@ module _ (k : Known) (nv : Nv) (t : Text) (m : TracedModule) (here : module_at k
       each_append IsGiven (public_at nv m (ranges (own_tables m) s)) _
       (each_map IsGiven (public nv (own_text m)) (ranges (own_tables m) s)
       (λ r i. in_shown r
-      (among r (Contains-append_left a.declared (flat_map (re_export_ranges m) listed) r (a.found_ranges.complete s r h i)))))
+      (among r (Contains-append_left a.declared a.again r (a.found_ranges.complete s r h i)))))
       (each_append IsGiven (implementing_at nv m (implementations (own_tables m) s)) _
       (each_map IsGiven (implementing nv (own_text m)) (implementations (own_tables m) s)
       (λ r i. in_implementing (implementing nv (own_text m) r) (contains_map (implementing nv (own_text m)) found.implementations.items r

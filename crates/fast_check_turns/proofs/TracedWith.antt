@@ -16,7 +16,7 @@ use Rattle.fast_check_search.specs.Found.{IsFound}
 use Rattle.fast_check_traces.specs.declared.modules.TracedModule.{TracedModule}
 use Rattle.fast_check_traces.specs.Modules.{own_tables}
 use Rattle.fast_check_traces.specs.Roots.{roots}
-use Rattle.fast_check_traces.specs.Wants.{Want as ModuleWant, re_export_ranges, module_wants}
+use Rattle.fast_check_traces.specs.Wants.{Want as ModuleWant, AreRangesThrough, module_wants}
 use Rattle.fast_check_worklists.specs.Demands.{Want}
 use Rattle.fast_check_sources.specs.Sources.{Known}
 use Rattle.fast_check_sources.specs.Wants.{file_wants, left_wants}
@@ -31,7 +31,7 @@ module _ (k : Known) (nv : Nv) (m : TracedModule) (names : List Single) where
   pub traced_with : (wants : List Want) (found : Found) (again : List SourceRange) (left : List ModuleWant) (of : FoundModule) →
       ((account : List SymbolDemand) × IsSymbolAccount (own_tables m) (flat_map (λ w. roots (own_tables m) (names_of w)) names) account
       × IsFound (own_tables m) account found) →
-      again ≡ flat_map (λ w. re_export_ranges m (names_of w)) names → left ≡ flat_map (λ w. module_wants m (names_of w)) names →
+      AreRangesThrough m (map names_of names) again → left ≡ flat_map (λ w. module_wants m (names_of w)) names →
       wants ≡ flat_map (file_wants k nv m) found.files ++ flat_map (left_wants k nv m) left →
       of.ranges.items ≡ found.ranges.items ++ again → of.implementations.items ≡ found.implementations.items →
       map placed_in of.faults.items ≡ flat_map (λ f. option_to_list (placed (source_in m) f)) (map fault_seen found.faults.items) →
@@ -45,7 +45,9 @@ module _ (k : Known) (nv : Nv) (m : TracedModule) (names : List Single) where
         (f ∙ mapped (module_wants m));
     declared = found.ranges.items;
     found_ranges = a.2.public;
-    ranges_are = r ∙ ap (λ (rs : List SourceRange). found.ranges.items ++ rs) (e ∙ mapped (re_export_ranges m));
+    again = again;
+    found_again = e;
+    ranges_are = r;
     found_implementations = rw i a.2.implementing;
     faulty = map fault_seen found.faults.items;
     found_faults = a.2.faulty;

@@ -17,7 +17,7 @@ use Rattle.fast_check_name_demands.specs.Files.{FileDemand, files}
 use Rattle.fast_check_traces.specs.declared.modules.TracedModule.{TracedModule}
 use Rattle.fast_check_traces.specs.Modules.{own_tables}
 use Rattle.fast_check_traces.specs.Roots.{roots}
-use Rattle.fast_check_traces.specs.Wants.{re_export_ranges, module_wants}
+use Rattle.fast_check_traces.specs.Wants.{AreRangesThrough, module_wants}
 use Rattle.fast_check_worklists.specs.Demands.{Want}
 use Rattle.fast_check_worklists.specs.Account.{Trace}
 use Rattle.fast_check_sources.specs.Sources.{Known}
@@ -35,7 +35,9 @@ pub record IsTraced (k : Known) (nv : Nv) (m : TracedModule) (names : List NameD
       (flat_map (module_wants m) names)
   pub declared : List SourceRange
   pub found_ranges : IsSymbolYield (ranges (own_tables m)) symbols declared
-  pub ranges_are : found.ranges.items ≡ declared ++ flat_map (re_export_ranges m) names
+  pub again : List SourceRange
+  pub found_again : AreRangesThrough m names again
+  pub ranges_are : found.ranges.items ≡ declared ++ again
   pub found_implementations : IsSymbolYield (implementations (own_tables m)) symbols found.implementations.items
   pub faulty : List Fault
   pub found_faults : IsSymbolYield (faults (own_tables m)) symbols faulty

@@ -15,9 +15,11 @@ returns g c used =
     let k = known c.args.sources (m.url_of c.args.provider.now.1) (m.nv_at c.args.provider.now.1) in
     let found = c.in_ok-traced.traced in
     let e = c.in_ok-outer.ensures in
+    let again = c.in_ok-traced.ensures.re_exports in
     let t = traced_with k (nv_of c.args.trace.package_nv) (traced_as k c.args.info.now) c.as_slice.result.now
     (map want_of c.in_ok-outer.outer.items) found.found found.re_export_ranges.items
-    found.wants c.in_ok-outer.found c.in_ok-traced.ensures.account c.in_ok-traced.ensures.re_exports c.in_ok-traced.ensures.wants
+    found.wants c.in_ok-outer.found c.in_ok-traced.ensures.account (record { sound = again.sound; complete = again.complete })
+    c.in_ok-traced.ensures.wants
     e.wants e.ranges e.implementations e.faults in
     record {
       names = map names_of c.as_slice.result.now;
@@ -33,6 +35,8 @@ returns g c used =
         wants_are = t.wants_are;
         declared = t.declared;
         found_ranges = t.found_ranges;
+        again = t.again;
+        found_again = record { sound = t.found_again.sound; complete = t.found_again.complete };
         ranges_are = t.ranges_are;
         found_implementations = t.found_implementations;
         faulty = t.faulty;

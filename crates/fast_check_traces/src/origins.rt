@@ -1,0 +1,250 @@
+//! Where a name comes from behind the re-exports of all of a module.
+ghost use Rattle.std.specs.Prelude.{◌≡◌, List, [], ◌∷◌, ◌++◌, Some, None, is_some, cond, option_map, IfOk, OnOk};
+ghost use Rattle.std.specs.Option.{option_or, option_and_then, option_copied};
+ghost use Rattle.std.specs.Str.{bytes_eq};
+ghost use Rattle.fast_check_names.specs.Names.{Name};
+ghost use Rattle.fast_check_modules.specs.symbols.declared.tables.ReExportAllNode.{ReExportAllNode};
+ghost use Rattle.fast_check_graph.specs.Root.{specifier_of, found_module, AreFoundByOwnNames};
+ghost use Rattle.fast_check_traces.specs.Modules.{own_tables as tables_at, led_to, first_with};
+ghost use Rattle.fast_check_traces.specs.Origins.{origin_of, origin_at, first_origin, lead_origin, lead_with, first_lead};
+ghost use Rattle.fast_check_traces.specs.Origins.{indexed, found_origin, AreLeadsOf, AreOriginsOf};
+
+use crate::modules::{TracedModule, answer_of, first_with, led_to, own_tables, tables_of};
+use fast_check_demands::CheckedTables;
+use fast_check_graph::AnyModuleInfo;
+use fast_check_modules::ReExportAllNode;
+use std::alloc::{AllocError, Global};
+use std::collections::BTreeMap;
+use url::Url;
+
+/// Where a name comes from: the re-export of all that has it, and the module that answers it.
+#[derive(Clone, Copy)]
+pub struct Origin<'a> {
+    pub node: &'a ReExportAllNode,
+    pub module: &'a Url,
+}
+
+/// A re-export of all, with the tables of the module that it leads to.
+#[derive(Clone, Copy)]
+pub struct Lead<'a> {
+    node: &'a ReExportAllNode,
+    tables: &'a CheckedTables,
+}
+
+/// The re-exports of all that lead to modules, each module once, by the first.
+#[derive(Drop)]
+pub struct Leads<'a> {
+    items: Vec<Lead<'a>>,
+    /// The first re-export of all that leads to a module, by the module's own name.
+    firsts: BTreeMap<&'a str, &'a ReExportAllNode>,
+}
+
+/// Where names come from, by what takes the fewest steps.
+#[derive(Drop)]
+pub enum Origins<'a> {
+    /// Nothing was read: a look goes over the re-exports.
+    Unread(TracedModule<'a>),
+    /// A look goes over the modules.
+    Listed(Vec<Lead<'a>>),
+    /// A look is one in this index.
+    Indexed(BTreeMap<&'a str, Origin<'a>>),
+}
+
+fn origin_behind<'a>(
+    traced: TracedModule<'a>,
+    name: &str,
+    node: &'a ReExportAllNode,
+) -> Option<Origin<'a>>
+    ensures { option_map origin_of result ≡ origin_at traced.entry name.now node.now }
+{
+    let module = answer_of(traced, name, node)?;
+    Some(Origin { node, module })
+}
+
+/// Where a name comes from, by going over the re-exports.
+fn find_unread<'a>(traced: TracedModule<'a>, name: &str) -> Option<Origin<'a>>
+    ensures { option_map origin_of result
+        ≡ option_and_then (origin_at traced.entry name.now) (first_with traced.entry name.now (tables_at traced.entry).re_exports) }
+{
+    let node = first_with(traced, name)?;
+    origin_behind(traced, name, node)
+}
+
+fn origin_in<'a>(lead: &Lead<'a>, name: &str) -> Option<Origin<'a>>
+    ensures { option_map origin_of result ≡ lead_origin name.now lead.now }
+{
+    let module = lead.tables.resolved_export(name)?;
+    Some(Origin {
+        node: lead.node,
+        module,
+    })
+}
+
+fn has_name(lead: &Lead<'_>, name: &str) -> bool
+    ensures { result ≡ is_some (lead_origin name.now lead.now) }
+{
+    origin_in(lead, name).is_some()
+}
+
+fn lead_with<'a, 'b>(leads: &'b [Lead<'a>], name: &str) -> Option<&'b Lead<'a>>
+    ensures { option_copied result ≡ lead_with name.now leads.now }
+{
+    leads.iter().find(|lead| has_name(lead, name))
+}
+
+/// Where a name comes from, by going over the modules.
+fn find_lead<'a>(leads: &[Lead<'a>], name: &str) -> Option<Origin<'a>>
+    ensures { option_map origin_of result ≡ option_and_then (lead_origin name.now) (lead_with name.now leads.now) }
+{
+    let lead = lead_with(leads, name)?;
+    origin_in(lead, name)
+}
+
+impl<'a> Leads<'a> {
+    fn new(alloc: Global, traced: TracedModule<'a>) -> Leads<'a>
+        ensures { AreLeadsOf traced.entry [] result }
+    {
+        Leads {
+            items: Vec::new(alloc),
+            firsts: BTreeMap::new(alloc),
+        }
+    }
+
+    /// Adds the module that the next re-export of all leads to.
+    fn push_module(
+        &mut self,
+        traced: TracedModule<'a>,
+        node: &'a ReExportAllNode,
+        info: &'a AnyModuleInfo,
+    ) -> Result<(), AllocError>
+        ensures { OnOk result ((nodes : List ReExportAllNode) → led_to traced.entry node.now ≡ Some info.now
+            → found_module traced.entry.root_symbol.now (specifier_of info.now) ≡ Some info.now
+            → AreLeadsOf traced.entry nodes self.old → AreLeadsOf traced.entry (nodes ++ node.now ∷ []) self.new) }
+    {
+        let name = info.specifier().as_str();
+        if self.firsts.contains_key(name) {
+            return Ok(());
+        }
+        self.firsts.insert(name, node)?;
+        let tables = tables_of(info);
+        self.items.push(Lead { node, tables })?;
+        Ok(())
+    }
+
+    /// Adds the module that the next re-export of all leads to, if it leads to one.
+    fn push(
+        &mut self,
+        traced: TracedModule<'a>,
+        node: &'a ReExportAllNode,
+    ) -> Result<(), AllocError>
+        ensures { OnOk result ((nodes : List ReExportAllNode) → AreFoundByOwnNames traced.entry.root_symbol.now
+            → AreLeadsOf traced.entry nodes self.old → AreLeadsOf traced.entry (nodes ++ node.now ∷ []) self.new) }
+    {
+        match led_to(traced, node) {
+            None => Ok(()),
+            Some(info) => self.push_module(traced, node, info),
+        }
+    }
+}
+
+/// The modules that the re-exports of all of a module lead to.
+fn leads_of<'a>(alloc: Global, traced: TracedModule<'a>) -> Result<Vec<Lead<'a>>, AllocError>
+    ensures { IfOk result (λ leads. (name : Name) → first_lead name leads.items ≡ first_origin traced.entry name (tables_at traced.entry).re_exports) }
+{
+    // A module that has two names is read once: by its own it is the same.
+    traced.root_symbol.own_names_find();
+    let mut leads = Leads::new(alloc, traced);
+    for node in own_tables(traced).re_export_all_nodes() {
+        leads.push(traced, node)?;
+    }
+    Ok(leads.items)
+}
+
+/// Puts where a name comes from, unless it comes from an earlier one.
+fn put_first<'a>(
+    names: &mut BTreeMap<&'a str, Origin<'a>>,
+    name: &'a str,
+    origin: Origin<'a>,
+) -> Result<(), AllocError>
+    ensures { OnOk result ((asked : Name) → indexed asked names.new
+        ≡ option_or (indexed asked names.old) (cond (bytes_eq asked name.now) (Some (origin_of origin.entry)) None)) }
+{
+    if names.contains_key(name) {
+        return Ok(());
+    }
+    names.insert(name, origin)?;
+    Ok(())
+}
+
+/// Puts where the names of a module come from.
+fn put_lead<'a>(
+    names: &mut BTreeMap<&'a str, Origin<'a>>,
+    lead: &Lead<'a>,
+) -> Result<(), AllocError>
+    ensures { OnOk result ((asked : Name) → indexed asked names.new ≡ option_or (indexed asked names.old) (lead_origin asked lead.now)) }
+{
+    for (name, module) in lead.tables.resolved_exports() {
+        let origin = Origin {
+            node: lead.node,
+            module,
+        };
+        put_first(names, name.as_str(), origin)?;
+    }
+    Ok(())
+}
+
+/// The names of these modules, each with where it comes from first.
+fn index_of<'a>(
+    alloc: Global,
+    leads: &[Lead<'a>],
+) -> Result<BTreeMap<&'a str, Origin<'a>>, AllocError>
+    ensures { IfOk result (λ names. (asked : Name) → indexed asked names ≡ first_lead asked leads.now) }
+{
+    let mut names = BTreeMap::new(alloc);
+    for lead in leads {
+        put_lead(&mut names, lead)?;
+    }
+    Ok(names)
+}
+
+/// Whether an index of these modules takes fewer steps than looks for so many names.
+fn is_index_cheaper(names: usize, leads: &[Lead<'_>]) -> bool {
+    let looks = names.saturating_mul(leads.len());
+    let mut exports: usize = 0;
+    for lead in leads {
+        exports = exports.saturating_add(lead.tables.resolved_exports().len());
+    }
+    exports < looks
+}
+
+impl<'a> Origins<'a> {
+    /// Where names come from behind the re-exports of all of a module, for looks for about so many.
+    pub fn new(
+        alloc: Global,
+        traced: TracedModule<'a>,
+        names: usize,
+    ) -> Result<Origins<'a>, AllocError>
+        ensures { IfOk result (AreOriginsOf traced.entry) }
+    {
+        if names < 2 {
+            return Ok(Origins::Unread(traced));
+        }
+        let leads = leads_of(alloc, traced)?;
+        if !is_index_cheaper(names, leads.as_slice()) {
+            return Ok(Origins::Listed(leads));
+        }
+        let index = index_of(alloc, leads.as_slice())?;
+        Ok(Origins::Indexed(index))
+    }
+
+    /// Where a name comes from: the first re-export of all that has it, and the module that answers it.
+    pub fn find(&self, name: &str) -> Option<Origin<'a>>
+        ensures { option_map origin_of result ≡ found_origin name.now self.now }
+    {
+        match self {
+            Origins::Unread(traced) => find_unread(*traced, name),
+            Origins::Listed(leads) => find_lead(leads.as_slice(), name),
+            Origins::Indexed(names) => names.get(name).copied(),
+        }
+    }
+}
