@@ -1,5 +1,5 @@
 -- Lists that loops make, one more.
-use Rattle.std.specs.Prelude.{◌≡◌, ℕ, ◌+◌, ◌<◌, ◌≤◌, Bool, true, false, List, [], ◌∷◌, ◌++◌, map, length, take, refl, if◌then◌else◌}
+use Rattle.std.specs.Prelude.{◌≡◌, ℕ, ◌+◌, ◌<◌, ◌≤◌, Bool, true, false, List, [], ◌∷◌, ◌++◌, map, length, take, if◌then◌else◌}
 use Rattle.std.specs.List.{filter}
 use lib.ListN.{get_or}
 use Rattle.std.proofs.Common.{ap, ◌∙◌, sym, append-nil}

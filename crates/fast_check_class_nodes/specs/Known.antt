@@ -2,8 +2,9 @@
 -- What the members of a class so far tell of the next.
 use Rattle.std.specs.Prelude.{◌≡◌, ℕ, Bool, not, ◌&&◌, List, ◌∷◌}
 use Rattle.std.specs.List.{list_any}
-use Rattle.std.specs.Str.{bytes_eq}
-use Rattle.std.specs.HashSet.{contains_by}
+use Rattle.std.specs.BTreeSet.{contains_by}
+use Rattle.std.specs.Cmp.Lexicographic.{slice_cmp}
+use Rattle.std.specs.Ordering.{nat_cmp}
 use Rattle.fast_check_syntax.specs.declared.kind.Kind.TheVariants as kinds
 use Rattle.fast_check_syntax.specs.declared.tree.Tree.{Tree}
 use Rattle.fast_check_syntax.specs.Shape.{◌is◌, kind_of}
@@ -30,7 +31,7 @@ accessor_stays m =
 
 -- what is told of the earlier members: which names private methods have, and whether a private constructor has a body
 pub record Knows (known : Earlier) (earlier : List Tree) : Type 0 where
-  pub names : (name : List ℕ) → contains_by (λ k. bytes_eq name k.now) known.private_methods ≡ list_any
+  pub names : (name : List ℕ) → contains_by (λ k. slice_cmp nat_cmp name k.now) known.private_methods ≡ list_any
       (is_private_method_of name) earlier
   pub implementation : known.has_private_implementation ≡ list_any is_private_implementation earlier
 

@@ -9,13 +9,13 @@ use crate::keys::{is_computed, is_private, key_text};
 use fast_check_class_forms::{AutoAccessor, ClassMethod, ClassProp, Constructor};
 use fast_check_syntax::{Kind, Part, Tree};
 use std::alloc::{AllocError, Global};
-use std::collections::HashSet;
+use std::collections::BTreeSet;
 
 /// What the members of a class so far decide of the next.
 #[derive(Drop)]
 pub struct Earlier<'a> {
     /// The names of the private methods, getters and setters.
-    private_methods: HashSet<&'a str>,
+    private_methods: BTreeSet<&'a str>,
     /// Whether a private constructor with a body is among them.
     has_private_implementation: bool,
 }
@@ -26,7 +26,7 @@ impl<'a> Earlier<'a> {
         ensures { Knows result [] }
     {
         Earlier {
-            private_methods: HashSet::new(alloc),
+            private_methods: BTreeSet::new(alloc),
             has_private_implementation: false,
         }
     }

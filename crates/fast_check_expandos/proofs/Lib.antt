@@ -1,5 +1,6 @@
 pub mod ReferencesOut
 pub mod Grouped
+pub mod FirstPlaces
 pub mod LastRanges
 pub mod Placed
 pub mod SameIds

@@ -32,7 +32,7 @@ merged_more ps p = λ i. record {
   declarators = map-append (λ q. q.declarator) ps (p ∷ []) i;
 }
 
-same_placed : (p : ExpandoProperty) (es : List (Id × Namespace)) →
+pub same_placed : (p : ExpandoProperty) (es : List (Id × Namespace)) →
     placed same_id (λ q. q.object) merged with_property p es ≡ placed_property p es
 same_placed p [] = refl
 same_placed p (e ∷ es) = ap (λ rest. if same_id p.object e.0 then (e.0, with_property e.1 p) ∷ es else e ∷ rest) (same_placed p es)

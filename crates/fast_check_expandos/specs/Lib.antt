@@ -5,3 +5,4 @@ pub mod References
 pub mod Expandos
 pub mod Assignments
 pub mod Merged
+pub mod FirstPlaces

@@ -5,6 +5,7 @@ ghost use Rattle.fast_check_program_forms.specs.ModuleDecls.{export_decl};
 ghost use Rattle.fast_check_signatures.specs.Answers.{Adds, answer_of};
 ghost use Rattle.fast_check_expandos.specs.Expandos as expandos;
 ghost use Rattle.fast_check_expandos.specs.Expandos.{conflict_fault, conflict_seen, namespaces_seen};
+ghost use Rattle.fast_check_expandos.specs.FirstPlaces.{HasObjects};
 ghost use Rattle.fast_check_expandos.specs.Merged.{Extends, merged_seen, namespaces, placed_property, with_property};
 
 use crate::properties::ExpandoProperty;
@@ -14,8 +15,8 @@ use fast_check_program_forms::ExportDecl;
 use fast_check_signatures::{Fault, FaultKind};
 use fast_check_statement_forms::{TsModuleBlock, TsModuleDecl, VarDecl};
 use fast_check_syntax::{Atom, DUMMY_SP, Id, Items, SyntaxContext, Tree, Word};
-use indexmap::IndexMap;
 use std::alloc::{AllocError, Global};
+use std::collections::BTreeMap;
 
 /// What stands in the namespace of an object.
 #[derive(Drop)]
@@ -45,26 +46,30 @@ pub fn keep_namespaces(
 fn namespaces_of(
     alloc: Global,
     properties: Vec<ExpandoProperty>,
-) -> Result<IndexMap<Id, Namespace>, AllocError>
-    ensures { IfOk result (λ made. made.entries ≡ namespaces properties.items) }
+) -> Result<Vec<(Id, Namespace)>, AllocError>
+    ensures { IfOk result (λ made. made.items ≡ namespaces properties.items) }
 {
-    let mut made = IndexMap::new(alloc);
+    let mut places = BTreeMap::new(alloc);
+    let mut made = Vec::new(alloc);
     for property in properties {
-        place_property(alloc, property, &mut made)?;
+        place_property(alloc, property, &mut places, &mut made)?;
     }
     Ok(made)
 }
 
-/// Puts a property into the namespace of its object, or else into a last one.
+/// Puts a property into the namespace of its object, or else into a last one. `places` are the places of the objects.
 fn place_property(
     alloc: Global,
     property: ExpandoProperty,
-    namespaces: &mut IndexMap<Id, Namespace>,
+    places: &mut BTreeMap<Id, usize>,
+    namespaces: &mut Vec<(Id, Namespace)>,
 ) -> Result<(), AllocError>
-    ensures { OnOk result (namespaces.new.entries ≡ placed_property property namespaces.old.entries) }
+    requires { HasObjects places.old namespaces.old.items }
+    ensures places { OnOk result (HasObjects places.new namespaces.new.items) }
+    ensures namespaces { OnOk result (namespaces.new.items ≡ placed_property property namespaces.old.items) }
 {
-    if let Some(namespace) = namespaces.get_mut(&property.object) {
-        return push_property(property, namespace);
+    if let Some(place) = places.get(&property.object).copied() {
+        return push_property(property, &mut namespaces[place].1);
     }
     let ExpandoProperty {
         object,
@@ -79,7 +84,8 @@ fn place_property(
         conflicts,
         declarators,
     };
-    namespaces.insert(object, namespace)?;
+    places.insert(object.clone()?, namespaces.len())?;
+    namespaces.push((object, namespace))?;
     Ok(())
 }
 

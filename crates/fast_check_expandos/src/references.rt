@@ -3,14 +3,15 @@ ghost use Rattle.std.specs.Prelude.{◌≡◌, ◌++◌, flat_map, IfOk, OnOk};
 ghost use Rattle.std.specs.Option.{option_copied};
 ghost use Rattle.fast_check_syntax.specs.Part.{seen};
 ghost use Rattle.fast_check_syntax.specs.Shape.{parts};
+ghost use Rattle.fast_check_expandos.specs.FirstPlaces.{HasNames, placed_reference};
 ghost use Rattle.fast_check_expandos.specs.Objects.{exports_name};
 ghost use Rattle.fast_check_expandos.specs.References.{conflicts, is_reference, own_reference, last_ranges, once_a_name, references};
 
 use fast_check_program_forms::Ident;
 use fast_check_symbols::Symbol;
 use fast_check_syntax::{Atom, Items, Kind, Part, SourceRange, SyntaxContext};
-use indexmap::IndexMap;
 use std::alloc::{AllocError, Global};
+use std::collections::BTreeMap;
 
 /// A name that a value mentions.
 #[derive(Drop)]
@@ -50,14 +51,35 @@ fn once_a_name(alloc: Global, references: Vec<Reference>) -> Result<Items<Refere
 fn last_ranges(
     alloc: Global,
     references: Vec<Reference>,
-) -> Result<IndexMap<Atom, SourceRange>, AllocError>
-    ensures { IfOk result (λ ranges. ranges.entries ≡ last_ranges references.items) }
+) -> Result<Vec<(Atom, SourceRange)>, AllocError>
+    ensures { IfOk result (λ ranges. ranges.items ≡ last_ranges references.items) }
 {
-    let mut ranges = IndexMap::new(alloc);
-    for Reference { name, range } in references {
-        ranges.insert(name, range)?;
+    let mut places = BTreeMap::new(alloc);
+    let mut ranges = Vec::new(alloc);
+    for reference in references {
+        place_reference(reference, &mut places, &mut ranges)?;
     }
     Ok(ranges)
+}
+
+/// Puts the range of a reference at the place of its name, or else at a last one. `places` are the places of the names.
+fn place_reference(
+    reference: Reference,
+    places: &mut BTreeMap<Atom, usize>,
+    ranges: &mut Vec<(Atom, SourceRange)>,
+) -> Result<(), AllocError>
+    requires { HasNames places.old ranges.old.items }
+    ensures places { OnOk result (HasNames places.new ranges.new.items) }
+    ensures ranges { OnOk result (ranges.new.items ≡ placed_reference reference ranges.old.items) }
+{
+    let Reference { name, range } = reference;
+    if let Some(place) = places.get(&name).copied() {
+        ranges[place].1 = range;
+        return Ok(());
+    }
+    places.insert(name.clone()?, ranges.len())?;
+    ranges.push((name, range))?;
+    Ok(())
 }
 
 /// Pushes the references of a tree.

@@ -7,7 +7,8 @@ use Rattle.fast_check_expandos.proofs.namespaces.keep_namespaces.Given as goal
 
 abbrev pub invariant-loop-object : goal.invariant-loop-object
 invariant-loop-object l = record {
-  items : l.items ++ (answer_of (flat_map merged_seen l.object-iterator)).stays ≡ (answer_of (namespaces_seen l.fn.properties.items)).stays;
-  faults : l.faults.items ++ (answer_of (flat_map merged_seen l.object-iterator)).faults ≡
+  items : l.items ++ (answer_of (flat_map merged_seen l.object-iterator.rest.items)).stays ≡
+      (answer_of (namespaces_seen l.fn.properties.items)).stays;
+  faults : l.faults.items ++ (answer_of (flat_map merged_seen l.object-iterator.rest.items)).faults ≡
       l.initial.faults.items ++ (answer_of (namespaces_seen l.fn.properties.items)).faults;
 }

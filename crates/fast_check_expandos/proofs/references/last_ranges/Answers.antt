@@ -1,11 +1,19 @@
 use Rattle.std.proofs.Common.{◌∙◌, sym, ap}
-use Rattle.std.specs.Str.{bytes_eq}
-use Rattle.indexmap.specs.IndexMap.{insert_entry}
+use Rattle.fast_check_expandos.specs.FirstPlaces.{placed_reference}
+use Rattle.fast_check_expandos.proofs.FirstPlaces.{none_placed}
 use Rattle.fast_check_expandos.proofs.LastRanges.{one_reference_more}
 use Rattle.fast_check_expandos.proofs.references.last_ranges.Goals as goal
 
-pub loop-name-preserved : goal.loop-name-preserved
-loop-name-preserved c =
-    c.in_ok-insert.ensures.entries
-    ∙ (ap (λ es. insert_entry bytes_eq es c.in-Some.field-0.name c.in-Some.field-0.range) c.loop-name.invariant
-    ∙ sym (one_reference_more c.loop-name.yielded c.in-Some.field-0))
+pub loop-reference-init : goal.loop-reference-init
+loop-reference-init c = record {
+  places = none_placed c.new-places.ensures.empty c.new-ranges.ensures.items;
+  ranges = c.new-ranges.ensures.items;
+}
+
+pub loop-reference-preserved : goal.loop-reference-preserved
+loop-reference-preserved c = record {
+  places = c.in_ok-place_reference.ensures.places;
+  ranges = c.in_ok-place_reference.ensures.ranges
+      ∙ (ap (placed_reference c.in-Some.reference) c.loop-reference.invariant.ranges
+      ∙ sym (one_reference_more c.loop-reference.yielded c.in-Some.reference));
+}
