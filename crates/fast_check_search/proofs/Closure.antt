@@ -13,7 +13,7 @@ use Rattle.fast_check_name_demands.specs.demands.Rules.{names}
 use Rattle.fast_check_name_demands.specs.demands.Yields.{ranges, Adds, implementations, faults, fault_seen}
 use Rattle.fast_check_name_demands.specs.demands.Account.{root, step, alike, referred, IsCovered, IsAccount, IsYield}
 use Rattle.fast_check_name_demands.specs.Files.{files}
-use Rattle.fast_check_demands.proofs.Adds.{adds_all, adds_kept}
+use Rattle.fast_check_demands.proofs.Adds.{adds_all, adds_kept, adds_both}
 use Rattle.fast_check_search.specs.declared.found.Found.{Found}
 use Rattle.fast_check_search.specs.SymbolWorklist.{Grows, CoversEach}
 use Rattle.fast_check_search.specs.Found.{IsFound, Gains, IsOnTheWay}
@@ -72,6 +72,16 @@ asked_all asks i account le h = subst (λ (x : List Demand). CoversEach x accoun
 
 -- what is found
 
+-- one turn of a loop that adds each of the elements
+pub added_more : {X : Type 0} (these a b c : List X) (i : ℕ) (d : X) → i < length these → get_or these i d ≡ d → Adds (take i these) a b →
+    Adds (d ∷ []) b c → Adds (take (i + 1) these) a c
+added_more {X} these a b c i d lt e g h = subst (λ (xs : List X). Adds xs a c)
+    (sym (take_more these i d lt ∙ ap (λ x. take i these ++ x ∷ []) e)) (adds_both (take i these) (d ∷ []) a b c g h)
+
+-- a loop that has added all
+pub added_all : {X : Type 0} (these a b : List X) (i : ℕ) → length these ≤ i → Adds (take i these) a b → Adds these a b
+added_all {X} these a b i le h = subst (λ (xs : List X). Adds xs a b) (take_all i these le) h
+
 yielded_more : {X : Type 0} (gives : Demand → List X) (account : List Demand) (d : Demand) (old new : List X) → IsYield gives account old →
     Adds (gives d) old new → IsYield gives (account ++ d ∷ []) new
 yielded_more {X} gives account d old new y a = record {
@@ -104,7 +114,7 @@ found_more t account d old new f g = record {
   public = yielded_more (ranges t) account d _ _ f.public g.public;
   implementing = yielded_more (implementations t) account d _ _ f.implementing (adds_all (implementations t d) _ _ g.implementing);
   faulty = yielded_more (faults t) account d _ _ f.faulty (adds_all (faults t d) _ _ g.faulty);
-  outside = yielded_more (files t) account d _ _ f.outside (adds_all (files t d) _ _ g.outside);
+  outside = yielded_more (files t) account d _ _ f.outside g.outside;
 }
 
 module _ (t : Tables) (roots : List Demand) where

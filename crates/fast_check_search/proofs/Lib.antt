@@ -4,6 +4,8 @@ pub mod Inside
 pub mod Closure
 pub mod Numbering
 pub mod Rests
+pub mod FileRests
+pub mod Wants
 pub mod Compared
 pub mod Kept
 pub mod Opened

@@ -35,7 +35,7 @@ pub record Gains (t : Tables) (d : Demand) (old new : Found) : Type 0 where
   pub public : Adds (ranges t d) old.ranges.items new.ranges.items
   pub implementing : new.implementations.items ≡ old.implementations.items ++ implementations t d
   pub faulty : map fault_seen new.faults.items ≡ map fault_seen old.faults.items ++ faults t d
-  pub outside : new.files ≡ old.files ++ files t d
+  pub outside : Adds (files t d) old.files new.files
 
 -- all demands are chained, the first ones are covered, and what follows from those before the next is covered and found
 pub record IsOnTheWay (t : Tables) (roots asked : List Demand) (next : ℕ) (so_far : Found) : Type 0 where

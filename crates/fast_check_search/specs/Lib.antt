@@ -1,5 +1,6 @@
 pub mod Numbers
 pub mod Done
 pub mod SymbolWorklist
+pub mod Wanted
 pub mod Found
 pub mod Universe

@@ -6,27 +6,30 @@ ghost use Rattle.fast_check_name_demands.specs.demands.Yields.{fault_seen, range
 ghost use Rattle.fast_check_name_demands.specs.demands.Rules.{names};
 ghost use Rattle.fast_check_search.specs.Found.{IsFound, Gains, AreOpened, AreTableRanges};
 ghost use Rattle.fast_check_search.specs.Done.{IsNumbered};
+ghost use Rattle.fast_check_search.specs.Numbers.{IsNumbering, Keeps};
 ghost use Rattle.fast_check_search.specs.SymbolWorklist.{demanded, asked, IsKept, Grows, CoversEach};
+ghost use Rattle.fast_check_search.specs.Wanted.{AreWanted};
 
 use crate::done::NumberedDemand;
-use crate::numbers::NumberedPath;
+use crate::numbers::{NumberedPath, PathNumbers};
+use crate::wanted::{DoneWant, add_files};
 use crate::worklist::{SymbolWorklist, asked_path};
+use fast_check_name_demands::FileWants;
 use fast_check_name_demands::demands::{
     Ask, CheckedTables, SourceRange, SymbolDemand, SymbolFault, SymbolId, demands_of, fault_of,
     push_implementations, push_ranges,
 };
-use fast_check_name_demands::{FileWants, push_files};
 use std::alloc::{AllocError, Global};
 use std::collections::BTreeSet;
 
-/// What the demands of a module make public, what is wrong with them, and what they ask of other files. Each may stand here more than once.
+/// What the demands of a module make public, what is wrong with them, and what they ask of other files. Each but the last may stand here more than once.
 #[derive(Drop)]
 pub struct Found<'a> {
     pub ranges: Vec<SourceRange>,
     /// Those of the implementations of overloads.
     pub implementations: Vec<SourceRange>,
     pub faults: Vec<SymbolFault<'a>>,
-    /// What is asked of other files.
+    /// What is asked of other files, each thing once.
     pub files: FileWants<'a>,
 }
 
@@ -97,21 +100,31 @@ impl<'a> Found<'a> {
         }
     }
 
-    /// Adds what one demand makes public, what is wrong with it, and what it asks of other files. The declarations of these symbols are public already.
+    /// Adds what one demand makes public, what is wrong with it, and what it asks of other files. The declarations of the opened symbols are public
+    /// already, and what is wanted is asked already.
     fn add(
         &mut self,
+        alloc: Global,
         tables: &'a CheckedTables,
-        demand: SymbolDemand<'a>,
+        demand: NumberedDemand<'a>,
+        paths: &mut PathNumbers<'a>,
         opened: &mut BTreeSet<SymbolId>,
+        wanted: &mut BTreeSet<DoneWant<'a>>,
     ) -> Result<(), AllocError>
-        requires { AreOpened tables.now opened.old self.old.ranges.items }
+        requires numbering { IsNumbering paths.old }
+        requires number { IsNumbered paths.old (demanded demand) demand.path }
+        requires opened { AreOpened tables.now opened.old self.old.ranges.items }
+        requires wanted { AreWanted paths.old wanted.old self.old.files }
+        ensures numbering { OnOk result (IsNumbering paths.new) }
+        ensures numbers { OnOk result (Keeps paths.old paths.new) }
         ensures opened { OnOk result (AreOpened tables.now opened.new self.new.ranges.items) }
-        ensures gains { OnOk result (Gains tables.now (demand_of demand.entry) self.old self.new) }
+        ensures wanted { OnOk result (AreWanted paths.new wanted.new self.new.files) }
+        ensures gains { OnOk result (Gains tables.now (demanded demand.entry) self.old self.new) }
     {
-        add_ranges(tables, demand, opened, &mut self.ranges)?;
-        push_implementations(tables, demand, &mut self.implementations)?;
-        push_fault(fault_of(tables, demand), &mut self.faults)?;
-        push_files(tables, demand, &mut self.files)
+        add_ranges(tables, demand.demand, opened, &mut self.ranges)?;
+        push_implementations(tables, demand.demand, &mut self.implementations)?;
+        push_fault(fault_of(tables, demand.demand), &mut self.faults)?;
+        add_files(alloc, tables, demand, paths, wanted, &mut self.files)
     }
 }
 
@@ -125,6 +138,7 @@ fn ask_named<'a>(
     requires kept { IsKept work.old }
     requires number { IsNumbered work.old.paths (demanded demand) demand.path }
     ensures kept { OnOk result (IsKept work.new) }
+    ensures numbers { OnOk result (Keeps work.old.paths work.new.paths) }
     ensures grown { OnOk result (Grows (names tables.now (demanded demand.entry)) (asked work.old) (asked work.new)) }
     ensures covered { OnOk result (CoversEach (names tables.now (demanded demand.entry)) (asked work.new)) }
 {
@@ -154,10 +168,18 @@ pub fn search<'a>(
     work.ask_all(NumberedPath::none(), roots)?;
     let mut found = Found::new(alloc);
     let mut opened = BTreeSet::new(alloc);
+    let mut wanted = BTreeSet::new(alloc);
     let mut next = 0;
     while next < work.len() {
         let demand = work.at(next);
-        found.add(tables, demand.demand, &mut opened)?;
+        found.add(
+            alloc,
+            tables,
+            demand,
+            &mut work.paths,
+            &mut opened,
+            &mut wanted,
+        )?;
         ask_named(alloc, tables, demand, &mut work)?;
         next += 1;
     }

@@ -4,6 +4,7 @@
 mod done;
 mod found;
 mod numbers;
+mod wanted;
 mod worklist;
 
 pub use found::{Found, search};

@@ -5,7 +5,7 @@ ghost use Rattle.fast_check_names.specs.Names.{path_of};
 ghost use Rattle.fast_check_name_demands.specs.demands.Demands.{Demand, asked_of, demand_of};
 ghost use Rattle.fast_check_name_demands.specs.demands.Account.{referred as referred_of, alike, IsCovered};
 ghost use Rattle.fast_check_search.specs.Done.{asked_path, IsNumbered};
-ghost use Rattle.fast_check_search.specs.Numbers.{number_of, Follows};
+ghost use Rattle.fast_check_search.specs.Numbers.{number_of, Keeps, Follows};
 ghost use Rattle.fast_check_search.specs.SymbolWorklist.{demanded, asked, IsKept, Grows, CoversEach};
 
 use crate::done::{DoneDemand, NumberedDemand, done_demand};
@@ -21,7 +21,7 @@ pub struct SymbolWorklist<'a> {
     /// The same demands, each by what tells it from others.
     done: BTreeSet<DoneDemand>,
     /// The numbers of their paths.
-    paths: PathNumbers<'a>,
+    pub paths: PathNumbers<'a>,
 }
 
 /// The path that is asked for; none where a symbol itself is.
@@ -112,6 +112,7 @@ impl<'a> SymbolWorklist<'a> {
         requires follows { Follows (path_of path.names.now) (asked_path (asked_of demand.ask)) }
         ensures kept { OnOk result (IsKept self.new) }
         ensures number { OnOk result (number_of self.new.paths (path_of path.entry.names.now) ≡ Some path.entry.number) }
+        ensures numbers { OnOk result (Keeps self.old.paths self.new.paths) }
         ensures grown { OnOk result (Grows (demand_of demand.entry ∷ []) (asked self.old) (asked self.new)) }
         ensures covered { OnOk result (IsCovered (asked self.new) (demand_of demand.entry)) }
     {
@@ -129,6 +130,7 @@ impl<'a> SymbolWorklist<'a> {
         requires number { number_of self.old.paths (path_of path.names.now) ≡ Some path.number }
         requires follow { (d : Demand) → Contains (map demand_of demands.now) d → Follows (path_of path.names.now) (asked_path d.asked) }
         ensures kept { OnOk result (IsKept self.new) }
+        ensures numbers { OnOk result (Keeps self.old.paths self.new.paths) }
         ensures grown { OnOk result (Grows (map demand_of demands.now) (asked self.old) (asked self.new)) }
         ensures covered { OnOk result (CoversEach (map demand_of demands.now) (asked self.new)) }
     {

@@ -1,16 +1,22 @@
-use Rattle.std.proofs.Common.{ap, map, length, arith, ◌≤◌}
+use Rattle.std.proofs.Common.{ap, refl, map, length, arith, ◌≤◌}
 use Rattle.std.specs.BTreeMap.{is_at}
 use Rattle.std.specs.List.{list_any}
 use Rattle.std.proofs.lemmas.Option.{get_or_from_slice_get}
 use Rattle.fast_check_symbols.specs.contracts.symbol_id.SymbolIdOrd.TheImpl as order
 use Rattle.fast_check_name_demands.specs.demands.Demands.{demand_of}
 use Rattle.fast_check_name_demands.specs.demands.Yields.{fault_seen}
+use Rattle.fast_check_search.specs.contracts.wanted.DoneWantOrd.TheImpl as wanted_order
+use Rattle.fast_check_search.specs.declared.worklist.SymbolWorklist.{SymbolWorklist}
+use Rattle.fast_check_search.specs.Done.{asked_path}
 use Rattle.fast_check_search.specs.Universe.{limit}
 use Rattle.fast_check_search.specs.SymbolWorklist.{demanded, asked}
 use Rattle.fast_check_search.proofs.Closure.{begun, turned, ended, nothing_found}
 use Rattle.fast_check_search.proofs.Inside.{few_asked}
+use Rattle.fast_check_search.proofs.Kept.{kept_numbered}
+use Rattle.fast_check_search.proofs.Numbering.{number_kept}
 use Rattle.fast_check_search.proofs.Opened.{opened_none}
 use Rattle.fast_check_search.proofs.Own.{own_found, own_found_implementations}
+use Rattle.fast_check_search.proofs.Wants.{wanted_none, wanted_kept}
 use Rattle.fast_check_search.proofs.found.search.Goals as goal
 
 pub loop-next-init : goal.loop-next-init
@@ -24,7 +30,19 @@ loop-next-init c =
       kept = a.kept;
       opened = opened_none c.args.tables.now c.new-opened.result c.new-found.result.ranges.items
           (λ s. ap (list_any (is_at (order.cmp-value.it s))) c.new-opened.ensures.empty);
+      wanted = wanted_none c.ask_all.new.self.paths c.new-wanted.result c.new-found.result.files
+          (λ k. ap (list_any (is_at (wanted_order.cmp-value.it k))) c.new-wanted.ensures.empty);
     }
+
+pub ask_named-requires-clause-kept : goal.ask_named-requires-clause-kept
+ask_named-requires-clause-kept c =
+    let work : SymbolWorklist = c.loop-next.work in
+    kept_numbered work (record { demands = work.demands; done = work.done; paths = c.add.new.paths }) c.loop-next.invariant.kept refl refl
+    c.in_ok-add.ensures.numbering c.in_ok-add.ensures.numbers
+
+pub ask_named-requires-clause-number : goal.ask_named-requires-clause-number
+ask_named-requires-clause-number c = number_kept c.loop-next.work.paths c.add.new.paths c.in_ok-add.ensures.numbers
+    (asked_path (demanded c.at-demand.result).asked) c.at-demand.result.path c.at-demand.ensures.number
 
 pub loop-next-preserved : goal.loop-next-preserved
 loop-next-preserved c =
@@ -37,6 +55,8 @@ loop-next-preserved c =
           (get_or_from_slice_get (asked c.loop-next.work) c.loop-next.next _ _ c.at-demand.ensures.demand) a.grown a.covered c.in_ok-add.ensures.gains;
       kept = a.kept;
       opened = c.in_ok-add.ensures.opened;
+      wanted = wanted_kept c.add.new.paths c.ask_named.new.work.paths a.numbers c.add.new.wanted c.add.new.self.files
+          c.in_ok-add.ensures.wanted;
     }
 
 pub returns-clause-account : goal.returns-clause-account

@@ -26,7 +26,13 @@ loop-demand-preserved c =
     (asked c.ask.new.self) c.loop-demand.demand-index (demand_of c.demand-item.result) (rw length-map c.loop-demand-test.true)
     (get_or-map demand_of c.args.demands.now c.loop-demand.demand-index c.demand-item.result
     (demand_of c.demand-item.result) c.loop-demand-test.true ∙ ap demand_of (sym c.demand-item.is)) i.grown i.covered e.grown e.covered in
-    record { kept = e.kept; number = e.number; grown = h.0; covered = h.1 }
+    record {
+      kept = e.kept;
+      number = e.number;
+      numbers = λ rest n m t. e.numbers rest n m (i.numbers rest n m t);
+      grown = h.0;
+      covered = h.1;
+    }
 
 pub returns-clause-covered : goal.returns-clause-covered
 returns-clause-covered c = asked_all (map demand_of c.args.demands.now) c.loop-demand.demand-index (asked c.loop-demand.self)

@@ -1,0 +1,51 @@
+-- Inner: no contract of a public call cites what stands here.
+-- What is asked of other files, as a set has it.
+use Rattle.std.specs.Prelude.{ℕ, ◌≡◌, true, List, [], Some}
+use Rattle.std.specs.BTreeSet.{BTreeSet, contains}
+use Rattle.std.specs.List.{Contains}
+use Rattle.std.specs.Ordering.{is_eq}
+use Rattle.fast_check_names.specs.Names.{Path, path_of}
+use Rattle.fast_check_name_demands.specs.declared.want.FileWant.{FileWant}
+use Rattle.fast_check_name_demands.specs.declared.want.NameDemand.{NameDemand as Single}
+use Rattle.fast_check_name_demands.specs.declared.want.NameDemand.TheVariants as singles
+use Rattle.fast_check_name_demands.specs.Files.{FileDemand, file_demand_of}
+use Rattle.fast_check_search.specs.contracts.wanted.DoneWantOrd.TheImpl as order
+use Rattle.fast_check_search.specs.declared.numbers.PathNumbers.{PathNumbers}
+use Rattle.fast_check_search.specs.declared.wanted.DoneNames.{DoneNames}
+use Rattle.fast_check_search.specs.declared.wanted.DoneNames.TheVariants.{AllButDefault, All, There, Path as ByPath}
+use Rattle.fast_check_search.specs.declared.wanted.DoneWant.{DoneWant}
+use Rattle.fast_check_search.specs.Numbers.{number_of}
+
+-- the names behind the first one of a path; none where no path is asked for
+abbrev pub rest_path : Single → Path
+rest_path singles.AllButDefault = []
+rest_path singles.All = []
+rest_path singles.There = []
+rest_path (singles.Path first rest x) = path_of rest.now
+
+-- what is asked for, of a path the first name and the number of the rest
+abbrev pub key_names : Single → ℕ → DoneNames
+key_names singles.AllButDefault number = AllButDefault
+key_names singles.All number = All
+key_names singles.There number = There
+key_names (singles.Path first rest x) number = ByPath number x first
+
+-- what tells a want from others
+abbrev pub want_key : FileWant → ℕ → DoneWant
+want_key want number = record { names = key_names want.names number; specifier = want.specifier }
+
+-- the number is that of the names behind the first one
+abbrev pub IsRestNumbered : PathNumbers → FileWant → ℕ → Type 0
+IsRestNumbered w want number = number_of w (rest_path want.names) ≡ Some number
+
+-- what a key stands for is found
+pub record IsWanted (w : PathNumbers) (found : List FileDemand) (k : DoneWant) : Type 0 where
+  pub want : FileWant
+  pub number : ℕ
+  pub numbered : IsRestNumbered w want number
+  pub alike : is_eq (order.cmp-value.it (want_key want number) k) ≡ true
+  pub there : Contains found (file_demand_of want)
+
+-- of each of these keys, what it stands for is found
+abbrev pub AreWanted : PathNumbers → BTreeSet DoneWant → List FileDemand → Type 0
+AreWanted w wanted found = (k : DoneWant) → contains order.cmp-value.it wanted k ≡ true → IsWanted w found k
