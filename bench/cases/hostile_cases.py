@@ -1,7 +1,8 @@
-"""Runs of `fast-check build` on hostile tables, in the shapes that `bench/check/shapes.py` measures and in some of its own: rings, long paths, names that
-come twice, and modules that lead back to themselves. The trees are empty, so that each module with something public is answered by an empty skeleton: what
-is shown is that the call ends, which modules are answered, and which fault of the tables is told."""
+"""Runs of `fast-check build` on hostile tables, in the shapes that `bench/check/shapes.py` and `squares.py` measure and in some of its own: rings, long
+paths, names that come twice, and modules that lead back to themselves. The trees are empty, so that each module with something public is answered by an
+empty skeleton: what is shown is that the call ends, which modules are answered, and which fault of the tables is told."""
 import shapes
+import squares
 
 def skeleton(leading=(), trailing=()):
     """An empty skeleton with these comments."""
@@ -113,7 +114,7 @@ CASES = [
     # longer than the stack would hold by a call for each name
     ("hostile_path_behind_a_file", shapes.path_behind_a_file(70_000, "Name"), TWO),
     ("hostile_paths_that_part_behind_a_file", shapes.paths_that_part_behind_a_file(50), TWO),
-    ("hostile_path_through_files", shapes.path_through_files(50), sorted(shapes.url(place) for place in range(51))),
+    ("hostile_path_through_files", squares.path_through_files(50), sorted(shapes.url(place) for place in range(51))),
     ("hostile_path_through_aliases", shapes.path_through_aliases(50), ONE),
     ("hostile_parts_through_aliases", shapes.parts_through_aliases(50), ONE),
     ("hostile_askers_through_aliases", shapes.askers_through_aliases(50), ONE),

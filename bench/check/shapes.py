@@ -5,8 +5,8 @@ A line for each shape: the largest number, its megabytes, the status, the proces
 the quickest), the bytes held a byte of the largest, and the exponent by which seconds grow with bytes, fitted to the three. The first size is doubled until a run takes
 a tenth of a second, or the input has 4 MB. An exponent above 1.2 is told, and so is a run that ends by a signal; then the status is 1.
 
-From some shapes more demands follow than they have bytes: as many as the product of two of their lengths. Of these the seconds are fitted to the demands in place of the bytes,
-and a line says so. Three shapes are known to grow with the square where no more follows (SECURITY.md): that is told, and only a run that ends by a signal counts against them.
+From some shapes more demands follow than they have bytes: as many as the product of two of their lengths. Of these the seconds are fitted to the demands
+in place of the bytes, and a line says so. What is known to grow with a square though no more follows stands in `squares.py`.
 
 Usage: bench/check/shapes.py PROGRAM [SHAPE ..]
 """
@@ -19,10 +19,6 @@ import tempfile
 
 HOST = "https://host.example/"
 FIRST, LEAST_SECONDS, MOST_BYTES, MOST_EXPONENT, RUNS = 500, 0.1, 4_000_000, 1.2, 3
-# The shapes that are known to grow with the square, though no more follows from them: none of these squares needs to be.
-WITH_THE_SQUARE = ("paths_that_part_behind_a_file", "path_through_files", "paths_covered_of_many_lengths")
-# The number at which the first size of a shape ends: four times that has to fit the memory.
-LAST = {"path_through_files": 500}
 RANGES = [[1, 9]]
 NO_TEXT = {"media_type": "TypeScript", "text": "", "program": {"Module": {"span": [1, 1], "body": []}}, "comments": {}}
 
@@ -81,7 +77,8 @@ def texts_of(tables):
             if "FileRef" in it["kind"]:
                 yield it["kind"]["FileRef"]["specifier"]
             for dep, _ in (it["kind"].get("Definition") or {}).get("deps", []):
-                yield dep["ImportType"][0]
+                if "ImportType" in dep:
+                    yield dep["ImportType"][0]
 
 
 def url(place, package=0):
@@ -172,6 +169,13 @@ def path_of_names(n):
 
 
 @shape
+def path_of_two_askers(n):
+    """Such a path that two declarations ask for: each of them gets its own faults, and the names that are left are told apart at once."""
+    asks = [symbol(i, part("N", *["N"] * n)) for i in (1, 2)]
+    return single([*asks, symbol(3, definition(is_ts_namespace=True), name="N", exports=[["N", 3]])], [["s1", 1], ["s2", 2]])
+
+
+@shape
 def path_behind_a_file(n, name="N"):
     """A path of names that is asked of another module, where each name stands below the one before."""
     asks = [symbol(1, part("f", *[name] * n)), symbol(2, file_ref(url(1), name), name="f")]
@@ -181,7 +185,7 @@ def path_behind_a_file(n, name="N"):
 
 @shape
 def paths_that_part_behind_a_file(n):
-    """Two such paths, which differ in the last name: what is left of one is compared with what is left of the other, name by name."""
+    """Two such paths, which differ in the last name: what is left of one is told apart from what is left of the other."""
     asks = [symbol(i, part("f", *["N"] * n, last)) for i, last in ((1, "x"), (2, "y"))]
     gives = [symbol(1, definition(is_ts_namespace=True), name="N", exports=[["N", 1], ["x", 2], ["y", 3]]),
              *(symbol(i, definition(), parent=1, name=name) for i, name in ((2, "x"), (3, "y")))]
@@ -195,12 +199,21 @@ def namespaces_behind_a_file(n):
     return request(module(url(0), asks, [["s1", 1]]), module(url(1), in_one_another(n), [["s1", 1]]))
 
 
+def of_references(n, *paths):
+    """Paths that are asked of a symbol with n declarations, each of which stands for one name of a file."""
+    asks = [symbol(1 + i, part("s1", *names)) for i, names in enumerate(paths, 1)]
+    return request(module(url(0), [symbol(1, *[file_ref(url(1), "N")] * n), *asks], [[each["maybe_name"], each["id"]] for each in asks]),
+                   module(url(1), [symbol(1, definition(), name="N")], [["N", 1]]))
+
+
 @shape
-def path_through_files(n):
-    """A path of names that is asked of a module, which asks the next one for it, and so on: each of them is asked for all that is left of it."""
-    asks = [symbol(1, part("f", *["N"] * n)), symbol(2, file_ref(url(1), "N"), name="f")]
-    through = [module(url(i), [symbol(1, file_ref(url(i + 1), "N"), name="N")], [["N", 1]]) for i in range(1, n)]
-    return request(module(url(0), asks, [["s1", 1]]), *through, module(url(n), [symbol(1, definition(), name="N")], [["N", 1]]))
+def a_long_path_of_many_references(n):
+    return of_references(n, ["N"] * (10 * n))
+
+
+@shape
+def a_long_name_of_many_references(n):
+    return of_references(n, ["N" * (150 * n)])
 
 
 @shape
@@ -243,6 +256,31 @@ def members_asked_for(n):
 @shape
 def declarations_of_a_symbol(n):
     return single([symbol(1, *[definition()] * n)], [["s1", 1]])
+
+
+@shape
+def parts_of_many_declarations(n):
+    """Parts that are asked of a namespace with as many declarations: all of these are public by the first of them."""
+    parts = [symbol(1 + i, definition(), parent=1, name=f"x{i}") for i in range(1, n + 1)]
+    asks = [symbol(n + 1 + i, part("s1", f"x{i}")) for i in range(1, n + 1)]
+    of = symbol(1, *[definition(is_ts_namespace=True)] * n, exports=[[f"x{i}", 1 + i] for i in range(1, n + 1)])
+    return single([of, *parts, *asks], [[f"s{n + 1 + i}", n + 1 + i] for i in range(1, n + 1)])
+
+
+OUTSIDE = decl({"Definition": {}}, range=[20, 29])
+
+
+@shape
+def properties_of_overloads(n):
+    """A function with as many overloads as properties, which stand outside of each of them."""
+    properties = [symbol(1 + i, OUTSIDE, parent=1, name=f"x{i}") for i in range(1, n + 1)]
+    return single([symbol(1, *[definition(is_function=True)] * n, exports=[[f"x{i}", 1 + i] for i in range(1, n + 1)]), *properties], [["s1", 1]])
+
+
+@shape
+def properties_of_one_symbol(n):
+    """A function whose properties all have one symbol, of as many declarations."""
+    return single([symbol(1, definition(is_function=True), exports=[[f"x{i}", 2] for i in range(n)]), symbol(2, *[OUTSIDE] * n, parent=1)], [["s1", 1]])
 
 
 @shape
@@ -311,9 +349,27 @@ def names_of_a_module(n):
     return request(module(url(0), asks, names), module(url(1), gives, names))
 
 
-def covered(n, parts):
-    """One declaration asks by import types for a path below each name of a module, and then for all of each name."""
-    asks = [import_type(url(1), f"s{i}", *parts(i)) for i in range(1, n + 1)] + [import_type(url(1), f"s{i}") for i in range(1, n + 1)]
+def through_re_exports(n, symbols_of):
+    """Names that are asked of a module which exports all of as many others, with these symbols and exports of each."""
+    asks = [symbol(i, file_ref(url(1), f"s{i}")) for i in range(1, n + 1)]
+    others = [module(url(1 + i), *symbols_of(i)) for i in range(1, n + 1)]
+    return request(module(url(0), asks, [[f"s{i}", i] for i in range(1, n + 1)]), module(url(1), [], [], again=[url(1 + i) for i in range(1, n + 1)]), *others)
+
+
+@shape
+def names_that_no_re_export_has(n):
+    return through_re_exports(n, lambda i: ([], []))
+
+
+@shape
+def names_of_many_re_exports(n):
+    """Each of the names is behind another re-export."""
+    return through_re_exports(n, lambda i: ([symbol(1, definition(), name=f"s{i}")], [[f"s{i}", 1]]))
+
+
+def covered(n, parts, others=()):
+    """One declaration asks by import types for a path below each name of a module, for these others, and then for all of each name."""
+    asks = [import_type(url(1), f"s{i}", *parts(i)) for i in range(1, n + 1)] + [*others] + [import_type(url(1), f"s{i}") for i in range(1, n + 1)]
     names = [[f"s{i}", i] for i in range(1, n + 1)]
     return request(module(url(0), [symbol(1, definition(*asks))], [["s1", 1]]), module(url(1), [symbol(i, definition()) for i in range(1, n + 1)], names))
 
@@ -330,8 +386,14 @@ def paths_covered(n):
 
 @shape
 def paths_covered_of_many_lengths(n):
-    """Where the nodes of one path cannot take the places of another's, a cover costs a walk over the set."""
+    """Paths of many lengths, so that the nodes of the last path are seldom as many as those that go."""
     return covered(n, lambda i: ["x"] * (1 + i % 7))
+
+
+@shape
+def long_paths_covered(n):
+    """Long paths, of which all nodes go in one stretch."""
+    return covered(n, lambda i: ["x"] * 66)
 
 
 @shape
@@ -365,21 +427,21 @@ def two_packages_of_each_other(n):
     return request(*(each(i, p) for i in range(n) for p in (0, 1)), packages=2)
 
 
-def run(program, path):
+def run(program, path, command="build"):
     """The status, the processor seconds and the bytes held of a run."""
-    child = subprocess.Popen(["timeout", "120", program, "build", path], stdout=subprocess.DEVNULL, stderr=subprocess.DEVNULL)
+    child = subprocess.Popen(["timeout", "120", program, command, path], stdout=subprocess.DEVNULL, stderr=subprocess.DEVNULL)
     _, status, usage = os.wait4(child.pid, 0)
     child.returncode = os.waitstatus_to_exitcode(status)
     return child.returncode, usage.ru_utime + usage.ru_stime, usage.ru_maxrss * 1024
 
 
-def spent(program, made):
-    """The bytes of an input, and the status, the processor seconds and the bytes held of the quickest of some runs on it: what else the machine does
+def spent(program, made, command="build", runs=RUNS):
+    """The bytes of an input, and the status, the processor seconds and the bytes held of the quickest of so many runs on it: what else the machine does
     makes a run slower, and none quicker."""
     with tempfile.NamedTemporaryFile("w", suffix=".json") as file:
         json.dump(made, file, separators=(",", ":"))
         file.flush()
-        return os.path.getsize(file.name), *min((run(program, file.name) for _ in range(RUNS)), key=lambda ran: ran[1])
+        return os.path.getsize(file.name), *min((run(program, file.name, command) for _ in range(runs)), key=lambda ran: ran[1])
 
 
 def exponent(points):
@@ -389,23 +451,35 @@ def exponent(points):
     return sum((a - x) * (b - y) for a, b in zip(xs, ys)) / sum((a - x) ** 2 for a in xs)
 
 
-def measure(program, name):
-    """Prints the line of a shape. Answers whether it grows as it may."""
-    n, last = FIRST, LAST.get(name, math.inf)
-    first = spent(program, SHAPES[name](n))
-    while first[2] < LEAST_SECONDS and first[0] < MOST_BYTES and first[1] < 3 and n < last:
+def in_three_sizes(spent_at, first, least_seconds, last=math.inf):
+    """The number of the first size, and what is spent at it, at twice and at four times that. It is the first that is given, and is doubled until a run
+    takes so many seconds, the input has 4 MB, or the number is the last."""
+    n = first
+    ran = spent_at(n)
+    while ran[2] < least_seconds and ran[0] < MOST_BYTES and ran[1] < 3 and n < last:
         n *= 2
-        first = spent(program, SHAPES[name](n))
-    numbers = (n, 2 * n, 4 * n)
-    runs = [first] + [spent(program, SHAPES[name](size)) for size in numbers[1:]]
-    demands = DEMANDS.get(name)
-    grows = exponent([(demands(number) if demands else ran[0], ran[2]) for number, ran in zip(numbers, runs)])
+        ran = spent_at(n)
+    return n, [ran, spent_at(2 * n), spent_at(4 * n)]
+
+
+HEADER = f"{'shape':32} {'largest':>8} {'MB':>8} {'status':>6} {'seconds':>8} {'twice':>8} {'4 times':>8} {'held':>8} {'exponent':>8}"
+
+
+def row(name, largest, runs, grows, said):
+    """The line of a shape, under HEADER."""
     size, _, _, held = runs[-1]
-    is_good = (grows <= MOST_EXPONENT or name in WITH_THE_SQUARE) and all(status in (0, 1, 2) for _, status, _, _ in runs)
-    said = "  too much" if not is_good else "  with the square, as is known" if grows > MOST_EXPONENT else "  by demands" if demands else ""
     statuses = "/".join(str(each) for each in sorted({status for _, status, _, _ in runs}))
     seconds = " ".join(f"{each:8.2f}" for _, _, each, _ in runs)
-    print(f"{name:28} {4 * n:8} {size / 1e6:8.2f} {statuses:>6} {seconds} {held / size:8.0f} {grows:8.2f}{said}", flush=True)
+    return f"{name:32} {largest:8} {size / 1e6:8.2f} {statuses:>6} {seconds} {held / size:8.0f} {grows:8.2f}{said}"
+
+
+def measure(program, name):
+    """Prints the line of a shape. Answers whether it grows as it may."""
+    n, runs = in_three_sizes(lambda number: spent(program, SHAPES[name](number)), FIRST, LEAST_SECONDS)
+    demands = DEMANDS.get(name)
+    grows = exponent([(demands(number) if demands else ran[0], ran[2]) for number, ran in zip((n, 2 * n, 4 * n), runs)])
+    is_good = grows <= MOST_EXPONENT and all(status in (0, 1, 2) for _, status, _, _ in runs)
+    print(row(name, 4 * n, runs, grows, "  too much" if not is_good else "  by demands" if demands else ""), flush=True)
     return is_good
 
 
@@ -416,7 +490,7 @@ def main(words):
     if not os.access(words[0], os.X_OK):
         print(f"no program: {words[0]}", file=sys.stderr)
         return 2
-    print(f"{'shape':28} {'largest':>8} {'MB':>8} {'status':>6} {'seconds':>8} {'twice':>8} {'4 times':>8} {'held':>8} {'exponent':>8}")
+    print(HEADER)
     good = [measure(os.path.abspath(words[0]), name) for name in words[1:] or SHAPES]
     print(f"shapes={len(good)} above={good.count(False)}")
     return 0 if all(good) else 1

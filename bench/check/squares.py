@@ -1,0 +1,480 @@
+#!/usr/bin/env python3
+"""The shapes of inputs that are known to grow with a square, though neither the answer nor what has to be followed does: do they still?
+
+A line for each, as `shapes.py` prints it: the largest number, its megabytes, the status, the processor seconds of three sizes (each twice the one before; of
+two runs the quicker), the bytes held a byte of the largest, and the exponent by which seconds grow with bytes. The first size is doubled until a run takes
+a twenty-fifth of a second, the input has 4 MB, or the largest would hold more than 2 GB. The docstring of each shape says what is multiplied with what,
+and the crate and the function that do it.
+
+An exponent of at most 1.2 is told as `no longer`: such a shape goes from here, one of `build` to `shapes.py`. A run that ends by a signal or by refusing its
+input is told as `no answer`. For both the status is 1.
+
+Usage: bench/check/squares.py PROGRAM [SHAPE ..]
+"""
+import functools
+import itertools
+import math
+import os
+import sys
+
+sys.dont_write_bytecode = True
+sys.path[:0] = [os.path.join(os.path.dirname(os.path.dirname(os.path.abspath(__file__))), folder) for folder in ("rules", "cases", "check", "time")]
+
+from shapes import (
+    HEADER, HOST, MOST_EXPONENT, covered, definition, exponent, file_ref, import_type, in_three_sizes, module, of_references, part, request, row, single, spent,
+    symbol, url,
+)
+
+FIRST, LEAST_SECONDS, RUNS = 125, 0.04, 2
+# Each known shape by its name: how it is made, its command, the first number that is tried, and the last that is the first of three sizes.
+KNOWN = {}
+
+
+def known(command="build", first=FIRST, last=math.inf):
+    def noted(made):
+        KNOWN[made.__name__] = made, command, first, last
+        return made
+
+    return noted
+
+
+# ---- trees, whose places count only where they are public
+
+NOWHERE = [0, 0]
+
+
+def span(i):
+    return [10 * i + 1, 10 * i + 8]
+
+
+def ident(name):
+    return {"span": NOWHERE, "ctxt": 2, "sym": name}
+
+
+ONE = {"Lit": {"Num": {"span": NOWHERE, "raw": "1"}}}
+
+
+def exported_const(i, name, value):
+    """`export const name = value;` at span(i)."""
+    declarator = {"span": span(i), "name": {"Ident": {"id": ident(name)}}, "init": value}
+    return {"ModuleDecl": {"ExportDecl": {"span": span(i), "decl": {"Var": {"span": span(i), "kind": "Const", "decls": [declarator]}}}}}
+
+
+def assigned(i, name, key):
+    """`name.key = 1;` at span(i)."""
+    member = {"Member": {"span": NOWHERE, "obj": {"Ident": ident(name)}, "prop": {"Ident": {"span": NOWHERE, "sym": key}}}}
+    assign = {"span": span(i), "op": "=", "left": {"Simple": member}, "right": ONE}
+    return {"Stmt": {"Expr": {"span": span(i), "expr": {"Assign": assign}}}}
+
+
+def imported(i, text, name):
+    """`import name from "text";` at span(i)."""
+    specifier = {"Default": {"span": span(i), "local": ident(name)}}
+    return {"ModuleDecl": {"Import": {"span": span(i), "specifiers": [specifier], "src": {"span": NOWHERE, "value": text}, "phase": "evaluation"}}}
+
+
+def tree_module(body, symbols=(), ids=(), specifier="file:///p/mod.ts"):
+    source = {"media_type": "TypeScript", "text": "", "program": {"Module": {"span": [1, 9], "body": body}}, "comments": {}, "unresolved_context": 1}
+    return {"specifier": specifier, "source": source, "module_symbol": 0, "symbols": [{"id": 0}, *symbols], "swc_ids": list(ids)}
+
+
+def transform(body, ranges, symbols=(), ids=(), specifier="file:///p/mod.ts", graph=None):
+    """A request of `transform` for a module of these items and symbols, with these ranges public."""
+    return {"module": tree_module(body, symbols, ids, specifier), "ranges": list(ranges), "graph": graph or {}}
+
+
+# A declaration in few bytes.
+FEW = {"kind": {"Definition": None}}
+
+
+# ---- texts of one hash
+
+# The hash of the kit's tables has no secret, so such texts can be made. It takes a text in blocks of 16 bytes: of two numbers of 8 bytes, the first is mixed
+# with the state and the second with the multiplier, and the halves of their product are the next state. Where the first number is the state itself, the
+# product is 0, whatever the second is.
+MASK, MULTIPLIER, INITIAL = 2 ** 64 - 1, 0x9E37_79B9_7F4A_7C15, 0x243F_6A88_85A3_08D3
+NAME_LETTERS = "abcdefghijklmnopqrstuvwxyzABCDEFGHIJKLMNOPQRSTUVWXYZ0123456789_$"
+URL_LETTERS = NAME_LETTERS + "-.~!&'()*+,;=:@"
+TEXT_LETTERS = "".join(chr(code) for code in range(33, 127) if chr(code) not in '"\\')
+
+
+def next_state(state, block):
+    first, second = (int.from_bytes(half, "little") for half in (block[:8], block[8:]))
+    product = (first ^ state) * (second ^ MULTIPLIER)
+    return (product & MASK) ^ (product >> 64)
+
+
+@functools.cache
+def colliding_front(letters, before):
+    """A text that begins so, behind which 8 letters more make one hash, whichever they are: its last 8 bytes are the state behind those in front of them."""
+    head, allowed = before.encode(), set(letters.encode())
+    whole = len(head) // 16 * 16
+    state = (INITIAL + whole + 32) & MASK
+    for at in range(0, whole, 16):
+        state = next_state(state, head[at:at + 16])
+    for more in itertools.product(letters, repeat=16 - (len(head) - whole)):
+        block = head[whole:] + "".join(more).encode()
+        behind = next_state(state, block).to_bytes(8, "little")
+        if allowed.issuperset(behind):
+            return (head[:whole] + block + behind).decode()
+    raise ValueError(f"no text of these letters that begins with {before!r} leaves a state of them")
+
+
+def colliding(n, letters, before=""):
+    """n texts of one length and one hash, of these letters behind the same beginning."""
+    front = colliding_front(letters, before)
+    return [front + "".join(last) for last in itertools.islice(itertools.product(letters, repeat=8), n)]
+
+
+@known()
+def modules_of_one_hash(n):
+    """Modules that are asked for times those that were: their URLs have one hash (fast_check_worklists, `HandledExports::add` and `PendingTraces::add`)."""
+    made = request(module(url(0), [symbol(1, definition(*(import_type(f"{i}", "s") for i in range(n))))], [["s1", 1]]))
+    made["graph"]["resolutions"] = [[url(0), f"{i}", each] for i, each in enumerate(colliding(n, URL_LETTERS, HOST + "0/"))]
+    return made
+
+
+@known()
+def packages_of_one_hash(n):
+    """Packages that are asked for times those that were: they have one hash (fast_check_worklists, `Worklist::ask_package`)."""
+    return request(module(url(0), [], []), pending=[each + "@1.0.0" for each in colliding(n, NAME_LETTERS)])
+
+
+@known("transform")
+def export_names_of_one_hash(n):
+    """Export names of a package times those before them: they have one hash (fast_check_read_graph, `gather` of its exports)."""
+    return transform([], [], graph={"packages": [["@p/p0@1.0.0", [[each, ""] for each in colliding(n, TEXT_LETTERS)]]]})
+
+
+# ---- a module is searched from nothing in every turn
+
+
+def chain_to(n, asked, of, *more):
+    """A chain of n modules, each of which asks the next one for its only name and the module `of` for the name that `asked` gives; and these modules more."""
+
+    def at(i):
+        deps = ([import_type(url(i + 1), "s1")] if i < n else []) + [import_type(of[0], asked(i))]
+        return module(url(i), [symbol(1, definition(*deps))], [["s1", 1]])
+
+    return request(*map(at, range(1, n + 1)), of, *more, exports=[[".", "./1.ts"]])
+
+
+def by_name(name):
+    return [{"Id": [name, 1]}, "Type_"]
+
+
+def exports_of(letter, n):
+    return [[f"{letter}{i}", i] for i in range(1, n + 1)]
+
+
+def names_that_ask(asked, n, *symbols):
+    """A module of n names, each of which asks for the symbol of this name, and of these symbols."""
+    return module(url("m"), [*(symbol(i, definition(by_name(asked)), name=f"a{i}") for i in range(1, n + 1)), *symbols], exports_of("a", n))
+
+
+def namespace_of_items(n):
+    """A namespace N of n items, behind n other symbols."""
+    items = [symbol(n + 1 + i, definition(), parent=n + 1, name=f"x{i}") for i in range(1, n + 1)]
+    return [symbol(n + 1, definition(is_ts_namespace=True), name="N", exports=[[f"x{i}", n + 1 + i] for i in range(1, n + 1)]), *items]
+
+
+@known()
+def names_asked_in_turns(n):
+    """Turns in which a name of one module is asked for times the items of a namespace, which each of the names leads to (fast_check_traces, `trace`)."""
+    return chain_to(n, lambda i: f"a{i}", names_that_ask("N", n, *namespace_of_items(n)))
+
+
+def two_in_turns(n, first, second, symbols=(), *deps):
+    """Two modules at these URLs that ask each other for a name in turn, n times. The second has these symbols too, and each of its names these dependencies."""
+    asks = [symbol(i, definition(import_type("second", f"a{i}")), name=f"b{i}") for i in range(1, n + 1)]
+    gives = [symbol(i, definition(*deps, *([import_type("first", f"b{i + 1}")] if i < n else [])), name=f"a{i}") for i in range(1, n + 1)]
+    entry = module(url(2), [symbol(1, definition(import_type("first", "b1")))], [["s1", 1]])
+    both = module(first, asks, exports_of("b", n), resolved_exports=[]), module(second, [*gives, *symbols], exports_of("a", n), resolved_exports=[])
+    made = request(entry, *both, exports=[[".", "./2.ts"]])
+    made["graph"]["resolutions"] = [[url(2), "first", first], [first, "second", second], [second, "first", first]]
+    return made
+
+
+@known()
+def names_of_two_modules_in_turns(n):
+    """Turns in which two modules ask each other for a name times the items of a namespace, which the names of one lead to (fast_check_traces, `trace`)."""
+    return two_in_turns(n, url(0), url(1), namespace_of_items(n), by_name("N"))
+
+
+@known()
+def chain_asked_from_its_end(n):
+    """Turns in which a name is asked for times the names that were: each leads to all of these (fast_check_traces, `trace`)."""
+    links = [symbol(i, definition(by_name(f"a{i + 1}")), name=f"a{i}") for i in range(1, n + 1)]
+    return chain_to(n, lambda i: f"a{n + 1 - i}", module(url("m"), links, exports_of("a", n)))
+
+
+@known(last=1000)
+def files_asked_in_turns(n):
+    """Turns in which a name is asked for times the import types that each of them leads to: all are asked again (fast_check_sources, `outer_wants`)."""
+    big = symbol(n + 1, definition(*(import_type("o:o", f"x{i}") for i in range(n))), name="B")
+    made = chain_to(n, lambda i: f"a{i}", names_that_ask("B", n, big), module(url(n + 1), [symbol(1, definition())], [["s1", 1]]))
+    made["graph"]["resolutions"].append([url("m"), "o:o", url(n + 1)])
+    return made
+
+
+@known(last=500)
+def faults_found_in_turns(n):
+    """Turns in which a name is asked for times the faults that each leads to: those of all turns are held to the end (fast_check_turns, `found_of`)."""
+    big = symbol(n + 1, definition(*([{"QualifiedId": [["N", 1], [f"x{i}"]]}, "Type_"] for i in range(n))), name="B")
+    return chain_to(n, lambda i: f"a{i}", names_that_ask("B", n, big, symbol(n + 2, definition(is_ts_namespace=True), name="N")))
+
+
+@known()
+def aliases_of_a_module(n):
+    """Aliases of a module that are asked for times its names: it is followed under each of them (fast_check_traces, `trace`)."""
+    of = module(url(1), [symbol(i, definition()) for i in range(1, n + 1)], exports_of("s", n))
+    names = [url(f"a{i}") for i in range(n)]
+    made = request(module(url(0), [], [], again=names), of, aliases=[[each, url(1)] for each in names])
+    made["graph"]["modules"] += [[each, {"Js": {"media_type": "TypeScript"}}] for each in names]
+    return made
+
+
+# ---- all declarations of a symbol are gone through at each of its uses
+
+
+@known("transform", first=4000)
+def new_of_many_declarations(n):
+    """Expressions `new C()` times the declarations of C: one may be of a class without type parameters (fast_check_symbols, `Symbol::is_plain_class`)."""
+    new = {"expr": {"New": {"callee": {"Ident": {"ctxt": 2, "sym": "C"}}}}}
+    c = symbol(1, *[FEW] * (2 * n), definition(is_plain_class_decl=True), name="C")
+    return transform([exported_const(1, "x", {"Array": {"elems": [new] * n}})], [span(1)], [c], [[["C", 2], 1]])
+
+
+@known("pair", first=4000)
+def new_of_many_declarations_in_pair(n):
+    """The same in `pair`, of both modules (fast_check_symbols, `Symbol::is_plain_class`)."""
+    made = new_of_many_declarations(n)
+    return {"graph": made["graph"], "a": made["module"], "ranges_a": made["ranges"], "b": made["module"], "ranges_b": made["ranges"]}
+
+
+@known("transform", first=2000)
+def assignments_of_many_declarations(n):
+    """Assignments to properties of f times the declarations of f: one may have the keyword `export` (fast_check_symbols, `Symbol::has_export_keyword`)."""
+    body = [assigned(i, "f", f"x{i}") for i in range(1, n + 1)]
+    return transform(body, map(span, range(1, n + 1)), [symbol(1, *[FEW] * (6 * n), name="f")], [[["f", 2], 1]])
+
+
+@known(first=4000)
+def names_of_one_symbol(n):
+    """Exported names of a symbol times its declarations: which have the keyword `export` is asked for each name (fast_check_traces, `is_exported_in`)."""
+    return single([symbol(1, *[definition()] * n)], [[f"x{i}", 1] for i in range(n)])
+
+
+@known(last=1000)
+def paths_of_many_references(n):
+    """Paths that are asked of a symbol times its declarations, which all stand for one name of a file (fast_check_name_demands, `push_aliases`)."""
+    return of_references(n, *([f"x{i}"] for i in range(1, n + 1)))
+
+
+# ---- a URL is looked up among those that begin as it does
+
+
+def that_part_from(start, path):
+    """URLs that part from start + path, each at another of its bytes, and two of which one begins the other."""
+    return [start + path[:i] + "!" for i in range(len(path) + 1)] + [start + "!!"]
+
+
+@known(first=1000)
+def urls_beside_bases(n):
+    """Wants of a URL times its bytes times the listed packages whose URLs part from it at each byte, as many as the root of n: each asks again for less
+    (fast_check_packages, `TextIndex::first_of`)."""
+    path = "q" * math.isqrt(8 * n)
+    bases = [[f"@q/q{i}@1.0.0", each] for i, each in enumerate(that_part_from(HOST, path))]
+    made = request(module(url(0), [symbol(1, definition(*[import_type("./q", "s1")] * n))], [["s1", 1]]), versions=bases)
+    made["graph"]["resolutions"] = [[url(0), "./q", HOST + path + "q"]]
+    return made
+
+
+@known(first=1000)
+def files_beside_members(n):
+    """The same of the bases of members of the workspace (fast_check_packages, `TextIndex::first_of`)."""
+    path = "q" * math.isqrt(8 * n)
+    members = [{"name": f"@w/w{i}", "base": each} for i, each in enumerate(that_part_from("file:///", path))]
+    made = request(module(url(0), [symbol(1, definition(*[import_type("./q", "s1")] * n))], [["s1", 1]]), workspace_members=members)
+    made["graph"]["resolutions"] = [[url(0), "./q", "file:///" + path + "q"]]
+    return made
+
+
+# ---- what many have in common is gone through for each of them
+
+
+@known(last=1000)
+def versions_of_a_member(n):
+    """Versions of a member of the workspace that has none times its exports: each version enters all of them (fast_check_entries, `entry_points`)."""
+    member = {"name": "@w/w", "base": "file:///w/", "exports": [[f"{i}", "./m.ts"] for i in range(n)]}
+    return request(module("file:///w/m.ts", [symbol(1, definition())], [["s1", 1]]), workspace_members=[member], pending=[f"@w/w@0.0.{i}" for i in range(n)])
+
+
+@known(first=500)
+def packages_of_an_alias(n):
+    """Packages that have one module for their entry point, each under a name of its own, times its items: its tree is gone through for each, though nothing
+    of it is public (fast_check_package_answers, `answer_tree`)."""
+    of = f"{HOST}m.ts"
+    names = [f"{HOST}a{i}.ts" for i in range(n)]
+    made = request(aliases=[[each, of] for each in names], pending=[f"@p/p{i}@1.0.0" for i in range(n)])
+    made["modules"] = [[of, {"Esm": tree_module([exported_const(i, f"x{i}", ONE) for i in range(1, n + 1)], specifier=of)}]]
+    made["graph"] = {"modules": [[each, {"Js": {"media_type": "TypeScript"}}] for each in [of, *names]],
+                     "packages": [[f"@p/p{i}@1.0.0", [[".", each]]] for i, each in enumerate(names)]}
+    return made
+
+
+@known(last=500)
+def path_through_files(n):
+    """Modules in a chain, each of which asks the next one for a path, times the names of the path: each is asked for all that is left of it
+    (fast_check_sources, `exports_to_ask`)."""
+    asks = [symbol(1, part("f", *["N"] * n)), symbol(2, file_ref(url(1), "N"), name="f")]
+    through = [module(url(i), [symbol(1, file_ref(url(i + 1), "N"), name="N")], [["N", 1]]) for i in range(1, n)]
+    return request(module(url(0), asks, [["s1", 1]]), *through, module(url(n), [symbol(1, definition(), name="N")], [["N", 1]]))
+
+
+# ---- one long text is copied or compared for each of many
+
+
+def wants(n, own, resolved, *modules, exports=()):
+    """A request in which the module of the URL `own` asks n times for a name behind a text, which resolves so; and these modules more."""
+    made = request(module(own, [symbol(1, definition(*[import_type("./b.ts", "s1")] * n))], [["s1", 1]]), *modules, exports=exports)
+    made["graph"]["resolutions"] = [[own, "./b.ts", resolved]]
+    return made
+
+
+def one_name(at):
+    return module(at, [symbol(1, definition())], [["s1", 1]])
+
+
+def renamed(made, nv):
+    """The request with another name of its package."""
+    made["graph"]["packages"][0][0] = made["provider"]["packages"][0][0] = nv
+    return {**made, "pending": [nv]}
+
+
+@known(last=500)
+def wants_of_a_long_package(n):
+    """Wants of a module times the bytes of its package's name, which is copied for each (fast_check_packages, `IndexedPackages::package_url_to_nv`)."""
+    return renamed(wants(n, url(0), url(1), one_name(url(1))), "@p/" + "p" * (100 * n) + "@1.0.0")
+
+
+@known(last=500)
+def wants_of_a_long_member(n):
+    """Wants of a file times the bytes of its member's name, which is copied for each (fast_check_sources, `member_nv_of`)."""
+    member = {"name": "@w/" + "w" * (100 * n), "base": "file:///w/", "version": "1.0.0"}
+    return {**wants(n, url(0), "file:///w/b.ts"), "workspace_members": [member]}
+
+
+@known(last=500)
+def references_to_a_long_url(n):
+    """Wants of a module times the bytes of its URL, which is copied for each (fast_check_sources, `push_file_at`)."""
+    long = url("b" * (100 * n))
+    return wants(n, url(0), long, one_name(long))
+
+
+@known(first=1000)
+def references_of_a_long_url(n):
+    """Wants of a module times the bytes of its own URL, by which each text is resolved (fast_check_graph, `ModuleGraph::resolutions_of`)."""
+    long = "a" * (100 * n)
+    return wants(n, url(long), "https://b.example/", exports=[[".", f"./{long}.ts"]])
+
+
+@known(last=500)
+def turns_of_a_long_url(n):
+    """Turns in which two modules ask each other for a name times the bytes of a URL, which is copied for each turn (fast_check_turns, `followed_module`)."""
+    return two_in_turns(n, url(0), url("m" * (200 * n)))
+
+
+@known(last=500)
+def parts_of_a_long_import(n):
+    """Parts of an import that are asked for times the bytes of its name, which is copied for each (fast_check_sources, `exports_to_ask`)."""
+    long = "N" * (200 * n)
+    asks = [symbol(1 + i, part("f", f"x{i}")) for i in range(1, n + 1)]
+    parts = [symbol(1 + i, definition(), parent=1, name=f"x{i}") for i in range(1, n + 1)]
+    gives = [symbol(1, definition(is_ts_namespace=True), name=long, exports=[[f"x{i}", 1 + i] for i in range(1, n + 1)]), *parts]
+    return request(module(url(0), [symbol(1, file_ref(url(1), long), name="f"), *asks], [[f"s{1 + i}", 1 + i] for i in range(1, n + 1)]),
+                   module(url(1), gives, [[long, 1]], ids=[]))
+
+
+@known(last=1000)
+def entry_points_of_a_long_base(n):
+    """Export texts of a package times the bytes of its URL, to which each is joined (fast_check_entries, `join_all`)."""
+    base = HOST + "a" * (25 * n) + "/"
+    made = request(one_name(base + "0.ts"), exports=[[f"{i}", "./0.ts"] for i in range(n)])
+    made["provider"]["packages"] = [["@p/p0@1.0.0", base]]
+    return made
+
+
+@known(last=2000)
+def entry_points_of_a_long_package(n):
+    """Entry points of a package times the bytes of its name, which is copied for each (fast_check_turns, `push_entry`)."""
+    return renamed(request(one_name(url(0)), exports=[[f"{i}", "./0.ts"] for i in range(n)]), "@p/" + "p" * (25 * n) + "@1.0.0")
+
+
+@known(first=2000)
+def packages_of_a_long_fallback(n):
+    """Packages that are not listed times the bytes of the URL of such, which is copied for each (fast_check_packages, `IndexedPackages::package_url`)."""
+    nvs = [f"@f/f{i}@1.0.0" for i in range(n)]
+    made = request(one_name(url(0)), pending=nvs)
+    made["graph"]["packages"] = [[nv, [[".", url(0)]]] for nv in nvs]
+    made["provider"]["fallback"] = HOST + "f" * (100 * n) + "/"
+    return made
+
+
+@known(last=500)
+def faults_of_a_long_name(n):
+    """Equal faults times the bytes of the name that they tell: each has a copy of it before they come to be one (fast_check_findings, `fault_at`)."""
+    of = {**symbol(1, definition(is_ts_namespace=True), name="N"), "qualified_name": "N" * (150 * n)}
+    asks = [{**symbol(i, part("N", "x")), "qualified_name": "r"} for i in range(2, n + 2)]
+    return single([of, *asks], [[f"s{i}", i] for i in range(2, n + 2)])
+
+
+@known("transform", last=1000)
+def symbols_of_a_long_named_member(n):
+    """Symbols with one member times the bytes of its name: the index of each one's members has a copy of it (fast_check_symbols, `member_indexes`)."""
+    return transform([], [], [{"id": 1, "maybe_name": "N" * (60 * n), "decls": [FEW]}, *({"id": i, "members": [1], "decls": [FEW]} for i in range(2, n + 2))])
+
+
+@known("transform")
+def imports_in_a_long_url(n):
+    """Imports times the bytes of the module's URL, along which a relative one is found for each (fast_check_surroundings, `relative_source`)."""
+    own, other = (f"file:///{'a' * (150 * n)}/{name}.ts" for name in ("mod", "a"))
+    body = [imported(i, "./a.ts", f"x{i}") for i in range(1, n + 1)]
+    return transform(body, map(span, range(1, n + 1)), specifier=own, graph={"resolutions": [[own, "./a.ts", other]]})
+
+
+# ---- a set of names is walked at each cover
+
+
+@known(first=500)
+def names_covered_before_others(n):
+    """Names that come to be asked for whole, after a part of each was, times the nodes of the set: those at its end hang on one behind those that go, by more
+    than are moved (fast_check_names, `cover_apart`)."""
+    return covered(n, lambda i: ["x"], [import_type(url(1), "m", f"y{i}", "z") for i in range(1, n + 1)])
+
+
+def measure(program, name):
+    """Prints the line of a shape. Answers whether it is what it is known for."""
+    make, command, first, last = KNOWN[name]
+    n, runs = in_three_sizes(lambda number: spent(program, make(number), command, RUNS), first, LEAST_SECONDS, last)
+    grows = exponent([(ran[0], ran[2]) for ran in runs])
+    said = "  no answer" if any(status not in (0, 1) for _, status, _, _ in runs) else "" if grows > MOST_EXPONENT else "  no longer"
+    print(row(name, 4 * n, runs, grows, said), flush=True)
+    return not said
+
+
+def main(words):
+    if not words or any(word not in KNOWN for word in words[1:]):
+        print(__doc__ + "\nShapes: " + " ".join(KNOWN))
+        return 2
+    if not os.access(words[0], os.X_OK):
+        print(f"no program: {words[0]}", file=sys.stderr)
+        return 2
+    print(HEADER)
+    good = [measure(os.path.abspath(words[0]), name) for name in words[1:] or KNOWN]
+    print(f"squares={len(good)} wrong={good.count(False)}")
+    return 0 if all(good) else 1
+
+
+if __name__ == "__main__":
+    sys.exit(main(sys.argv[1:]))
