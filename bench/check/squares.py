@@ -21,7 +21,7 @@ sys.dont_write_bytecode = True
 sys.path[:0] = [os.path.join(os.path.dirname(os.path.dirname(os.path.abspath(__file__))), folder) for folder in ("rules", "cases", "check", "time")]
 
 from shapes import (
-    HEADER, HOST, MOST_EXPONENT, covered, definition, exponent, file_ref, import_type, in_three_sizes, module, of_references, part, request, row, single, spent,
+    HEADER, HOST, MOST_EXPONENT, covered, decl, definition, exponent, file_ref, import_type, in_three_sizes, module, of_references, part, request, row, single, spent,
     symbol, url,
 )
 
@@ -263,6 +263,14 @@ def assignments_of_many_declarations(n):
 def names_of_one_symbol(n):
     """Exported names of a symbol times its declarations: which have the keyword `export` is asked for each name (fast_check_traces, `is_exported_in`)."""
     return single([symbol(1, *[definition()] * n)], [[f"x{i}", 1] for i in range(n)])
+
+
+@known(last=1000)
+def one_property_of_many_functions(n):
+    """Functions times the declarations of one symbol that each of them exports: those are public with each (fast_check_demands, `push_properties`)."""
+    outside = decl({"Definition": {}}, range=[20, 29])
+    functions = [symbol(i, definition(is_function=True), exports=[["x", n + 1]]) for i in range(1, n + 1)]
+    return single([*functions, symbol(n + 1, *[outside] * n, parent=1, name="x")], [[f"s{i}", i] for i in range(1, n + 1)])
 
 
 @known(last=1000)
