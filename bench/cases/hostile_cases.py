@@ -120,6 +120,17 @@ CASES = [
     ("hostile_askers_through_aliases", shapes.askers_through_aliases(50), ONE),
     ("hostile_qualified_name_without_names", a_qualified_name_without_names(), TWO),
     ("hostile_paths_covered", shapes.paths_covered_of_many_lengths(50), TWO),
+    ("hostile_names_covered_before_others", squares.names_covered_before_others(50), TWO),
+    # found and told once, though many declarations, names or paths lead to it
+    ("hostile_path_of_two_askers", shapes.path_of_two_askers(50), ONE),
+    ("hostile_parts_of_many_declarations", shapes.parts_of_many_declarations(50), ONE),
+    ("hostile_properties_of_overloads", shapes.properties_of_overloads(50), ONE),
+    ("hostile_properties_of_one_symbol", shapes.properties_of_one_symbol(50), ONE),
+    ("hostile_one_property_of_many_functions", squares.one_property_of_many_functions(50), ONE),
+    ("hostile_paths_of_many_references", squares.paths_of_many_references(50), TWO),
+    # a name behind re-exports of all, and one that none of them has: then what they lead to is asked for nothing
+    ("hostile_names_of_many_re_exports", shapes.names_of_many_re_exports(50), sorted(shapes.url(place) for place in range(52))),
+    ("hostile_names_that_no_re_export_has", shapes.names_that_no_re_export_has(50), TWO),
     ("hostile_long_name", *a_long_name(100_000)),
     ("hostile_exports_of_a_symbol", exports_of_a_symbol(3000), ONE),
     ("hostile_members_asked_for", shapes.members_asked_for(50), ONE),
