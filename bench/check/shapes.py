@@ -208,12 +208,8 @@ def of_references(n, *paths):
 
 @shape
 def a_long_path_of_many_references(n):
+    """A long path that is asked of such a symbol: it is asked of the file once."""
     return of_references(n, ["N"] * (10 * n))
-
-
-@shape
-def a_long_name_of_many_references(n):
-    return of_references(n, ["N" * (150 * n)])
 
 
 @shape

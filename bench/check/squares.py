@@ -279,6 +279,12 @@ def paths_of_many_references(n):
     return of_references(n, *([f"x{i}"] for i in range(1, n + 1)))
 
 
+@known(first=1000)
+def a_long_name_of_many_references(n):
+    """The declarations of a symbol, which all stand for one name of a file, times the letters of a name below it (fast_check_search, `PathNumbers::noted`)."""
+    return of_references(n, ["N" * (150 * n)])
+
+
 # ---- a URL is looked up among those that begin as it does
 
 
