@@ -254,15 +254,6 @@ def declarations_of_a_symbol(n):
     return single([symbol(1, *[definition()] * n)], [["s1", 1]])
 
 
-@shape
-def parts_of_many_declarations(n):
-    """Parts that are asked of a namespace with as many declarations: all of these are public by the first of them."""
-    parts = [symbol(1 + i, definition(), parent=1, name=f"x{i}") for i in range(1, n + 1)]
-    asks = [symbol(n + 1 + i, part("s1", f"x{i}")) for i in range(1, n + 1)]
-    of = symbol(1, *[definition(is_ts_namespace=True)] * n, exports=[[f"x{i}", 1 + i] for i in range(1, n + 1)])
-    return single([of, *parts, *asks], [[f"s{n + 1 + i}", n + 1 + i] for i in range(1, n + 1)])
-
-
 OUTSIDE = decl({"Definition": {}}, range=[20, 29])
 
 

@@ -265,6 +265,15 @@ def names_of_one_symbol(n):
     return single([symbol(1, *[definition()] * n)], [[f"x{i}", 1] for i in range(n)])
 
 
+@known(first=4000)
+def parts_of_many_declarations(n):
+    """Parts that are asked of a namespace times its declarations: one may be an alias or a class (fast_check_demands, `push_path_demands`)."""
+    parts = [symbol(1 + i, definition(), parent=1, name=f"x{i}") for i in range(1, n + 1)]
+    asks = [symbol(n + 1 + i, part("s1", f"x{i}")) for i in range(1, n + 1)]
+    of = symbol(1, *[definition(is_ts_namespace=True)] * n, exports=[[f"x{i}", 1 + i] for i in range(1, n + 1)])
+    return single([of, *parts, *asks], [[f"s{n + 1 + i}", n + 1 + i] for i in range(1, n + 1)])
+
+
 @known(last=1000)
 def one_property_of_many_functions(n):
     """Functions times the declarations of one symbol that each of them exports: those are public with each (fast_check_demands, `push_properties`)."""
@@ -285,6 +294,11 @@ def a_long_name_of_many_references(n):
     return of_references(n, ["N" * (150 * n)])
 
 
+def by_text(text, n):
+    """Import types of n names of the file that a text names."""
+    return (import_type(text, f"s{i}") for i in range(n))
+
+
 # ---- a URL is looked up among those that begin as it does
 
 
@@ -299,7 +313,7 @@ def urls_beside_bases(n):
     (fast_check_packages, `TextIndex::first_of`)."""
     path = "q" * math.isqrt(8 * n)
     bases = [[f"@q/q{i}@1.0.0", each] for i, each in enumerate(that_part_from(HOST, path))]
-    made = request(module(url(0), [symbol(1, definition(*[import_type("./q", "s1")] * n))], [["s1", 1]]), versions=bases)
+    made = request(module(url(0), [symbol(1, definition(*by_text("./q", n)))], [["s1", 1]]), versions=bases)
     made["graph"]["resolutions"] = [[url(0), "./q", HOST + path + "q"]]
     return made
 
@@ -309,7 +323,7 @@ def files_beside_members(n):
     """The same of the bases of members of the workspace (fast_check_packages, `TextIndex::first_of`)."""
     path = "q" * math.isqrt(8 * n)
     members = [{"name": f"@w/w{i}", "base": each} for i, each in enumerate(that_part_from("file:///", path))]
-    made = request(module(url(0), [symbol(1, definition(*[import_type("./q", "s1")] * n))], [["s1", 1]]), workspace_members=members)
+    made = request(module(url(0), [symbol(1, definition(*by_text("./q", n)))], [["s1", 1]]), workspace_members=members)
     made["graph"]["resolutions"] = [[url(0), "./q", "file:///" + path + "q"]]
     return made
 
@@ -350,8 +364,8 @@ def path_through_files(n):
 
 
 def wants(n, own, resolved, *modules, exports=()):
-    """A request in which the module of the URL `own` asks n times for a name behind a text, which resolves so; and these modules more."""
-    made = request(module(own, [symbol(1, definition(*[import_type("./b.ts", "s1")] * n))], [["s1", 1]]), *modules, exports=exports)
+    """A request in which the module of the URL `own` asks for n names behind a text, which resolves so; and these modules more."""
+    made = request(module(own, [symbol(1, definition(*by_text("./b.ts", n)))], [["s1", 1]]), *modules, exports=exports)
     made["graph"]["resolutions"] = [[own, "./b.ts", resolved]]
     return made
 
