@@ -470,18 +470,19 @@ def measure(program, name):
     return is_good
 
 
-def main(words):
-    if not words or any(word not in SHAPES for word in words[1:]):
-        print(__doc__ + "\nShapes: " + " ".join(SHAPES))
+def measured(words, usage, names, measure, counted, missed):
+    """Measures the shapes that the words name behind a program, or all, and prints how many there are and how many are not as they should be. Answers a status."""
+    if not words or any(word not in names for word in words[1:]):
+        print(usage + "\nShapes: " + " ".join(names))
         return 2
     if not os.access(words[0], os.X_OK):
         print(f"no program: {words[0]}", file=sys.stderr)
         return 2
     print(HEADER)
-    good = [measure(os.path.abspath(words[0]), name) for name in words[1:] or SHAPES]
-    print(f"shapes={len(good)} above={good.count(False)}")
+    good = [measure(os.path.abspath(words[0]), name) for name in words[1:] or names]
+    print(f"{counted}={len(good)} {missed}={good.count(False)}")
     return 0 if all(good) else 1
 
 
 if __name__ == "__main__":
-    sys.exit(main(sys.argv[1:]))
+    sys.exit(measured(sys.argv[1:], __doc__, SHAPES, measure, "shapes", "above"))

@@ -21,8 +21,8 @@ sys.dont_write_bytecode = True
 sys.path[:0] = [os.path.join(os.path.dirname(os.path.dirname(os.path.abspath(__file__))), folder) for folder in ("rules", "cases", "check", "time")]
 
 from shapes import (
-    HEADER, HOST, MOST_EXPONENT, covered, decl, definition, exponent, file_ref, import_type, in_three_sizes, module, of_references, part, request, row, single, spent,
-    symbol, url,
+    HOST, MOST_EXPONENT, covered, decl, definition, exponent, file_ref, import_type, in_three_sizes, measured, module, of_references, part, request, row, single,
+    spent, symbol, url,
 )
 
 FIRST, LEAST_SECONDS, RUNS = 125, 0.04, 2
@@ -491,18 +491,5 @@ def measure(program, name):
     return not said
 
 
-def main(words):
-    if not words or any(word not in KNOWN for word in words[1:]):
-        print(__doc__ + "\nShapes: " + " ".join(KNOWN))
-        return 2
-    if not os.access(words[0], os.X_OK):
-        print(f"no program: {words[0]}", file=sys.stderr)
-        return 2
-    print(HEADER)
-    good = [measure(os.path.abspath(words[0]), name) for name in words[1:] or KNOWN]
-    print(f"squares={len(good)} wrong={good.count(False)}")
-    return 0 if all(good) else 1
-
-
 if __name__ == "__main__":
-    sys.exit(main(sys.argv[1:]))
+    sys.exit(measured(sys.argv[1:], __doc__, KNOWN, measure, "squares", "wrong"))
