@@ -1,6 +1,6 @@
 -- What begins a text, what is not above it, and how much two texts have in common.
 use Rattle.std.proofs.Common.{◌≡◌, ◌∙◌, sym, ap, subst, refl, ℕ, zero, suc, ◌<◌, ◌≤◌, Bool, true, false, ◌&&◌, ◌==◌, List, [], ◌∷◌, length}
-use Rattle.std.proofs.Common.{take, slice_index_or, arith, eqb→eq, ⊎_elim, true≢false, T}
+use Rattle.std.proofs.Common.{slice_index_or, arith, eqb→eq, ⊎_elim, true≢false, T}
 use Rattle.std.specs.declared.cmp.Ordering.{Ordering}
 use Rattle.std.specs.declared.cmp.Ordering.TheVariants.{Less, Equal, Greater}
 use Rattle.std.specs.Ordering.{MatchOrdering, ordering_then, ordering_reverse, is_le, is_lt, nat_cmp}
@@ -84,52 +84,25 @@ pub begins_itself : (t : List ℕ) → begins_with t t ≡ true
 begins_itself [] = refl
 begins_itself (a ∷ t) = both (a == a) (begins_with t t) (byte_same a a refl) (begins_itself t)
 
--- ---- what begins a part of a text
-
-unlike : (n : ℕ) → suc n ≤ 0 → ⊥
-unlike n h = omega arith
-
-less : (m n : ℕ) → suc m ≤ suc n → m ≤ n
-less m n h = omega arith
-
-pub begins_taken : (t x : List ℕ) (n : ℕ) → length t ≤ n → begins_with t x ≡ true → begins_with t (take n x) ≡ true
-begins_taken [] x n le h = refl
-begins_taken (a ∷ t) x zero le h = absurd (unlike (length t) le)
-begins_taken (a ∷ t) [] (suc n) le h = h
-begins_taken (a ∷ t) (b ∷ x) (suc n) le h =
-    both (a == b) (begins_with t (take n x)) (first_so (a == b) (begins_with t x) h)
-    (begins_taken t x n (less (length t) n le) (second_so (a == b) (begins_with t x) h))
-
-pub begins_all : (t x : List ℕ) (n : ℕ) → begins_with t (take n x) ≡ true → begins_with t x ≡ true
-begins_all [] x n h = refl
-begins_all (a ∷ t) x zero h = absurd (true≢false (sym h))
-begins_all (a ∷ t) [] (suc n) h = h
-begins_all (a ∷ t) (b ∷ x) (suc n) h =
-    both (a == b) (begins_with t x) (first_so (a == b) (begins_with t (take n x)) h)
-    (begins_all t x n (second_so (a == b) (begins_with t (take n x)) h))
-
 -- ---- how much is common
-
-not_less : (n : ℕ) → 0 ≡ suc n → ⊥
-not_less n e = omega arith
-
-no_less : (m n : ℕ) → m ≡ 0 → m < suc n
-no_less m n e = omega arith
-
-down : (m n : ℕ) → suc m ≡ suc n → m ≡ n
-down m n e = omega arith
 
 no_place : (n : ℕ) → n < 0 → ⊥
 no_place n h = omega arith
 
-lower : (c m n : ℕ) → c ≡ suc m → c < suc n → m < n
-lower c m n e h = omega arith
-
-raise : (c m n : ℕ) → c ≡ suc m → m < n → c < suc n
-raise c m n e h = omega arith
-
 longer : (c m n : ℕ) → c ≡ suc m → n ≤ m → suc n ≤ c
 longer c m n e h = omega arith
+
+lift : (c m n : ℕ) → c ≡ suc m → suc n ≤ c → n ≤ m
+lift c m n e h = omega arith
+
+none_in : (c n : ℕ) → c ≡ 0 → suc n ≤ c → ⊥
+none_in c n e h = omega arith
+
+unlike : (n : ℕ) → suc n ≤ 0 → ⊥
+unlike n h = omega arith
+
+more : (m n : ℕ) → m ≤ n → suc m ≤ suc n
+more m n h = omega arith
 
 zero_le : (n : ℕ) → 0 ≤ n
 zero_le n = omega arith
@@ -160,29 +133,27 @@ begins_both (a ∷ t) (b ∷ x) (c ∷ y) h g =
     longer (common (b ∷ x) (c ∷ y)) (common x y) (length t) (cond-true (b == c) (suc (common x y)) 0 (byte_same b c same))
     (begins_both t x y (second_so (a == b) (begins_with t x) h) (second_so (a == c) (begins_with t y) g))
 
--- a text begins another if all of it is common
-pub begins_whole : (k x : List ℕ) → common k x ≡ length k → begins_with k x ≡ true
-begins_whole [] x e = refl
-begins_whole (a ∷ k) [] e = absurd (not_less (length k) e)
-begins_whole (a ∷ k) (b ∷ x) e =
+-- what begins one of them and is no longer than that begins the other
+pub begins_other : (t x y : List ℕ) → begins_with t x ≡ true → length t ≤ common x y → begins_with t y ≡ true
+begins_other [] x y h le = refl
+begins_other (a ∷ t) [] y h le = absurd (true≢false (sym h))
+begins_other (a ∷ t) (b ∷ x) [] h le = absurd (unlike (length t) le)
+begins_other (a ∷ t) (b ∷ x) (c ∷ y) h le =
     ⊎_elim
-    (λ y. both (a == b) (begins_with k x) y
-    (begins_whole k x (down (common k x) (length k) (sym (cond-true (a == b) (suc (common k x)) 0 y) ∙ e))))
-    (λ n. absurd (not_less (length k) (sym (cond-false (a == b) (suc (common k x)) 0 n) ∙ e)))
-    (cases_Bool (a == b))
+    (λ s. both (a == c) (begins_with t y)
+    (byte_same a c (same_byte a b (first_so (a == b) (begins_with t x) h) ∙ same_byte b c s))
+    (begins_other t x y (second_so (a == b) (begins_with t x) h)
+    (lift (common (b ∷ x) (c ∷ y)) (common x y) (length t) (cond-true (b == c) (suc (common x y)) 0 s) le)))
+    (λ d. absurd (none_in (common (b ∷ x) (c ∷ y)) (length t) (cond-false (b == c) (suc (common x y)) 0 d) le))
+    (cases_Bool (b == c))
 
--- a text that is not above another has less than all of that in common, unless it begins it
-pub common_below : (k x : List ℕ) → is_up_to k x ≡ true → common k x < length k → common k x < length x
-common_below [] x u lt = absurd (no_place 0 lt)
-common_below (a ∷ k) [] u lt = absurd (true≢false (sym u))
-common_below (a ∷ k) (b ∷ x) u lt =
-    ⊎_elim
-    (λ y. let c : common (a ∷ k) (b ∷ x) ≡ suc (common k x) = cond-true (a == b) (suc (common k x)) 0 y in
-    raise (common (a ∷ k) (b ∷ x)) (common k x) (length x) c
-    (common_below k x (sym (le_tail a b (slice_cmp nat_cmp k x) (same_byte a b y)) ∙ u)
-    (lower (common (a ∷ k) (b ∷ x)) (common k x) (length k) c lt)))
-    (λ n. no_less (common (a ∷ k) (b ∷ x)) (length x) (cond-false (a == b) (suc (common k x)) 0 n))
-    (cases_Bool (a == b))
+-- what begins a text that is not above it is no shorter
+pub no_shorter : (t x : List ℕ) → begins_with t x ≡ true → is_up_to x t ≡ true → length x ≤ length t
+no_shorter t [] h u = zero_le (length t)
+no_shorter [] (b ∷ x) h u = absurd (true≢false (sym u))
+no_shorter (a ∷ t) (b ∷ x) h u =
+    more (length x) (length t) (no_shorter t x (second_so (a == b) (begins_with t x) h)
+    (sym (le_tail b a (slice_cmp nat_cmp x t) (sym (same_byte a b (first_so (a == b) (begins_with t x) h)))) ∙ u))
 
 -- ---- their order
 
@@ -220,12 +191,6 @@ not_up_to x y e = above_by (slice_cmp nat_cmp x y) (slice_cmp nat_cmp y x) (nat_
 
 next_below : (m n : ℕ) → suc m < suc n → m < n
 next_below m n h = omega arith
-
-lift : (c m n : ℕ) → c ≡ suc m → suc n ≤ c → n ≤ m
-lift c m n e h = omega arith
-
-none_in : (c n : ℕ) → c ≡ 0 → suc n ≤ c → ⊥
-none_in c n e h = omega arith
 
 step : (c m n : ℕ) → c ≡ suc m → n ≡ m → suc n ≡ c
 step c m n e f = ap suc f ∙ sym e

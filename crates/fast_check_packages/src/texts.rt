@@ -1,25 +1,32 @@
 //! Texts, of which the first that begins another is found.
-ghost use Rattle.std.specs.Prelude.{◌≡◌, ◌++◌, ◌∷◌, [], ℕ, List, Some, None, cond, false, length, OnOk, IfOk};
-ghost use Rattle.std.specs.Option.{option_or, option_copied};
-ghost use Rattle.std.specs.Map.{keys_of};
+ghost use Rattle.std.specs.Prelude.{◌≡◌, ◌++◌, ◌∷◌, [], ℕ, List, Some, None, cond, length, slice_get, option_map, option_and_then, OnOk, IfOk};
+ghost use Rattle.std.specs.Option.{option_or};
 ghost use Rattle.std.specs.Str.{bytes_eq};
 ghost use Rattle.fast_check_packages.specs.Listed.{begins_with};
 ghost use Rattle.fast_check_packages.specs.First.{first_place, earlier};
-ghost use Rattle.fast_check_packages.specs.Texts.{place_of, common, IsAscending, IsLastUpTo, AreFirsts, AreAlone, first_among, IsAppended, HasTextPlaces, IsTextIndex};
+ghost use Rattle.fast_check_packages.specs.Texts.{place_of, common, keys_in, IsAscending, IsLastUpTo, IsLongestOf, AreNoted, AreFirsts};
+ghost use Rattle.fast_check_packages.specs.Texts.{IsAppended, HasTextPlaces, IsTextIndex};
 
 use std::alloc::{AllocError, Global};
 use std::collections::BTreeMap;
 
+/// A text of an index, with what is known of those that begin it.
+#[derive(Drop)]
+struct Entry {
+    text: Vec<u8>,
+    /// The place of the first text that begins it, among those that the index is made of.
+    first: usize,
+    /// Where the longest of the other texts that begin it stands in the index.
+    longest_before: Option<usize>,
+}
+
 /// Texts in the order of their bytes, each with the place of the first text that begins it.
 ///
-/// What begins a text begins the last text of this order that is not above it, too, and a binary search finds that one.
-/// Where that one does not begin the text, the look-up goes on with what the two have in common, unless no text of the
-/// index begins another. So it searches once in most tables, and never more often than the text has bytes.
+/// What begins a text begins the last text of this order that is not above it, too, and one binary search finds that one.
+/// From there what the entries note leads to the longest that begins both, in no more steps than texts begin that one.
 #[derive(Drop)]
 pub struct TextIndex {
-    entries: Vec<(Vec<u8>, usize)>,
-    /// Whether one of the texts begins another.
-    is_nested: bool,
+    entries: Vec<Entry>,
 }
 
 /// Texts as they are put together for an index: each with its first place among them.
@@ -75,53 +82,57 @@ fn common_length(text: &[u8], other: &[u8]) -> usize
 }
 
 impl TextIndex {
-    /// The last of its texts that is not above another.
-    fn last_up_to(&self, text: &[u8]) -> Option<&(Vec<u8>, usize)>
-        ensures { IsAscending self.now.entries.items → IsLastUpTo text.now self.now.entries.items (option_copied result) }
+    /// Where in the order the last of its texts stands that is not above another.
+    fn last_up_to(&self, text: &[u8]) -> Option<usize>
+        ensures { IsAscending self.now.entries.items → IsLastUpTo text.now self.now.entries.items result }
     {
-        let after = self
-            .entries
-            .partition_point(|entry| entry.0.as_slice().cmp(&text).is_le());
-        self.entries.get(after.checked_sub(1)?)
+        self.entries
+            .partition_point(|entry| entry.text.as_slice().cmp(&text).is_le())
+            .checked_sub(1)
     }
 
-    /// The place of the first text that begins another, of those that it has.
-    fn first_of(&self, text: &[u8]) -> Option<usize>
-        ensures { (texts : List (List ℕ)) → AreFirsts texts self.now.entries.items
-            → (self.now.is_nested ≡ false → AreAlone texts self.now.entries.items)
-            → result ≡ first_among self.now.entries.items text.now texts }
+    /// Where in the order the longest of its texts stands that begins another.
+    fn longest_of(&self, text: &[u8]) -> Option<usize>
+        ensures { IsAscending self.now.entries.items → AreNoted self.now.entries.items
+            → IsLongestOf text.now self.now.entries.items result }
     {
-        let mut asked = text;
-        while let Some((key, first)) = self.last_up_to(asked) {
-            let common = common_length(key.as_slice(), asked);
-            if common == key.len() {
-                return Some(*first);
+        let mut place = self.last_up_to(text)?;
+        let common = common_length(self.entries.get(place)?.text.as_slice(), text);
+        while let Some(entry) = self.entries.get(place) {
+            if entry.text.as_slice().len() <= common {
+                return Some(place);
             }
-            if !self.is_nested {
+            let before = entry.longest_before?;
+            // This does not come, since an entry notes one that is before it.
+            if before >= place {
                 return None;
             }
-            // This does not come, since the key is not above what is asked.
-            if common >= asked.len() {
-                return None;
-            }
-            asked = &asked[..common];
+            place = before;
         }
         None
     }
 
+    /// The place of the first text that begins the one that stands here.
+    fn first_at(&self, place: Option<usize>) -> Option<usize>
+        ensures { result ≡ option_map (λ e. e.first) (option_and_then (slice_get self.now.entries.items) place) }
+    {
+        Some(self.entries.get(place?)?.first)
+    }
+
     /// Adds a text that is above the others, by its first place.
     fn append(&mut self, text: Vec<u8>, place: usize) -> Result<(), AllocError>
-        ensures keys { OnOk result (keys_of self.new.entries.items ≡ keys_of self.old.entries.items ++ text ∷ []) }
+        ensures keys { OnOk result (keys_in self.new.entries.items ≡ keys_in self.old.entries.items ++ text ∷ []) }
         ensures firsts { OnOk result ((texts : List (List ℕ)) → first_place (bytes_eq text.items) texts ≡ Some place
             → IsAppended text.items self.old.entries.items → AreFirsts texts self.old.entries.items
-            → (self.old.is_nested ≡ false → AreAlone texts self.old.entries.items)
-            → AreFirsts texts self.new.entries.items
-            × (self.new.is_nested ≡ false → AreAlone texts self.new.entries.items)) }
+            → AreFirsts texts self.new.entries.items) }
     {
-        let before = self.first_of(text.as_slice());
-        self.is_nested = self.is_nested || before.is_some();
-        let first = earlier(before, Some(place));
-        self.entries.push((text, first.unwrap_or(place)))?;
+        let longest_before = self.longest_of(text.as_slice());
+        let first = earlier(self.first_at(longest_before), Some(place)).unwrap_or(place);
+        self.entries.push(Entry {
+            text,
+            first,
+            longest_before,
+        })?;
         Ok(())
     }
 
@@ -130,7 +141,7 @@ impl TextIndex {
         ensures { (texts : List (List ℕ)) → IsTextIndex texts self.now
             → result ≡ first_place (λ t. begins_with t text.now) texts }
     {
-        self.first_of(text)
+        self.first_at(self.longest_of(text))
     }
 }
 
@@ -163,7 +174,6 @@ impl TextPlaces {
     {
         let mut index = TextIndex {
             entries: Vec::new(alloc),
-            is_nested: false,
         };
         for (text, place) in self.places {
             index.append(text, place)?;
