@@ -1,7 +1,7 @@
 -- An index of texts as it grows, and what is found by it.
-use Rattle.std.proofs.Common.{◌≡◌, ◌∙◌, sym, ap, subst, refl, ℕ, Bool, true, false, cond, List, [], ◌∷◌, ◌++◌}
+use Rattle.std.proofs.Common.{◌≡◌, ◌∙◌, sym, ap, subst, refl, ℕ, true, false, cond, List, [], ◌∷◌, ◌++◌}
 use Rattle.std.proofs.Common.{length, Option, Some, None, Vec, Global, bytes_eq, ⊎_elim}
-use Rattle.std.proofs.Common.{true≢false, is_some}
+use Rattle.std.proofs.Common.{true≢false, is_some, unwrap_or}
 use Rattle.std.specs.Option.{option_or}
 use Rattle.std.specs.Ordering.{is_eq, nat_cmp, eq_by_cmp}
 use Rattle.std.specs.Cmp.{eq_by_cmp_equiv}
@@ -21,6 +21,10 @@ use Rattle.fast_check_packages.proofs.First.{first_push}
 abbrev Places : Type 0
 Places = BTreeMap (Vec ℕ Global) ℕ
 
+-- the place that entries have for a text
+abbrev pub place_in : List ℕ → List (Vec ℕ Global × ℕ) → Option ℕ
+place_in text entries = lookup (λ k. is_eq (slice_cmp nat_cmp text k.items)) entries
+
 apart : (text asked key : List ℕ) → bytes_eq text asked ≡ false → is_eq (slice_cmp nat_cmp text key) ≡ true →
     is_eq (slice_cmp nat_cmp asked key) ≡ false
 apart text asked key n y =
@@ -36,15 +40,17 @@ others text asked old new h n =
     h (λ k. is_eq (slice_cmp nat_cmp asked k.items)) (λ x y. (eq_by_cmp_equiv nat_list_cmp_total).congr asked x.items y.items)
     (λ k y. apart text asked k.items n y)
 
-put_here : (text asked : List ℕ) (place : ℕ) (old new : Places) → place_of text new ≡ Some place → place_of text old ≡ None →
+or_first : (o : Option ℕ) (place : ℕ) → Some (unwrap_or o place) ≡ option_or o (Some place)
+or_first None place = refl
+or_first (Some x) place = refl
+
+put_here : (text asked : List ℕ) (place : ℕ) (old new : Places) → place_of text new ≡ Some (unwrap_or (place_of text old) place) →
     bytes_eq text asked ≡ true
     → place_of asked new ≡ option_or (place_of asked old) (cond (bytes_eq text asked) (Some place) None)
-put_here text asked place old new here before y =
-    let same : text ≡ asked = (bytes_eq-Decides text asked).0 y in
-    subst (λ (t : List ℕ). place_of t new ≡ Some place) same here
-    ∙ (sym (cond-true (bytes_eq text asked) (Some place) None y)
-    ∙ ap (λ (o : Option ℕ). option_or o (cond (bytes_eq text asked) (Some place) None))
-    (sym (subst (λ (t : List ℕ). place_of t old ≡ None) same before)))
+put_here text asked place old new here y =
+    subst (λ (t : List ℕ). place_of t new ≡ Some (unwrap_or (place_of t old) place)) ((bytes_eq-Decides text asked).0 y) here
+    ∙ (or_first (place_of asked old) place
+    ∙ ap (λ o. option_or (place_of asked old) o) (sym (cond-true (bytes_eq text asked) (Some place) None y)))
 
 or_none : (o : Option ℕ) → o ≡ option_or o None
 or_none None = refl
@@ -56,28 +62,16 @@ put_other text asked place old new e n =
     e ∙ (or_none (place_of asked old) ∙ ap (λ o. option_or (place_of asked old) o)
     (sym (cond-false (bytes_eq text asked) (Some place) None n)))
 
--- a text that has no place gets it
-pub put_new : (text asked : List ℕ) (place : ℕ) (old new : Places)
-    → map.UpdatesBy (λ a b. slice_cmp nat_cmp a.items b.items) (λ k. slice_cmp nat_cmp text k.items) old new (Some place)
-    → place_of text old ≡ None → place_of asked new ≡ option_or (place_of asked old) (cond (bytes_eq text asked) (Some place) None)
-put_new text asked place old new u before =
+-- a text that has no place gets it, and one that has its place keeps it
+pub put_or : (text asked : List ℕ) (place : ℕ) (old new : Places)
+    → map.UpdatesBy (λ a b. slice_cmp nat_cmp a.items b.items) (λ k. slice_cmp nat_cmp text k.items) old new
+    (Some (unwrap_or (place_of text old) place))
+    → place_of asked new ≡ option_or (place_of asked old) (cond (bytes_eq text asked) (Some place) None)
+put_or text asked place old new u =
     ⊎_elim
-    (λ y. put_here text asked place old new u.1 before y)
+    (λ y. put_here text asked place old new u.1 y)
     (λ n. put_other text asked place old new (others text asked old.entries new.entries u.3 n) n)
     (cases_Bool (bytes_eq text asked))
-
-kept_at : (b : Bool) (o : Option ℕ) (place : ℕ) → (b ≡ true → is_some o ≡ true) → o ≡ option_or o (cond b (Some place) None)
-kept_at true None place h = absurd (true≢false (sym (h refl)))
-kept_at true (Some x) place h = refl
-kept_at false None place h = refl
-kept_at false (Some x) place h = refl
-
--- one that has its place keeps it
-pub put_kept : (text asked : List ℕ) (place : ℕ) (places : Places) → is_some (place_of text places) ≡ true
-    → place_of asked places ≡ option_or (place_of asked places) (cond (bytes_eq text asked) (Some place) None)
-put_kept text asked place places h =
-    kept_at (bytes_eq text asked) (place_of asked places) place
-    (λ e. subst (λ (t : List ℕ). is_some (place_of t places) ≡ true) ((bytes_eq-Decides text asked).0 e) h)
 
 pub none_from : (o : Option ℕ) → is_some o ≡ false → o ≡ None
 none_from None h = refl

@@ -44,11 +44,11 @@ fn package_index(
 ) -> Result<BTreeMap<PackageNv, usize>, AllocError>
     ensures { IfOk result (IsPackageIndex rows.now) }
 {
-    let mut places = BTreeMap::new(alloc);
+    let mut places = Vec::with_capacity(alloc, rows.len())?;
     for (place, row) in rows.iter().enumerate() {
-        places.insert(row.0.clone()?, place)?;
+        places.push((row.0.clone()?, place))?;
     }
-    Ok(places)
+    places.into_iter().collect(alloc)
 }
 
 /// The texts of the URLs.

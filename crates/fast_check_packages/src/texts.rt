@@ -61,10 +61,7 @@ pub(crate) fn put_first(
     ensures { OnOk result ((asked : List ℕ) → place_of asked places.new ≡
         option_or (place_of asked places.old) (cond (bytes_eq text.now asked) (Some place) None)) }
 {
-    if places.contains_key(text) {
-        return Ok(());
-    }
-    places.insert(text.to_vec(alloc)?, place)?;
+    places.entry(text.to_vec(alloc)?)?.or_insert(place);
     Ok(())
 }
 
