@@ -70,6 +70,10 @@ Texts_of = BTreeMap (String Global) Parts
 abbrev url_cmp : Parts → Parts → Ordering
 url_cmp a b = slice_cmp nat_cmp (serialize a) (serialize b)
 
+-- what is resolved by these entries
+abbrev pub resolved_in : List (Parts × Texts_of) → Resolutions
+resolved_in es = λ text referrer. option_and_then (text_resolved text) (lookup (is_specifier referrer) es)
+
 -- a text more
 texts_more : (bs : List ℕ) (text : String Global) (url : Parts) (t more : Texts_of) → Updates string_cmp t more text (Some url)
     → text_resolved bs more ≡ cond (bytes_eq bs (string_bytes text)) (Some url) (text_resolved bs t)
@@ -84,23 +88,15 @@ or_empty : (bs : List ℕ) (o : Option Texts_of) (empty : Texts_of) → empty.en
 or_empty bs None empty e = ap (λ es. lookup (λ k. bytes_eq bs (string_bytes k)) es) e
 or_empty bs (Some t) empty e = refl
 
-twice : {X : Type 0} (b : Bool) (x o : Option X) → cond b x (cond b None o) ≡ cond b x o
-twice true x o = refl
-twice false x o = refl
-
--- a referrer whose texts are taken out, grow by one, and are put back
-module _ (referrer url : Parts) (text : String Global) (m out n : BTreeMap Parts Texts_of) (t empty more : Texts_of)
-    (removed : Updates url_cmp m out referrer None) (old : t ≡ unwrap_or (get url_cmp m referrer) empty) (none : empty.entries ≡ [])
-    (grown : Updates string_cmp t more text (Some url)) (put : Updates url_cmp out n referrer (Some more)) where
+-- a referrer whose texts grow by one
+module _ (referrer url : Parts) (text : String Global) (m n : BTreeMap Parts Texts_of) (t empty more : Texts_of)
+    (old : t ≡ unwrap_or (get url_cmp m referrer) empty) (none : empty.entries ≡ [])
+    (grown : Updates string_cmp t more text (Some url)) (put : Updates url_cmp m n referrer (Some more)) where
   at_referrer : (u : Parts) → is_at (url_cmp referrer) u ≡ is_specifier u referrer
   at_referrer u = sym (texts_ties (serialize referrer) (serialize u)) ∙ nat_list_eq_equiv.symm (serialize referrer) (serialize u)
 
   found : (u : Parts) → lookup (is_specifier u) n.entries ≡ cond (is_specifier u referrer) (Some more) (lookup (is_specifier u) m.entries)
-  found u =
-      sym (at_specifier u n.entries)
-      ∙ (put.0 u ∙ (ap (λ o. cond (is_at (url_cmp referrer) u) (Some more) o) (removed.0 u)
-      ∙ (twice (is_at (url_cmp referrer) u) (Some more) (get url_cmp m u)
-      ∙ (λ i. cond (at_referrer u i) (Some more) (at_specifier u m.entries i)))))
+  found u = sym (at_specifier u n.entries) ∙ (put.0 u ∙ (λ i. cond (at_referrer u i) (Some more) (at_specifier u m.entries i)))
 
   same_referrer : (u : Parts) → is_specifier u referrer ≡ true →
       lookup (is_specifier referrer) m.entries ≡ lookup (is_specifier u) m.entries

@@ -141,10 +141,8 @@ impl Gather<ByType> for BTreeMap<Url, BTreeMap<String, Url>> {
 
     fn gather(&mut self, alloc: Global, value: &Value) -> Result<(), ReadError> {
         let (referrer, text, url) = FromJson::from_json(alloc, value)?;
-        let texts = self.remove(&referrer);
-        let mut texts = texts.unwrap_or(BTreeMap::new(alloc));
+        let texts = self.entry(referrer)?.or_insert(BTreeMap::new(alloc));
         texts.insert(text, url)?;
-        self.insert(referrer, texts)?;
         Ok(())
     }
 }

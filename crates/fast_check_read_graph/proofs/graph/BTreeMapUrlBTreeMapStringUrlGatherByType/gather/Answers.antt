@@ -1,14 +1,17 @@
-use Rattle.std.proofs.Common.{◌∙◌, sym, ap, Some}
+use Rattle.std.proofs.Common.{◌∙◌, sym, ap, Some, rules}
 use Rattle.std.specs.Prelude.{unwrap_or}
+use Rattle.std.specs.BTreeMap.Entry.{map_with_value}
 use Rattle.fast_check_read_graph.proofs.Given.{map_some}
-use Rattle.fast_check_read_graph.proofs.Graphs.{put_resolved}
+use Rattle.fast_check_read_graph.proofs.Graphs.{put_resolved, resolved_in}
 use Rattle.fast_check_read_graph.proofs.graph.BTreeMapUrlBTreeMapStringUrlGatherByType.gather.Goals as goal
 
 pub returns : goal.returns
 returns c =
-    map_some _ c.in_ok-referrer.ensures
-    ∙ ap Some (sym (put_resolved c.in_ok-referrer.referrer c.in_ok-referrer.url c.in_ok-referrer.text
-    c.args.self.now c.remove-texts.new.self c.insert-2.new.self c.unwrap_or-texts.result c.new.result c.insert.new.self
-    c.remove-texts.ensures.updates
-    (c.unwrap_or-texts.ensures ∙ ap (λ o. unwrap_or o c.new.result) c.remove-texts.ensures.value) c.new.ensures.empty
-    c.in_ok-insert.ensures.updates c.in_ok-insert-2.ensures.updates))
+    let old = c.args.self.now in
+    let more = c.insert.new.self in
+    let new = map_with_value c.in_ok-self.field-0 more in
+    let put = put_resolved c.in_ok-referrer.referrer c.in_ok-referrer.url c.in_ok-referrer.text
+    old new c.or_insert-texts.result.now c.new.result more
+    (c.or_insert-texts.ensures.value ∙ ap (λ o. unwrap_or o c.new.result) c.in_ok-self.ensures.value) c.new.ensures.empty
+    c.in_ok-insert.ensures.updates (c.in_ok-self.ensures.update.0 more) in
+    map_some _ c.in_ok-referrer.ensures ∙ ap Some (sym (ap resolved_in (search rules) ∙ put))
