@@ -74,7 +74,7 @@ fn full_name(alloc: Global, name: &str, names: &[String]) -> Result<String, Allo
 fn first_range(symbol: &Symbol) -> Option<SourceRange>
     ensures { result ≡ first_of symbol.now.decls.items }
 {
-    let decl = symbol.decls.first()?;
+    let decl = symbol.decls.as_slice().first()?;
     Some(decl.range)
 }
 

@@ -14,7 +14,7 @@ pub use fast_check_parsed_source::MediaType;
 pub use fast_check_symbols as symbols;
 pub use fast_check_symbols::{
     CheckedTables, FileDepName, ModuleTables, ReExportAllNode, ReferenceNamespace, Symbol,
-    SymbolDecl, SymbolDeclKind, SymbolDep, SymbolExports, SymbolId, SymbolNode, SymbolNodeDep,
-    TableFault,
+    SymbolDecl, SymbolDeclKind, SymbolDecls, SymbolDep, SymbolExports, SymbolId, SymbolNode,
+    SymbolNodeDep, TableFault,
 };
 pub use json_module::JsonModuleInfo;

@@ -26,7 +26,7 @@ fn push_declarations(symbols: &[Symbol], out: &mut Vec<SourceRange>) -> Result<(
     ensures { OnOk result (out.new.items ≡ out.old.items ++ flat_map (λ s. map (λ d. d.range) s.decls.items) symbols.now) }
 {
     for symbol in symbols {
-        push_decls(&symbol.decls, out)?;
+        push_decls(symbol.decls.as_slice(), out)?;
     }
     Ok(())
 }

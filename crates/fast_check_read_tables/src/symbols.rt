@@ -12,8 +12,8 @@ use fast_check_read_graph::{
     read_member, read_member_by, read_option, read_span, read_variant,
 };
 use fast_check_symbols::{
-    FileDepName, ReferenceNamespace, Symbol, SymbolDecl, SymbolDeclKind, SymbolDep, SymbolExports,
-    SymbolId, SymbolNode, SymbolNodeDep,
+    FileDepName, ReferenceNamespace, Symbol, SymbolDecl, SymbolDeclKind, SymbolDecls, SymbolDep,
+    SymbolExports, SymbolId, SymbolNode, SymbolNodeDep,
 };
 use serde_json::Value;
 use std::alloc::Global;
@@ -242,7 +242,7 @@ impl FromJsonBy<OfTables> for Symbol {
             qualified_name,
             exports,
             members,
-            decls,
+            decls: SymbolDecls::new(decls),
         })
     }
 }

@@ -14,7 +14,7 @@ use Rattle.fast_check_symbols.specs.Symbols.{has_id, place_of}
 use Rattle.fast_check_symbols.specs.Places.{IsIndexed}
 use Rattle.fast_check_symbols.proofs.Last.{last_place_push, IsFound}
 
-same_number : (k q : ℕ) → eq_by_cmp nat_cmp k q ≡ (q == k)
+pub same_number : (k q : ℕ) → eq_by_cmp nat_cmp k q ≡ (q == k)
 same_number k q = sym (unsigned_ties k q) ∙ nat_eq_equiv.symm k q
 
 -- one more symbol

@@ -8,3 +8,4 @@ pub mod TableFaults
 pub mod EntriesMissed
 pub mod Pushed
 pub mod Named
+pub mod Namesakes

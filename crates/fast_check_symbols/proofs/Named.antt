@@ -1,6 +1,6 @@
 -- Indexes of symbols by their names, as they grow.
 use Rattle.std.proofs.Common.{◌≡◌, ◌∙◌, sym, ap, refl, subst, ℕ, zero, suc, ◌+◌, ◌<◌, Bool, true, false, cond, List, [], ◌∷◌, ◌++◌, Option}
-use Rattle.std.proofs.Common.{Some, None, length, take, get_or, arith, length-append}
+use Rattle.std.proofs.Common.{Some, None, length, take, get_or, arith}
 use Rattle.std.specs.Prelude.{is_some, slice_get}
 use Rattle.std.specs.List.{find}
 use Rattle.std.specs.Borrow.{Bor}
@@ -17,14 +17,15 @@ use Rattle.fast_check_symbols.specs.declared.symbol.Symbol.{Symbol}
 use Rattle.fast_check_symbols.specs.Exports.{export_named, put_export}
 use Rattle.fast_check_symbols.specs.Symbols.{symbol_of, place_of, has_id}
 use Rattle.fast_check_symbols.proofs.Last.{IsFound, last_found}
-use Rattle.fast_check_symbols.specs.Members.{symbol_is_named, first_named, named_member, IsNameIndex, AreNameIndexes}
+use Rattle.fast_check_symbols.specs.Members.{symbol_is_named, named_member, IsNameIndex, AreMembersOf, member_at}
+use Rattle.fast_check_symbols.specs.declared.members.MemberIndexes.{MemberIndexes}
 
 abbrev pub Index : Type 0
 Index = List (List ℕ × SymbolId)
 
 -- ---- one name more
 
-kept_at : (b : Bool) (o : Option SymbolId) (id : SymbolId) → (b ≡ true → is_some o ≡ true) → o ≡ option_or o (cond b (Some id) None)
+pub kept_at : (b : Bool) (o : Option SymbolId) (id : SymbolId) → (b ≡ true → is_some o ≡ true) → o ≡ option_or o (cond b (Some id) None)
 kept_at true None id h = let e : false ≡ true = h refl in cc
 kept_at true (Some x) id h = refl
 kept_at false None id h = refl
@@ -75,7 +76,7 @@ index_more symbols ids i id old new lt read u h = record {
 
 -- ---- one index more
 
-each_place : {A B R : Type 0} (f : A → Option R) (g : B → Option R) (xs : List A) (ys : List B) (x : A) (y : B) → length xs ≡ length ys
+pub each_place : {A B R : Type 0} (f : A → Option R) (g : B → Option R) (xs : List A) (ys : List B) (x : A) (y : B) → length xs ≡ length ys
     → ((p : ℕ) → option_and_then f (slice_get xs p) ≡ option_and_then g (slice_get ys p)) → f x ≡ g y
     → (p : ℕ) → option_and_then f (slice_get (xs ++ x ∷ []) p) ≡ option_and_then g (slice_get (ys ++ y ∷ []) p)
 each_place f g [] [] x y l h e zero = e
@@ -85,20 +86,6 @@ each_place f g (a ∷ xs) [] x y l h e p = absurd (omega arith)
 each_place f g (a ∷ xs) (b ∷ ys) x y l h e zero = h zero
 each_place f g (a ∷ xs) (b ∷ ys) x y l h e (suc p) = each_place f g xs ys x y (omega arith) (λ q. h (suc q)) e p
 
-pub indexes_more : (symbols some : List Symbol) (i : ℕ) (s : Symbol) (index : Index) (old : List Index) → i < length some →
-    s ≡ get_or some i s
-    → IsNameIndex symbols s.members.items index → AreNameIndexes symbols (take i some) old
-    → AreNameIndexes symbols (take (i + 1) some) (old ++ index ∷ [])
-indexes_more symbols some i s index old lt read one h =
-    let longer : take (i + 1) some ≡ take i some ++ s ∷ [] = take_more some i s lt
-    ∙ ap (λ (x : Symbol). take i some ++ x ∷ []) (sym read) in
-    subst (λ (xs : List Symbol). AreNameIndexes symbols xs (old ++ index ∷ [])) (sym longer) (record {
-      each = length-append old (index ∷ []) ∙ (ap (λ n. n + 1) h.each ∙ sym (length-append (take i some) (s ∷ [])));
-      says = λ place name.
-          each_place (export_named name) (λ x. first_named symbols name x.members.items) old (take i some) index s h.each
-          (λ p. h.says p name) (one.says name) place;
-    })
-
 -- ---- what is found
 
 -- what `get` lends
@@ -106,18 +93,16 @@ pub item_at : {X : Type 0} (xs : List X) (i : ℕ) (r : Option (Bor X)) → IsIt
 item_at xs i None h = sym (slice_get_past xs i h.3)
 item_at xs i (Some y) h = ap Some h.1 ∙ sym (slice_get-get_or xs i y.now h.3.0)
 
-found_at : (symbols : List Symbol) (indexes : List Index) (name : List ℕ) (o : Option Symbol) (p : Option ℕ) → IsFound symbols o p
-    → AreNameIndexes symbols symbols indexes
-    → option_and_then (λ i. option_and_then (export_named name) (slice_get indexes i)) p ≡ named_member symbols name o
-found_at symbols indexes name None None found h = refl
-found_at symbols indexes name None (Some i) found h = absurd found
-found_at symbols indexes name (Some s) None found h = absurd found
-found_at symbols indexes name (Some s) (Some i) found h = h.says i name ∙ ap (λ o. named_member symbols name o) found
+found_at : (symbols : List Symbol) (m : MemberIndexes) (name : List ℕ) (o : Option Symbol) (p : Option ℕ) → IsFound symbols o p
+    → AreMembersOf symbols m → option_and_then (member_at m name) p ≡ named_member symbols name o
+found_at symbols m name None None found h = refl
+found_at symbols m name None (Some i) found h = absurd found
+found_at symbols m name (Some s) None found h = absurd found
+found_at symbols m name (Some s) (Some i) found h = h.says i name ∙ ap (λ o. named_member symbols name o) found
 
 -- the member of a name, by the place of its symbol
-pub found_by_place : (symbols : List Symbol) (indexes : List Index) (id : SymbolId) (name : List ℕ) (p : Option ℕ) → place_of id symbols ≡ p
-    → AreNameIndexes symbols symbols indexes
-    → option_and_then (λ i. option_and_then (export_named name) (slice_get indexes i)) p ≡ named_member symbols name (symbol_of id symbols)
-found_by_place symbols indexes id name p is h =
-    found_at symbols indexes name (symbol_of id symbols) p
+pub found_by_place : (symbols : List Symbol) (m : MemberIndexes) (id : SymbolId) (name : List ℕ) (p : Option ℕ) → place_of id symbols ≡ p
+    → AreMembersOf symbols m → option_and_then (member_at m name) p ≡ named_member symbols name (symbol_of id symbols)
+found_by_place symbols m id name p is h =
+    found_at symbols m name (symbol_of id symbols) p
     (subst (λ (q : Option ℕ). IsFound symbols (symbol_of id symbols) q) is (last_found (has_id id) symbols)) h

@@ -8,10 +8,10 @@ use Rattle.std.specs.Cmp.{unsigned_Decides}
 use Rattle.std.proofs.lemmas.List.Folds.{list_any-append}
 use Rattle.std.proofs.lemmas.List.Elements.{Contains-push, Contains-append_left, Contains-append_right}
 
-first_of : {X : Type 0} (x : X) (xs : List X) → Contains (x ∷ xs) x
+pub first_of : {X : Type 0} (x : X) (xs : List X) → Contains (x ∷ xs) x
 first_of x xs = Contains-append_left (x ∷ []) xs x (Contains-push [] x)
 
-later_of : {X : Type 0} (x y : X) (xs : List X) → Contains xs y → Contains (x ∷ xs) y
+pub later_of : {X : Type 0} (x y : X) (xs : List X) → Contains xs y → Contains (x ∷ xs) y
 later_of x y xs h = Contains-append_right (x ∷ []) xs y h
 
 -- some item passes

@@ -1,6 +1,7 @@
 pub mod Exports
 pub mod Entries
 pub mod Decls
+pub mod DeclFlags
 pub mod Symbols
 pub mod Places
 pub mod NamePlaces

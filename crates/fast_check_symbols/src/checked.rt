@@ -3,10 +3,9 @@ ghost use Rattle.std.specs.Prelude.{◌≡◌, IfOk, IfErr, OnOk, Some};
 ghost use Rattle.std.specs.Option.{option_copied};
 
 use crate::entries::map_of;
-use crate::exports::SymbolExports;
 use crate::fault::TableFault;
 use crate::faults::{lacks_declaration, misses_symbol};
-use crate::members::member_indexes;
+use crate::members::MemberIndexes;
 use crate::symbol::Symbol;
 use crate::symbol_id::SymbolId;
 use crate::table::SymbolTable;
@@ -21,8 +20,8 @@ use url::Url;
 #[derive(Drop)]
 pub struct CheckedTables {
     symbols: SymbolTable,
-    /// The members of each symbol by their names, in the order of the symbols.
-    members: Vec<SymbolExports>,
+    /// The members of each symbol by their names.
+    members: MemberIndexes,
     module_symbol: SymbolId,
     swc_ids: BTreeMap<Id, SymbolId>,
     re_export_all_nodes: Vec<ReExportAllNode>,
@@ -31,7 +30,7 @@ pub struct CheckedTables {
 
 impl Model for CheckedTables {
     ghost use Rattle.fast_check_symbols.specs.Tables.{Tables, answered_names};
-    ghost use Rattle.fast_check_symbols.specs.Members.{AreNameIndexes};
+    ghost use Rattle.fast_check_symbols.specs.Members.{AreMembersOf};
 
     ghost Value = { Tables };
 
@@ -43,7 +42,7 @@ impl Model for CheckedTables {
       resolved = answered_names t.resolved_exports.entries;
     } };
 
-    ghost invariant = { λ t. AreNameIndexes t.symbols t.symbols t.members.items };
+    ghost invariant = { λ t. AreMembersOf t.symbols t.members };
 }
 
 impl CheckedTables {
@@ -72,7 +71,7 @@ impl CheckedTables {
         if lacks_declaration(module_symbol, symbols.as_slice()) {
             return Err(TableFault::SymbolWithoutDecl);
         }
-        let members = member_indexes(alloc, &symbols)?;
+        let members = MemberIndexes::of(alloc, &symbols)?;
         let swc_ids = map_of(alloc, swc_ids)?;
         let resolved_exports = map_of(alloc, resolved_exports)?;
         Ok(CheckedTables {
@@ -111,8 +110,7 @@ impl CheckedTables {
         ensures { result ≡ named_member self.now.symbols name.now (symbol_of id self.now.symbols) }
     {
         let place = self.symbols.place(id)?;
-        let index = self.members.get(place)?;
-        index.get(name)
+        self.members.get(place, name)
     }
 
     /// The symbol of a resolved identifier.

@@ -35,7 +35,8 @@ pub struct SymbolDecl {
 }
 
 impl SymbolDecl {
-    ghost use Rattle.fast_check_symbols.specs.Decls.{decl_has_export_keyword, decl_is_plain_class};
+    ghost use Rattle.fast_check_symbols.specs.Decls.{decl_has_export_keyword, decl_is_plain_class, is_class_decl, is_closed_decl, is_alias};
+    ghost use Rattle.fast_check_symbols.specs.Decls.{is_exported_value, is_exported_type};
 
     /// Whether it stands behind the keyword `export`.
     pub fn has_export_keyword(&self) -> bool
@@ -55,5 +56,46 @@ impl SymbolDecl {
             SymbolDeclKind::Definition(Some(node)) => node.is_plain_class_decl,
             _ => false,
         }
+    }
+
+    /// Whether it is of a class.
+    pub fn is_class(&self) -> bool
+        ensures { result ≡ is_class_decl self.now }
+    {
+        match &self.kind {
+            SymbolDeclKind::Definition(Some(node)) => node.is_class,
+            _ => false,
+        }
+    }
+
+    /// Whether it is of a class or a namespace, which have no more names than they list.
+    pub fn is_closed(&self) -> bool
+        ensures { result ≡ is_closed_decl self.now }
+    {
+        match &self.kind {
+            SymbolDeclKind::Definition(Some(node)) => node.is_closed(),
+            _ => false,
+        }
+    }
+
+    /// Whether it stands for something else: another symbol, a part of one, or what a file exports.
+    pub fn is_alias(&self) -> bool
+        ensures { result ≡ is_alias self.now.kind }
+    {
+        !matches!(&self.kind, SymbolDeclKind::Definition(_))
+    }
+
+    /// Whether it stands behind the keyword `export` and binds the name as a value.
+    pub fn is_exported_value(&self) -> bool
+        ensures { result ≡ is_exported_value self.now }
+    {
+        self.has_export_keyword() && self.value
+    }
+
+    /// Whether it stands behind the keyword `export` and binds the name as a type.
+    pub fn is_exported_type(&self) -> bool
+        ensures { result ≡ is_exported_type self.now }
+    {
+        self.has_export_keyword() && self.type_
     }
 }

@@ -110,5 +110,5 @@ pub fn lacks_declaration(module_symbol: SymbolId, symbols: &[Symbol]) -> bool
 fn symbol_lacks_declaration(module_symbol: SymbolId, symbol: &Symbol) -> bool
     ensures { result ≡ lacks_declaration module_symbol symbol.now }
 {
-    symbol.decls.is_empty() && (module_symbol != symbol.id || symbol.is_private_member)
+    symbol.decls.as_slice().is_empty() && (module_symbol != symbol.id || symbol.is_private_member)
 }

@@ -4,6 +4,7 @@
 
 mod checked;
 mod decl;
+mod decls;
 mod entries;
 mod exports;
 mod fault;
@@ -18,6 +19,7 @@ mod tables;
 
 pub use checked::CheckedTables;
 pub use decl::{SymbolDecl, SymbolDeclKind};
+pub use decls::SymbolDecls;
 pub use entries::map_of;
 pub use exports::SymbolExports;
 pub use fault::TableFault;

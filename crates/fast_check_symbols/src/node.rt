@@ -1,4 +1,6 @@
 //! What a declaration depends on.
+ghost use Rattle.std.specs.Prelude.{◌≡◌};
+
 use fast_check_syntax::Id;
 
 /// In which of TypeScript's two namespaces a name is referred to.
@@ -40,4 +42,15 @@ pub struct SymbolNode {
     pub is_plain_class_decl: bool,
     pub has_export_keyword: bool,
     pub deps: Vec<SymbolNodeDep>,
+}
+
+impl SymbolNode {
+    ghost use Rattle.fast_check_symbols.specs.Decls.{is_closed_node};
+
+    /// Whether it is of a class or a namespace, which have no more names than they list.
+    pub fn is_closed(&self) -> bool
+        ensures { result ≡ is_closed_node self.now }
+    {
+        self.is_class || self.is_ts_namespace || self.is_default_class_expr
+    }
 }

@@ -1,7 +1,7 @@
 //! A symbol of a module.
 ghost use Rattle.std.specs.Prelude.{◌≡◌};
 
-use crate::decl::SymbolDecl;
+use crate::decls::SymbolDecls;
 use crate::exports::SymbolExports;
 use crate::symbol_id::SymbolId;
 
@@ -17,7 +17,7 @@ pub struct Symbol {
     pub qualified_name: Option<String>,
     pub exports: SymbolExports,
     pub members: Vec<SymbolId>,
-    pub decls: Vec<SymbolDecl>,
+    pub decls: SymbolDecls,
 }
 
 impl Symbol {
@@ -27,13 +27,13 @@ impl Symbol {
     pub fn has_export_keyword(&self) -> bool
         ensures { result ≡ has_export_keyword self.now }
     {
-        self.decls.iter().any(|decl| decl.has_export_keyword())
+        self.decls.has_export_keyword()
     }
 
     /// Whether one of its declarations is of a class without type parameters.
     pub fn is_plain_class(&self) -> bool
         ensures { result ≡ is_plain_class self.now }
     {
-        self.decls.iter().any(|decl| decl.is_plain_class())
+        self.decls.is_plain_class()
     }
 }

@@ -5,8 +5,8 @@
 pub use fast_check_graph::{AnyModuleInfo, Module, ModuleGraph, RootSymbol};
 pub use fast_check_modules::{
     CheckedTables, EsModuleInfo, FileDepName, JsonModuleInfo, ModuleTables, ReExportAllNode,
-    ReferenceNamespace, Symbol, SymbolDecl, SymbolDeclKind, SymbolDep, SymbolExports, SymbolId,
-    SymbolNode, SymbolNodeDep, TableFault,
+    ReferenceNamespace, Symbol, SymbolDecl, SymbolDeclKind, SymbolDecls, SymbolDep, SymbolExports,
+    SymbolId, SymbolNode, SymbolNodeDep, TableFault,
 };
 pub use fast_check_packages::{JsrUrlProvider, PackageNv, WorkspaceMember};
 pub use fast_check_parsed_source::{MediaType, ModuleSpecifier, ParsedSource};

@@ -2,7 +2,8 @@
 
 use crate::hello::source::MODULE;
 use fast_check::tables::{
-    ModuleTables, Symbol, SymbolDecl, SymbolDeclKind, SymbolExports, SymbolId, SymbolNode,
+    ModuleTables, Symbol, SymbolDecl, SymbolDeclKind, SymbolDecls, SymbolExports, SymbolId,
+    SymbolNode,
 };
 use fast_check::tree::{Atom, Id, SourceRange};
 use std::alloc::{AllocError, Global};
@@ -22,7 +23,7 @@ fn symbol(alloc: Global, id: SymbolId) -> Symbol {
         qualified_name: None,
         exports: SymbolExports::new(alloc),
         members: Vec::new(alloc),
-        decls: Vec::new(alloc),
+        decls: SymbolDecls::new(Vec::new(alloc)),
     }
 }
 
@@ -65,7 +66,7 @@ fn hello_symbol(alloc: Global, range: SourceRange) -> Result<Symbol, AllocError>
         parent_id: Some(ROOT),
         maybe_name: Some(name),
         qualified_name: Some(qualified_name),
-        decls,
+        decls: SymbolDecls::new(decls),
         ..symbol(alloc, HELLO)
     })
 }

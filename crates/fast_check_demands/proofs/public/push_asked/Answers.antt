@@ -9,6 +9,6 @@ pub returns-in-Path : goal.returns-in-Path
 returns-in-Path c = on_ok_weaker c.push_all.result
     (λ e. adds_all (asked_ranges c.args.tables.now (asked_of c.args.demand.ask) c.args.symbol.now) c.args.out.now.items
     c.push_all.new.out.items
-    (e ∙ (ap (λ ds. c.args.out.now.items ++ decl_ranges ds) c.as_slice.ensures.value ∙
+    (e ∙ (ap (λ ds. c.args.out.now.items ++ decl_ranges ds) c.as_slice.ensures ∙
     ap (λ a. c.args.out.now.items ++ asked_ranges c.args.tables.now (asked_of a) c.args.symbol.now) (sym c.in-Path.is))))
     c.push_all.ensures

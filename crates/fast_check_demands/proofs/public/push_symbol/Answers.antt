@@ -19,5 +19,5 @@ returns c =
     (λ a. adds_as (own ++ properties) (symbol_ranges c.args.tables.now n s) first third
     (ap (λ b. cond b [] (own ++ properties)) (sym c.if-symbol.false))
     (adds_both own properties first second third
-    (adds_all own first second (rw c.as_slice.ensures.value at c.in_ok-push_bound.ensures)) a))
+    (adds_all own first second (rw c.as_slice.ensures at c.in_ok-push_bound.ensures)) a))
     c.push_properties.ensures

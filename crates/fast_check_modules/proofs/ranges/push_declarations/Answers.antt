@@ -9,7 +9,7 @@ loop-symbol-preserved c =
     (λ (s : Symbol). map
     (λ d. d.range) s.decls.items) c.args.symbols.now c.loop-symbol.symbol-index c.symbol-item.result c.args.out.now.items
     c.loop-symbol-test.true c.symbol-item.is c.loop-symbol.invariant
-    (c.in_ok-push_decls.ensures ∙ ap (λ ds. c.loop-symbol.out.items ++ map (λ d. d.range) ds) c.deref.ensures.value)
+    (c.in_ok-push_decls.ensures ∙ ap (λ ds. c.loop-symbol.out.items ++ map (λ d. d.range) ds) c.as_slice.ensures)
 
 pub returns : goal.returns
 returns c =

@@ -50,11 +50,11 @@ returns c =
     let members = reads_seen _ (λ (v : Vec SymbolId Global). v.items) _ _ (λ v. map_same _ v.items (λ _. refl)) c.read_list.ensures in
     let lists = both_reads _ _ _ _ _ _ _ c.both-lists.ensures members c.read_list_by.ensures in
     let rest = both_reads _ _ _ _ _ _ _ c.both.ensures exports lists in
-    given_some _ c.in_ok-id.ensures
+    rw c.new.ensures (given_some _ c.in_ok-id.ensures
     ∙ (given_some _ (c.in_ok-parent_id.ensures ∙ ap Some (option_same c.in_ok-parent_id.parent_id))
     ∙ (given_some _ (some_of_ok _ _ _ c.in_ok-is_private_member.ensures)
     ∙ (given_five (optional as_str (codes "maybe_name") value) (optional as_str (codes "qualified_name") value)
     (or_default [] exports_of (get (codes "exports") value)) (listed symbol_id_of (codes "members") value)
     (listed decl_of (codes "decls") value)
     (made c.in_ok-id.id c.in_ok-parent_id.parent_id c.in_ok-is_private_member.is_private_member)
-    ∙ map_some _ (both_reads _ _ _ _ _ _ _ c.in_ok-names.ensures names rest))))
+    ∙ map_some _ (both_reads _ _ _ _ _ _ _ c.in_ok-names.ensures names rest)))))

@@ -1,0 +1,20 @@
+-- Inner: no contract of a public call cites what stands here.
+-- What declarations say together, noted.
+use Rattle.std.specs.Prelude.{List}
+use Rattle.std.specs.List.{list_any}
+use Rattle.fast_check_symbols.specs.declared.decl.SymbolDecl.{SymbolDecl}
+use Rattle.fast_check_symbols.specs.declared.decls.DeclFlags.{DeclFlags}
+use Rattle.fast_check_symbols.specs.Decls.{decl_has_export_keyword, decl_is_plain_class, is_exported_value, is_exported_type}
+use Rattle.fast_check_symbols.specs.Decls.{has_alias, has_class, is_closed}
+
+-- each flag says whether one of the declarations is so
+abbrev pub flags_of : List SymbolDecl → DeclFlags
+flags_of decls = record {
+  has_export_keyword = list_any decl_has_export_keyword decls;
+  is_plain_class = list_any decl_is_plain_class decls;
+  is_exported_value = list_any is_exported_value decls;
+  is_exported_type = list_any is_exported_type decls;
+  has_alias = has_alias decls;
+  has_class = has_class decls;
+  is_closed = is_closed decls;
+}
