@@ -8,9 +8,7 @@ ghost use Rattle.fast_check_symbol_demands.specs.Rules.{each_of, qualified, part
 
 use crate::names::is_prototype;
 use fast_check_symbol_demands::symbols::{CheckedTables, SymbolDecl, SymbolDeclKind, SymbolId};
-use fast_check_symbol_demands::{
-    Demands, Extent, SymbolDemand, bound, has_alias, is_closed, push_path, push_references,
-};
+use fast_check_symbol_demands::{Demands, Extent, SymbolDemand, bound, push_path, push_references};
 use std::alloc::AllocError;
 use std::slice;
 
@@ -229,10 +227,10 @@ fn push_first<'a>(
     let Some((name, below)) = names.split_first() else {
         return Ok(());
     };
-    if is_prototype(name.as_str(), symbol.decls.as_slice()) {
+    if is_prototype(name.as_str(), &symbol.decls) {
         return push_prototype(tables, demand, below, extent, out);
     }
-    let closed = is_closed(symbol.decls.as_slice());
+    let closed = symbol.decls.is_closed();
     push_export(
         demand,
         below,
@@ -257,7 +255,7 @@ pub fn push_path_demands<'a>(
     let Some(symbol) = tables.symbol(demand.symbol) else {
         return Ok(());
     };
-    if has_alias(symbol.decls.as_slice()) {
+    if symbol.decls.has_alias() {
         push_aliases(tables, demand, names, extent, symbol.decls.as_slice(), out)
     } else {
         push_first(tables, demand, names, extent, out)

@@ -8,7 +8,7 @@ ghost use Rattle.fast_check_demands.specs.Yields.{fault_seen, fault_at as fault_
 
 use crate::names::{is_prototype, start_of};
 use fast_check_symbol_demands::symbols::{CheckedTables, Symbol, SymbolId};
-use fast_check_symbol_demands::{Ask, SymbolDemand, has_alias, is_closed, is_same};
+use fast_check_symbol_demands::{Ask, SymbolDemand, is_same};
 
 /// What is wrong with a demand.
 #[derive(Clone, Copy, Debug, PartialEq, Eq, PartialOrd, Ord)]
@@ -131,10 +131,10 @@ fn first_fault<'a>(
     match names.split_first() {
         None => None,
         Some((first, below)) => {
-            if is_prototype(first.as_str(), symbol.decls.as_slice()) {
+            if is_prototype(first.as_str(), &symbol.decls) {
                 return prototype_fault(tables, demand, names, below);
             }
-            let closed = is_closed(symbol.decls.as_slice());
+            let closed = symbol.decls.is_closed();
             export_fault(demand, names, closed, symbol.exports.get(first.as_str()))
         }
     }
@@ -149,7 +149,7 @@ fn path_fault<'a>(
         (symbol_of demand.entry.symbol tables.now.symbols) }
 {
     let symbol = tables.symbol(demand.symbol)?;
-    if has_alias(symbol.decls.as_slice()) {
+    if symbol.decls.has_alias() {
         return None;
     }
     first_fault(tables, demand, names)

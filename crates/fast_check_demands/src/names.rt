@@ -3,14 +3,13 @@ ghost use Rattle.std.specs.Prelude.{◌≡◌, string_bytes, take, ◌<◌, leng
 ghost use Rattle.fast_check_names.specs.Names.{path_of};
 ghost use Rattle.fast_check_symbol_demands.specs.Rules.{is_prototype};
 
-use fast_check_symbol_demands::has_class;
-use fast_check_symbol_demands::symbols::SymbolDecl;
+use fast_check_symbol_demands::symbols::SymbolDecls;
 
 /// Whether a name is `prototype`, of a class.
-pub fn is_prototype(name: &str, decls: &[SymbolDecl]) -> bool
-    ensures { result ≡ is_prototype name.now decls.now }
+pub fn is_prototype(name: &str, decls: &SymbolDecls) -> bool
+    ensures { result ≡ is_prototype name.now decls.now.items }
 {
-    name == "prototype" && has_class(decls)
+    name == "prototype" && decls.has_class()
 }
 
 /// The first of these names, so many of them, or all if there are fewer.

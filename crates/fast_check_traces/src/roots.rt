@@ -9,17 +9,18 @@ ghost use Rattle.fast_check_demands.specs.Rules.{each_of, reference};
 ghost use Rattle.fast_check_traces.specs.Roots.{is_exported_in, references_as, exported_as, export_whole, star_export, star_roots, path_roots, roots};
 
 use crate::modules::own_export;
-use fast_check_demands::{Ask, CheckedTables, Demands, Extent, Namespace, SymbolDemand, binds};
+use fast_check_demands::{Ask, CheckedTables, Demands, Extent, Namespace, SymbolDemand};
 use fast_check_name_demands::NameDemand;
-use fast_check_symbols::{Symbol, SymbolDecl, SymbolExports, SymbolId};
+use fast_check_symbols::{Symbol, SymbolDecls, SymbolExports, SymbolId};
 use std::alloc::{AllocError, Global};
 
-fn is_exported_in(decls: &[SymbolDecl], namespace: Namespace) -> bool
-    ensures { result ≡ is_exported_in decls.now namespace }
+fn is_exported_in(decls: &SymbolDecls, namespace: Namespace) -> bool
+    ensures { result ≡ is_exported_in decls.now.items namespace }
 {
-    decls
-        .iter()
-        .any(|decl| decl.has_export_keyword() && binds(decl, namespace))
+    match namespace {
+        Namespace::Value => decls.is_exported_value(),
+        Namespace::Type_ => decls.is_exported_type(),
+    }
 }
 
 fn push_reference(
@@ -67,9 +68,8 @@ fn push_exported(
     match symbol {
         None => push_references_as(tables, id, true, true, out),
         Some(symbol) => {
-            let decls = symbol.decls.as_slice();
-            let as_value = is_exported_in(decls, Namespace::Value);
-            let as_type = is_exported_in(decls, Namespace::Type_);
+            let as_value = is_exported_in(&symbol.decls, Namespace::Value);
+            let as_type = is_exported_in(&symbol.decls, Namespace::Type_);
             push_references_as(tables, id, as_value, as_type, out)
         }
     }
