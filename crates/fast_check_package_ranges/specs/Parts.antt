@@ -1,5 +1,5 @@
 -- What is known of packages while their findings are joined.
-use Rattle.std.specs.Prelude.{Bool, true, false, ◌&&◌, ◌||◌, List, [], ◌∷◌, Option}
+use Rattle.std.specs.Prelude.{Bool, true, false, ◌&&◌, ◌||◌, List, [], ◌∷◌, Option, Some, None}
 use Rattle.std.specs.List.{list_any}
 use Rattle.std.specs.Map.{lookup}
 use Rattle.std.specs.Str.{bytes_eq}
@@ -17,6 +17,7 @@ use Rattle.fast_check_findings.specs.Findings.{yields_of}
 use Rattle.fast_check_package_ranges.specs.declared.parts.JoinedModule.{JoinedModule}
 use Rattle.fast_check_package_ranges.specs.declared.parts.JoinedPackage.{JoinedPackage}
 use Rattle.fast_check_package_ranges.specs.declared.parts.FoundPackage.{FoundPackage}
+use Rattle.fast_check_package_ranges.specs.declared.parts.JoinedPackages.{JoinedPackages}
 use Rattle.fast_check_package_ranges.specs.Questions.{ModuleQuestion, whether_recorded, whether_public}
 use Rattle.fast_check_package_ranges.specs.Questions.{whether_implementing, whether_missing, whether_untyped_entry}
 use Rattle.fast_check_package_ranges.specs.Questions.{whether_untyped, whether_faulty, whether_otherwise_faulty}
@@ -69,6 +70,15 @@ found_says f (whether_entry_point t) = list_any (is_text t) f.entry_points.items
 found_says f (whether_dependency nv) = list_any (is_package nv) f.dependencies.items
 found_says f (whether_refused t) = false
 found_says f (about t q) = list_any (found_module_says t q) f.modules.items
+
+-- what was found last, of one package, if anything was
+abbrev pub last_says : Option (PackageNv × FoundPackage) → Nv → Question → Bool
+last_says None nv q = false
+last_says (Some found) nv q = is_package nv found.0 && found_says found.1 q
+
+-- what was found of packages
+abbrev pub joined_say : JoinedPackages → Nv → Question → Bool
+joined_say joined nv q = packages_say joined.packages.entries nv q || last_says joined.last nv q
 
 -- the package of which something was found
 abbrev pub package_found : Finding → Nv

@@ -9,9 +9,9 @@ ghost use Rattle.fast_check_worklists.specs.Demands.{Text};
 ghost use Rattle.fast_check_findings.specs.Findings.{entry_fault};
 ghost use Rattle.fast_check_package_ranges.specs.Questions.{ModuleQuestion, Question, is_recorded, fault_says};
 ghost use Rattle.fast_check_package_ranges.specs.Parts.{is_text, module_says, packages_say, found_module_says, found_says};
-ghost use Rattle.fast_check_package_ranges.specs.Parts.{package_found, kept_in, finding_says, finding_says_of, findings_say};
+ghost use Rattle.fast_check_package_ranges.specs.Parts.{package_found, kept_in, joined_say, finding_says, finding_says_of, findings_say};
 
-use crate::parts::{FoundPackage, JoinedModule, JoinedPackage, add_package};
+use crate::parts::{FoundPackage, JoinedModule, JoinedPackage, JoinedPackages};
 use fast_check_findings::{
     EnteredPackage, EntryFault, Finding, FollowedModule, FoundModule, KeptPackage, PackageNv,
     UntypedModule,
@@ -141,26 +141,26 @@ fn one_module(
 /// Adds what was found of a package in a turn.
 fn add_finding(
     alloc: Global,
-    packages: &mut BTreeMap<PackageNv, JoinedPackage>,
+    packages: &mut JoinedPackages,
     kept: &mut Vec<KeptPackage>,
     finding: Finding,
 ) -> Result<(), AllocError>
     ensures says { OnOk result ((nv : Nv) (q : Question) →
-        packages_say packages.new.entries nv q ≡ (packages_say packages.old.entries nv q || finding_says_of nv q finding)) }
+        joined_say packages.new nv q ≡ (joined_say packages.old nv q || finding_says_of nv q finding)) }
     ensures kept { OnOk result (kept.new.items ≡ kept.old.items ++ kept_in finding) }
 {
     match finding {
         Finding::Entered(entered) => {
             let (package, found) = found_entered(alloc, entered)?;
-            add_package(alloc, packages, package, found)
+            packages.add(alloc, package, found)
         }
         Finding::Followed(followed) => {
             let (package, found) = found_followed(alloc, followed)?;
-            add_package(alloc, packages, package, found)
+            packages.add(alloc, package, found)
         }
         Finding::Untyped(untyped) => {
             let (package, found) = found_untyped(alloc, untyped)?;
-            add_package(alloc, packages, package, found)
+            packages.add(alloc, package, found)
         }
         Finding::Kept(package) => {
             kept.push(package)?;
@@ -183,10 +183,11 @@ pub fn packages_found(alloc: Global, findings: Vec<Finding>) -> Result<FoundPack
     ensures says { IfOk result (λ found. (nv : Nv) (q : Question) → packages_say found.joined.entries nv q ≡ findings_say findings.items nv q) }
     ensures kept { IfOk result (λ found. found.kept.items ≡ flat_map kept_in findings.items) }
 {
-    let mut joined = BTreeMap::new(alloc);
+    let mut packages = JoinedPackages::new(alloc);
     let mut kept = Vec::new(alloc);
     for finding in findings {
-        add_finding(alloc, &mut joined, &mut kept, finding)?;
+        add_finding(alloc, &mut packages, &mut kept, finding)?;
     }
+    let joined = packages.by_package(alloc)?;
     Ok(FoundPackages { joined, kept })
 }

@@ -1,12 +1,12 @@
 //! What was found of modules and packages, joined over the turns.
 
-ghost use Rattle.std.specs.Prelude.{◌≡◌, [], ◌&&◌, ◌||◌, OnOk};
+ghost use Rattle.std.specs.Prelude.{◌≡◌, [], ◌&&◌, ◌||◌, true, false, IfOk, OnOk};
 ghost use Rattle.std.specs.List.{list_any};
 ghost use Rattle.url.specs.Parts.{serialize};
 ghost use Rattle.fast_check_packages.specs.Package.{Nv, nv_of};
 ghost use Rattle.fast_check_worklists.specs.Demands.{Text, same_nv};
 ghost use Rattle.fast_check_package_ranges.specs.Questions.{ModuleQuestion, Question};
-ghost use Rattle.fast_check_package_ranges.specs.Parts.{is_text, module_says, modules_say, package_says, packages_say, found_module_says, found_says};
+ghost use Rattle.fast_check_package_ranges.specs.Parts.{is_text, is_package, module_says, modules_say, package_says, packages_say, found_module_says, found_says, last_says, joined_say};
 
 use fast_check_findings::FoundModule;
 use fast_check_packages::PackageNv;
@@ -68,6 +68,17 @@ pub struct FoundPackage {
     pub entry_points: Vec<Url>,
     pub modules: Vec<(Url, JoinedModule)>,
     pub dependencies: Vec<PackageNv>,
+}
+
+impl FoundPackage {
+    /// Adds what was found in a later turn.
+    fn append(&mut self, mut later: FoundPackage) -> Result<(), AllocError>
+        ensures { OnOk result ((q : Question) → found_says self.new q ≡ (found_says self.old q || found_says later q)) }
+    {
+        self.entry_points.append(&mut later.entry_points)?;
+        self.modules.append(&mut later.modules)?;
+        self.dependencies.append(&mut later.dependencies)
+    }
 }
 
 /// Adds what was found of a module.
@@ -134,7 +145,7 @@ impl JoinedPackage {
 }
 
 /// Adds what was found of a package.
-pub fn add_package(
+fn add_package(
     alloc: Global,
     packages: &mut BTreeMap<PackageNv, JoinedPackage>,
     package: PackageNv,
@@ -147,4 +158,95 @@ pub fn add_package(
         .entry(package)?
         .or_insert(JoinedPackage::new(alloc));
     parts.join(found)
+}
+
+/// Adds what was found last, if anything was.
+fn add_last(
+    alloc: Global,
+    packages: &mut BTreeMap<PackageNv, JoinedPackage>,
+    last: Option<(PackageNv, FoundPackage)>,
+) -> Result<(), AllocError>
+    ensures { OnOk result ((nv : Nv) (q : Question) →
+        packages_say packages.new.entries nv q ≡ (packages_say packages.old.entries nv q || last_says last nv q)) }
+{
+    match last {
+        Some((package, found)) => add_package(alloc, packages, package, found),
+        None => Ok(()),
+    }
+}
+
+/// The most modules of which what was found is put together before it is joined to the rest.
+const MOST_TOGETHER: usize = 16;
+
+/// Whether what is found of a package is put together with what was found last.
+fn goes_with(next: &PackageNv, last: &PackageNv, last_found: &FoundPackage) -> bool
+    ensures { result ≡ true → same_nv (nv_of last.now) (nv_of next.now) ≡ true }
+{
+    last_found.modules.len() < MOST_TOGETHER && last.cmp(next).is_eq()
+}
+
+/// Adds what was found last, unless more is found that goes with it, and answers what then was found last.
+fn add_other(
+    alloc: Global,
+    packages: &mut BTreeMap<PackageNv, JoinedPackage>,
+    last: Option<(PackageNv, FoundPackage)>,
+    package: PackageNv,
+    found: FoundPackage,
+) -> Result<(PackageNv, FoundPackage), AllocError>
+    ensures { IfOk result (λ next. (nv : Nv) (q : Question) →
+        (packages_say packages.new.entries nv q || (is_package nv next.0 && found_says next.1 q)) ≡
+        ((packages_say packages.old.entries nv q || last_says last nv q) || (is_package nv «package» && found_says found q))) }
+{
+    if let Some((last_package, mut parts)) = last {
+        if goes_with(&package, &last_package, &parts) {
+            parts.append(found)?;
+            return Ok((last_package, parts));
+        }
+        add_package(alloc, packages, last_package, parts)?;
+    }
+    Ok((package, found))
+}
+
+/// What was found of packages. What was found of one package in a few turns that follow each other is put together first, and joined to the rest at once.
+#[derive(Drop)]
+pub struct JoinedPackages {
+    packages: BTreeMap<PackageNv, JoinedPackage>,
+    last: Option<(PackageNv, FoundPackage)>,
+}
+
+impl JoinedPackages {
+    /// Nothing. It takes no memory.
+    pub fn new(alloc: Global) -> JoinedPackages
+        ensures { (nv : Nv) (q : Question) → joined_say result nv q ≡ false }
+    {
+        JoinedPackages {
+            packages: BTreeMap::new(alloc),
+            last: None,
+        }
+    }
+
+    /// Adds what was found of a package.
+    pub fn add(
+        &mut self,
+        alloc: Global,
+        package: PackageNv,
+        found: FoundPackage,
+    ) -> Result<(), AllocError>
+        ensures { OnOk result ((nv : Nv) (q : Question) →
+            joined_say self.new nv q ≡ (joined_say self.old nv q || (same_nv nv (nv_of «package») && found_says found q))) }
+    {
+        let last = self.last.take();
+        let next = add_other(alloc, &mut self.packages, last, package, found)?;
+        self.last = Some(next);
+        Ok(())
+    }
+
+    /// What was found, by package.
+    pub fn by_package(self, alloc: Global) -> Result<BTreeMap<PackageNv, JoinedPackage>, AllocError>
+        ensures { IfOk result (λ packages. (nv : Nv) (q : Question) → packages_say packages.entries nv q ≡ joined_say self nv q) }
+    {
+        let JoinedPackages { mut packages, last } = self;
+        add_last(alloc, &mut packages, last)?;
+        Ok(packages)
+    }
 }
