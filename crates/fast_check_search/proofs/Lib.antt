@@ -2,6 +2,7 @@ pub mod Same
 pub mod Each
 pub mod Inside
 pub mod Closure
+pub mod Blocks
 pub mod Numbering
 pub mod Rests
 pub mod FileRests

@@ -9,7 +9,7 @@ use fast_check_name_demands::demands::{Ask, Extent, Namespace, SymbolDemand, Sym
 #[derive(Clone, Copy)]
 pub struct NumberedDemand<'a> {
     pub demand: SymbolDemand<'a>,
-    pub path: usize,
+    pub path: u32,
 }
 
 /// What is demanded of a symbol, a path by its number.
@@ -17,7 +17,7 @@ pub struct NumberedDemand<'a> {
 pub enum DoneAsk {
     Reference(Namespace),
     Child(Namespace),
-    Path(usize, Extent),
+    Path(u32, Extent),
 }
 
 /// A demand as a set has it: all that tells it from others. No path is compared name by name.

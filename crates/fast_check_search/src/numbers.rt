@@ -1,24 +1,34 @@
 //! Paths by numbers. Paths of the same names have one number, so what is left of two paths is told apart at once, however long it is.
 
-ghost use Rattle.std.specs.Prelude.{◌≡◌, ◌≤◌, [], ◌∷◌, length, Some, IfOk, OnOk};
-ghost use Rattle.fast_check_names.specs.Names.{Name, Path, path_of};
+ghost use Rattle.std.specs.Prelude.{◌≡◌, ◌≤◌, ◌<◌, [], length, drop, Some, IfOk, OnOk};
+ghost use Rattle.fast_check_names.specs.Names.{path_of};
 ghost use Rattle.fast_check_search.specs.Numbers.{number_before, number_of, IsNumbering, Keeps, Follows};
 
 use std::alloc::{AllocError, Global};
 use std::collections::BTreeMap;
 
-/// A path by its first name and the number of the rest.
+/// The most names of a block.
+const BLOCK: usize = 8;
+
+/// A path by its first names, a block at most, and the number of the rest.
 #[derive(Clone, Copy, PartialEq, Eq, PartialOrd, Ord)]
 pub struct NamedRest<'a> {
-    pub rest: usize,
-    pub name: &'a str,
+    pub rest: u32,
+    pub names: &'a [String],
+}
+
+/// How many names of a path stand before its rest, and the number of the rest.
+#[derive(Clone, Copy)]
+pub struct FirstNames {
+    pub rest: u32,
+    pub count: u32,
 }
 
 /// A path with its number.
 #[derive(Clone, Copy)]
 pub struct NumberedPath<'a> {
     pub names: &'a [String],
-    pub number: usize,
+    pub number: u32,
 }
 
 impl<'a> NumberedPath<'a> {
@@ -34,12 +44,13 @@ impl<'a> NumberedPath<'a> {
     }
 }
 
-/// The numbers of paths. The path without names has number 0. Each other path gets the next number when it is first met, after its rest.
+/// The numbers of paths. The path without names has number 0. Another path is taken in blocks from its end, of which the first may have fewer names, and gets
+/// the next number when it is first met, after the rest behind its first block. A `u32` counts more paths than stand in memory.
 #[derive(Drop)]
 pub struct PathNumbers<'a> {
-    numbers: BTreeMap<NamedRest<'a>, usize>,
-    /// The number of the rest of each path, from number 1 on.
-    rests: Vec<usize>,
+    numbers: BTreeMap<NamedRest<'a>, u32>,
+    /// What stands before the rest of each path, from number 1 on.
+    rests: Vec<FirstNames>,
 }
 
 impl<'a> PathNumbers<'a> {
@@ -53,66 +64,77 @@ impl<'a> PathNumbers<'a> {
         }
     }
 
-    /// The number of the path that has a name before a path of this number, if it has one. None stands before the newest path.
-    fn noted(&self, rest: usize, name: &'a str) -> Option<usize>
+    /// The number of the path that has these names before a path of this number, if it has one. None stands before the newest path.
+    fn noted(&self, rest: u32, names: &'a [String]) -> Option<u32>
         requires { IsNumbering self.now }
-        ensures { result ≡ number_before self.now rest name.now }
+        ensures { result ≡ number_before self.now rest (path_of names.now) }
     {
-        if rest >= self.rests.len() {
+        if rest as usize >= self.rests.len() {
             return None;
         }
-        self.numbers.get(&NamedRest { rest, name }).copied()
+        self.numbers.get(&NamedRest { rest, names }).copied()
     }
 
-    /// The number of the path that has a name before a path of this number.
-    fn before(&mut self, rest: usize, name: &'a str) -> Result<usize, AllocError>
+    /// The number of the path that has these names before a path of this number.
+    fn before(&mut self, rest: u32, names: &'a [String]) -> Result<u32, AllocError>
         requires numbering { IsNumbering self.old }
         requires within { rest ≤ length self.old.rests.items }
+        requires short { length names.now ≤ 8 }
         ensures numbering { OnOk result (IsNumbering self.new) }
         ensures kept { OnOk result (Keeps self.old self.new) }
-        ensures number { IfOk result (λ m. number_before self.new rest name.now ≡ Some m) }
+        ensures number { IfOk result (λ m. number_before self.new rest (path_of names.now) ≡ Some m) }
     {
-        if let Some(number) = self.noted(rest, name) {
+        if let Some(number) = self.noted(rest, names) {
             return Ok(number);
         }
-        self.rests.push(rest)?;
-        let number = self.rests.len();
-        self.numbers.insert(NamedRest { rest, name }, number)?;
+        let count = names.len() as u32;
+        self.rests.push(FirstNames { rest, count })?;
+        let Ok(number) = u32::try_from(self.rests.len()) else {
+            return Err(AllocError);
+        };
+        self.numbers.insert(NamedRest { rest, names }, number)?;
         Ok(number)
     }
 
     /// The number of a path.
-    fn number(&mut self, names: &'a [String]) -> Result<usize, AllocError>
+    fn number(&mut self, names: &'a [String]) -> Result<u32, AllocError>
         requires { IsNumbering self.old }
         ensures numbering { OnOk result (IsNumbering self.new) }
         ensures kept { OnOk result (Keeps self.old self.new) }
         ensures number { IfOk result (λ m. number_of self.new (path_of names.now) ≡ Some m) }
     {
         let mut number = 0;
-        for i in 0..names.len() {
-            let name = &names[names.len() - 1 - i];
-            number = self.before(number, name.as_str())?;
+        let mut end = names.len();
+        while end > 0 {
+            let start = end.saturating_sub(BLOCK);
+            number = self.before(number, &names[start..end])?;
+            end = start;
         }
         Ok(number)
     }
 
-    /// The number of the rest of a path.
-    fn rest_of(&self, number: usize) -> usize
-        requires { IsNumbering self.now }
-        ensures { (n : Name) (p : Path) → number_of self.now (n ∷ p) ≡ Some number → number_of self.now p ≡ Some result }
+    /// The number of the rest of a path, behind its first name.
+    fn rest_of(&mut self, path: NumberedPath<'a>) -> Result<u32, AllocError>
+        requires numbering { IsNumbering self.old }
+        requires number { number_of self.old (path_of path.names.now) ≡ Some path.number }
+        requires named { 0 < length path.names.now }
+        ensures numbering { OnOk result (IsNumbering self.new) }
+        ensures kept { OnOk result (Keeps self.old self.new) }
+        ensures number { IfOk result (λ m. number_of self.new (drop 1 (path_of path.entry.names.now)) ≡ Some m) }
     {
-        if number == 0 {
-            return 0;
+        let first = self.rests[path.number as usize - 1];
+        if first.count == 1 {
+            return Ok(first.rest);
         }
-        self.rests.get(number - 1).copied().unwrap_or(0)
+        self.before(first.rest, &path.names[1..first.count as usize])
     }
 
-    /// The number of a path that follows another one. Where it is that path or its rest, its names are not read.
+    /// The number of a path that follows another one. Where it is that path or its rest, names behind the first block are not read.
     pub fn number_after(
         &mut self,
         path: NumberedPath<'a>,
         names: &'a [String],
-    ) -> Result<usize, AllocError>
+    ) -> Result<u32, AllocError>
         requires numbering { IsNumbering self.old }
         requires number { number_of self.old (path_of path.names.now) ≡ Some path.number }
         requires follows { Follows (path_of path.names.now) (path_of names.now) }
@@ -125,7 +147,7 @@ impl<'a> PathNumbers<'a> {
                 return Ok(path.number);
             }
             if names.len() + 1 == path.names.len() {
-                return Ok(self.rest_of(path.number));
+                return self.rest_of(path);
             }
         }
         self.number(names)

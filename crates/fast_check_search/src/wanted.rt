@@ -26,7 +26,7 @@ pub enum DoneNames<'a> {
     All,
     There,
     /// The number stands first, since it tells most.
-    Path(usize, Extent, &'a str),
+    Path(u32, Extent, &'a str),
 }
 
 /// A want as a set has it: all that tells it from others.
@@ -47,7 +47,7 @@ fn rest_names(names: NameDemand<'_>) -> &[String]
 }
 
 /// What tells a want from others, whose rest has this number.
-fn done_want(want: FileWant<'_>, number: usize) -> DoneWant<'_>
+fn done_want(want: FileWant<'_>, number: u32) -> DoneWant<'_>
     ensures { result ≡ want_key want.entry number }
 {
     let FileWant { specifier, names } = want;

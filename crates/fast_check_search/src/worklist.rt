@@ -78,7 +78,7 @@ impl<'a> SymbolWorklist<'a> {
     }
 
     /// Whether a demand that asks for the same was asked for.
-    fn has(&self, demand: SymbolDemand<'a>, path: usize) -> bool
+    fn has(&self, demand: SymbolDemand<'a>, path: u32) -> bool
         requires kept { IsKept self.now }
         requires number { IsNumbered self.now.paths (demand_of demand) path }
         ensures { result ≡ list_any (alike (demand_of demand.entry)) (asked self.now) }
@@ -88,7 +88,7 @@ impl<'a> SymbolWorklist<'a> {
     }
 
     /// Asks for a demand, whose path has this number, unless what it asks for was asked for before.
-    fn ask_numbered(&mut self, demand: SymbolDemand<'a>, path: usize) -> Result<(), AllocError>
+    fn ask_numbered(&mut self, demand: SymbolDemand<'a>, path: u32) -> Result<(), AllocError>
         requires kept { IsKept self.old }
         requires number { IsNumbered self.old.paths (demand_of demand) path }
         ensures kept { OnOk result (IsKept self.new) }
