@@ -395,7 +395,7 @@ def wants_of_a_long_member(n):
 
 @known(last=500)
 def references_to_a_long_url(n):
-    """Wants of a module times the bytes of its URL, which is copied for each (fast_check_sources, `push_file_at`)."""
+    """Wants of a module times the bytes of its URL, by which what was asked of it is found (fast_check_worklists, `HandledExports::add`)."""
     long = url("b" * (100 * n))
     return wants(n, url(0), long, one_name(long))
 

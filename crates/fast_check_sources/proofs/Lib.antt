@@ -1,1 +1,3 @@
 mod ExportsAsked
+mod Asking
+mod Kept

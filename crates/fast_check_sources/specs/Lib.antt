@@ -1,3 +1,4 @@
 pub mod Sources
 pub mod Exports
 pub mod Wants
+pub mod Asked

@@ -1,6 +1,7 @@
 //! What a module that is followed wants of other modules and of packages, and the package that a file belongs to.
 #![tactic(auto)]
 
+mod asked;
 mod exports;
 mod sources;
 mod wants;

@@ -28,14 +28,20 @@ use fast_check_packages::{BuildFault, JsrUrlProvider, PackageNv};
 use fast_check_worklists::{OuterWant, copy_of};
 use std::alloc::{AllocError, Global};
 use std::collections::BTreeSet;
+use std::rc::Rc;
 use url::Url;
 
 /// Adds that all names of an entry point are asked for.
-fn push_entry(nv: &PackageNv, specifier: &Url, out: &mut Vec<OuterWant>) -> Result<(), AllocError>
-    ensures { OnOk result (map want_of out.new.items ≡ map want_of out.old.items ++ entry_want (nv_of nv.now) specifier.now ∷ []) }
+fn push_entry(
+    alloc: Global,
+    shared: &Rc<PackageNv>,
+    specifier: &Url,
+    out: &mut Vec<OuterWant>,
+) -> Result<(), AllocError>
+    ensures { OnOk result (map want_of out.new.items ≡ map want_of out.old.items ++ entry_want (nv_of shared.now.value) specifier.now ∷ []) }
 {
-    let nv = nv.clone()?;
-    out.push(OuterWant::Module(nv, specifier.clone()?, ImportedExports::StarWithDefault))?;
+    let specifier = Rc::new(alloc, specifier.clone()?)?;
+    out.push(OuterWant::Module(shared.clone()?, specifier, ImportedExports::StarWithDefault))?;
     Ok(())
 }
 
@@ -47,9 +53,10 @@ fn entries_of(
 ) -> Result<Vec<OuterWant>, AllocError>
     ensures { IfOk result (λ out. map want_of out.items ≡ map (entry_want (nv_of nv.now)) entry_points.now) }
 {
+    let shared = Rc::new(alloc, copy_of(nv)?)?;
     let mut out = Vec::new(alloc);
     for specifier in entry_points {
-        push_entry(nv, specifier, &mut out)?;
+        push_entry(alloc, &shared, specifier, &mut out)?;
     }
     Ok(out)
 }
@@ -108,10 +115,10 @@ fn enter_at(
 }
 
 /// Adds that a package is asked for.
-fn push_package(nv: &PackageNv, out: &mut Vec<OuterWant>) -> Result<(), AllocError>
+fn push_package(alloc: Global, nv: &PackageNv, out: &mut Vec<OuterWant>) -> Result<(), AllocError>
     ensures { OnOk result (map want_of out.new.items ≡ map want_of out.old.items ++ to_package (nv_of nv.now) ∷ []) }
 {
-    out.push(OuterWant::Package(copy_of(nv)?))?;
+    out.push(OuterWant::Package(Rc::new(alloc, copy_of(nv)?)?))?;
     Ok(())
 }
 
@@ -121,7 +128,7 @@ fn kept_wants(alloc: Global, item: &FastCheckCacheItem) -> Result<Vec<OuterWant>
 {
     let mut out = Vec::new(alloc);
     for nv in &item.dependencies {
-        push_package(nv, &mut out)?;
+        push_package(alloc, nv, &mut out)?;
     }
     Ok(out)
 }

@@ -19,7 +19,7 @@ use fast_check_packages::{JsrUrlProvider, PackageNv};
 use fast_check_search::Found;
 use fast_check_sources::{Asker, outer_wants};
 use fast_check_traces::{Traced, TracedModule, tables_of};
-use fast_check_worklists::OuterWant;
+use fast_check_worklists::{OuterWant, copy_of};
 use std::alloc::{AllocError, Global};
 use std::rc::RcStr;
 
@@ -115,7 +115,7 @@ fn push_dependency(
 {
     match want {
         OuterWant::Package(on) => {
-            out.push(on.clone()?)?;
+            out.push(copy_of(on)?)?;
             Ok(())
         }
         OuterWant::Module(_, _, _) => Ok(()),

@@ -9,6 +9,7 @@ use Rattle.std.proofs.lemmas.List.Folds.{list_any-append}
 use Rattle.std.proofs.lemmas.List.Elements.{Contains-append_cases, Contains-append_left, Contains-append_right, Contains-push_cases}
 use Rattle.std.proofs.lemmas.List.Elements.{Contains-push}
 use Rattle.url.specs.Parts.{Parts, serialize}
+use Rattle.fast_check_packages.specs.declared.package.PackageNv.{PackageNv}
 use Rattle.fast_check_packages.specs.Package.{Nv, nv_of}
 use Rattle.fast_check_packages.specs.PackageOrder.{nv_total}
 use Rattle.fast_check_names.specs.declared.lattice.imported_exports.ImportedExports.{ImportedExports}
@@ -23,8 +24,8 @@ use Rattle.fast_check_worklists.specs.Demands.{Text, Wanted, same_nv, asked, one
 use Rattle.fast_check_worklists.specs.Demands.{of_package, of_module, of_symbol, World, Gives, Follows}
 use Rattle.fast_check_worklists.specs.Account.{Trace, Followed, Account, HasIn, Has, traces_of, Chained, step, is_of, joined, IsSymbolMet}
 use Rattle.fast_check_worklists.specs.Account.{IsCovered, IsWidening, IsAccount, IsYield}
-use Rattle.fast_check_worklists.specs.State.{want_of, State, AsksOne, AsksAll, Reached, root as reached_root, step as reached_step}
-use Rattle.fast_check_worklists.specs.State.{IsSearched, IsOuter, IsFollowed, IsEntered}
+use Rattle.fast_check_worklists.specs.State.{want_of, State, AsksModule, AsksOne, AsksAll, Reached}
+use Rattle.fast_check_worklists.specs.State.{root as reached_root, step as reached_step, IsSearched, IsOuter, IsFollowed, IsEntered}
 use Rattle.fast_check_worklists.specs.Turn.{IsOrderly, handled_at, waiting_of, IsKept, IsAsked, IsMore, IsOnTheWay}
 use Rattle.fast_check_worklists.specs.Measure.{Universe, IsUniverse}
 use Rattle.fast_check_worklists.proofs.Maps.{split_in, first_in, rest_in, none_in, only_in}
@@ -78,21 +79,10 @@ module _ (world : World) (roots : List Nv) (u : Universe) (is_universe : IsUnive
     pub falls : Falls u a b
 
   module _ (home : Text → Option Nv) (done : List Trace) where
-    one_want : (s : OuterWant) (a b : State) → IsKept world roots home done a → IsFair home (want_of s) → AsksOne s a b →
-        IsAfter home done a b (want_of s ∷ [])
-    one_want (PackageWant nv) a b kept fair asks = record {
-      kept = kept_package world roots home done a b kept nv asks fair;
-      more = more_package world roots home done a b kept nv asks fair;
-      asked = λ w c e g. subst (λ (v : Want). Gives v e → IsAsked b e) (only_in (to_package (nv_of nv)) w c) (by_package e) g;
-      falls = falls_package u nv a b asks;
-    }
-      where
-        by_package : (e : Demand) → Gives (to_package (nv_of nv)) e → IsAsked b e
-        by_package (of_package p) g = subst (λ (q : Nv). list_any (same_nv q) b.packages ≡ true) g
-            (asked_package world roots home done a b kept nv asks fair same_self)
-        by_package (of_module p t d) g = absurd g
-        by_package (of_symbol p t d) g = absurd g
-    one_want (ModuleWant nv url x) a b kept fair asks = record {
+    one_module : (nv : PackageNv) (url : Parts) (x : ImportedExports) (a b : State) → IsKept world roots home done a →
+        IsFair home (to_module (nv_of nv) (serialize url) (asked x)) → AsksModule nv url x a b →
+        IsAfter home done a b (to_module (nv_of nv) (serialize url) (asked x) ∷ [])
+    one_module nv url x a b kept fair asks = record {
       kept = kept_module world roots home done a b kept nv url x asks fair.0 homely;
       more = more_module world roots home done a b kept nv url x asks fair.0 homely;
       asked = λ w c e g. subst (λ (v : Want). Gives v e → IsAsked b e) (only_in (to_module (nv_of nv) (serialize url) (asked x)) w c)
@@ -109,6 +99,25 @@ module _ (world : World) (roots : List Nv) (u : Universe) (is_universe : IsUnive
         by_module (of_module p t d) g =
             let m = asked_module world roots home done a b kept nv url x asks fair.0 homely in
             (m.0, ap (handled_at b) (sym g.1) ∙ m.1, λ part r h. m.2 part r (one_in x d g.2 part r h))
+
+    one_want : (s : OuterWant) (a b : State) → IsKept world roots home done a → IsFair home (want_of s) → AsksOne s a b →
+        IsAfter home done a b (want_of s ∷ [])
+    one_want (PackageWant nv) a b kept fair asks = record {
+      kept = kept_package world roots home done a b kept nv.value asks fair;
+      more = more_package world roots home done a b kept nv.value asks fair;
+      asked = λ w c e g. subst (λ (v : Want). Gives v e → IsAsked b e) (only_in (to_package (nv_of nv.value)) w c) (by_package e) g;
+      falls = falls_package u nv.value a b asks;
+    }
+      where
+        by_package : (e : Demand) → Gives (to_package (nv_of nv.value)) e → IsAsked b e
+        by_package (of_package p) g = subst (λ (q : Nv). list_any (same_nv q) b.packages ≡ true) g
+            (asked_package world roots home done a b kept nv.value asks fair same_self)
+        by_package (of_module p t d) g = absurd g
+        by_package (of_symbol p t d) g = absurd g
+    one_want (ModuleWant nv url x) a b kept fair asks =
+        subst (λ (p : Nv). IsFair home (to_module p (serialize url.value) (asked x)) →
+        IsAfter home done a b (to_module p (serialize url.value) (asked x) ∷ []))
+        asks.1 (λ f. one_module asks.0 url.value x a b kept f asks.2) fair
 
     all_wants : (outer : List OuterWant) (a b : State) → IsKept world roots home done a →
         ((w : Want) → Contains (map want_of outer) w → IsFair home w) →

@@ -18,8 +18,8 @@ use Rattle.fast_check_worklists.specs.Demands.{of_package, of_module, of_symbol,
 use Rattle.fast_check_worklists.specs.Account.{Trace, Followed, HasIn, IsSymbolMet}
 
 abbrev pub want_of : OuterWant → Want
-want_of (Package nv) = to_package (nv_of nv)
-want_of (Module nv url x) = to_module (nv_of nv) (serialize url) (asked x)
+want_of (Package nv) = to_package (nv_of nv.value)
+want_of (Module nv url x) = to_module (nv_of nv.value) (serialize url.value) (asked x)
 
 -- what was asked of each module, what waits, and the packages
 pub record State : Type 0 where
@@ -49,12 +49,16 @@ AsksModule nv url x a b =
     ((answer : Option ImportedExports) × Handles a.handled url x answer b.handled ×
     WaitsFor nv url answer a.waiting b.waiting)
 
+-- under some value of this package
+abbrev pub AsksModuleFor : Nv → Parts → ImportedExports → State → State → Type 0
+AsksModuleFor nv url x a b = (held : PackageNv) × (nv_of held ≡ nv) × AsksModule held url x a b
+
 abbrev pub AsksPackage : PackageNv → State → State → Type 0
 AsksPackage nv a b = (b.handled ≡ a.handled) × (b.waiting ≡ a.waiting) × AddsPackage (nv_of nv) a.packages b.packages
 
 abbrev pub AsksOne : OuterWant → State → State → Type 0
-AsksOne (Package nv) a b = AsksPackage nv a b
-AsksOne (Module nv url x) a b = AsksModule nv url x a b
+AsksOne (Package nv) a b = AsksPackage nv.value a b
+AsksOne (Module nv url x) a b = AsksModuleFor (nv_of nv.value) url.value x a b
 
 -- each of these wants in turn
 abbrev pub AsksAll : List OuterWant → State → State → Type 0

@@ -2,7 +2,7 @@
 ghost use Rattle.std.specs.Prelude.{◌≡◌, map, OnOk, IfOk};
 ghost use Rattle.fast_check_packages.specs.Package.{nv_of};
 ghost use Rattle.fast_check_worklists.specs.Demands.{same_nv};
-ghost use Rattle.fast_check_worklists.specs.State.{state_of, AsksModule, AsksPackage, AsksOne, AsksAll};
+ghost use Rattle.fast_check_worklists.specs.State.{state_of, AsksModuleFor, AsksPackage, AsksOne, AsksAll};
 ghost use Rattle.fast_check_worklists.specs.Turn.{IsBegun};
 
 use crate::module_maps::{HandledExports, PendingTraces};
@@ -11,15 +11,16 @@ use fast_check_packages::PackageNv;
 use indexmap::IndexSet;
 use std::alloc::{AllocError, Global};
 use std::cmp::Ordering;
+use std::rc::Rc;
 use url::Url;
 
-/// What is asked for next.
+/// What is asked for next. Names of packages and URLs may be long, and many wants share them.
 #[derive(Drop)]
 pub enum OuterWant {
     /// A package, on which the one that asks depends.
-    Package(PackageNv),
+    Package(Rc<PackageNv>),
     /// Names of a module, for a package.
-    Module(PackageNv, Url, ImportedExports),
+    Module(Rc<PackageNv>, Rc<Url>, ImportedExports),
 }
 
 /// What was asked for: of each module so far, what of it waits, and the packages in the order in which they came.
@@ -32,10 +33,12 @@ pub struct Worklist {
 
 impl Worklist {
     /// Asks for a package, once.
-    fn ask_package(&mut self, nv: PackageNv) -> Result<(), AllocError>
-        ensures { OnOk result (AsksPackage nv (state_of self.old) (state_of self.new)) }
+    fn ask_package(&mut self, nv: &PackageNv) -> Result<(), AllocError>
+        ensures { OnOk result (AsksPackage nv.now (state_of self.old) (state_of self.new)) }
     {
-        self.packages.insert(nv)?;
+        if !self.packages.contains(nv) {
+            self.packages.insert(copy_of(nv)?)?;
+        }
         Ok(())
     }
 
@@ -43,14 +46,14 @@ impl Worklist {
     fn ask_module(
         &mut self,
         alloc: Global,
-        nv: PackageNv,
-        specifier: Url,
+        nv: &PackageNv,
+        specifier: &Url,
         exports: ImportedExports,
     ) -> Result<(), AllocError>
-        ensures { OnOk result (AsksModule nv specifier exports (state_of self.old) (state_of self.new)) }
+        ensures { OnOk result (AsksModuleFor (nv_of nv.now) specifier.now exports (state_of self.old) (state_of self.new)) }
     {
-        if let Some(new) = self.handled.add(alloc, &specifier, exports)? {
-            self.waiting.add(alloc, nv, specifier, new)?;
+        if let Some(new) = self.handled.add(alloc, specifier, exports)? {
+            self.waiting.add_copies(alloc, nv, specifier, new)?;
         }
         Ok(())
     }
@@ -59,9 +62,9 @@ impl Worklist {
         ensures { OnOk result (AsksOne want (state_of self.old) (state_of self.new)) }
     {
         match want {
-            OuterWant::Package(nv) => self.ask_package(nv),
+            OuterWant::Package(nv) => self.ask_package(&nv),
             OuterWant::Module(nv, specifier, exports) => self.ask_module(
-                alloc, nv, specifier, exports,
+                alloc, &nv, &specifier, exports,
             ),
         }
     }
@@ -101,7 +104,7 @@ pub fn begin(alloc: Global, roots: &[PackageNv]) -> Result<Worklist, AllocError>
         packages: IndexSet::new(alloc),
     };
     for nv in roots {
-        worklist.ask_package(copy_of(nv)?)?;
+        worklist.ask_package(nv)?;
     }
     Ok(worklist)
 }

@@ -1,4 +1,4 @@
-use Rattle.std.proofs.Common.{arith, ◌≡◌, ◌∷◌, ◌∙◌, ℕ, ◌+◌, ◌-◌, ◌<◌, ap, sym, drop, length, List, String, string_bytes}
+use Rattle.std.proofs.Common.{arith, ◌≡◌, ◌∷◌, ◌∙◌, ℕ, ◌+◌, ◌-◌, ◌<◌, ap, sym, drop, length, String, string_bytes}
 use Rattle.std.proofs.lemmas.List.{drop_more}
 use Rattle.std.specs.declared.alloc.Global.{Global}
 use Rattle.fast_check_names.specs.Names.{path_of, paths_below}

@@ -5,13 +5,13 @@ use Rattle.fast_check_traces.specs.Wants.{want_of as want_seen}
 use Rattle.fast_check_worklists.specs.State.{want_of}
 use Rattle.fast_check_sources.specs.Sources.{known}
 use Rattle.fast_check_sources.specs.Wants.{left_wants}
+use Rattle.fast_check_sources.specs.Asked.{AreKept}
 use Rattle.fast_check_sources.proofs.wants.push_wants.Given as goal
 
 abbrev pub invariant-loop-want : goal.invariant-loop-want
 invariant-loop-want g l =
     let m = goal.JsrUrlProvider-dyn g l.provider.now in
-    map want_of l.out.items ≡ map want_of l.initial.out.items
-    ++ flat_map
-    (left_wants (known l.asker.sources (m.url_of l.provider.now.1) (m.nv_at l.provider.now.1))
-    (nv_of l.asker.package.now) l.asker.traced)
-    (map want_seen (take l.want-index l.wants))
+    let k = known l.asker.sources (m.url_of l.provider.now.1) (m.nv_at l.provider.now.1) in
+    (map want_of l.out.items ≡ map want_of l.initial.out.items
+    ++ flat_map (left_wants k (nv_of l.asker.package.now) l.asker.traced) (map want_seen (take l.want-index l.wants)))
+    × AreKept k.owner (nv_of l.asker.package.now) l.asker.traced l.kept
