@@ -1,23 +1,24 @@
 //! The turns of the finder, until nothing waits.
 
-ghost use Rattle.std.specs.Prelude.{◌≡◌, [], Some, map, OnOk, IfOk, IfErr};
+ghost use Rattle.std.specs.Prelude.{◌≡◌, List, [], Some, map, OnOk, IfOk, IfErr};
 ghost use Rattle.std.specs.List.{flat_map};
 ghost use Rattle.fast_check_packages.specs.Package.{nv_of};
 ghost use Rattle.fast_check_cache.specs.CachedPackages.{used_item};
 ghost use Rattle.fast_check_worklists.specs.Traces.{pending};
-ghost use Rattle.fast_check_worklists.specs.Account.{Account, IsAccount, IsYield};
+ghost use Rattle.fast_check_worklists.specs.Account.{Followed, Account, IsAccount, IsYield};
 ghost use Rattle.fast_check_worklists.specs.State.{state_of};
-ghost use Rattle.fast_check_worklists.specs.Turn.{IsTurn};
+ghost use Rattle.fast_check_worklists.specs.Turn.{IsEntryTurn, IsTurn};
 ghost use Rattle.fast_check_findings.specs.Findings.{yields_of};
 ghost use Rattle.fast_check_turns.specs.wants.Sources.{known, with_used};
 ghost use Rattle.fast_check_turns.specs.Lent.{used_of};
 ghost use Rattle.fast_check_turns.specs.Rules.{world};
+ghost use Rattle.fast_check_turns.specs.Searches.{AreFollowed};
 ghost use Rattle.fast_check_turns.specs.Yields.{gives};
 ghost use Rattle.fast_check_finder.specs.Refusals.{IsRefusal, IsRefusedOf, JoinAll};
 
 use fast_check_cache::FastCheckCache;
 use fast_check_packages::{BuildFault, JsrUrlProvider, PackageNv};
-use fast_check_turns::{FinderInput, Finding, Progress, enter, follow};
+use fast_check_turns::{FinderInput, Finding, KeptSearches, Progress, enter, follow};
 use fast_check_worklists::{begin, copy_of};
 use std::alloc::{AllocError, Global};
 
@@ -34,7 +35,7 @@ fn enter_next(
     ensures turned { let i = input.entry in
         let used = used_of cache.entry (λ c. used_item (hash_of c.now i.seed.now) (stored c.now) i.sources.graph.now) in
         let k = with_used used (known i.sources (url_of provider.now) (nv_at provider.now)) in
-        IfOk result (IsTurn (world k) (gives k) next (state_of progress.old.worklist) (state_of progress.new.worklist)
+        IfOk result (IsEntryTurn (world k) (gives k) next (state_of progress.old.worklist) (state_of progress.new.worklist)
         (flat_map yields_of progress.old.found.items) (flat_map yields_of progress.new.found.items)) }
     ensures refused { let i = input.entry in
         let used = used_of cache.entry (λ c. used_item (hash_of c.now i.seed.now) (stored c.now) i.sources.graph.now) in
@@ -57,13 +58,15 @@ fn turn(
     provider: &dyn JsrUrlProvider,
     cache: Option<&dyn FastCheckCache>,
     next: usize,
+    searches: &mut KeptSearches,
     progress: &mut Progress,
 ) -> Result<Option<usize>, BuildFault>
     ensures turned { let i = input.entry in
         let used = used_of cache.entry (λ c. used_item (hash_of c.now i.seed.now) (stored c.now) i.sources.graph.now) in
         let k = with_used used (known i.sources (url_of provider.now) (nv_at provider.now)) in
-        IfOk result (IsTurn (world k) (gives k) next (state_of progress.old.worklist) (state_of progress.new.worklist)
-        (flat_map yields_of progress.old.found.items) (flat_map yields_of progress.new.found.items)) }
+        IfOk result (λ after. (done : List Followed) → AreFollowed done searches.old
+        → IsTurn (world k) (gives k) done (λ all. AreFollowed all searches.new) next (state_of progress.old.worklist)
+        (state_of progress.new.worklist) (flat_map yields_of progress.old.found.items) (flat_map yields_of progress.new.found.items) after) }
     ensures refused { let i = input.entry in
         let used = used_of cache.entry (λ c. used_item (hash_of c.now i.seed.now) (stored c.now) i.sources.graph.now) in
         let k = with_used used (known i.sources (url_of provider.now) (nv_at provider.now)) in
@@ -75,7 +78,7 @@ fn turn(
             Ok(after)
         }
         Some(trace) => {
-            follow(alloc, input.sources, provider, trace, progress)?;
+            follow(alloc, input.sources, provider, trace, searches, progress)?;
             Ok(Some(next))
         }
     }
@@ -109,8 +112,17 @@ pub fn find_all(
     let worklist = begin(alloc, roots)?;
     let found = Vec::new(alloc);
     let mut progress = Progress { worklist, found };
+    let mut searches = KeptSearches::new(alloc);
     let mut next = 0;
-    'turns: while let Some(after) = turn(alloc, input, provider, cache, next, &mut progress)? {
+    'turns: while let Some(after) = turn(
+        alloc,
+        input,
+        provider,
+        cache,
+        next,
+        &mut searches,
+        &mut progress,
+    )? {
         next = after;
     }
     Ok(progress.found)

@@ -11,17 +11,18 @@ use Rattle.fast_check_symbols.specs.Tables.{Tables}
 use Rattle.fast_check_name_demands.specs.demands.Demands.{Demand}
 use Rattle.fast_check_name_demands.specs.demands.Rules.{names}
 use Rattle.fast_check_name_demands.specs.demands.Yields.{ranges, Adds, implementations, faults, fault_seen}
-use Rattle.fast_check_name_demands.specs.demands.Account.{root, step, alike, referred, IsCovered, IsAccount, IsYield}
+use Rattle.fast_check_name_demands.specs.demands.Account.{root, step, alike, referred, IsCovered, IsYield}
 use Rattle.fast_check_name_demands.specs.Files.{files}
 use Rattle.fast_check_demands.proofs.Adds.{adds_all, adds_kept, adds_both}
 use Rattle.fast_check_search.specs.declared.found.Found.{Found}
 use Rattle.fast_check_search.specs.SymbolWorklist.{Grows, CoversEach}
 use Rattle.fast_check_search.specs.Found.{IsFound, Gains, IsOnTheWay}
+use Rattle.fast_check_search.specs.Searched.{IsContinued}
 use Rattle.fast_check_search.proofs.Each.{Contains_none, Contains_only}
 
 -- lists that grow
 
-any_more : {X : Type 0} (test : X → Bool) (xs more : List X) → list_any test xs ≡ true → list_any test (xs ++ more) ≡ true
+pub any_more : {X : Type 0} (test : X → Bool) (xs more : List X) → list_any test xs ≡ true → list_any test (xs ++ more) ≡ true
 any_more test xs more h = rw list_any-append (or_left (list_any test xs) (list_any test more) h)
 
 -- what was covered stays covered
@@ -49,19 +50,31 @@ grows_more asks a b c g h = record {
 grows_within : (few many a b : List Demand) → ((d : Demand) → Contains few d → Contains many d) → Grows few a b → Grows many a b
 grows_within few many a b f g = record { more = g.more; is = g.is; parts = λ x t. f x (g.parts x t) }
 
-pub grows_covers : (asks a b : List Demand) (d : Demand) → Grows asks a b → IsCovered a d → IsCovered b d
-grows_covers asks a b d g h = subst (λ (x : List Demand). IsCovered x d) (sym g.is) (covered_more a g.more d h)
+-- what is covered by the demands of a search is covered by these beside earlier ones
+pub covered_beside : (before account : List Demand) (d : Demand) → IsCovered account d → IsCovered (before ++ account) d
+covered_beside before account d h = ⊎_elim
+    (λ t. or_left (list_any (alike d) (before ++ account)) (list_any (alike (referred d)) (before ++ account)) (beside (alike d) t))
+    (λ t. or_right (list_any (alike d) (before ++ account)) (list_any (alike (referred d)) (before ++ account))
+    (beside (alike (referred d)) t))
+    (or_cases (list_any (alike d) account) (list_any (alike (referred d)) account) h)
+  where
+    beside : (test : Demand → Bool) → list_any test account ≡ true → list_any test (before ++ account) ≡ true
+    beside test t = rw list_any-append (or_right (list_any test before) (list_any test account) t)
+
+pub grows_covers : (asks before a b : List Demand) (d : Demand) → Grows asks a b → IsCovered (before ++ a) d → IsCovered (before ++ b) d
+grows_covers asks before a b d g h = subst (λ (x : List Demand). IsCovered x d)
+    (append_assoc before a g.more ∙ ap (λ x. before ++ x) (sym g.is)) (covered_more (before ++ a) g.more d h)
 
 -- one turn of a loop that asks for each of the demands
-pub asked_more : (asks a b c : List Demand) (i : ℕ) (d : Demand) → i < length asks → get_or asks i d ≡ d → Grows asks a b →
-    CoversEach (take i asks) b → Grows (d ∷ []) b c → IsCovered c d →
-    Grows asks a c × CoversEach (take (i + 1) asks) c
-asked_more asks a b c i d lt e g h more now = (
+pub asked_more : (asks before a b c : List Demand) (i : ℕ) (d : Demand) → i < length asks → get_or asks i d ≡ d → Grows asks a b →
+    CoversEach (take i asks) (before ++ b) → Grows (d ∷ []) b c → IsCovered (before ++ c) d →
+    Grows asks a c × CoversEach (take (i + 1) asks) (before ++ c)
+asked_more asks before a b c i d lt e g h more now = (
   grows_more asks a b c g
       (grows_within (d ∷ []) asks b c (λ x t. subst (Contains asks) (e ∙ Contains_only d x t) (Contains-get_or asks i d lt)) more),
   (λ x inside. ⊎_elim
-      (λ before. grows_covers (d ∷ []) b c x more (h x before))
-      (λ here. subst (λ (y : Demand). IsCovered c y) (sym e ∙ here) now)
+      (λ early. grows_covers (d ∷ []) before b c x more (h x early))
+      (λ here. subst (λ (y : Demand). IsCovered (before ++ c) y) (sym e ∙ here) now)
       (Contains-push_cases (take i asks) (get_or asks i d) x (subst (λ (y : List Demand). Contains y x) (take_more asks i d lt) inside))),
 )
 
@@ -117,10 +130,10 @@ found_more t account d old new f g = record {
   outside = yielded_more (files t) account d _ _ f.outside g.outside;
 }
 
-module _ (t : Tables) (roots : List Demand) where
+module _ (t : Tables) (roots before : List Demand) where
   -- after the first demands were asked for
-  pub begun : (asked : List Demand) (found : Found) → Grows roots [] asked → CoversEach roots asked → IsFound t [] found →
-      IsOnTheWay t roots asked 0 found
+  pub begun : (asked : List Demand) (found : Found) → Grows roots [] asked → CoversEach roots (before ++ asked) → IsFound t [] found →
+      IsOnTheWay t roots before asked 0 found
   begun asked found g h f = record {
     reached = omega arith;
     chained = λ d u. root (g.parts d (subst (λ (x : List Demand). Contains x d) g.is u));
@@ -129,11 +142,12 @@ module _ (t : Tables) (roots : List Demand) where
     found = f;
   }
 
-  module _ (asked after : List Demand) (next : ℕ) (d : Demand) (old new : Found) (w : IsOnTheWay t roots asked next old)
+  module _ (asked after : List Demand) (next : ℕ) (d : Demand) (old new : Found) (w : IsOnTheWay t roots before asked next old)
       (lt : next < length asked)
       (here : get_or asked next d ≡ d) where
     -- after the demand d, at next, was followed
-    pub turned : Grows (names t d) asked after → CoversEach (names t d) after → Gains t d old new → IsOnTheWay t roots after (next + 1) new
+    pub turned : Grows (names t d) asked after → CoversEach (names t d) (before ++ after) → Gains t d old new →
+        IsOnTheWay t roots before after (next + 1) new
     turned g h j =
         let front : take (next + 1) after ≡ take next asked ++ d ∷ [] =
         ap (λ x. take (next + 1) x) g.is ∙ (take-append-le (next + 1) asked g.more (omega (arith, lt)) ∙
@@ -143,17 +157,17 @@ module _ (t : Tables) (roots : List Demand) where
           chained = λ e u. ⊎_elim (w.chained e)
               (λ v. step (w.chained d (next, lt, here)) (g.parts e v))
               (Contains-append_cases asked g.more e (subst (λ (x : List Demand). Contains x e) g.is u));
-          has_roots = λ e r. grows_covers (names t d) asked after e g (w.has_roots e r);
+          has_roots = λ e r. grows_covers (names t d) before asked after e g (w.has_roots e r);
           closed = λ e f u v. ⊎_elim
-              (λ before. grows_covers (names t d) asked after f g (w.closed e f before v))
+              (λ early. grows_covers (names t d) before asked after f g (w.closed e f early v))
               (λ same. h f (subst (λ (x : Demand). Contains (names t x) f) (sym same) v))
               (Contains-push_cases (take next asked) d e (subst (λ (x : List Demand). Contains x e) front u));
           found = subst (λ (x : List Demand). IsFound t x new) (sym front) (found_more t (take next asked) d old new w.found j);
         }
 
   -- at the end
-  pub ended : (asked : List Demand) (next : ℕ) (found : Found) → length asked ≤ next → IsOnTheWay t roots asked next found →
-      IsAccount t roots asked ×
+  pub ended : (asked : List Demand) (next : ℕ) (found : Found) → length asked ≤ next → IsOnTheWay t roots before asked next found →
+      IsContinued t roots before asked ×
       IsFound t asked found
   ended asked next found le w =
       let all : take next asked ≡ asked = take_all next asked le in (

@@ -21,13 +21,13 @@ use Rattle.fast_check_search.specs.Numbers.{number_of, IsNumbering}
 use Rattle.fast_check_search.specs.SymbolWorklist.{demanded}
 use Rattle.fast_check_search.proofs.Numbering.{then_equal, and_same, numbers_compare, numbers_tell}
 
-namespaces_compare : (a b : Namespace) → is_eq (namespace_order.cmp-value.it a b) ≡ same_namespace a b
+pub namespaces_compare : (a b : Namespace) → is_eq (namespace_order.cmp-value.it a b) ≡ same_namespace a b
 namespaces_compare Value Value = refl
 namespaces_compare Value Type_ = refl
 namespaces_compare Type_ Value = refl
 namespaces_compare Type_ Type_ = refl
 
-extents_compare : (a b : Extent) → is_eq (extent_order.cmp-value.it a b) ≡ same_extent a b
+pub extents_compare : (a b : Extent) → is_eq (extent_order.cmp-value.it a b) ≡ same_extent a b
 extents_compare Touched Touched = refl
 extents_compare Touched Whole = refl
 extents_compare Whole Touched = refl

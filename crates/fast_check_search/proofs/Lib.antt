@@ -11,3 +11,5 @@ pub mod Compared
 pub mod Kept
 pub mod Opened
 pub mod Own
+pub mod WithoutNames
+pub mod KeptWith

@@ -37,10 +37,11 @@ pub record Gains (t : Tables) (d : Demand) (old new : Found) : Type 0 where
   pub faulty : map fault_seen new.faults.items ≡ map fault_seen old.faults.items ++ faults t d
   pub outside : Adds (files t d) old.files new.files
 
--- all demands are chained, the first ones are covered, and what follows from those before the next is covered and found
-pub record IsOnTheWay (t : Tables) (roots asked : List Demand) (next : ℕ) (so_far : Found) : Type 0 where
+-- all demands are chained, the first ones are covered, by those of earlier searches too, and what follows from those
+-- before the next is covered and found
+pub record IsOnTheWay (t : Tables) (roots before asked : List Demand) (next : ℕ) (so_far : Found) : Type 0 where
   pub reached : next ≤ length asked
   pub chained : (d : Demand) → Contains asked d → Chained t roots d
-  pub has_roots : (d : Demand) → Contains roots d → IsCovered asked d
-  pub closed : (d e : Demand) → Contains (take next asked) d → Contains (names t d) e → IsCovered asked e
+  pub has_roots : (d : Demand) → Contains roots d → IsCovered (before ++ asked) d
+  pub closed : (d e : Demand) → Contains (take next asked) d → Contains (names t d) e → IsCovered (before ++ asked) e
   pub found : IsFound t (take next asked) so_far

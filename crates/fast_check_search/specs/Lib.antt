@@ -3,4 +3,6 @@ pub mod Done
 pub mod SymbolWorklist
 pub mod Wanted
 pub mod Found
+pub mod Nameless
+pub mod Searched
 pub mod Universe

@@ -1,10 +1,11 @@
 //! What is found by a search through the symbols of a module.
 ghost use Rattle.std.specs.Prelude.{◌≡◌, List, [], map, IfOk, OnOk, ◌++◌, option_map, option_to_list};
 ghost use Rattle.fast_check_name_demands.specs.demands.Demands.{Demand, demand_of};
-ghost use Rattle.fast_check_name_demands.specs.demands.Account.{IsAccount, IsYield};
+ghost use Rattle.fast_check_name_demands.specs.demands.Account.{IsYield};
 ghost use Rattle.fast_check_name_demands.specs.demands.Yields.{fault_seen, ranges, ranges_at, Adds};
 ghost use Rattle.fast_check_name_demands.specs.demands.Rules.{names};
 ghost use Rattle.fast_check_search.specs.Found.{IsFound, Gains, AreOpened, AreTableRanges};
+ghost use Rattle.fast_check_search.specs.Searched.{IsContinued, IsKeptWith};
 ghost use Rattle.fast_check_search.specs.Done.{IsNumbered};
 ghost use Rattle.fast_check_search.specs.Numbers.{IsNumbering, Keeps};
 ghost use Rattle.fast_check_search.specs.SymbolWorklist.{demanded, asked, IsKept, Grows, CoversEach};
@@ -12,6 +13,7 @@ ghost use Rattle.fast_check_search.specs.Wanted.{AreWanted};
 
 use crate::done::NumberedDemand;
 use crate::numbers::{NumberedPath, PathNumbers};
+use crate::searched::Searched;
 use crate::wanted::{DoneWant, add_files};
 use crate::worklist::{SymbolWorklist, asked_path};
 use fast_check_name_demands::FileWants;
@@ -128,10 +130,11 @@ impl<'a> Found<'a> {
     }
 }
 
-/// Asks for what follows from a demand.
+/// Asks for what follows from a demand, unless it was met in an earlier search.
 fn ask_named<'a>(
     alloc: Global,
     tables: &'a CheckedTables,
+    before: &Searched,
     demand: NumberedDemand<'a>,
     work: &mut SymbolWorklist<'a>,
 ) -> Result<(), AllocError>
@@ -140,7 +143,7 @@ fn ask_named<'a>(
     ensures kept { OnOk result (IsKept work.new) }
     ensures numbers { OnOk result (Keeps work.old.paths work.new.paths) }
     ensures grown { OnOk result (Grows (names tables.now (demanded demand.entry)) (asked work.old) (asked work.new)) }
-    ensures covered { OnOk result (CoversEach (names tables.now (demanded demand.entry)) (asked work.new)) }
+    ensures covered { OnOk result (CoversEach (names tables.now (demanded demand.entry)) (before.now ++ asked work.new)) }
 {
     let NumberedDemand { demand, path } = demand;
     let named = demands_of(alloc, tables, demand)?;
@@ -148,24 +151,26 @@ fn ask_named<'a>(
         names: asked_path(demand.ask),
         number: path,
     };
-    work.ask_all(path, named.as_slice())
+    work.ask_all(before, path, named.as_slice())
 }
 
-/// All that follows from these demands within a module: what it makes public, what is wrong with it, and what it asks of other files.
+/// All that follows from these demands within a module, and did not follow from those of earlier searches of it: what it makes public, what is wrong
+/// with it, and what it asks of other files. Beside it, what the next search goes on from.
 pub fn search<'a>(
     alloc: Global,
     tables: &'a CheckedTables,
+    before: Searched,
     roots: &[SymbolDemand<'a>],
-) -> Result<Found<'a>, AllocError>
-    ensures account { IfOk result (λ found. (account : List Demand) × IsAccount tables.now (map demand_of roots.now) account ×
-        IsFound tables.now account found) }
+) -> Result<(Searched, Found<'a>), AllocError>
+    ensures continued { IfOk result (λ r. (more : List Demand) × IsContinued tables.now (map demand_of roots.now) before more ×
+        IsFound tables.now more r.1 × IsKeptWith before more r.0) }
 
     // What is found is of the tables' own ranges, so a module of these tables admits it.
-    ensures own_ranges { IfOk result (λ found. AreTableRanges tables.now found.ranges.items) }
-    ensures own_implementations { IfOk result (λ found. AreTableRanges tables.now found.implementations.items) }
+    ensures own_ranges { IfOk result (λ r. AreTableRanges tables.now r.1.ranges.items) }
+    ensures own_implementations { IfOk result (λ r. AreTableRanges tables.now r.1.implementations.items) }
 {
     let mut work = SymbolWorklist::new(alloc);
-    work.ask_all(NumberedPath::none(), roots)?;
+    work.ask_all(&before, NumberedPath::none(), roots)?;
     let mut found = Found::new(alloc);
     let mut opened = BTreeSet::new(alloc);
     let mut wanted = BTreeSet::new(alloc);
@@ -180,8 +185,10 @@ pub fn search<'a>(
             &mut opened,
             &mut wanted,
         )?;
-        ask_named(alloc, tables, demand, &mut work)?;
+        ask_named(alloc, tables, &before, demand, &mut work)?;
         next += 1;
     }
-    Ok(found)
+    let mut searched = before;
+    searched.keep_all(work.as_slice())?;
+    Ok((searched, found))
 }

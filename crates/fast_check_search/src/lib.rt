@@ -3,8 +3,11 @@
 
 mod done;
 mod found;
+mod nameless;
 mod numbers;
+mod searched;
 mod wanted;
 mod worklist;
 
 pub use found::{Found, search};
+pub use searched::Searched;

@@ -1,5 +1,5 @@
 //! The demands of a search: those that were asked for, with a cursor.
-ghost use Rattle.std.specs.Prelude.{◌≡◌, [], ◌∷◌, length, map, slice_get, Some, ◌<◌, OnOk};
+ghost use Rattle.std.specs.Prelude.{◌≡◌, [], ◌∷◌, ◌++◌, length, map, slice_get, Some, ◌<◌, OnOk};
 ghost use Rattle.std.specs.List.{list_any, Contains};
 ghost use Rattle.fast_check_names.specs.Names.{path_of};
 ghost use Rattle.fast_check_name_demands.specs.demands.Demands.{Demand, asked_of, demand_of};
@@ -10,6 +10,7 @@ ghost use Rattle.fast_check_search.specs.SymbolWorklist.{demanded, asked, IsKept
 
 use crate::done::{DoneDemand, NumberedDemand, done_demand};
 use crate::numbers::{NumberedPath, PathNumbers};
+use crate::searched::Searched;
 use fast_check_name_demands::demands::{Ask, SymbolDemand};
 use std::alloc::{AllocError, Global};
 use std::collections::BTreeSet;
@@ -67,6 +68,13 @@ impl<'a> SymbolWorklist<'a> {
         self.demands.len()
     }
 
+    /// All of them.
+    pub fn as_slice(&self) -> &[NumberedDemand<'a>]
+        ensures { map demanded result.now ≡ asked self.now }
+    {
+        self.demands.as_slice()
+    }
+
     /// The demand at a place.
     pub fn at(&self, place: usize) -> NumberedDemand<'a>
         requires kept { IsKept self.now }
@@ -87,16 +95,30 @@ impl<'a> SymbolWorklist<'a> {
             .contains(&done_demand(NumberedDemand { demand, path }))
     }
 
+    /// Whether a demand that asks for the same was asked for, in this search or in an earlier one.
+    fn is_met(&self, before: &Searched, demand: SymbolDemand<'a>, path: u32) -> bool
+        requires kept { IsKept self.now }
+        requires number { IsNumbered self.now.paths (demand_of demand) path }
+        ensures { result ≡ list_any (alike (demand_of demand.entry)) (before.now ++ asked self.now) }
+    {
+        before.has(demand) || self.has(demand, path)
+    }
+
     /// Asks for a demand, whose path has this number, unless what it asks for was asked for before.
-    fn ask_numbered(&mut self, demand: SymbolDemand<'a>, path: u32) -> Result<(), AllocError>
+    fn ask_numbered(
+        &mut self,
+        before: &Searched,
+        demand: SymbolDemand<'a>,
+        path: u32,
+    ) -> Result<(), AllocError>
         requires kept { IsKept self.old }
         requires number { IsNumbered self.old.paths (demand_of demand) path }
         ensures kept { OnOk result (IsKept self.new) }
         ensures grown { OnOk result (Grows (demand_of demand.entry ∷ []) (asked self.old) (asked self.new)) }
-        ensures covered { OnOk result (IsCovered (asked self.new) (demand_of demand.entry)) }
+        ensures covered { OnOk result (IsCovered (before.now ++ asked self.new) (demand_of demand.entry)) }
         ensures paths { OnOk result (self.new.paths ≡ self.old.paths) }
     {
-        if self.has(demand, path) || self.has(referred(demand), path) {
+        if self.is_met(before, demand, path) || self.is_met(before, referred(demand), path) {
             return Ok(());
         }
         let numbered = NumberedDemand { demand, path };
@@ -106,7 +128,12 @@ impl<'a> SymbolWorklist<'a> {
     }
 
     /// Asks for a demand that follows where a path is followed.
-    fn ask(&mut self, path: NumberedPath<'a>, demand: SymbolDemand<'a>) -> Result<(), AllocError>
+    fn ask(
+        &mut self,
+        before: &Searched,
+        path: NumberedPath<'a>,
+        demand: SymbolDemand<'a>,
+    ) -> Result<(), AllocError>
         requires kept { IsKept self.old }
         requires number { number_of self.old.paths (path_of path.names.now) ≡ Some path.number }
         requires follows { Follows (path_of path.names.now) (asked_path (asked_of demand.ask)) }
@@ -114,15 +141,16 @@ impl<'a> SymbolWorklist<'a> {
         ensures number { OnOk result (number_of self.new.paths (path_of path.entry.names.now) ≡ Some path.entry.number) }
         ensures numbers { OnOk result (Keeps self.old.paths self.new.paths) }
         ensures grown { OnOk result (Grows (demand_of demand.entry ∷ []) (asked self.old) (asked self.new)) }
-        ensures covered { OnOk result (IsCovered (asked self.new) (demand_of demand.entry)) }
+        ensures covered { OnOk result (IsCovered (before.now ++ asked self.new) (demand_of demand.entry)) }
     {
         let number = self.paths.number_after(path, asked_path(demand.ask))?;
-        self.ask_numbered(demand, number)
+        self.ask_numbered(before, demand, number)
     }
 
     /// Asks for each of these, which follow where a path is followed.
     pub fn ask_all(
         &mut self,
+        before: &Searched,
         path: NumberedPath<'a>,
         demands: &[SymbolDemand<'a>],
     ) -> Result<(), AllocError>
@@ -132,10 +160,10 @@ impl<'a> SymbolWorklist<'a> {
         ensures kept { OnOk result (IsKept self.new) }
         ensures numbers { OnOk result (Keeps self.old.paths self.new.paths) }
         ensures grown { OnOk result (Grows (map demand_of demands.now) (asked self.old) (asked self.new)) }
-        ensures covered { OnOk result (CoversEach (map demand_of demands.now) (asked self.new)) }
+        ensures covered { OnOk result (CoversEach (map demand_of demands.now) (before.now ++ asked self.new)) }
     {
         for demand in demands {
-            self.ask(path, *demand)?;
+            self.ask(before, path, *demand)?;
         }
         Ok(())
     }

@@ -2,8 +2,8 @@
 ghost use Rattle.std.specs.Prelude.{◌≡◌, List, map, IfOk};
 ghost use Rattle.std.specs.List.{flat_map};
 ghost use Rattle.fast_check_demands.specs.Demands.{Demand};
-ghost use Rattle.fast_check_demands.specs.Account.{IsAccount};
 ghost use Rattle.fast_check_search.specs.Found.{IsFound, AreTableRanges};
+ghost use Rattle.fast_check_search.specs.Searched.{IsContinued, IsKeptWith};
 ghost use Rattle.fast_check_name_demands.specs.Files.{names_of};
 ghost use Rattle.fast_check_traces.specs.Modules.{own_tables as tables_at};
 ghost use Rattle.fast_check_traces.specs.Roots.{roots};
@@ -15,7 +15,7 @@ use crate::re_exports::re_exports_of;
 use crate::roots::roots_of;
 use fast_check_demands::SourceRange;
 use fast_check_name_demands::NameDemand;
-use fast_check_search::{Found, search};
+use fast_check_search::{Found, Searched, search};
 use std::alloc::{AllocError, Global};
 
 /// What a module that is followed makes public, what is wrong with it, and what it asks of other modules.
@@ -29,30 +29,35 @@ pub struct Traced<'a> {
     pub wants: ModuleWants<'a>,
 }
 
-/// Follows a module: all that these demands of it make public, what is wrong with it, and what it asks of other modules.
+/// Follows a module: what these demands of it make public, what is wrong with it, and what it asks of other modules. What follows from the demands of
+/// symbols that earlier calls came to is not told again. Beside it, what the next call goes on from.
 pub fn trace<'a>(
     alloc: Global,
     traced: TracedModule<'a>,
+    before: Searched,
     demands: &[NameDemand<'a>],
-) -> Result<Traced<'a>, AllocError>
-    ensures account { IfOk result (λ t. (account : List Demand)
-        × IsAccount (tables_at traced.entry) (flat_map (λ d. roots (tables_at traced.entry) (names_of d)) demands.now) account
-        × IsFound (tables_at traced.entry) account t.found) }
-    ensures re_exports { IfOk result (λ t. AreRangesThrough traced.entry (map names_of demands.now) t.re_export_ranges.items) }
-    ensures wants { IfOk result (λ t. t.wants ≡ flat_map (λ d. module_wants traced.entry (names_of d)) demands.now) }
+) -> Result<(Searched, Traced<'a>), AllocError>
+    ensures continued { IfOk result (λ r. (more : List Demand)
+        × IsContinued (tables_at traced.entry) (flat_map (λ d. roots (tables_at traced.entry) (names_of d)) demands.now) before more
+        × IsFound (tables_at traced.entry) more r.1.found × IsKeptWith before more r.0) }
+    ensures re_exports { IfOk result (λ r. AreRangesThrough traced.entry (map names_of demands.now) r.1.re_export_ranges.items) }
+    ensures wants { IfOk result (λ r. r.1.wants ≡ flat_map (λ d. module_wants traced.entry (names_of d)) demands.now) }
 
     // What is public is of the module's own ranges, so a module of these tables admits it.
-    ensures own_ranges { IfOk result (λ t. AreTableRanges (tables_at traced.entry) t.found.ranges.items) }
-    ensures own_implementations { IfOk result (λ t. AreTableRanges (tables_at traced.entry) t.found.implementations.items) }
-    ensures own_re_exports { IfOk result (λ t. AreTableRanges (tables_at traced.entry) t.re_export_ranges.items) }
+    ensures own_ranges { IfOk result (λ r. AreTableRanges (tables_at traced.entry) r.1.found.ranges.items) }
+    ensures own_implementations { IfOk result (λ r. AreTableRanges (tables_at traced.entry) r.1.found.implementations.items) }
+    ensures own_re_exports { IfOk result (λ r. AreTableRanges (tables_at traced.entry) r.1.re_export_ranges.items) }
 {
     let tables = own_tables(traced);
     let roots = roots_of(alloc, tables, demands)?;
-    let found = search(alloc, tables, roots.as_slice())?;
+    let (searched, found) = search(alloc, tables, before, roots.as_slice())?;
     let (re_export_ranges, wants) = re_exports_of(alloc, traced, demands)?;
-    Ok(Traced {
-        found,
-        re_export_ranges,
-        wants,
-    })
+    Ok((
+        searched,
+        Traced {
+            found,
+            re_export_ranges,
+            wants,
+        },
+    ))
 }

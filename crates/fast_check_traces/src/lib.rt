@@ -10,7 +10,7 @@ mod roots;
 
 pub use fast_check_graph::{AnyModuleInfo, ModuleGraph, RootSymbol};
 pub use fast_check_name_demands::{FileWant, FileWants, NameDemand};
-pub use fast_check_search::Found;
+pub use fast_check_search::{Found, Searched};
 pub use follow::{Traced, trace};
 pub use list::{ModuleWant, ModuleWants};
 pub use modules::{TracedModule, tables_of};

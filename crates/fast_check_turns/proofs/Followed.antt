@@ -2,20 +2,23 @@
 use Rattle.std.proofs.Common.{◌≡◌, ◌∙◌, sym, ap, refl, subst, true, List, [], ◌∷◌, ◌++◌, Option, Some, map, ⊎_elim, ◌⊎◌}
 use Rattle.std.proofs.Common.{inl, inr}
 use Rattle.std.specs.List.{list_any, Contains, flat_map}
-use Rattle.std.proofs.lemmas.Bool.{false≢true}
-use Rattle.std.proofs.lemmas.List.Elements.{Contains-append_cases, Contains-append_left, Contains-append_right}
+use Rattle.std.proofs.lemmas.Bool.{false≢true, or_left, or_right, or_cases}
+use Rattle.std.proofs.lemmas.List.Folds.{list_any-append}
+use Rattle.std.proofs.lemmas.List.Elements.{Contains-append_cases, Contains-append_left, Contains-append_right, Contains-push}
 use Rattle.fast_check_syntax.specs.declared.source.SourceRange.{SourceRange}
 use Rattle.fast_check_packages.specs.Package.{Nv}
 use Rattle.fast_check_names.specs.declared.lattice.imported_exports.ImportedExports.{ImportedExports}
 use Rattle.fast_check_names.specs.declared.lattice.imported_exports.ImportedExports.TheVariants.{Star, StarWithDefault, Subset}
 use Rattle.fast_check_names.specs.Imports.{NameDemand, names_but_default, each_name, subset_at, whole_at, demands}
 use Rattle.fast_check_demands.specs.Demands.{Demand as SymbolDemand}
-use Rattle.fast_check_demands.specs.Account.{Chained, root as symbol_root, step as symbol_step, touches, IsCovered as IsSymbolCovered}
+use Rattle.fast_check_demands.specs.Account.{Chained, root as symbol_root, step as symbol_step, alike, referred}
+use Rattle.fast_check_demands.specs.Account.{IsCovered as IsSymbolCovered}
 use Rattle.fast_check_demands.specs.Rules.{each_of, names}
 use Rattle.fast_check_demands.specs.Yields.{ranges, implementations, faults}
 use Rattle.fast_check_entries.specs.findings.declared.finding.FoundModule.{FoundModule}
 use Rattle.fast_check_entries.specs.findings.Faults.{placed_in}
 use Rattle.fast_check_name_demands.specs.Files.{files}
+use Rattle.fast_check_search.specs.Searched.{IsAsked}
 use Rattle.fast_check_traces.specs.declared.modules.TracedModule.{TracedModule}
 use Rattle.fast_check_traces.specs.Modules.{own_tables}
 use Rattle.fast_check_traces.specs.Roots.{roots}
@@ -26,10 +29,10 @@ use Rattle.fast_check_worklists.proofs.Waiting.{map_contains}
 use Rattle.fast_check_worklists.proofs.Asking.{asked_some}
 use Rattle.fast_check_worklists.specs.Demands.{Text, asked, Want, to_package, to_module, to_symbol, Demand, of_package, of_module}
 use Rattle.fast_check_worklists.specs.Demands.{of_symbol}
-use Rattle.fast_check_worklists.specs.Account.{Followed, HasIn, IsSymbolMet}
+use Rattle.fast_check_worklists.specs.Account.{Followed, HasIn}
 use Rattle.fast_check_worklists.specs.declared.worklist.OuterWant.{OuterWant}
-use Rattle.fast_check_worklists.specs.State.{State, want_of, AsksAll, Reached, root, step, IsSearched, IsOuter, IsWithin, AreWants}
-use Rattle.fast_check_worklists.specs.State.{AreGiven, IsFollowed}
+use Rattle.fast_check_worklists.specs.State.{State, want_of, AsksAll, Reached, root, step, IsMetAmong, IsSearched, IsOuter, IsWithin}
+use Rattle.fast_check_worklists.specs.State.{AreWants, AreGiven, IsFollowed}
 use Rattle.fast_check_name_demands.specs.NameDemands.{GoesWith, AreDemands, IsEmpty}
 use Rattle.fast_check_sources.specs.Sources.{Known, module_at}
 use Rattle.fast_check_sources.specs.Wants.{file_wants, left_wants}
@@ -38,6 +41,7 @@ use Rattle.fast_check_entries.specs.findings.Yields.{Yield, recorded, public, im
 use Rattle.fast_check_entries.specs.findings.Findings.{placed_yields, module_yields}
 use Rattle.fast_check_turns.specs.Yields.{own_text, dependency_of, dependencies, public_at, implementing_at, source_in, fault_yields}
 use Rattle.fast_check_turns.specs.Yields.{faults_at, names_yields, symbol_yields, untyped_yields, gives}
+use Rattle.fast_check_turns.specs.Searches.{IsFollowedAt}
 use Rattle.fast_check_turns.specs.Traced.{IsTraced}
 use Rattle.fast_check_turns.proofs.Lists.{flat_contains}
 use Rattle.fast_check_turns.proofs.Placed.{placed_flat}
@@ -82,10 +86,14 @@ asked_demanded (Subset s) (subset_at (n ∷ p)) h = inl h
 asked_demanded (Subset s) (whole_at p) h = inl h
 
 module _ (k : Known) (nv : Nv) (t : Text) (m : TracedModule) (here : module_at k t ≡ Some m) (typed : untyped_yields k.graph nv t ≡ [])
-    (x : ImportedExports) (listed : List NameDemand) (are : AreDemands x listed) (wants : List Want) (found : FoundModule)
-    (a : IsTraced k nv m listed wants found) where
+    (x : ImportedExports) (listed : List NameDemand) (are : AreDemands x listed) (before after : List SymbolDemand) (wants : List Want)
+    (found : FoundModule) (a : IsTraced k nv m listed before after wants found) (earlier : List Followed)
+    (met : (d : SymbolDemand) → IsAsked before d → IsFollowedAt earlier nv t d) where
   abbrev new : Followed
   new = record { trace = record { nv = nv; specifier = t; exports = x }; symbols = a.symbols }
+
+  abbrev now : List Followed
+  now = earlier ++ new ∷ []
 
   listed_asked : (d : NameDemand) → Contains listed d → asked x d ≡ true
   listed_asked d c =
@@ -140,43 +148,72 @@ module _ (k : Known) (nv : Nv) (t : Text) (m : TracedModule) (here : module_at k
   abbrev Met : Want → Type 0
   Met (to_package p) = Unit {0}
   Met (to_module p u w) = Unit {0}
-  Met (to_symbol p u s) = IsSymbolMet p u s new
+  Met (to_symbol p u s) = IsMetAmong now p u s
 
   outer_met : (w : Want) → IsOwned k w → Met w
   outer_met (to_package p) h = tt
   outer_met (to_module p u w) h = tt
   outer_met (to_symbol p u s) h = absurd h
 
-  abbrev IsMet : SymbolDemand → Type 0
-  IsMet s = IsSymbolCovered a.symbols s ⊎ (list_any (touches s) a.symbols ≡ true)
+  -- what is covered by kept demands and new ones is covered by those of a trace
+  asked_in : (s : SymbolDemand) → IsAsked (before ++ a.symbols) s → IsFollowedAt now nv t s
+  asked_in s h =
+      ⊎_elim (λ l. let y = met s l in (y.0, Contains-append_left earlier (new ∷ []) y.0 y.1, y.2, y.3, y.4))
+      (λ r. (new, Contains-push earlier new, refl, refl, r))
+      (or_cases (list_any (alike s) before) (list_any (alike s) a.symbols) (sym (list_any-append (alike s) before a.symbols) ∙ h))
 
-  roots_met : (d : NameDemand) → asked x d ≡ true → (s : SymbolDemand) → Contains (roots (own_tables m) d) s → IsMet s
+  abbrev IsCoveredIn : SymbolDemand → Type 0
+  IsCoveredIn s = (y : Followed) × Contains now y × (y.trace.nv ≡ nv) × (y.trace.specifier ≡ t) × IsSymbolCovered y.symbols s
+
+  covered_in : (s : SymbolDemand) → IsSymbolCovered (before ++ a.symbols) s → IsCoveredIn s
+  covered_in s h =
+      ⊎_elim
+      (λ l. let y = asked_in s l in (
+        y.0,
+        y.1,
+        y.2,
+        y.3,
+        or_left (list_any (alike s) y.0.symbols) (list_any (alike (referred s)) y.0.symbols) y.4,
+      ))
+      (λ r. let y = asked_in (referred s) r in (
+        y.0,
+        y.1,
+        y.2,
+        y.3,
+        or_right (list_any (alike s) y.0.symbols) (list_any (alike (referred s)) y.0.symbols) y.4,
+      ))
+      (or_cases (list_any (alike s) (before ++ a.symbols)) (list_any (alike (referred s)) (before ++ a.symbols)) h)
+
+  covered_met : (s : SymbolDemand) → IsSymbolCovered (before ++ a.symbols) s → IsMetAmong now nv t s
+  covered_met s h = let y = covered_in s h in (y.0, y.1, (y.2, y.3, inl y.4))
+
+  roots_met : (d : NameDemand) → asked x d ≡ true → (s : SymbolDemand) → Contains (roots (own_tables m) d) s → IsMetAmong now nv t s
   roots_met d h s c =
       ⊎_elim
       (λ l. ⊎_elim
-      (λ same. inl (a.account.has_roots s (contains_flat_map (roots (own_tables m)) listed d s
+      (λ same. covered_met s (a.continued.has_roots s (contains_flat_map (roots (own_tables m)) listed d s
       (subst (λ (y : NameDemand). Contains listed y) (sym same) l.1) c)))
       (λ begins. let r = begun_root (own_tables m) d l.0 begins s c in
-      inr (covered_touches s r.0 a.symbols r.2
-      (a.account.has_roots r.0 (contains_flat_map (roots (own_tables m)) listed l.0 r.0 l.1 r.1)))) l.2)
+      let y = covered_in r.0 (a.continued.has_roots r.0 (contains_flat_map (roots (own_tables m)) listed l.0 r.0 l.1 r.1)) in
+      (y.0, y.1, (y.2, y.3, inr (covered_touches s r.0 y.0.symbols r.2 y.4)))) l.2)
       (λ e. absurd (Contains_none s (subst (λ (y : NameDemand). Contains (roots (own_tables m) y) s) e c)))
       (asked_listed d h)
 
   names_met : (d : NameDemand) → asked x d ≡ true → Each Met (world k (of_module nv t d))
   names_met d h = subst (Each Met) (sym (names_world d))
       (each_append Met (map (to_symbol nv t) (roots (own_tables m) d)) (flat_map (left_wants k nv m) (module_wants m d))
-      (each_map Met (to_symbol nv t) (roots (own_tables m) d) (λ s c. (refl, refl, roots_met d h s c)))
+      (each_map Met (to_symbol nv t) (roots (own_tables m) d) (λ s c. roots_met d h s c))
       (each_flat Met (left_wants k nv m) (module_wants m d) (λ v c w e. outer_met w (owned_left k nv m v w e))))
 
   symbols_met : (s : SymbolDemand) → Contains a.symbols s → Each Met (world k (of_symbol nv t s))
   symbols_met s h = subst (Each Met) (sym (symbols_world s))
       (each_append Met (map (to_symbol nv t) (names (own_tables m) s)) (flat_map (file_wants k nv m) (files (own_tables m) s))
-      (each_map Met (to_symbol nv t) (names (own_tables m) s) (λ e c. (refl, refl, inl (a.account.closed s e h c))))
+      (each_map Met (to_symbol nv t) (names (own_tables m) s) (λ e c. covered_met e (a.continued.closed s e h c)))
       (each_flat Met (file_wants k nv m) (files (own_tables m) s) (λ f c w e. outer_met w (owned_files k nv m f w e))))
 
-  searched : IsSearched (world k) new
+  searched : IsSearched (world k) now new
   searched = record {
-    reached = λ s c. reached s (a.account.chained s c);
+    reached = λ s c. reached s (a.continued.chained s c);
     closed = λ d h p u s c. by_kind (λ e. Each Met (world k e)) names_met symbols_met d h (to_symbol p u s) c;
   }
 
@@ -457,10 +494,10 @@ module _ (k : Known) (nv : Nv) (t : Text) (m : TracedModule) (here : module_at k
         (λ s i j. symbols_given s i y (subst (λ (o : Option TracedModule). Contains (each_of (symbol_yields k nv t s) o) y) here j)) d h c;
   }
 
-  pub followed_there : (outer : List OuterWant) (before after : State) (old new_found : List Yield) → wants ≡ map want_of outer →
-      AsksAll outer before after →
-      new_found ≡ old ++ given → IsFollowed (world k) (gives k) new.trace before after old new_found
-  followed_there outer before after old new_found e asks is = record {
+  pub followed_there : (Holds : List Followed → Type 0) (outer : List OuterWant) (b c : State) (old new_found : List Yield) →
+      wants ≡ map want_of outer → AsksAll outer b c → new_found ≡ old ++ given → Holds now →
+      IsFollowed (world k) (gives k) earlier Holds new.trace b c old new_found
+  followed_there Holds outer b c old new_found e asks is holds = record {
     symbols = a.symbols;
     outer = outer;
     given = given;
@@ -469,4 +506,5 @@ module _ (k : Known) (nv : Nv) (t : Text) (m : TracedModule) (here : module_at k
     yields = are_given;
     asks = asks;
     new_is = is;
+    holds = holds;
   }

@@ -5,7 +5,6 @@ use Rattle.fast_check_syntax.specs.declared.source.SourceRange.{SourceRange}
 use Rattle.fast_check_packages.specs.Package.{Nv}
 use Rattle.fast_check_names.specs.Imports.{NameDemand}
 use Rattle.fast_check_demands.specs.Demands.{Demand as SymbolDemand}
-use Rattle.fast_check_demands.specs.Account.{IsAccount as IsSymbolAccount}
 use Rattle.fast_check_demands.specs.Yields.{fault_seen}
 use Rattle.fast_check_entries.specs.findings.declared.finding.FoundModule.{FoundModule}
 use Rattle.fast_check_entries.specs.findings.Faults.{placed, placed_in}
@@ -13,6 +12,7 @@ use Rattle.fast_check_name_demands.specs.declared.want.NameDemand.{NameDemand as
 use Rattle.fast_check_name_demands.specs.Files.{names_of}
 use Rattle.fast_check_search.specs.declared.found.Found.{Found}
 use Rattle.fast_check_search.specs.Found.{IsFound}
+use Rattle.fast_check_search.specs.Searched.{IsContinued, IsKeptWith}
 use Rattle.fast_check_traces.specs.declared.modules.TracedModule.{TracedModule}
 use Rattle.fast_check_traces.specs.Modules.{own_tables}
 use Rattle.fast_check_traces.specs.Roots.{roots}
@@ -28,17 +28,18 @@ module _ (k : Known) (nv : Nv) (m : TracedModule) (names : List Single) where
   mapped : {Y : Type 0} (f : NameDemand → List Y) → flat_map (λ w. f (names_of w)) names ≡ flat_map f (map names_of names)
   mapped f = sym (flat_mapped f names_of names)
 
-  pub traced_with : (wants : List Want) (found : Found) (again : List SourceRange) (left : List ModuleWant) (of : FoundModule) →
-      ((account : List SymbolDemand) × IsSymbolAccount (own_tables m) (flat_map (λ w. roots (own_tables m) (names_of w)) names) account
-      × IsFound (own_tables m) account found) →
+  pub traced_with : (before after : List SymbolDemand) (wants : List Want) (found : Found) (again : List SourceRange) (left : List ModuleWant) (of : FoundModule) →
+      ((more : List SymbolDemand) × IsContinued (own_tables m) (flat_map (λ w. roots (own_tables m) (names_of w)) names) before more
+      × IsFound (own_tables m) more found × IsKeptWith before more after) →
       AreRangesThrough m (map names_of names) again → left ≡ flat_map (λ w. module_wants m (names_of w)) names →
       wants ≡ flat_map (file_wants k nv m) found.files ++ flat_map (left_wants k nv m) left →
       of.ranges.items ≡ found.ranges.items ++ again → of.implementations.items ≡ found.implementations.items →
       map placed_in of.faults.items ≡ flat_map (λ f. option_to_list (placed (source_in m) f)) (map fault_seen found.faults.items) →
-      IsTraced k nv m (map names_of names) wants of
-  traced_with wants found again left of a e f w r i p = record {
+      IsTraced k nv m (map names_of names) before after wants of
+  traced_with before after wants found again left of a e f w r i p = record {
     symbols = a.0;
-    account = subst (λ (rs : List SymbolDemand). IsSymbolAccount (own_tables m) rs a.0) (mapped (roots (own_tables m))) a.1;
+    continued = subst (λ (rs : List SymbolDemand). IsContinued (own_tables m) rs before a.0) (mapped (roots (own_tables m))) a.1;
+    kept = a.3;
     asked_files = found.files;
     found_files = a.2.outside;
     wants_are = w ∙ ap (λ (vs : List ModuleWant). flat_map (file_wants k nv m) found.files ++ flat_map (left_wants k nv m) vs)

@@ -1,5 +1,5 @@
 -- What a turn does, where there is nothing to follow or to enter, and where there is.
-use Rattle.std.proofs.Common.{◌≡◌, ◌∙◌, sym, ap, refl, subst, Bool, true, cond, not, ◌||◌, List, [], ◌++◌, Option, Some, None, map}
+use Rattle.std.proofs.Common.{◌≡◌, ◌∙◌, sym, ap, refl, subst, Bool, true, cond, not, ◌||◌, List, [], ◌∷◌, ◌++◌, Option, Some, None, map}
 use Rattle.std.proofs.Common.{option_map, ⊎_elim}
 use Rattle.std.specs.List.{Contains}
 use Rattle.std.specs.Option.{option_and_then}
@@ -8,11 +8,14 @@ use Rattle.std.proofs.lemmas.List.Elements.{Contains-append_cases, Contains-appe
 use Rattle.fast_check_graph.specs.declared.module.Module.{Module}
 use Rattle.fast_check_graph.specs.Modules.{is_typed_module, is_external}
 use Rattle.fast_check_entries.specs.findings.Yields.{Yield, untyped_module}
-use Rattle.fast_check_entries.specs.findings.Findings.{faulty_module}
+use Rattle.fast_check_entries.specs.findings.declared.finding.FoundModule.{FoundModule}
+use Rattle.fast_check_entries.specs.findings.Findings.{faulty_module, module_yields}
 use Rattle.fast_check_packages.specs.Package.{Nv}
 use Rattle.fast_check_graph.specs.declared.root_symbol.AnyModuleInfo.{AnyModuleInfo}
 use Rattle.fast_check_names.specs.Imports.{NameDemand}
+use Rattle.fast_check_demands.specs.Demands.{Demand as SymbolDemand}
 use Rattle.fast_check_demands.specs.Rules.{each_of}
+use Rattle.fast_check_search.specs.Searched.{IsAsked, IsKeptWith}
 use Rattle.fast_check_search.proofs.Each.{Contains_none, Each}
 use Rattle.fast_check_worklists.proofs.Asking.{asked_some}
 use Rattle.fast_check_worklists.specs.Demands.{Text, asked, Want, to_symbol, Demand, of_package, of_module, of_symbol}
@@ -21,7 +24,8 @@ use Rattle.fast_check_worklists.specs.declared.worklist.OuterWant.{OuterWant}
 use Rattle.fast_check_worklists.specs.State.{want_of, State, AsksAll, IsFollowed, IsEntered}
 use Rattle.fast_check_sources.specs.Sources.{Known, node_at, named_at, typed_info, info_at, traced_as, module_at, is_untyped}
 use Rattle.fast_check_turns.specs.Rules.{names_wants, entrance_at, world}
-use Rattle.fast_check_turns.specs.Yields.{names_yields, untyped_yields, gives}
+use Rattle.fast_check_turns.specs.Yields.{own_text, dependencies, names_yields, untyped_yields, gives}
+use Rattle.fast_check_turns.specs.Searches.{IsFollowedAt}
 use Rattle.fast_check_turns.proofs.Followed.{followed_there}
 use Rattle.fast_check_turns.specs.Traced.{IsTracedFor}
 use Rattle.fast_check_turns.specs.Turns.{Enters}
@@ -44,7 +48,8 @@ typed_only k nv t info e = go (node_at k.graph t) e
 
 module _ (k : Known) (x : Trace) (a b : State) (old new : List Yield) (none : info_at k.graph k.root_symbol x.specifier ≡ None)
     (same : b ≡ a)
-    (more : new ≡ old ++ untyped_yields k.graph x.nv x.specifier) where
+    (more : new ≡ old ++ untyped_yields k.graph x.nv x.specifier) (earlier : List Followed) (Holds : List Followed → Type 0)
+    (holds : Holds (earlier ++ record { trace = x; symbols = [] } ∷ [])) where
   abbrev alone : Followed
   alone = record { trace = x; symbols = [] }
 
@@ -78,7 +83,7 @@ module _ (k : Known) (x : Trace) (a b : State) (old new : List Yield) (none : in
   a_name : (d : NameDemand) × (asked x.exports d ≡ true)
   a_name = asked_some x.exports
 
-  pub followed_nowhere : IsFollowed (world k) (gives k) x a b old new
+  pub followed_nowhere : IsFollowed (world k) (gives k) earlier Holds x a b old new
   followed_nowhere = record {
     symbols = [];
     outer = [];
@@ -95,6 +100,7 @@ module _ (k : Known) (x : Trace) (a b : State) (old new : List Yield) (none : in
     };
     asks = same;
     new_is = more;
+    holds = holds;
   }
 
 pub entered_at : (k : Known) (nv : Nv) (a b : State) (old new : List Yield) → Enters k.graph k.used nv (entrance_at k nv) a b old new →
@@ -102,11 +108,15 @@ pub entered_at : (k : Known) (nv : Nv) (a b : State) (old new : List Yield) → 
 entered_at k nv a b old new h = record { outer = h.0; wants = h.1; asks = h.2; new_is = h.3 }
 
 pub followed_one : (k : Known) (x : Trace) (info : AnyModuleInfo) → info_at k.graph k.root_symbol x.specifier ≡ Some info →
-    (outer : List OuterWant)
-    (given : List Yield) → IsTracedFor k (traced_as k info) x (map want_of outer) given → (a b : State) → AsksAll outer a b →
-    (old new : List Yield) →
-    new ≡ old ++ given → IsFollowed (world k) (gives k) x a b old new
-followed_one k x info e outer gift h a b asks old new is =
+    (before after : List SymbolDemand) (outer : List OuterWant) (found : FoundModule) →
+    IsTracedFor k x.nv (traced_as k info) x.exports before after (map want_of outer) found →
+    (earlier : List Followed) → ((d : SymbolDemand) → IsAsked before d → IsFollowedAt earlier x.nv x.specifier d) →
+    (Holds : List Followed → Type 0) →
+    ((more : List SymbolDemand) → IsKeptWith before more after → Holds (earlier ++ record { trace = x; symbols = more } ∷ [])) →
+    (a b : State) → AsksAll outer a b → (old new : List Yield) →
+    new ≡ old ++ module_yields x.nv (own_text (traced_as k info)) found (dependencies x.nv (map want_of outer)) →
+    IsFollowed (world k) (gives k) earlier Holds x a b old new
+followed_one k x info e before after outer found h earlier met Holds holds a b asks old new is =
     followed_there k x.nv x.specifier (traced_as k info) (ap (option_map (traced_as k)) e)
-    (typed_only k x.nv x.specifier info e) x.exports h.names h.are_names
-    (map want_of outer) h.found h.traced outer a b old new refl asks (is ∙ ap (λ (ys : List Yield). old ++ ys) h.given_is)
+    (typed_only k x.nv x.specifier info e) x.exports h.names h.are_names before after
+    (map want_of outer) found h.traced earlier met Holds outer a b old new refl asks is (holds h.traced.symbols h.traced.kept)

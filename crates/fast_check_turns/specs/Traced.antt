@@ -4,31 +4,32 @@ use Rattle.std.specs.Prelude.{◌≡◌, List, ◌++◌, map, option_to_list}
 use Rattle.std.specs.List.{flat_map}
 use Rattle.fast_check_syntax.specs.declared.source.SourceRange.{SourceRange}
 use Rattle.fast_check_packages.specs.Package.{Nv}
+use Rattle.fast_check_names.specs.declared.lattice.imported_exports.ImportedExports.{ImportedExports}
 use Rattle.fast_check_names.specs.Imports.{NameDemand}
 use Rattle.fast_check_name_demands.specs.NameDemands.{AreDemands}
 use Rattle.fast_check_demands.specs.Demands.{Demand as SymbolDemand}
-use Rattle.fast_check_demands.specs.Account.{IsAccount as IsSymbolAccount, IsYield as IsSymbolYield}
+use Rattle.fast_check_demands.specs.Account.{IsYield as IsSymbolYield}
 use Rattle.fast_check_demands.specs.Yields.{ranges, implementations, Fault, faults}
 use Rattle.fast_check_entries.specs.findings.declared.finding.FoundModule.{FoundModule}
 use Rattle.fast_check_entries.specs.findings.Faults.{placed, placed_in}
-use Rattle.fast_check_entries.specs.findings.Yields.{Yield}
-use Rattle.fast_check_entries.specs.findings.Findings.{module_yields}
 use Rattle.fast_check_name_demands.specs.Files.{FileDemand, files}
+use Rattle.fast_check_search.specs.Searched.{IsContinued, IsKeptWith}
 use Rattle.fast_check_traces.specs.declared.modules.TracedModule.{TracedModule}
 use Rattle.fast_check_traces.specs.Modules.{own_tables}
 use Rattle.fast_check_traces.specs.Roots.{roots}
 use Rattle.fast_check_traces.specs.Wants.{AreRangesThrough, module_wants}
 use Rattle.fast_check_worklists.specs.Demands.{Want}
-use Rattle.fast_check_worklists.specs.Account.{Trace}
 use Rattle.fast_check_sources.specs.Sources.{Known}
 use Rattle.fast_check_sources.specs.Wants.{file_wants, left_wants}
-use Rattle.fast_check_turns.specs.Yields.{own_text, source_in, dependencies}
+use Rattle.fast_check_turns.specs.Yields.{source_in}
 
--- an account of demands of symbols, what these ask of files, what names of the module ask of others, and what is found
-pub record IsTraced (k : Known) (nv : Nv) (m : TracedModule) (names : List NameDemand) (wants : List Want)
-    (found : FoundModule) : Type 0 where
+-- demands of symbols that go on from those of earlier searches, what these ask of files, what names of the module ask of
+-- others, and what is found
+pub record IsTraced (k : Known) (nv : Nv) (m : TracedModule) (names : List NameDemand)
+    (before after : List SymbolDemand) (wants : List Want) (found : FoundModule) : Type 0 where
   pub symbols : List SymbolDemand
-  pub account : IsSymbolAccount (own_tables m) (flat_map (roots (own_tables m)) names) symbols
+  pub continued : IsContinued (own_tables m) (flat_map (roots (own_tables m)) names) before symbols
+  pub kept : IsKeptWith before symbols after
   pub asked_files : List FileDemand
   pub found_files : IsSymbolYield (files (own_tables m)) symbols asked_files
   pub wants_are : wants ≡ flat_map (file_wants k nv m) asked_files ++ flat_map (left_wants k nv m)
@@ -43,11 +44,9 @@ pub record IsTraced (k : Known) (nv : Nv) (m : TracedModule) (names : List NameD
   pub found_faults : IsSymbolYield (faults (own_tables m)) symbols faulty
   pub faults_are : map placed_in found.faults.items ≡ flat_map (λ f. option_to_list (placed (source_in m) f)) faulty
 
--- the same for the names of a trace, with what is given
-pub record IsTracedFor (k : Known) (m : TracedModule) (x : Trace) (wants : List Want)
-    (given : List Yield) : Type 0 where
+-- the same for what is asked of the module
+pub record IsTracedFor (k : Known) (nv : Nv) (m : TracedModule) (exports : ImportedExports)
+    (before after : List SymbolDemand) (wants : List Want) (found : FoundModule) : Type 0 where
   pub names : List NameDemand
-  pub are_names : AreDemands x.exports names
-  pub found : FoundModule
-  pub traced : IsTraced k x.nv m names wants found
-  pub given_is : given ≡ module_yields x.nv (own_text m) found (dependencies x.nv wants)
+  pub are_names : AreDemands exports names
+  pub traced : IsTraced k nv m names before after wants found

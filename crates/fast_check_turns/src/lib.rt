@@ -5,6 +5,7 @@ mod input;
 mod modules;
 mod packages;
 mod progress;
+mod searches;
 mod traced;
 
 pub use fast_check_entries::findings::{
@@ -15,3 +16,4 @@ pub use input::FinderInput;
 pub use modules::follow;
 pub use packages::enter;
 pub use progress::Progress;
+pub use searches::KeptSearches;

@@ -1,26 +1,30 @@
 //! A module that is followed.
 
-ghost use Rattle.std.specs.Prelude.{◌≡◌, ◌++◌, map, OnOk, IfOk};
+ghost use Rattle.std.specs.Prelude.{◌≡◌, ◌++◌, List, Some, map, OnOk, IfOk};
 ghost use Rattle.std.specs.List.{flat_map};
 ghost use Rattle.url.specs.Parts.{serialize};
 ghost use Rattle.fast_check_packages.specs.Package.{nv_of};
 ghost use Rattle.fast_check_graph.specs.Root.{specifier_of};
+ghost use Rattle.fast_check_names.specs.declared.lattice.imported_exports.ImportedExports.{ImportedExports};
 ghost use Rattle.fast_check_name_demands.specs.NameDemands.{Holds};
+ghost use Rattle.fast_check_worklists.specs.Account.{Followed};
 ghost use Rattle.fast_check_worklists.specs.State.{want_of, state_of, trace_of, IsFollowed};
 ghost use Rattle.fast_check_entries.specs.findings.Findings.{module_yields, yields_of};
-ghost use Rattle.fast_check_sources.specs.Sources.{Used, known, with_used, traced_as};
+ghost use Rattle.fast_check_sources.specs.Sources.{Used, known, with_used, info_at, traced_as};
 ghost use Rattle.fast_check_turns.specs.Rules.{world};
+ghost use Rattle.fast_check_turns.specs.Searches.{AreFollowed};
 ghost use Rattle.fast_check_turns.specs.Traced.{IsTracedFor};
 ghost use Rattle.fast_check_turns.specs.Yields.{dependencies, untyped_yields, gives};
 
 use crate::progress::{Progress, push_finding};
+use crate::searches::{KeptSearches, ModuleOfPackage};
 use crate::traced::{dependencies_of, found_of};
 use fast_check_entries::findings::{Finding, FollowedModule, FoundModule, UntypedModule};
 use fast_check_graph::{AnyModuleInfo, ModuleGraph};
 use fast_check_name_demands::{HeldDemands, hold, name_demands};
 use fast_check_packages::{JsrUrlProvider, PackageNv};
 use fast_check_sources::{Asker, Sources, info_of, is_untyped};
-use fast_check_traces::TracedModule;
+use fast_check_traces::{Searched, TracedModule};
 use fast_check_worklists::{OuterWant, PendingTrace};
 use std::alloc::{AllocError, Global};
 
@@ -45,20 +49,20 @@ fn followed_module(
     }))
 }
 
-/// Follows names of a module with tables, for a package: what it wants of others, and what is found of it. The names are held while their single
-/// demands are lent.
+/// Follows names of a module with tables, for a package, from what earlier searches of it came to: what it wants of others, and what is found of it. The
+/// names are held while their single demands are lent.
 fn follow_in<'a>(
     alloc: Global,
     sources: Sources<'a>,
     provider: &dyn JsrUrlProvider,
     info: &'a AnyModuleInfo,
-    trace: PendingTrace,
+    package: &PackageNv,
+    before: Searched,
     held: &'a HeldDemands,
-) -> Result<(Vec<OuterWant>, Finding), AllocError>
-    requires { Holds trace.exports_to_trace held.now }
+) -> Result<(Searched, Vec<OuterWant>, FoundModule), AllocError>
     ensures { let without = known sources.entry (url_of provider.now) (nv_at provider.now) in
-        IfOk result (λ r. (used : Used) → let k = with_used used without in
-        IsTracedFor k (traced_as k info.now) (trace_of trace) (map want_of r.0.items) (yields_of r.1)) }
+        IfOk result (λ r. (used : Used) (exports : ImportedExports) → Holds exports held.now → let k = with_used used without in
+        IsTracedFor k (nv_of «package».now) (traced_as k info.now) exports before r.0 (map want_of r.1.items) r.2) }
 {
     let module = TracedModule {
         graph: sources.graph,
@@ -66,16 +70,14 @@ fn follow_in<'a>(
         info,
     };
     let demands = name_demands(alloc, held)?;
-    let traced = fast_check_traces::trace(alloc, module, demands.as_slice())?;
-    let PendingTrace { package_nv, .. } = trace;
+    let (searched, traced) = fast_check_traces::trace(alloc, module, before, demands.as_slice())?;
     let asker = Asker {
         sources,
-        package: &package_nv,
+        package,
         traced: module,
     };
     let (outer, found) = found_of(alloc, asker, provider, traced)?;
-    let finding = followed_module(alloc, package_nv, info, outer.as_slice(), found)?;
-    Ok((outer, finding))
+    Ok((searched, outer, found))
 }
 
 /// Tells a module whose types are not known, under the name by which it was asked for.
@@ -102,6 +104,64 @@ fn leave_out(
     push_finding(found, Finding::Untyped(module))
 }
 
+/// Where a search came to less than so many demands, wants, ranges and faults, it is as cheap to repeat as to keep.
+const MUCH: usize = 16;
+
+/// Whether the searches of a module came to much: the last one, or one before it, of which something is kept. Nothing that is found depends on it.
+fn is_much(kept: usize, searched: &Searched, outer: &[OuterWant], found: &FoundModule) -> bool {
+    kept > 0
+        || searched.len() >= MUCH
+        || outer.len() >= MUCH
+        || found.ranges.len() >= MUCH
+        || found.faults.len() >= MUCH
+}
+
+/// Follows names of a module with tables: asks for what follows from them, adds what is found, and keeps what the search came to.
+fn follow_at(
+    alloc: Global,
+    sources: Sources<'_>,
+    provider: &dyn JsrUrlProvider,
+    info: &AnyModuleInfo,
+    trace: PendingTrace,
+    searches: &mut KeptSearches,
+    progress: &mut Progress,
+) -> Result<(), AllocError>
+    ensures { let without = known sources.entry (url_of provider.now) (nv_at provider.now) in
+        OnOk result ((used : Used) (earlier : List Followed) → AreFollowed earlier searches.old → let k = with_used used without in
+        info_at k.graph k.root_symbol (serialize trace.specifier) ≡ Some info.now
+        → IsFollowed (world k) (gives k) earlier (λ done. AreFollowed done searches.new) (trace_of trace)
+        (state_of progress.old.worklist) (state_of progress.new.worklist)
+        (flat_map yields_of progress.old.found.items) (flat_map yields_of progress.new.found.items)) }
+{
+    let held = hold(alloc, &trace.exports_to_trace)?;
+    let PendingTrace {
+        package_nv,
+        specifier,
+        ..
+    } = trace;
+    let followed = ModuleOfPackage {
+        specifier,
+        nv: package_nv,
+    };
+    let before = searches.take(alloc, &followed);
+    let kept = before.len();
+    let (searched, outer, found) = follow_in(
+        alloc,
+        sources,
+        provider,
+        info,
+        &followed.nv,
+        before,
+        &held,
+    )?;
+    let is_much = is_much(kept, &searched, outer.as_slice(), &found);
+    searches.keep(&followed, searched, is_much)?;
+    let finding = followed_module(alloc, followed.nv, info, outer.as_slice(), found)?;
+    push_finding(&mut progress.found, finding)?;
+    progress.worklist.ask_all(alloc, outer)?;
+    Ok(())
+}
+
 /// Follows names of a module, if it is one that is followed: asks for what follows from them, and adds what is found. It is the same whatever
 /// items are used.
 pub fn follow(
@@ -109,11 +169,13 @@ pub fn follow(
     sources: Sources<'_>,
     provider: &dyn JsrUrlProvider,
     trace: PendingTrace,
+    searches: &mut KeptSearches,
     progress: &mut Progress,
 ) -> Result<(), AllocError>
     ensures { let without = known sources.entry (url_of provider.now) (nv_at provider.now) in
-        OnOk result ((used : Used) → let k = with_used used without in
-        IsFollowed (world k) (gives k) (trace_of trace) (state_of progress.old.worklist) (state_of progress.new.worklist)
+        OnOk result ((used : Used) (earlier : List Followed) → AreFollowed earlier searches.old → let k = with_used used without in
+        IsFollowed (world k) (gives k) earlier (λ done. AreFollowed done searches.new) (trace_of trace)
+        (state_of progress.old.worklist) (state_of progress.new.worklist)
         (flat_map yields_of progress.old.found.items) (flat_map yields_of progress.new.found.items)) }
 {
     match info_of(sources.graph, sources.root_symbol, &trace.specifier) {
@@ -122,10 +184,7 @@ pub fn follow(
             Ok(())
         }
         Some(info) => {
-            let held = hold(alloc, &trace.exports_to_trace)?;
-            let (outer, finding) = follow_in(alloc, sources, provider, info, trace, &held)?;
-            push_finding(&mut progress.found, finding)?;
-            progress.worklist.ask_all(alloc, outer)?;
+            follow_at(alloc, sources, provider, info, trace, searches, progress)?;
             Ok(())
         }
     }

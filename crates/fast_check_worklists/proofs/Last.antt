@@ -1,6 +1,6 @@
 -- The search from its beginning, turn by turn, to its end.
 use Rattle.std.proofs.Common.{◌≡◌, ◌∙◌, sym, ap, subst, ℕ, ◌-◌, ◌<◌, ◌≤◌, Bool, true, List, [], ◌∷◌, ◌++◌, Option, Some, None, map, length}
-use Rattle.std.proofs.Common.{take, ◌⊎◌, ⊎_elim, arith, append-nil, length-append}
+use Rattle.std.proofs.Common.{take, ◌⊎◌, ⊎_elim, inr, arith, append-nil, length-append}
 use Rattle.std.specs.List.{list_any, Contains, IsDistinct}
 use Rattle.std.specs.Cmp.{eq_by_cmp_equiv}
 use Rattle.std.proofs.lemmas.Bool.{false≢true, or_left, or_right, or_cases}
@@ -15,7 +15,7 @@ use Rattle.fast_check_worklists.specs.Demands.{Text, same_nv, Demand, of_package
 use Rattle.fast_check_worklists.specs.Account.{Trace, Followed, Account, Has, traces_of, root, IsAccount, IsYield}
 use Rattle.fast_check_worklists.specs.State.{State}
 use Rattle.fast_check_worklists.specs.Turn.{IsOrderly, handled_at, waiting_trace, waiting_of, IsKept, IsOnTheWay, IsTraced, IsNextEntered}
-use Rattle.fast_check_worklists.specs.Turn.{IsOver, IsTurn, IsBegun}
+use Rattle.fast_check_worklists.specs.Turn.{IsOver, IsEntryTurn, IsTurn, IsBegun}
 use Rattle.fast_check_worklists.specs.Measure.{Universe, IsUniverse, left, IsBounded}
 use Rattle.fast_check_worklists.proofs.Maps.{none_in, split_in, first_in, rest_in}
 use Rattle.fast_check_worklists.proofs.Falls.{Falls, ranks_same}
@@ -84,57 +84,6 @@ module _ {Y : Type 0} (world : World) (gives : Demand → List Y) (owner : Text 
 
   module _ (done : List Followed) (next : ℕ) (a b : State) (old new : List Y) (way : IsOnTheWay world gives owner roots done next a old)
       (bounded : IsBounded a) where
-    pub record IsLater (after : ℕ) : Type 0 where
-      pub traces : List Followed
-      pub next_way : IsOnTheWay world gives owner roots traces after b new
-      pub still : IsBounded b
-      pub falls : left u b after < left u a next
-
-    by_trace : (after : ℕ) → IsTraced world gives next after a b old new → IsLater after
-    unfolding left
-    by_trace after t =
-        let f =
-        followed world roots u is gives owner orderly done next a b t.trace old new way t.mid t.waits t.handled t.packages t.followed in
-        record {
-          traces = done ++ record { trace = t.trace; symbols = t.followed.symbols } ∷ [];
-          next_way =
-              subst (λ (n : ℕ). IsOnTheWay world gives owner roots
-              (done ++ record { trace = t.trace; symbols = t.followed.symbols } ∷ []) n b new)
-              (sym t.next_is) f.0;
-          still = record { distinct = f.1.distinct (subst (IsDistinct same_nv) (sym t.packages) bounded.distinct) };
-          falls = less t f.1;
-        }
-      where
-        less : (t : IsTraced world gives next after a b old new) → Falls u t.mid b → left u b after < left u a next
-        less t f =
-            omega (
-              arith,
-              f.less,
-              ranks_same u a t.mid t.handled,
-              ap length t.waits,
-              length-append (waiting_of t.mid) (t.trace ∷ []),
-              length-map t.mid.waiting waiting_trace,
-              length-map a.waiting waiting_trace,
-              ap (λ (n : ℕ). length u.packages - n) t.next_is,
-            )
-
-    by_package : (after : ℕ) → IsNextEntered world gives next after a b old new → IsLater after
-    unfolding left
-    by_package after t =
-        let f = entered world roots u is gives owner orderly done next a b t.package_nv old new way t.empty t.left t.here t.entered in
-        record {
-          traces = done;
-          next_way = subst (λ (n : ℕ). IsOnTheWay world gives owner roots done n b new) (sym t.next_is) f.0;
-          still = record { distinct = f.1.distinct bounded.distinct };
-          falls = less t f.1;
-        }
-      where
-        less : (t : IsNextEntered world gives next after a b old new) → Falls u a b → left u b after < left u a next
-        less t f = omega (arith, f.less, t.left, t.next_is, few_packages owner (traces_of done) a way.kept bounded.distinct)
-
-    pub later : (after : ℕ) → IsTraced world gives next after a b old new ⊎ IsNextEntered world gives next after a b old new → IsLater after
-    later after t = ⊎_elim (by_trace after) (by_package after) t
-
     pub over : IsOver next a b old new → (account : Account) × IsAccount world roots account × IsYield gives account new
     over t =
         let e = ended world roots u is gives owner orderly done next a old way t.empty t.past in (
@@ -143,12 +92,76 @@ module _ {Y : Type 0} (world : World) (gives : Demand → List Y) (owner : Text 
           subst (IsYield gives (record { packages = a.packages; followed = done })) (sym t.found_is) e.1,
         )
 
--- what was popped, if nothing was
-pub same_turn : {Y : Type 0} (world : World) (gives : Demand → List Y) (next : ℕ) (hs : List (Parts × ImportedExports)) (ps : List Nv)
-    (ws us : List (Parts × (PackageNv × ImportedExports))) (b : State) (old new : List Y) (o : Option ℕ) → ws ≡ us ++ [] →
-    IsTurn world gives next (record { handled = hs; waiting = us; packages = ps }) b old new o → IsTurn world gives next
-    (record { handled = hs; waiting = ws; packages = ps }) b old new o
-same_turn world gives next hs ps ws us b old new o e h =
-    subst (λ (vs : List (Parts × (PackageNv × ImportedExports))). IsTurn world gives next
+    module _ (Holds : List Followed → Type 0) where
+      pub record IsLater (after : ℕ) : Type 0 where
+        pub traces : List Followed
+        pub next_way : IsOnTheWay world gives owner roots traces after b new
+        pub still : IsBounded b
+        pub falls : left u b after < left u a next
+        pub holds : Holds traces
+
+      by_trace : (after : ℕ) → IsTraced world gives done Holds next after a b old new → IsLater after
+      unfolding left
+      by_trace after t =
+          let f =
+          followed world roots u is gives owner orderly done Holds next a b t.trace old new way t.mid t.waits t.handled t.packages t.followed in
+          record {
+            traces = done ++ record { trace = t.trace; symbols = t.followed.symbols } ∷ [];
+            next_way =
+                subst (λ (n : ℕ). IsOnTheWay world gives owner roots
+                (done ++ record { trace = t.trace; symbols = t.followed.symbols } ∷ []) n b new)
+                (sym t.next_is) f.0;
+            still = record { distinct = f.1.distinct (subst (IsDistinct same_nv) (sym t.packages) bounded.distinct) };
+            falls = less t f.1;
+            holds = t.followed.holds;
+          }
+        where
+          less : (t : IsTraced world gives done Holds next after a b old new) → Falls u t.mid b → left u b after < left u a next
+          less t f =
+              omega (
+                arith,
+                f.less,
+                ranks_same u a t.mid t.handled,
+                ap length t.waits,
+                length-append (waiting_of t.mid) (t.trace ∷ []),
+                length-map t.mid.waiting waiting_trace,
+                length-map a.waiting waiting_trace,
+                ap (λ (n : ℕ). length u.packages - n) t.next_is,
+              )
+
+      by_package : (after : ℕ) → IsNextEntered world gives next after a b old new → Holds done → IsLater after
+      unfolding left
+      by_package after t holds =
+          let f = entered world roots u is gives owner orderly done next a b t.package_nv old new way t.empty t.left t.here t.entered in
+          record {
+            traces = done;
+            next_way = subst (λ (n : ℕ). IsOnTheWay world gives owner roots done n b new) (sym t.next_is) f.0;
+            still = record { distinct = f.1.distinct bounded.distinct };
+            falls = less t f.1;
+            holds = holds;
+          }
+        where
+          less : (t : IsNextEntered world gives next after a b old new) → Falls u a b → left u b after < left u a next
+          less t f = omega (arith, f.less, t.left, t.next_is, few_packages owner (traces_of done) a way.kept bounded.distinct)
+
+      pub later : (after : ℕ) → IsTraced world gives done Holds next after a b old new ⊎
+          (IsNextEntered world gives next after a b old new × Holds done) → IsLater after
+      later after t = ⊎_elim (by_trace after) (λ e. by_package after e.0 e.1) t
+
+-- nothing was popped
+pub same_turn : {Y : Type 0} (world : World) (gives : Demand → List Y) (done : List Followed) (Holds : List Followed → Type 0) (next : ℕ)
+    (hs : List (Parts × ImportedExports)) (ps : List Nv) (ws us : List (Parts × (PackageNv × ImportedExports))) (b : State)
+    (old new : List Y) (o : Option ℕ) → ws ≡ us ++ [] → Holds done →
+    IsEntryTurn world gives next (record { handled = hs; waiting = us; packages = ps }) b old new o →
+    IsTurn world gives done Holds next (record { handled = hs; waiting = ws; packages = ps }) b old new o
+same_turn world gives done Holds next hs ps ws us b old new o e holds h =
+    subst (λ (vs : List (Parts × (PackageNv × ImportedExports))). IsTurn world gives done Holds next
     (record { handled = hs; waiting = vs; packages = ps }) b old new o)
-    (sym (e ∙ append-nil us)) h
+    (sym (e ∙ append-nil us)) (by_case o h)
+  where
+    a : State
+    a = record { handled = hs; waiting = us; packages = ps }
+
+    by_case : (o : Option ℕ) → IsEntryTurn world gives next a b old new o → IsTurn world gives done Holds next a b old new o
+    by_case None h = h
+    by_case (Some after) h = inr (h, holds)

@@ -22,10 +22,10 @@ use Rattle.fast_check_worklists.specs.declared.worklist.OuterWant.{OuterWant}
 use Rattle.fast_check_worklists.specs.declared.worklist.OuterWant.TheVariants.{Package as PackageWant, Module as ModuleWant}
 use Rattle.fast_check_worklists.specs.Demands.{Text, Wanted, same_nv, asked, one, Want, to_package, to_module, to_symbol, Demand}
 use Rattle.fast_check_worklists.specs.Demands.{of_package, of_module, of_symbol, World, Gives, Follows}
-use Rattle.fast_check_worklists.specs.Account.{Trace, Followed, Account, HasIn, Has, traces_of, Chained, step, is_of, joined, IsSymbolMet}
+use Rattle.fast_check_worklists.specs.Account.{Trace, Followed, Account, HasIn, Has, traces_of, Chained, step, is_of, joined}
 use Rattle.fast_check_worklists.specs.Account.{IsCovered, IsWidening, IsAccount, IsYield}
-use Rattle.fast_check_worklists.specs.State.{want_of, State, AsksModule, AsksOne, AsksAll, Reached}
-use Rattle.fast_check_worklists.specs.State.{root as reached_root, step as reached_step, IsSearched, IsOuter, IsFollowed, IsEntered}
+use Rattle.fast_check_worklists.specs.State.{want_of, State, AsksModule, AsksOne, AsksAll, Reached, root as reached_root}
+use Rattle.fast_check_worklists.specs.State.{step as reached_step, IsMetAmong, IsSearched, IsOuter, IsFollowed, IsEntered}
 use Rattle.fast_check_worklists.specs.Turn.{IsOrderly, handled_at, waiting_of, IsKept, IsAsked, IsMore, IsOnTheWay}
 use Rattle.fast_check_worklists.specs.Measure.{Universe, IsUniverse}
 use Rattle.fast_check_worklists.proofs.Maps.{split_in, first_in, rest_in, none_in, only_in}
@@ -198,16 +198,24 @@ module _ (world : World) (roots : List Nv) (u : Universe) (is_universe : IsUnive
       step (reached_chained x mine e r) (record { want = to_symbol x.nv x.specifier s; among = c; gives = (refl, refl, refl) })
 
   -- each demand of a trace that was searched is chained
-  member_chained : (x : Followed) → IsSearched world x →
+  member_chained : (among : List Followed) (x : Followed) → IsSearched world among x →
       ((d : NameDemand) → asked x.trace.exports d ≡ true → Chained world roots (of_module x.trace.nv x.trace.specifier d)) →
       (d : Demand) → HasIn x d → Chained world roots d
-  member_chained x searched mine (of_package p) h = absurd h
-  member_chained x searched mine (of_module nv t d) h =
+  member_chained among x searched mine (of_package p) h = absurd h
+  member_chained among x searched mine (of_module nv t d) h =
       subst (λ (q : Nv). Chained world roots (of_module q t d)) h.0
       (subst (λ (v : Text). Chained world roots (of_module x.trace.nv v d)) h.1 (mine d h.2))
-  member_chained x searched mine (of_symbol nv t s) h =
+  member_chained among x searched mine (of_symbol nv t s) h =
       subst (λ (q : Nv). Chained world roots (of_symbol q t s)) h.0
       (subst (λ (v : Text). Chained world roots (of_symbol x.trace.nv v s)) h.1 (reached_chained x.trace mine s (searched.reached s h.2)))
+
+  -- what is met among traces is met among more
+  searched_more : (among more : List Followed) (x : Followed) → ((y : Followed) → Contains among y → Contains more y) →
+      IsSearched world among x → IsSearched world more x
+  searched_more among more x within s = record {
+    reached = s.reached;
+    closed = λ d h p t e c. let m = s.closed d h p t e c in (m.0, within m.0 m.1, m.2);
+  }
 
   module _ {Y : Type 0} (gives : Demand → List Y) (owner : Text → Option Nv) (orderly : IsOrderly world owner) where
     -- each module that a trace names is demanded for the package that its specifier belongs to
@@ -218,11 +226,11 @@ module _ (world : World) (roots : List Nv) (u : Universe) (is_universe : IsUnive
     home_of x (of_symbol q v s) h p t w c = orderly.of_symbols q p v t s w c
 
     -- a trace is followed
-    module _ (done : List Followed) (next : ℕ) (a b : State) (x : Trace) (found after : List Y)
+    module _ (done : List Followed) (Holds : List Followed → Type 0) (next : ℕ) (a b : State) (x : Trace) (found after : List Y)
         (way : IsOnTheWay world gives owner roots done next a found)
         (mid : State) (is : waiting_of a ≡ waiting_of mid ++ x ∷ []) (same_handled : mid.handled ≡ a.handled)
         (same_packages : mid.packages ≡ a.packages)
-        (f : IsFollowed world gives x mid b found after) where
+        (f : IsFollowed world gives done Holds x mid b found after) where
       abbrev new : Followed
       new = record { trace = x; symbols = f.symbols }
 
@@ -252,7 +260,7 @@ module _ (world : World) (roots : List Nv) (u : Universe) (is_universe : IsUnive
       chain : (w : Want) → Contains (map want_of f.outer) w → (e : Demand) → Gives w e → Chained world roots e
       chain w c e g =
           let s = f.wants.sound w c in
-          step (member_chained new f.searched mine s.0 s.1) (record { want = w; among = s.2; gives = g })
+          step (member_chained now new f.searched mine s.0 s.1) (record { want = w; among = s.2; gives = g })
 
       fair : (w : Want) → Contains (map want_of f.outer) w → IsFair owner w
       fair (to_package p) c = chain (to_package p) c (of_package p) refl
@@ -336,7 +344,8 @@ module _ (world : World) (roots : List Nv) (u : Universe) (is_universe : IsUnive
           reached = omega (arith, way.reached, more.longer);
           has_roots = λ p c. more.packages p (way.has_roots p c);
           searched = λ z c.
-              ⊎_elim (λ l. way.searched z l) (λ r. subst (IsSearched world) r f.searched) (Contains-push_cases done new z c);
+              ⊎_elim (λ l. searched_more done now z (λ y i. Contains-append_left done (new ∷ []) y i) (way.searched z l))
+              (λ r. subst (IsSearched world now) r f.searched) (Contains-push_cases done new z c);
           closed_traces = λ z c.
               ⊎_elim (λ l. λ d h e g. asked_more a b more e (way.closed_traces z l d h e g))
               (λ r. subst (λ (v : Followed). (d : Demand) → HasIn v d → (e : Demand) → Follows world d e → IsAsked b e) r closed_new)
@@ -462,7 +471,7 @@ module _ (world : World) (roots : List Nv) (u : Universe) (is_universe : IsUnive
       trace_in z c = Contains-append_left (traces_of done) (waiting_of a) z.trace (contains_map (λ (x : Followed). x.trace) done z c)
 
       chained_in : (d : Demand) (z : Followed) → Contains done z → HasIn z d → Chained world roots d
-      chained_in d z c h = member_chained z (way.searched z c) (λ e k. way.kept.traces z.trace (trace_in z c) e k) d h
+      chained_in d z c h = member_chained done z (way.searched z c) (λ e k. way.kept.traces z.trace (trace_in z c) e k) d h
 
       chained : (d : Demand) → Has (account_of a done) d → Chained world roots d
       chained (of_package p) h = way.kept.packages p h
@@ -481,15 +490,15 @@ module _ (world : World) (roots : List Nv) (u : Universe) (is_universe : IsUnive
           IsCovered (account_of a done) e
       closed_in d z c h (of_package q) f = way.closed_traces z c d h (of_package q) f
       closed_in d z c h (of_module q t e) f = covered_module q t e (way.closed_traces z c d h (of_module q t e) f)
-      closed_in d z c h (of_symbol q t e) f = (z, c, by_want f.want f.among f.gives)
+      closed_in d z c h (of_symbol q t e) f = by_want f.want f.among f.gives
         where
-          by_want : (w : Want) → Contains (world d) w → Gives w (of_symbol q t e) → IsSymbolMet q t e z
+          by_want : (w : Want) → Contains (world d) w → Gives w (of_symbol q t e) → IsMetAmong done q t e
           by_want (to_package p) k g = absurd g
           by_want (to_module p v w) k g = absurd g
           by_want (to_symbol p v s) k g =
-              subst (λ (r : Nv). IsSymbolMet r t e z) g.0
-              (subst (λ (r : Text). IsSymbolMet p r e z) g.1
-              (subst (λ (r : SymbolDemand). IsSymbolMet p v r z) g.2 ((way.searched z c).closed d h p v s k)))
+              subst (λ (r : Nv). IsMetAmong done r t e) g.0
+              (subst (λ (r : Text). IsMetAmong done p r e) g.1
+              (subst (λ (r : SymbolDemand). IsMetAmong done p v r) g.2 ((way.searched z c).closed d h p v s k)))
 
       closed_package : (p : Nv) → Contains a.packages p → (e : Demand) → Follows world (of_package p) e → IsCovered (account_of a done) e
       closed_package p h (of_package q) f = way.closed_packages p (subst (λ (ps : List Nv). Contains ps p) (sym all_entered) h)

@@ -72,11 +72,15 @@ pub data Reached (world : World) (x : Trace) : SymbolDemand → Type 0 where
   step : (s e : SymbolDemand) → Reached world x s → Contains (world (of_symbol x.nv x.specifier s))
       (to_symbol x.nv x.specifier e) → Reached world x e
 
--- the demands of symbols of a trace are those to which it leads, up to cover
-pub record IsSearched (world : World) (x : Followed) : Type 0 where
+-- one of these traces meets the demand
+abbrev pub IsMetAmong : List Followed → Nv → Text → SymbolDemand → Type 0
+IsMetAmong among p t s = (y : Followed) × Contains among y × IsSymbolMet p t s y
+
+-- to the demands of symbols of a trace the trace leads, and what they name is met among these
+pub record IsSearched (world : World) (among : List Followed) (x : Followed) : Type 0 where
   pub reached : (s : SymbolDemand) → Contains x.symbols s → Reached world x.trace s
   pub closed : (d : Demand) → HasIn x d → (p : Nv) (t : Text) (s : SymbolDemand) →
-      Contains (world d) (to_symbol p t s) → IsSymbolMet p t s x
+      Contains (world d) (to_symbol p t s) → IsMetAmong among p t s
 
 -- wants of other than symbols
 abbrev pub IsOuter : Want → Type 0
@@ -99,17 +103,19 @@ pub record AreGiven {Y : Type 0} (gives : Demand → List Y) (x : Followed) (giv
   pub sound : (y : Y) → Contains given y → (d : Demand) × HasIn x d × Contains (gives d) y
   pub complete : (d : Demand) (y : Y) → HasIn x d → Contains (gives d) y → Contains given y
 
--- a trace was followed
-pub record IsFollowed {Y : Type 0} (world : World) (gives : Demand → List Y) (trace : Trace) (a b : State)
-    (old new : List Y) : Type 0 where
+-- a trace was followed, after earlier ones; and what holds of all that were followed
+pub record IsFollowed {Y : Type 0} (world : World) (gives : Demand → List Y) (earlier : List Followed)
+    (Holds : List Followed → Type 0) (trace : Trace) (a b : State) (old new : List Y) : Type 0 where
   pub symbols : List SymbolDemand
   pub outer : List OuterWant
   pub given : List Y
-  pub searched : IsSearched world (record { trace = trace; symbols = symbols })
+  pub searched : IsSearched world (earlier ++ (record { trace = trace; symbols = symbols }) ∷ [])
+      (record { trace = trace; symbols = symbols })
   pub wants : AreWants world (record { trace = trace; symbols = symbols }) (map want_of outer)
   pub yields : AreGiven gives (record { trace = trace; symbols = symbols }) given
   pub asks : AsksAll outer a b
   pub new_is : new ≡ old ++ given
+  pub holds : Holds (earlier ++ (record { trace = trace; symbols = symbols }) ∷ [])
 
 -- the entry points of a package were asked for
 pub record IsEntered {Y : Type 0} (world : World) (gives : Demand → List Y) (nv : Nv) (a b : State)

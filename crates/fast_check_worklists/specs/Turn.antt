@@ -79,22 +79,22 @@ pub record IsOnTheWay {Y : Type 0} (world : World) (gives : Demand → List Y) (
   pub kept : IsKept world roots owner (traces_of done) s
   pub reached : next ≤ length s.packages
   pub has_roots : (p : Nv) → Contains roots p → IsTrue (list_any (same_nv p) s.packages)
-  pub searched : (x : Followed) → Contains done x → IsSearched world x
+  pub searched : (x : Followed) → Contains done x → IsSearched world done x
   pub closed_traces : (x : Followed) → Contains done x → (d : Demand) → HasIn x d → (e : Demand) → Follows world d e →
       IsAsked s e
   pub closed_packages : (p : Nv) → Contains (take next s.packages) p → (e : Demand) → Follows world (of_package p) e →
       IsAsked s e
   pub yielded : IsYield gives (record { packages = take next s.packages; followed = done }) found
 
--- a trace was taken from what waits, and followed
-pub record IsTraced {Y : Type 0} (world : World) (gives : Demand → List Y) (next after : ℕ) (a b : State)
-    (old new : List Y) : Type 0 where
+-- a trace was taken from what waits, and followed after these
+pub record IsTraced {Y : Type 0} (world : World) (gives : Demand → List Y) (done : List Followed)
+    (Holds : List Followed → Type 0) (next after : ℕ) (a b : State) (old new : List Y) : Type 0 where
   pub trace : Trace
   pub mid : State
   pub waits : waiting_of a ≡ waiting_of mid ++ trace ∷ []
   pub handled : mid.handled ≡ a.handled
   pub packages : mid.packages ≡ a.packages
-  pub followed : IsFollowed world gives trace mid b old new
+  pub followed : IsFollowed world gives done Holds trace mid b old new
   pub next_is : after ≡ next
 
 -- nothing waited, and the next package was entered
@@ -114,10 +114,19 @@ pub record IsOver {Y : Type 0} (next : ℕ) (a b : State) (old new : List Y) : T
   pub state_is : b ≡ a
   pub found_is : new ≡ old
 
-abbrev pub IsTurn : {Y : Type 0} → World → (Demand → List Y) → ℕ → State → State → List Y → List Y → Option ℕ → Type 0
-IsTurn world gives next a b old new None = IsOver next a b old new
-IsTurn world gives next a b old new (Some after) = IsTraced world gives next after a b old new ⊎
-    IsNextEntered world gives next after a b old new
+-- a turn in which nothing waited
+abbrev pub IsEntryTurn : {Y : Type 0} → World → (Demand → List Y) → ℕ → State → State → List Y → List Y → Option ℕ →
+    Type 0
+IsEntryTurn world gives next a b old new None = IsOver next a b old new
+IsEntryTurn world gives next a b old new (Some after) = IsNextEntered world gives next after a b old new
+
+-- a turn after these were followed, and what holds of all that were followed, unless nothing was left
+abbrev pub IsTurn : {Y : Type 0} → World → (Demand → List Y) → List Followed → (List Followed → Type 0) → ℕ → State →
+    State → List Y → List Y → Option ℕ → Type 0
+IsTurn world gives done Holds next a b old new None = IsOver next a b old new
+IsTurn world gives done Holds next a b old new (Some after) =
+    IsTraced world gives done Holds next after a b old new ⊎
+    (IsNextEntered world gives next after a b old new × Holds done)
 
 -- the packages that are handed in stand among those asked
 pub record IsBegun (roots : List Nv) (s : State) : Type 0 where

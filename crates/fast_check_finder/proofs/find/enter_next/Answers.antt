@@ -1,4 +1,4 @@
-use Rattle.std.proofs.Common.{◌∙◌, sym, ap, refl, inr, map, arith}
+use Rattle.std.proofs.Common.{◌∙◌, sym, ap, refl, map, arith}
 use Rattle.std.proofs.lemmas.List.{length-map, get_or-map}
 use Rattle.std.proofs.lemmas.Option.{get_or_from_slice_get}
 use Rattle.fast_check_packages.specs.Package.{nv_of}
@@ -14,7 +14,7 @@ use Rattle.fast_check_finder.proofs.find.enter_next.Goals as goal
 pub returns-clause-turned : goal.returns-clause-turned
 returns-clause-turned g c =
     let m = goal.JsrUrlProvider-dyn g c.args.provider.now in
-    inr (record {
+    record {
       package_nv = nv_of c.in_ok-nv.nv;
       empty = ap (map waiting_trace) c.requires;
       left = omega (arith, length-map c.args.progress.now.worklist.packages.keys nv_of, c.if-next-len.false, c.len.ensures);
@@ -26,7 +26,7 @@ returns-clause-turned g c =
           ∙ sym c.in_ok-nv.ensures);
       entered = c.in_ok-enter.ensures.entered;
       next_is = refl;
-    })
+    }
 
 pub returns-in_err-enter-clause-refused : goal.returns-in_err-enter-clause-refused
 returns-in_err-enter-clause-refused g c =

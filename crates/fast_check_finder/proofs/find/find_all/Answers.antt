@@ -7,6 +7,7 @@ use Rattle.fast_check_cache.specs.CachedPackages.{used_item}
 use Rattle.fast_check_turns.specs.Lent.{used_of}
 use Rattle.fast_check_turns.specs.wants.Sources.{known, with_used}
 use Rattle.fast_check_turns.specs.Rules.{world}
+use Rattle.fast_check_turns.specs.Searches.{AreFollowed}
 use Rattle.fast_check_turns.specs.Yields.{gives}
 use Rattle.fast_check_findings.specs.Findings.{yields_of}
 use Rattle.fast_check_finder.specs.Reach.{lent_dependencies, reach}
@@ -29,6 +30,7 @@ turns-init g c =
         [],
         rw c.new-found.ensures.items (started (world k) (gives k) k.owner (map nv_of c.args.roots.now)
             (state_of c.in_ok-worklist.worklist) c.in_ok-worklist.ensures),
+        c.new-searches.ensures,
       );
       bounded = record { distinct = c.in_ok-worklist.ensures.distinct };
     }
@@ -46,8 +48,8 @@ turns-smaller g c =
     let rs = map nv_of c.args.roots.now in
     (later (world k) (gives k) k.owner (orderly k) rs (reach k ds rs) (universe k ds rs has) i.way.0 c.turns.next
     (state_of c.turns.progress.worklist) (state_of c.turn.new.progress.worklist)
-    (flat_map yields_of c.turns.progress.found.items) (flat_map yields_of c.turn.new.progress.found.items) i.way.1 i.bounded c.in-Some.after
-    (rw c.in-Some.is at c.in_ok-after.ensures.turned)).falls
+    (flat_map yields_of c.turns.progress.found.items) (flat_map yields_of c.turn.new.progress.found.items) i.way.1 i.bounded
+    (λ all. AreFollowed all c.turn.new.searches) c.in-Some.after (rw c.in-Some.is at c.in_ok-after.ensures.turned i.way.0 i.way.2)).falls
 
 pub turns-preserved : goal.turns-preserved
 turns-preserved g c =
@@ -63,9 +65,9 @@ turns-preserved g c =
     let l = later (world k) (gives k) k.owner (orderly k) rs (reach k ds rs) (universe k ds rs has) i.way.0 c.turns.next
     (state_of c.turns.progress.worklist)
     (state_of c.turn.new.progress.worklist) (flat_map yields_of c.turns.progress.found.items)
-    (flat_map yields_of c.turn.new.progress.found.items) i.way.1 i.bounded c.in-Some.after
-    (rw c.in-Some.is at c.in_ok-after.ensures.turned) in
-    record { way = (l.traces, l.next_way); bounded = l.still }
+    (flat_map yields_of c.turn.new.progress.found.items) i.way.1 i.bounded
+    (λ all. AreFollowed all c.turn.new.searches) c.in-Some.after (rw c.in-Some.is at c.in_ok-after.ensures.turned i.way.0 i.way.2) in
+    record { way = (l.traces, l.next_way, l.holds); bounded = l.still }
 
 pub returns-clause-found : goal.returns-clause-found
 returns-clause-found g c =
@@ -82,7 +84,7 @@ returns-clause-found g c =
     (state_of c.turns.progress.worklist)
     (state_of c.turn.new.progress.worklist) (flat_map yields_of c.turns.progress.found.items)
     (flat_map yields_of c.turn.new.progress.found.items) i.way.1 i.bounded
-    (rw c.in_default.is at c.in_ok-after.ensures.turned) in
+    (rw c.in_default.is at c.in_ok-after.ensures.turned i.way.0 i.way.2) in
     (o.0, o.1, o.2, all_join k o.0 c.turn.new.progress.found.items o.2)
 
 pub returns-in_err-after-clause-refused : goal.returns-in_err-after-clause-refused

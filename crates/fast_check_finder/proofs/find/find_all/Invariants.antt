@@ -9,6 +9,7 @@ use Rattle.fast_check_cache.specs.CachedPackages.{used_item}
 use Rattle.fast_check_turns.specs.Lent.{used_of}
 use Rattle.fast_check_turns.specs.wants.Sources.{known, with_used}
 use Rattle.fast_check_turns.specs.Rules.{world}
+use Rattle.fast_check_turns.specs.Searches.{AreFollowed}
 use Rattle.fast_check_turns.specs.Yields.{gives}
 use Rattle.fast_check_findings.specs.Findings.{yields_of}
 use Rattle.fast_check_finder.specs.Reach.{lent_dependencies, reach}
@@ -23,7 +24,8 @@ invariant-turns g l =
     record {
       way : (done : List Followed)
           × IsOnTheWay (world k) (gives k) k.owner (map nv_of l.roots) done l.next (state_of l.progress.worklist)
-          (flat_map yields_of l.progress.found.items);
+          (flat_map yields_of l.progress.found.items)
+          × AreFollowed done l.searches;
       bounded : IsBounded (state_of l.progress.worklist);
     }
 

@@ -1,13 +1,14 @@
-use Rattle.std.proofs.Common.{ap, refl, map, length, arith, ◌≤◌}
+use Rattle.std.proofs.Common.{ap, refl, subst, List, map, length, arith, ◌≤◌}
 use Rattle.std.specs.BTreeMap.{is_at}
 use Rattle.std.specs.List.{list_any}
 use Rattle.std.proofs.lemmas.Option.{get_or_from_slice_get}
 use Rattle.fast_check_symbols.specs.contracts.symbol_id.SymbolIdOrd.TheImpl as order
-use Rattle.fast_check_name_demands.specs.demands.Demands.{demand_of}
+use Rattle.fast_check_name_demands.specs.demands.Demands.{Demand, demand_of}
 use Rattle.fast_check_name_demands.specs.demands.Yields.{fault_seen}
 use Rattle.fast_check_search.specs.contracts.wanted.DoneWantOrd.TheImpl as wanted_order
 use Rattle.fast_check_search.specs.declared.worklist.SymbolWorklist.{SymbolWorklist}
 use Rattle.fast_check_search.specs.Done.{asked_path}
+use Rattle.fast_check_search.specs.Searched.{IsKeptWith}
 use Rattle.fast_check_search.specs.Universe.{limit}
 use Rattle.fast_check_search.specs.SymbolWorklist.{demanded, asked}
 use Rattle.fast_check_search.proofs.Closure.{begun, turned, ended, nothing_found}
@@ -24,7 +25,7 @@ loop-next-init c =
     let a = c.in_ok-ask_all.ensures in
     let f = c.new-found.ensures in
     record {
-      way = begun c.args.tables.now (map demand_of c.args.roots.now) (asked c.ask_all.new.self) c.new-found.result
+      way = begun c.args.tables.now (map demand_of c.args.roots.now) c.args.before (asked c.ask_all.new.self) c.new-found.result
           (rw c.new-work.ensures.demands at a.grown) a.covered
           (nothing_found c.args.tables.now c.new-found.result f.ranges f.implementations (ap (map fault_seen) f.faults) f.files);
       kept = a.kept;
@@ -49,7 +50,7 @@ loop-next-preserved c =
     let a = c.in_ok-ask_named.ensures in
     let i = c.loop-next.invariant in
     record {
-      way = turned c.args.tables.now (map demand_of c.args.roots.now) (asked c.loop-next.work) (asked c.ask_named.new.work) c.loop-next.next
+      way = turned c.args.tables.now (map demand_of c.args.roots.now) c.args.before (asked c.loop-next.work) (asked c.ask_named.new.work) c.loop-next.next
           (demanded c.at-demand.result) c.loop-next.found c.add.new.self
           i.way (omega (arith, c.len.ensures, c.loop-next-test.true))
           (get_or_from_slice_get (asked c.loop-next.work) c.loop-next.next _ _ c.at-demand.ensures.demand) a.grown a.covered c.in_ok-add.ensures.gains;
@@ -59,21 +60,25 @@ loop-next-preserved c =
           c.in_ok-add.ensures.wanted;
     }
 
-pub returns-clause-account : goal.returns-clause-account
-returns-clause-account c =
-    let e = ended c.args.tables.now (map demand_of c.args.roots.now) (asked c.loop-next.work) c.loop-next.next c.loop-next.found
-    (omega (arith, c.len.ensures, c.loop-next-test.false)) c.loop-next.invariant.way in
-    (asked c.loop-next.work, e.0, e.1)
+pub returns-clause-continued : goal.returns-clause-continued
+returns-clause-continued c =
+    let e = ended c.args.tables.now (map demand_of c.args.roots.now) c.args.before (asked c.loop-next.work) c.loop-next.next c.loop-next.found
+    (omega (arith, c.len.ensures, c.loop-next-test.false)) c.loop-next.invariant.way in (
+      asked c.loop-next.work,
+      e.0,
+      e.1,
+      subst (λ (ds : List Demand). IsKeptWith c.args.before ds c.keep_all.new.self) c.as_slice.ensures c.in_ok-keep_all.ensures,
+    )
 
 pub returns-clause-own_ranges : goal.returns-clause-own_ranges
 returns-clause-own_ranges c =
-    let e = ended c.args.tables.now (map demand_of c.args.roots.now) (asked c.loop-next.work) c.loop-next.next c.loop-next.found
+    let e = ended c.args.tables.now (map demand_of c.args.roots.now) c.args.before (asked c.loop-next.work) c.loop-next.next c.loop-next.found
     (omega (arith, c.len.ensures, c.loop-next-test.false)) c.loop-next.invariant.way in
     own_found c.args.tables.now (asked c.loop-next.work) c.loop-next.found.ranges.items e.1.public
 
 pub returns-clause-own_implementations : goal.returns-clause-own_implementations
 returns-clause-own_implementations c =
-    let e = ended c.args.tables.now (map demand_of c.args.roots.now) (asked c.loop-next.work) c.loop-next.next c.loop-next.found
+    let e = ended c.args.tables.now (map demand_of c.args.roots.now) c.args.before (asked c.loop-next.work) c.loop-next.next c.loop-next.found
     (omega (arith, c.len.ensures, c.loop-next-test.false)) c.loop-next.invariant.way in
     own_found_implementations c.args.tables.now (asked c.loop-next.work) c.loop-next.found.implementations.items e.1.implementing
 

@@ -8,7 +8,7 @@ use Rattle.fast_check_search.proofs.found.search.Given as goal
 
 abbrev pub invariant-loop-next : goal.invariant-loop-next
 invariant-loop-next l = record {
-  way : IsOnTheWay l.tables (map demand_of l.roots) (asked l.work) l.next l.found;
+  way : IsOnTheWay l.tables (map demand_of l.roots) l.fn.before (asked l.work) l.next l.found;
   kept : IsKept l.work;
   opened : AreOpened l.tables l.opened l.found.ranges.items;
   wanted : AreWanted l.work.paths l.wanted l.found.files;

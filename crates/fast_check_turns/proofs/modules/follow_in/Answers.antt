@@ -10,26 +10,26 @@ use Rattle.fast_check_turns.proofs.modules.follow_in.Goals as goal
 
 -- the module is lent anew, so what was traced of it is said again
 pub returns : goal.returns
-returns g c used =
+returns g c used exports holds =
     let m = goal.JsrUrlProvider-dyn g c.args.provider.now in
     let k = known c.args.sources (m.url_of c.args.provider.now.1) (m.nv_at c.args.provider.now.1) in
-    let found = c.in_ok-traced.traced in
+    let found = c.in_ok-searched.traced in
     let e = c.in_ok-outer.ensures in
-    let again = c.in_ok-traced.ensures.re_exports in
-    let t = traced_with k (nv_of c.args.trace.package_nv) (traced_as k c.args.info.now) c.as_slice.result.now
-    (map want_of c.in_ok-outer.outer.items) found.found found.re_export_ranges.items
-    found.wants c.in_ok-outer.found c.in_ok-traced.ensures.account (record { sound = again.sound; complete = again.complete })
-    c.in_ok-traced.ensures.wants
+    let again = c.in_ok-searched.ensures.re_exports in
+    let t = traced_with k (nv_of c.args.package.now) (traced_as k c.args.info.now) c.as_slice.result.now c.args.before
+    c.in_ok-searched.searched (map want_of c.in_ok-outer.outer.items) found.found found.re_export_ranges.items
+    found.wants c.in_ok-outer.found c.in_ok-searched.ensures.continued (record { sound = again.sound; complete = again.complete })
+    c.in_ok-searched.ensures.wants
     e.wants e.ranges e.implementations e.faults in
     record {
       names = map names_of c.as_slice.result.now;
-      are_names = subst (λ (ds : List NameDemand). AreDemands c.args.trace.exports_to_trace ds)
+      are_names = subst (λ (ds : List NameDemand). AreDemands exports ds)
           (sym (ap (map names_of) c.as_slice.ensures.value))
-          (c.in_ok-demands.ensures c.args.trace.exports_to_trace c.requires);
-      found = c.in_ok-outer.found;
+          (c.in_ok-demands.ensures exports holds);
       traced = record {
         symbols = t.symbols;
-        account = t.account;
+        continued = t.continued;
+        kept = t.kept;
         asked_files = t.asked_files;
         found_files = t.found_files;
         wants_are = t.wants_are;
@@ -43,5 +43,4 @@ returns g c used =
         found_faults = t.found_faults;
         faults_are = t.faults_are;
       };
-      given_is = rw c.as_slice-2.ensures.value at c.in_ok-finding.ensures;
     }

@@ -1,4 +1,4 @@
-use Rattle.std.proofs.Common.{◌≡◌, ◌∙◌, sym, ap, subst, map, get_or}
+use Rattle.std.proofs.Common.{◌≡◌, ◌∙◌, sym, ap, subst, ◌++◌, map, get_or}
 use Rattle.std.specs.List.{Contains}
 use Rattle.std.proofs.lemmas.List.{length-map, get_or-map}
 use Rattle.std.proofs.lemmas.List.Elements.{Contains-get_or}
@@ -22,7 +22,7 @@ pub loop-demand-preserved : goal.loop-demand-preserved
 loop-demand-preserved c =
     let i = c.loop-demand.invariant in
     let e = c.in_ok-ask.ensures in
-    let h = asked_more (map demand_of c.args.demands.now) (asked c.args.self.now) (asked c.loop-demand.self)
+    let h = asked_more (map demand_of c.args.demands.now) c.args.before.now (asked c.args.self.now) (asked c.loop-demand.self)
     (asked c.ask.new.self) c.loop-demand.demand-index (demand_of c.demand-item.result) (rw length-map c.loop-demand-test.true)
     (get_or-map demand_of c.args.demands.now c.loop-demand.demand-index c.demand-item.result
     (demand_of c.demand-item.result) c.loop-demand-test.true ∙ ap demand_of (sym c.demand-item.is)) i.grown i.covered e.grown e.covered in
@@ -35,5 +35,6 @@ loop-demand-preserved c =
     }
 
 pub returns-clause-covered : goal.returns-clause-covered
-returns-clause-covered c = asked_all (map demand_of c.args.demands.now) c.loop-demand.demand-index (asked c.loop-demand.self)
+returns-clause-covered c = asked_all (map demand_of c.args.demands.now) c.loop-demand.demand-index
+    (c.args.before.now ++ asked c.loop-demand.self)
     (rw length-map c.loop-demand-test.false) c.loop-demand.invariant.covered

@@ -1,4 +1,4 @@
-use Rattle.std.proofs.Common.{◌≡◌, Some, map, take}
+use Rattle.std.proofs.Common.{◌≡◌, Some, ◌++◌, map, take}
 use Rattle.fast_check_names.specs.Names.{path_of}
 use Rattle.fast_check_name_demands.specs.demands.Demands.{demand_of}
 use Rattle.fast_check_search.specs.Numbers.{number_of, Keeps}
@@ -11,5 +11,5 @@ invariant-loop-demand l = record {
   number : number_of l.self.paths (path_of l.path.names.now) ≡ Some l.path.number;
   numbers : Keeps l.initial.self.paths l.self.paths;
   grown : Grows (map demand_of l.demands) (asked l.initial.self) (asked l.self);
-  covered : CoversEach (take l.demand-index (map demand_of l.demands)) (asked l.self);
+  covered : CoversEach (take l.demand-index (map demand_of l.demands)) (l.before ++ asked l.self);
 }
