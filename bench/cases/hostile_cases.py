@@ -101,6 +101,7 @@ def keys_with_other_values():
 
 ONE = [shapes.url(0)]
 TWO = [shapes.url(0), shapes.url(1)]
+IN_TURNS = sorted(shapes.url(place) for place in range(1, 51))
 # what a run shows, the shape and its size, and the modules that are answered (with their skeletons where these are not empty), or the line of the refusal
 CASES = [
     ("hostile_ring_of_aliases", shapes.alias_ring(1000), ONE),
@@ -123,7 +124,7 @@ CASES = [
     ("hostile_names_covered_before_others", squares.names_covered_before_others(50), TWO),
     # found and told once, though many declarations, names or paths lead to it
     ("hostile_path_of_two_askers", shapes.path_of_two_askers(50), ONE),
-    ("hostile_parts_of_many_declarations", squares.parts_of_many_declarations(50), ONE),
+    ("hostile_parts_of_many_declarations", shapes.parts_of_many_declarations(50), ONE),
     ("hostile_properties_of_overloads", shapes.properties_of_overloads(50), ONE),
     ("hostile_properties_of_one_symbol", shapes.properties_of_one_symbol(50), ONE),
     ("hostile_one_property_of_many_functions", squares.one_property_of_many_functions(50), ONE),
@@ -131,6 +132,13 @@ CASES = [
     # a name behind re-exports of all, and one that none of them has: then what they lead to is asked for nothing
     ("hostile_names_of_many_re_exports", shapes.names_of_many_re_exports(50), sorted(shapes.url(place) for place in range(52))),
     ("hostile_names_that_no_re_export_has", shapes.names_that_no_re_export_has(50), TWO),
+    # followed in many turns, of which the later ones go on from what the earlier ones came to
+    ("hostile_names_of_two_modules_in_turns", shapes.names_of_two_modules_in_turns(50), sorted(shapes.url(place) for place in range(3))),
+    ("hostile_names_asked_in_turns", shapes.names_asked_in_turns(50), [*IN_TURNS, shapes.url("m")]),
+    ("hostile_chain_asked_from_its_end", shapes.chain_asked_from_its_end(50), [*IN_TURNS, shapes.url("m")]),
+    ("hostile_files_asked_in_turns", shapes.files_asked_in_turns(50), sorted([*IN_TURNS, shapes.url(51), shapes.url("m")])),
+    ("hostile_urls_beside_bases", shapes.urls_beside_bases(50), ONE),
+    ("hostile_entry_points_of_a_long_package", shapes.entry_points_of_a_long_package(50), ONE),
     ("hostile_long_name", *a_long_name(100_000)),
     ("hostile_exports_of_a_symbol", exports_of_a_symbol(3000), ONE),
     ("hostile_members_asked_for", shapes.members_asked_for(50), ONE),

@@ -92,11 +92,23 @@ def single(symbols, exports, **more):
 SHAPES = {}
 # Of the shapes from which more follows than they have bytes.
 DEMANDS = {}
+# Of those that are for another command than `build`.
+COMMANDS = {}
 
 
 def shape(made):
     SHAPES[made.__name__] = made
     return made
+
+
+def shape_of(command):
+    """A shape for this command."""
+
+    def noted(made):
+        COMMANDS[made.__name__] = command
+        return shape(made)
+
+    return noted
 
 
 def shape_by(demands):
@@ -393,6 +405,219 @@ def packages_within_each_other(n):
     return made
 
 
+def chain_to(n, asked, of, *more):
+    """A chain of n modules, each of which asks the next one for its only name and the module `of` for the name that `asked` gives; and these modules more."""
+
+    def at(i):
+        deps = ([import_type(url(i + 1), "s1")] if i < n else []) + [import_type(of[0], asked(i))]
+        return module(url(i), [symbol(1, definition(*deps))], [["s1", 1]])
+
+    return request(*map(at, range(1, n + 1)), of, *more, exports=[[".", "./1.ts"]])
+
+
+def by_name(name):
+    return [{"Id": [name, 1]}, "Type_"]
+
+
+def exports_of(letter, n):
+    return [[f"{letter}{i}", i] for i in range(1, n + 1)]
+
+
+def names_that_ask(asked, n, *symbols):
+    """A module of n names, each of which asks for the symbol of this name, and of these symbols."""
+    return module(url("m"), [*(symbol(i, definition(by_name(asked)), name=f"a{i}") for i in range(1, n + 1)), *symbols], exports_of("a", n))
+
+
+def namespace_of_items(n):
+    """A namespace N of n items, behind n other symbols."""
+    items = [symbol(n + 1 + i, definition(), parent=n + 1, name=f"x{i}") for i in range(1, n + 1)]
+    return [symbol(n + 1, definition(is_ts_namespace=True), name="N", exports=[[f"x{i}", n + 1 + i] for i in range(1, n + 1)]), *items]
+
+
+@shape
+def names_asked_in_turns(n):
+    """Turns in which a name of one module is asked for, each of which leads to the items of a namespace."""
+    return chain_to(n, lambda i: f"a{i}", names_that_ask("N", n, *namespace_of_items(n)))
+
+
+def two_in_turns(n, first, second, symbols=(), *deps):
+    """Two modules at these URLs that ask each other for a name in turn, n times. The second has these symbols too, and each of its names these dependencies."""
+    asks = [symbol(i, definition(import_type("second", f"a{i}")), name=f"b{i}") for i in range(1, n + 1)]
+    gives = [symbol(i, definition(*deps, *([import_type("first", f"b{i + 1}")] if i < n else [])), name=f"a{i}") for i in range(1, n + 1)]
+    entry = module(url(2), [symbol(1, definition(import_type("first", "b1")))], [["s1", 1]])
+    both = module(first, asks, exports_of("b", n), resolved_exports=[]), module(second, [*gives, *symbols], exports_of("a", n), resolved_exports=[])
+    made = request(entry, *both, exports=[[".", "./2.ts"]])
+    made["graph"]["resolutions"] = [[url(2), "first", first], [first, "second", second], [second, "first", first]]
+    return made
+
+
+@shape
+def names_of_two_modules_in_turns(n):
+    """Two modules that ask each other for a name in turn, of which the names of one lead to the items of a namespace."""
+    return two_in_turns(n, url(0), url(1), namespace_of_items(n), by_name("N"))
+
+
+@shape
+def chain_asked_from_its_end(n):
+    """Turns in which a name is asked for that leads to all that were asked for before."""
+    links = [symbol(i, definition(by_name(f"a{i + 1}")), name=f"a{i}") for i in range(1, n + 1)]
+    return chain_to(n, lambda i: f"a{n + 1 - i}", module(url("m"), links, exports_of("a", n)))
+
+
+@shape
+def files_asked_in_turns(n):
+    """Turns in which a name is asked for that leads to the import types of one symbol."""
+    big = symbol(n + 1, definition(*(import_type("o:o", f"x{i}") for i in range(n))), name="B")
+    made = chain_to(n, lambda i: f"a{i}", names_that_ask("B", n, big), module(url(n + 1), [symbol(1, definition())], [["s1", 1]]))
+    made["graph"]["resolutions"].append([url("m"), "o:o", url(n + 1)])
+    return made
+
+
+@shape
+def faults_found_in_turns(n):
+    """Turns in which a name is asked for that leads to the faults of one symbol."""
+    big = symbol(n + 1, definition(*([{"QualifiedId": [["N", 1], [f"x{i}"]]}, "Type_"] for i in range(n))), name="B")
+    return chain_to(n, lambda i: f"a{i}", names_that_ask("B", n, big, symbol(n + 2, definition(is_ts_namespace=True), name="N")))
+
+
+# Trees, whose places count only where they are public.
+NOWHERE = [0, 0]
+
+
+def span(i):
+    return [10 * i + 1, 10 * i + 8]
+
+
+def ident(name):
+    return {"span": NOWHERE, "ctxt": 2, "sym": name}
+
+
+ONE = {"Lit": {"Num": {"span": NOWHERE, "raw": "1"}}}
+
+
+def exported_const(i, name, value):
+    """`export const name = value;` at span(i)."""
+    declarator = {"span": span(i), "name": {"Ident": {"id": ident(name)}}, "init": value}
+    return {"ModuleDecl": {"ExportDecl": {"span": span(i), "decl": {"Var": {"span": span(i), "kind": "Const", "decls": [declarator]}}}}}
+
+
+def assigned(i, name, key):
+    """`name.key = 1;` at span(i)."""
+    member = {"Member": {"span": NOWHERE, "obj": {"Ident": ident(name)}, "prop": {"Ident": {"span": NOWHERE, "sym": key}}}}
+    assign = {"span": span(i), "op": "=", "left": {"Simple": member}, "right": ONE}
+    return {"Stmt": {"Expr": {"span": span(i), "expr": {"Assign": assign}}}}
+
+
+def imported(i, text, name):
+    """`import name from "text";` at span(i)."""
+    specifier = {"Default": {"span": span(i), "local": ident(name)}}
+    return {"ModuleDecl": {"Import": {"span": span(i), "specifiers": [specifier], "src": {"span": NOWHERE, "value": text}, "phase": "evaluation"}}}
+
+
+def tree_module(body, symbols=(), ids=(), specifier="file:///p/mod.ts"):
+    source = {"media_type": "TypeScript", "text": "", "program": {"Module": {"span": [1, 9], "body": body}}, "comments": {}, "unresolved_context": 1}
+    return {"specifier": specifier, "source": source, "module_symbol": 0, "symbols": [{"id": 0}, *symbols], "swc_ids": list(ids)}
+
+
+def transform(body, ranges, symbols=(), ids=(), specifier="file:///p/mod.ts", graph=None):
+    """A request of `transform` for a module of these items and symbols, with these ranges public."""
+    return {"module": tree_module(body, symbols, ids, specifier), "ranges": list(ranges), "graph": graph or {}}
+
+
+# A declaration in few bytes.
+FEW = {"kind": {"Definition": None}}
+
+
+@shape_of("transform")
+def new_of_many_declarations(n):
+    """Expressions `new C()`, and declarations of C: one may be of a class without type parameters."""
+    new = {"expr": {"New": {"callee": {"Ident": {"ctxt": 2, "sym": "C"}}}}}
+    c = symbol(1, *[FEW] * (2 * n), definition(is_plain_class_decl=True), name="C")
+    return transform([exported_const(1, "x", {"Array": {"elems": [new] * n}})], [span(1)], [c], [[["C", 2], 1]])
+
+
+@shape_of("pair")
+def new_of_many_declarations_in_pair(n):
+    """The same in `pair`, of both modules."""
+    made = new_of_many_declarations(n)
+    return {"graph": made["graph"], "a": made["module"], "ranges_a": made["ranges"], "b": made["module"], "ranges_b": made["ranges"]}
+
+
+@shape_of("transform")
+def assignments_of_many_declarations(n):
+    """Assignments to properties of f, and declarations of f: one may have the keyword `export`."""
+    body = [assigned(i, "f", f"x{i}") for i in range(1, n + 1)]
+    return transform(body, map(span, range(1, n + 1)), [symbol(1, *[FEW] * (6 * n), name="f")], [[["f", 2], 1]])
+
+
+@shape_of("transform")
+def symbols_of_a_long_named_member(n):
+    """Symbols with one member that has a long name."""
+    return transform([], [], [{"id": 1, "maybe_name": "N" * (60 * n), "decls": [FEW]}, *({"id": i, "members": [1], "decls": [FEW]} for i in range(2, n + 2))])
+
+
+@shape
+def names_of_one_symbol(n):
+    """Exported names of a symbol, and its declarations: which have the keyword `export`?"""
+    return single([symbol(1, *[definition()] * n)], [[f"x{i}", 1] for i in range(n)])
+
+
+@shape
+def parts_of_many_declarations(n):
+    """Parts that are asked of a namespace, and its declarations: one may be an alias or a class."""
+    parts = [symbol(1 + i, definition(), parent=1, name=f"x{i}") for i in range(1, n + 1)]
+    asks = [symbol(n + 1 + i, part("s1", f"x{i}")) for i in range(1, n + 1)]
+    of = symbol(1, *[definition(is_ts_namespace=True)] * n, exports=[[f"x{i}", 1 + i] for i in range(1, n + 1)])
+    return single([of, *parts, *asks], [[f"s{n + 1 + i}", n + 1 + i] for i in range(1, n + 1)])
+
+
+def looked_up(n, start, text, **listed):
+    """Import types of one file by two texts in turn, whose URL is looked up among these."""
+    asked = definition(*(import_type(("./p", "./q")[i % 2], f"s{i}") for i in range(n)))
+    made = request(module(url(0), [symbol(1, asked)], [["s1", 1]]), **listed)
+    made["graph"]["resolutions"] = [[url(0), each, start + text] for each in ("./p", "./q")]
+    return made
+
+
+def that_part_from(start, path):
+    """URLs that part from start + path, each at another of its bytes, and two of which one begins the other."""
+    return [start + path[:i] + "!" for i in range(len(path) + 1)] + [start + "!!"]
+
+
+@shape
+def urls_beside_bases(n):
+    """Look-ups of a URL among listed packages, as many as the root of n, whose URLs part from it at each byte."""
+    path = "q" * math.isqrt(8 * n)
+    return looked_up(n, HOST, path + "q", versions=[[f"@q/q{i}@1.0.0", each] for i, each in enumerate(that_part_from(HOST, path))])
+
+
+@shape
+def files_beside_members(n):
+    """The same of the bases of members of the workspace."""
+    start, path = "file:///", "q" * math.isqrt(8 * n)
+    members = [{"name": f"@w/w{i}", "base": each} for i, each in enumerate(that_part_from(start, path))]
+    return looked_up(n, start, path + "q", workspace_members=members)
+
+
+@shape
+def urls_beside_nested_packages(n):
+    """Look-ups of a URL that is above listed packages whose URLs begin one another, as many as the root of n: the shortest of these alone begins it."""
+    return looked_up(n, HOST, "z.ts", versions=[[f"@q/q{i}@1.0.0", HOST + "q" * i] for i in range(math.isqrt(8 * n) + 1)])
+
+
+def renamed(made, nv):
+    """The request with another name of its package."""
+    made["graph"]["packages"][0][0] = made["provider"]["packages"][0][0] = nv
+    return {**made, "pending": [nv]}
+
+
+@shape
+def entry_points_of_a_long_package(n):
+    """Entry points of a package that has a long name."""
+    exports = [[f"{i}", "./0.ts"] for i in range(n)]
+    return renamed(request(module(url(0), [symbol(1, definition())], [["s1", 1]]), exports=exports), "@p/" + "p" * (25 * n) + "@1.0.0")
+
+
 def packages_by(n, next_of):
     each = lambda p: module(url(0, p), [symbol(1, file_ref(url(0, next_of(p)), "s1"))], [["s1", 1]])
     return request(*map(each, range(n)), packages=n)
@@ -462,7 +687,7 @@ def row(name, largest, runs, grows, said):
 
 def measure(program, name):
     """Prints the line of a shape. Answers whether it grows as it may."""
-    n, runs = in_three_sizes(lambda number: spent(program, SHAPES[name](number)), FIRST, LEAST_SECONDS)
+    n, runs = in_three_sizes(lambda number: spent(program, SHAPES[name](number), COMMANDS.get(name, "build")), FIRST, LEAST_SECONDS)
     demands = DEMANDS.get(name)
     grows = exponent([(demands(number) if demands else ran[0], ran[2]) for number, ran in zip((n, 2 * n, 4 * n), runs)])
     is_good = grows <= MOST_EXPONENT and all(status in (0, 1, 2) for _, status, _, _ in runs)

@@ -6,7 +6,7 @@ two runs the quicker), the bytes held a byte of the largest, and the exponent by
 a twenty-fifth of a second, the input has 4 MB, or the largest would hold more than 2 GB. The docstring of each shape says what is multiplied with what,
 and the crate and the function that do it.
 
-An exponent of at most 1.2 is told as `no longer`: such a shape goes from here, one of `build` to `shapes.py`. A run that ends by a signal or by refusing its
+An exponent of at most 1.2 is told as `no longer`: such a shape goes from here to `shapes.py`. A run that ends by a signal or by refusing its
 input is told as `no answer`. For both the status is 1.
 
 Usage: bench/check/squares.py PROGRAM [SHAPE ..]
@@ -21,8 +21,8 @@ sys.dont_write_bytecode = True
 sys.path[:0] = [os.path.join(os.path.dirname(os.path.dirname(os.path.abspath(__file__))), folder) for folder in ("rules", "cases", "check", "time")]
 
 from shapes import (
-    HOST, MOST_EXPONENT, covered, decl, definition, exponent, file_ref, import_type, in_three_sizes, measured, module, of_references, part, request, row, single,
-    spent, symbol, url,
+    HOST, MOST_EXPONENT, ONE, covered, decl, definition, exponent, exported_const, exports_of, file_ref, import_type, imported, in_three_sizes, measured,
+    module, of_references, part, renamed, request, row, single, span, spent, symbol, transform, tree_module, two_in_turns, url,
 )
 
 FIRST, LEAST_SECONDS, RUNS = 125, 0.04, 2
@@ -36,55 +36,6 @@ def known(command="build", first=FIRST, last=math.inf):
         return made
 
     return noted
-
-
-# ---- trees, whose places count only where they are public
-
-NOWHERE = [0, 0]
-
-
-def span(i):
-    return [10 * i + 1, 10 * i + 8]
-
-
-def ident(name):
-    return {"span": NOWHERE, "ctxt": 2, "sym": name}
-
-
-ONE = {"Lit": {"Num": {"span": NOWHERE, "raw": "1"}}}
-
-
-def exported_const(i, name, value):
-    """`export const name = value;` at span(i)."""
-    declarator = {"span": span(i), "name": {"Ident": {"id": ident(name)}}, "init": value}
-    return {"ModuleDecl": {"ExportDecl": {"span": span(i), "decl": {"Var": {"span": span(i), "kind": "Const", "decls": [declarator]}}}}}
-
-
-def assigned(i, name, key):
-    """`name.key = 1;` at span(i)."""
-    member = {"Member": {"span": NOWHERE, "obj": {"Ident": ident(name)}, "prop": {"Ident": {"span": NOWHERE, "sym": key}}}}
-    assign = {"span": span(i), "op": "=", "left": {"Simple": member}, "right": ONE}
-    return {"Stmt": {"Expr": {"span": span(i), "expr": {"Assign": assign}}}}
-
-
-def imported(i, text, name):
-    """`import name from "text";` at span(i)."""
-    specifier = {"Default": {"span": span(i), "local": ident(name)}}
-    return {"ModuleDecl": {"Import": {"span": span(i), "specifiers": [specifier], "src": {"span": NOWHERE, "value": text}, "phase": "evaluation"}}}
-
-
-def tree_module(body, symbols=(), ids=(), specifier="file:///p/mod.ts"):
-    source = {"media_type": "TypeScript", "text": "", "program": {"Module": {"span": [1, 9], "body": body}}, "comments": {}, "unresolved_context": 1}
-    return {"specifier": specifier, "source": source, "module_symbol": 0, "symbols": [{"id": 0}, *symbols], "swc_ids": list(ids)}
-
-
-def transform(body, ranges, symbols=(), ids=(), specifier="file:///p/mod.ts", graph=None):
-    """A request of `transform` for a module of these items and symbols, with these ranges public."""
-    return {"module": tree_module(body, symbols, ids, specifier), "ranges": list(ranges), "graph": graph or {}}
-
-
-# A declaration in few bytes.
-FEW = {"kind": {"Definition": None}}
 
 
 # ---- texts of one hash
@@ -146,82 +97,7 @@ def export_names_of_one_hash(n):
     return transform([], [], graph={"packages": [["@p/p0@1.0.0", [[each, ""] for each in colliding(n, TEXT_LETTERS)]]]})
 
 
-# ---- a module is searched from nothing in every turn
-
-
-def chain_to(n, asked, of, *more):
-    """A chain of n modules, each of which asks the next one for its only name and the module `of` for the name that `asked` gives; and these modules more."""
-
-    def at(i):
-        deps = ([import_type(url(i + 1), "s1")] if i < n else []) + [import_type(of[0], asked(i))]
-        return module(url(i), [symbol(1, definition(*deps))], [["s1", 1]])
-
-    return request(*map(at, range(1, n + 1)), of, *more, exports=[[".", "./1.ts"]])
-
-
-def by_name(name):
-    return [{"Id": [name, 1]}, "Type_"]
-
-
-def exports_of(letter, n):
-    return [[f"{letter}{i}", i] for i in range(1, n + 1)]
-
-
-def names_that_ask(asked, n, *symbols):
-    """A module of n names, each of which asks for the symbol of this name, and of these symbols."""
-    return module(url("m"), [*(symbol(i, definition(by_name(asked)), name=f"a{i}") for i in range(1, n + 1)), *symbols], exports_of("a", n))
-
-
-def namespace_of_items(n):
-    """A namespace N of n items, behind n other symbols."""
-    items = [symbol(n + 1 + i, definition(), parent=n + 1, name=f"x{i}") for i in range(1, n + 1)]
-    return [symbol(n + 1, definition(is_ts_namespace=True), name="N", exports=[[f"x{i}", n + 1 + i] for i in range(1, n + 1)]), *items]
-
-
-@known()
-def names_asked_in_turns(n):
-    """Turns in which a name of one module is asked for times the items of a namespace, which each of the names leads to (fast_check_traces, `trace`)."""
-    return chain_to(n, lambda i: f"a{i}", names_that_ask("N", n, *namespace_of_items(n)))
-
-
-def two_in_turns(n, first, second, symbols=(), *deps):
-    """Two modules at these URLs that ask each other for a name in turn, n times. The second has these symbols too, and each of its names these dependencies."""
-    asks = [symbol(i, definition(import_type("second", f"a{i}")), name=f"b{i}") for i in range(1, n + 1)]
-    gives = [symbol(i, definition(*deps, *([import_type("first", f"b{i + 1}")] if i < n else [])), name=f"a{i}") for i in range(1, n + 1)]
-    entry = module(url(2), [symbol(1, definition(import_type("first", "b1")))], [["s1", 1]])
-    both = module(first, asks, exports_of("b", n), resolved_exports=[]), module(second, [*gives, *symbols], exports_of("a", n), resolved_exports=[])
-    made = request(entry, *both, exports=[[".", "./2.ts"]])
-    made["graph"]["resolutions"] = [[url(2), "first", first], [first, "second", second], [second, "first", first]]
-    return made
-
-
-@known()
-def names_of_two_modules_in_turns(n):
-    """Turns in which two modules ask each other for a name times the items of a namespace, which the names of one lead to (fast_check_traces, `trace`)."""
-    return two_in_turns(n, url(0), url(1), namespace_of_items(n), by_name("N"))
-
-
-@known()
-def chain_asked_from_its_end(n):
-    """Turns in which a name is asked for times the names that were: each leads to all of these (fast_check_traces, `trace`)."""
-    links = [symbol(i, definition(by_name(f"a{i + 1}")), name=f"a{i}") for i in range(1, n + 1)]
-    return chain_to(n, lambda i: f"a{n + 1 - i}", module(url("m"), links, exports_of("a", n)))
-
-
-@known(last=1000)
-def files_asked_in_turns(n):
-    """Turns in which a name is asked for times the import types that each of them leads to: all are asked again (fast_check_sources, `outer_wants`)."""
-    big = symbol(n + 1, definition(*(import_type("o:o", f"x{i}") for i in range(n))), name="B")
-    made = chain_to(n, lambda i: f"a{i}", names_that_ask("B", n, big), module(url(n + 1), [symbol(1, definition())], [["s1", 1]]))
-    made["graph"]["resolutions"].append([url("m"), "o:o", url(n + 1)])
-    return made
-
-
-@known(last=500)
-def faults_found_in_turns(n):
-    """Turns in which a name is asked for times the faults that each leads to: those of all turns are held to the end (fast_check_turns, `found_of`)."""
-    big = symbol(n + 1, definition(*([{"QualifiedId": [["N", 1], [f"x{i}"]]}, "Type_"] for i in range(n))), name="B")
-    return chain_to(n, lambda i: f"a{i}", names_that_ask("B", n, big, symbol(n + 2, definition(is_ts_namespace=True), name="N")))
+# ---- a module is followed under each name by which it is asked for
 
 
 @known()
@@ -234,44 +110,7 @@ def aliases_of_a_module(n):
     return made
 
 
-# ---- all declarations of a symbol are gone through at each of its uses
-
-
-@known("transform", first=4000)
-def new_of_many_declarations(n):
-    """Expressions `new C()` times the declarations of C: one may be of a class without type parameters (fast_check_symbols, `Symbol::is_plain_class`)."""
-    new = {"expr": {"New": {"callee": {"Ident": {"ctxt": 2, "sym": "C"}}}}}
-    c = symbol(1, *[FEW] * (2 * n), definition(is_plain_class_decl=True), name="C")
-    return transform([exported_const(1, "x", {"Array": {"elems": [new] * n}})], [span(1)], [c], [[["C", 2], 1]])
-
-
-@known("pair", first=4000)
-def new_of_many_declarations_in_pair(n):
-    """The same in `pair`, of both modules (fast_check_symbols, `Symbol::is_plain_class`)."""
-    made = new_of_many_declarations(n)
-    return {"graph": made["graph"], "a": made["module"], "ranges_a": made["ranges"], "b": made["module"], "ranges_b": made["ranges"]}
-
-
-@known("transform", first=2000)
-def assignments_of_many_declarations(n):
-    """Assignments to properties of f times the declarations of f: one may have the keyword `export` (fast_check_symbols, `Symbol::has_export_keyword`)."""
-    body = [assigned(i, "f", f"x{i}") for i in range(1, n + 1)]
-    return transform(body, map(span, range(1, n + 1)), [symbol(1, *[FEW] * (6 * n), name="f")], [[["f", 2], 1]])
-
-
-@known(first=4000)
-def names_of_one_symbol(n):
-    """Exported names of a symbol times its declarations: which have the keyword `export` is asked for each name (fast_check_traces, `is_exported_in`)."""
-    return single([symbol(1, *[definition()] * n)], [[f"x{i}", 1] for i in range(n)])
-
-
-@known(first=4000)
-def parts_of_many_declarations(n):
-    """Parts that are asked of a namespace times its declarations: one may be an alias or a class (fast_check_demands, `push_path_demands`)."""
-    parts = [symbol(1 + i, definition(), parent=1, name=f"x{i}") for i in range(1, n + 1)]
-    asks = [symbol(n + 1 + i, part("s1", f"x{i}")) for i in range(1, n + 1)]
-    of = symbol(1, *[definition(is_ts_namespace=True)] * n, exports=[[f"x{i}", 1 + i] for i in range(1, n + 1)])
-    return single([of, *parts, *asks], [[f"s{n + 1 + i}", n + 1 + i] for i in range(1, n + 1)])
+# ---- all declarations of a symbol are gone through for each of those that lead to it
 
 
 @known(last=1000)
@@ -292,40 +131,6 @@ def paths_of_many_references(n):
 def a_long_name_of_many_references(n):
     """The declarations of a symbol, which all stand for one name of a file, times the letters of a name below it (fast_check_search, `PathNumbers::noted`)."""
     return of_references(n, ["N" * (150 * n)])
-
-
-def by_text(text, n):
-    """Import types of n names of the file that a text names."""
-    return (import_type(text, f"s{i}") for i in range(n))
-
-
-# ---- a URL is looked up among those that begin as it does
-
-
-def that_part_from(start, path):
-    """URLs that part from start + path, each at another of its bytes, and two of which one begins the other."""
-    return [start + path[:i] + "!" for i in range(len(path) + 1)] + [start + "!!"]
-
-
-@known(first=1000)
-def urls_beside_bases(n):
-    """Wants of a URL times its bytes times the listed packages whose URLs part from it at each byte, as many as the root of n: each asks again for less
-    (fast_check_packages, `TextIndex::first_of`)."""
-    path = "q" * math.isqrt(8 * n)
-    bases = [[f"@q/q{i}@1.0.0", each] for i, each in enumerate(that_part_from(HOST, path))]
-    made = request(module(url(0), [symbol(1, definition(*by_text("./q", n)))], [["s1", 1]]), versions=bases)
-    made["graph"]["resolutions"] = [[url(0), "./q", HOST + path + "q"]]
-    return made
-
-
-@known(first=1000)
-def files_beside_members(n):
-    """The same of the bases of members of the workspace (fast_check_packages, `TextIndex::first_of`)."""
-    path = "q" * math.isqrt(8 * n)
-    members = [{"name": f"@w/w{i}", "base": each} for i, each in enumerate(that_part_from("file:///", path))]
-    made = request(module(url(0), [symbol(1, definition(*by_text("./q", n)))], [["s1", 1]]), workspace_members=members)
-    made["graph"]["resolutions"] = [[url(0), "./q", "file:///" + path + "q"]]
-    return made
 
 
 # ---- what many have in common is gone through for each of them
@@ -363,48 +168,49 @@ def path_through_files(n):
 # ---- one long text is copied or compared for each of many
 
 
-def wants(n, own, resolved, *modules, exports=()):
-    """A request in which the module of the URL `own` asks for n names behind a text, which resolves so; and these modules more."""
-    made = request(module(own, [symbol(1, definition(*by_text("./b.ts", n)))], [["s1", 1]]), *modules, exports=exports)
-    made["graph"]["resolutions"] = [[own, "./b.ts", resolved]]
+def wants(texts, own, resolved, *modules, exports=()):
+    """A request in which the module of the URL `own` asks for a name by each of these texts, all of which resolve so; and these modules more."""
+    asked = definition(*(import_type(text, f"s{i}") for i, text in enumerate(texts)))
+    made = request(module(own, [symbol(1, asked)], [["s1", 1]]), *modules, exports=exports)
+    made["graph"]["resolutions"] = [[own, text, resolved] for text in dict.fromkeys(texts)]
     return made
+
+
+def texts_of(n):
+    return [f"./{i}.ts" for i in range(n)]
 
 
 def one_name(at):
     return module(at, [symbol(1, definition())], [["s1", 1]])
 
 
-def renamed(made, nv):
-    """The request with another name of its package."""
-    made["graph"]["packages"][0][0] = made["provider"]["packages"][0][0] = nv
-    return {**made, "pending": [nv]}
-
-
 @known(last=500)
 def wants_of_a_long_package(n):
-    """Wants of a module times the bytes of its package's name, which is copied for each (fast_check_packages, `IndexedPackages::package_url_to_nv`)."""
-    return renamed(wants(n, url(0), url(1), one_name(url(1))), "@p/" + "p" * (100 * n) + "@1.0.0")
+    """Texts that name a module times the bytes of its package's name, which is copied for each (fast_check_packages, `IndexedPackages::package_url_to_nv`)."""
+    return renamed(wants(texts_of(n), url(0), url("m"), one_name(url("m"))), "@p/" + "p" * (100 * n) + "@1.0.0")
 
 
 @known(last=500)
 def wants_of_a_long_member(n):
-    """Wants of a file times the bytes of its member's name, which is copied for each (fast_check_sources, `member_nv_of`)."""
+    """Texts that name a file times the bytes of its member's name, which is copied for each (fast_check_sources, `member_nv_of`)."""
     member = {"name": "@w/" + "w" * (100 * n), "base": "file:///w/", "version": "1.0.0"}
-    return {**wants(n, url(0), "file:///w/b.ts"), "workspace_members": [member]}
+    return {**wants(texts_of(n), url(0), "file:///w/b.ts"), "workspace_members": [member]}
 
 
 @known(last=500)
 def references_to_a_long_url(n):
     """Wants of a module times the bytes of its URL, by which what was asked of it is found (fast_check_worklists, `HandledExports::add`)."""
     long = url("b" * (100 * n))
-    return wants(n, url(0), long, one_name(long))
+    return wants(["./b.ts"] * n, url(0), long, one_name(long))
 
 
 @known(first=1000)
 def references_of_a_long_url(n):
-    """Wants of a module times the bytes of its own URL, by which each text is resolved (fast_check_graph, `ModuleGraph::resolutions_of`)."""
+    """Texts in a module times the bytes of its URL, by which each is resolved (fast_check_graph, `ModuleGraph::resolutions_of`)."""
     long = "a" * (100 * n)
-    return wants(n, url(long), "https://b.example/", exports=[[".", f"./{long}.ts"]])
+    made = wants(texts_of(n), url(long), "https://b.example/", exports=[[".", f"./{long}.ts"]])
+    del made["graph"]["resolutions"][1:]
+    return made
 
 
 @known(last=500)
@@ -433,12 +239,6 @@ def entry_points_of_a_long_base(n):
     return made
 
 
-@known(last=2000)
-def entry_points_of_a_long_package(n):
-    """Entry points of a package times the bytes of its name, which is copied for each (fast_check_turns, `push_entry`)."""
-    return renamed(request(one_name(url(0)), exports=[[f"{i}", "./0.ts"] for i in range(n)]), "@p/" + "p" * (25 * n) + "@1.0.0")
-
-
 @known(first=2000)
 def packages_of_a_long_fallback(n):
     """Packages that are not listed times the bytes of the URL of such, which is copied for each (fast_check_packages, `IndexedPackages::package_url`)."""
@@ -455,12 +255,6 @@ def faults_of_a_long_name(n):
     of = {**symbol(1, definition(is_ts_namespace=True), name="N"), "qualified_name": "N" * (150 * n)}
     asks = [{**symbol(i, part("N", "x")), "qualified_name": "r"} for i in range(2, n + 2)]
     return single([of, *asks], [[f"s{i}", i] for i in range(2, n + 2)])
-
-
-@known("transform", last=1000)
-def symbols_of_a_long_named_member(n):
-    """Symbols with one member times the bytes of its name: the index of each one's members has a copy of it (fast_check_symbols, `member_indexes`)."""
-    return transform([], [], [{"id": 1, "maybe_name": "N" * (60 * n), "decls": [FEW]}, *({"id": i, "members": [1], "decls": [FEW]} for i in range(2, n + 2))])
 
 
 @known("transform")
