@@ -124,7 +124,7 @@ CASES = [
     ("hostile_names_covered_before_others", squares.names_covered_before_others(50), TWO),
     # found and told once, though many declarations, names or paths lead to it
     ("hostile_path_of_two_askers", shapes.path_of_two_askers(50), ONE),
-    ("hostile_parts_of_many_declarations", shapes.parts_of_many_declarations(50), ONE),
+    ("hostile_parts_of_many_declarations", squares.parts_of_many_declarations(50), ONE),
     ("hostile_properties_of_overloads", shapes.properties_of_overloads(50), ONE),
     ("hostile_properties_of_one_symbol", shapes.properties_of_one_symbol(50), ONE),
     ("hostile_one_property_of_many_functions", squares.one_property_of_many_functions(50), ONE),

@@ -562,15 +562,6 @@ def names_of_one_symbol(n):
     return single([symbol(1, *[definition()] * n)], [[f"x{i}", 1] for i in range(n)])
 
 
-@shape
-def parts_of_many_declarations(n):
-    """Parts that are asked of a namespace, and its declarations: one may be an alias or a class."""
-    parts = [symbol(1 + i, definition(), parent=1, name=f"x{i}") for i in range(1, n + 1)]
-    asks = [symbol(n + 1 + i, part("s1", f"x{i}")) for i in range(1, n + 1)]
-    of = symbol(1, *[definition(is_ts_namespace=True)] * n, exports=[[f"x{i}", 1 + i] for i in range(1, n + 1)])
-    return single([of, *parts, *asks], [[f"s{n + 1 + i}", n + 1 + i] for i in range(1, n + 1)])
-
-
 def looked_up(n, start, text, **listed):
     """Import types of one file by two texts in turn, whose URL is looked up among these."""
     asked = definition(*(import_type(("./p", "./q")[i % 2], f"s{i}") for i in range(n)))

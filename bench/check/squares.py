@@ -113,6 +113,15 @@ def aliases_of_a_module(n):
 # ---- all declarations of a symbol are gone through for each of those that lead to it
 
 
+@known(first=4000)
+def parts_of_many_declarations(n):
+    """Parts that are asked of a namespace times its declarations: one may be an implementation of overloads (fast_check_demands, `push_implementations`)."""
+    parts = [symbol(1 + i, definition(), parent=1, name=f"x{i}") for i in range(1, n + 1)]
+    asks = [symbol(n + 1 + i, part("s1", f"x{i}")) for i in range(1, n + 1)]
+    of = symbol(1, *[definition(is_ts_namespace=True)] * n, exports=[[f"x{i}", 1 + i] for i in range(1, n + 1)])
+    return single([of, *parts, *asks], [[f"s{n + 1 + i}", n + 1 + i] for i in range(1, n + 1)])
+
+
 @known(last=1000)
 def one_property_of_many_functions(n):
     """Functions times the declarations of one symbol that each of them exports: those are public with each (fast_check_demands, `push_properties`)."""
