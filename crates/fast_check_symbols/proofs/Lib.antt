@@ -9,3 +9,4 @@ pub mod EntriesMissed
 pub mod Pushed
 pub mod Named
 pub mod Namesakes
+pub mod Aliased

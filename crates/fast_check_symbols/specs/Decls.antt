@@ -46,6 +46,10 @@ is_exported_value x = decl_has_export_keyword x && x.value
 abbrev pub is_exported_type : SymbolDecl → Bool
 is_exported_type x = decl_has_export_keyword x && x.type_
 
+-- it implements overloads
+abbrev pub is_implementation : SymbolDecl → Bool
+is_implementation x = x.has_overloads && x.has_body
+
 -- one of the declarations is so
 abbrev pub has_alias : List SymbolDecl → Bool
 has_alias decls = list_any (λ x. is_alias x.kind) decls
@@ -55,3 +59,6 @@ has_class decls = list_any is_class_decl decls
 
 abbrev pub is_closed : List SymbolDecl → Bool
 is_closed decls = list_any is_closed_decl decls
+
+abbrev pub has_implementation : List SymbolDecl → Bool
+has_implementation decls = list_any is_implementation decls

@@ -1,6 +1,8 @@
 pub mod Exports
 pub mod Entries
 pub mod Decls
+pub mod Aliases
+pub mod AliasKeys
 pub mod DeclFlags
 pub mod Symbols
 pub mod Places

@@ -36,7 +36,7 @@ pub struct SymbolDecl {
 
 impl SymbolDecl {
     ghost use Rattle.fast_check_symbols.specs.Decls.{decl_has_export_keyword, decl_is_plain_class, is_class_decl, is_closed_decl, is_alias};
-    ghost use Rattle.fast_check_symbols.specs.Decls.{is_exported_value, is_exported_type};
+    ghost use Rattle.fast_check_symbols.specs.Decls.{is_exported_value, is_exported_type, is_implementation};
 
     /// Whether it stands behind the keyword `export`.
     pub fn has_export_keyword(&self) -> bool
@@ -97,5 +97,12 @@ impl SymbolDecl {
         ensures { result ≡ is_exported_type self.now }
     {
         self.has_export_keyword() && self.type_
+    }
+
+    /// Whether it is the implementation of overloads.
+    pub fn is_implementation(&self) -> bool
+        ensures { result ≡ is_implementation self.now }
+    {
+        self.has_overloads && self.has_body
     }
 }

@@ -1,8 +1,11 @@
 //! The declarations of a symbol, and what they say together.
-ghost use Rattle.std.specs.Prelude.{◌≡◌};
+ghost use Rattle.std.specs.Prelude.{◌≡◌, slice_get, option_map, IfOk};
 ghost use Rattle.std.specs.List.{list_any};
+ghost use Rattle.std.specs.Option.{option_copied};
 
-use crate::decl::SymbolDecl;
+use crate::aliases::first_aliases;
+use crate::decl::{SymbolDecl, SymbolDeclKind};
+use std::alloc::{AllocError, Global};
 use std::marker::Model;
 
 /// What declarations say together: whether one of them is so.
@@ -15,10 +18,12 @@ struct DeclFlags {
     has_alias: bool,
     has_class: bool,
     is_closed: bool,
+    has_implementation: bool,
 }
 
 ghost use Rattle.fast_check_symbols.specs.Decls.{decl_has_export_keyword, decl_is_plain_class, has_alias, has_class, is_closed};
-ghost use Rattle.fast_check_symbols.specs.Decls.{is_exported_value, is_exported_type};
+ghost use Rattle.fast_check_symbols.specs.Decls.{is_exported_value, is_exported_type, has_implementation};
+ghost use Rattle.fast_check_symbols.specs.Aliases.{AreAliases};
 ghost use Rattle.fast_check_symbols.specs.DeclFlags.{flags_of};
 
 fn has_export_keyword(decls: &[SymbolDecl]) -> bool
@@ -63,6 +68,12 @@ fn is_closed(decls: &[SymbolDecl]) -> bool
     decls.iter().any(|decl| decl.is_closed())
 }
 
+fn has_implementation(decls: &[SymbolDecl]) -> bool
+    ensures { result ≡ has_implementation decls.now }
+{
+    decls.iter().any(|decl| decl.is_implementation())
+}
+
 fn flags_of(decls: &[SymbolDecl]) -> DeclFlags
     ensures { result ≡ flags_of decls.now }
 {
@@ -74,6 +85,7 @@ fn flags_of(decls: &[SymbolDecl]) -> DeclFlags
         has_alias: has_alias(decls),
         has_class: has_class(decls),
         is_closed: is_closed(decls),
+        has_implementation: has_implementation(decls),
     }
 }
 
@@ -82,28 +94,35 @@ fn flags_of(decls: &[SymbolDecl]) -> DeclFlags
 pub struct SymbolDecls {
     items: Vec<SymbolDecl>,
     flags: DeclFlags,
+    /// The places of the aliases that stand for different things.
+    aliases: Vec<usize>,
 }
 
 impl Model for SymbolDecls {
     ghost use Rattle.std.specs.Prelude.{◌≡◌, Vec};
     ghost use Rattle.std.specs.declared.alloc.Global.{Global};
     ghost use Rattle.fast_check_symbols.specs.declared.decl.SymbolDecl.{SymbolDecl};
-    ghost use Rattle.fast_check_symbols.specs.DeclFlags.{flags_of};
+    ghost use Rattle.fast_check_symbols.specs.DeclFlags.{AreNoted};
 
     ghost Value = { Vec SymbolDecl Global };
 
     ghost view = { λ decls. decls.items };
 
-    ghost invariant = { λ decls. decls.flags ≡ flags_of decls.items.items };
+    ghost invariant = { λ decls. AreNoted decls.items.items decls.flags decls.aliases.items };
 }
 
 impl SymbolDecls {
     /// These declarations.
-    pub fn new(items: Vec<SymbolDecl>) -> SymbolDecls
-        ensures { result ≡ items }
+    pub fn new(alloc: Global, items: Vec<SymbolDecl>) -> Result<SymbolDecls, AllocError>
+        ensures { IfOk result (λ decls. decls ≡ items) }
     {
         let flags = flags_of(items.as_slice());
-        SymbolDecls { items, flags }
+        let aliases = first_aliases(alloc, items.as_slice())?;
+        Ok(SymbolDecls {
+            items,
+            flags,
+            aliases,
+        })
     }
 
     /// The declarations, in order.
@@ -148,6 +167,21 @@ impl SymbolDecls {
         self.flags.has_alias
     }
 
+    /// The places of the aliases among them: of those that stand for one thing, the place of one.
+    pub fn alias_places(&self) -> &[usize]
+        ensures { AreAliases self.now.items result.now }
+    {
+        self.aliases.as_slice()
+    }
+
+    /// What the declaration at a place binds the symbol to.
+    pub fn kind_at(&self, place: usize) -> Option<&SymbolDeclKind>
+        ensures { option_copied result ≡ option_map (λ d. d.kind) (slice_get self.now.items place) }
+    {
+        let decl = self.items.get(place)?;
+        Some(&decl.kind)
+    }
+
     /// Whether one of them is of a class.
     pub fn has_class(&self) -> bool
         ensures { result ≡ has_class self.now.items }
@@ -160,5 +194,12 @@ impl SymbolDecls {
         ensures { result ≡ is_closed self.now.items }
     {
         self.flags.is_closed
+    }
+
+    /// Whether one of them is the implementation of overloads.
+    pub fn has_implementation(&self) -> bool
+        ensures { result ≡ has_implementation self.now.items }
+    {
+        self.flags.has_implementation
     }
 }

@@ -2,6 +2,7 @@
 //! they mention is found.
 #![tactic(auto)]
 
+mod aliases;
 mod checked;
 mod decl;
 mod decls;
