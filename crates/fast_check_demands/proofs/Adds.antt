@@ -49,3 +49,12 @@ module _ {X : Type 0} where
   -- one list for another that is equal
   pub adds_as : (these those old new : List X) → these ≡ those → Adds these old new → Adds those old new
   adds_as these those old new e a = subst (λ (xs : List X). Adds xs old new) e a
+
+  -- these, gathered in a list of their own before
+  pub adds_gathered : (these those old new : List X) → Adds these [] those → Adds those old new → Adds these old new
+  adds_gathered these those old new a b = record {
+    more = b.more;
+    is = b.is;
+    parts = λ x c. a.parts x (subst (λ (xs : List X). Contains xs x) a.is (b.parts x c));
+    whole = λ x c. b.whole x (a.whole x c);
+  }

@@ -4,3 +4,4 @@ pub mod Adds
 mod Done
 mod Outside
 pub mod Yielded
+pub mod Aliased

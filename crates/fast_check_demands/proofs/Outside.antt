@@ -1,7 +1,8 @@
 -- Filters of what a loop gathers, and filters by tests that are alike.
-use Rattle.std.proofs.Common.{◌≡◌, ◌∙◌, sym, ap, refl, ℕ, ◌+◌, Bool, true, false, cond, List, [], ◌∷◌, ◌++◌}
+use Rattle.std.proofs.Common.{◌≡◌, ◌∙◌, sym, ap, refl, ℕ, ◌+◌, Bool, true, false, cond, ◌&&◌, ◌||◌, List, [], ◌∷◌, ◌++◌}
 use Rattle.std.proofs.Common.{map, take, slice_get}
-use Rattle.std.specs.List.{filter, flat_map}
+use Rattle.std.specs.List.{filter, flat_map, list_any}
+use Rattle.std.proofs.lemmas.Bool.{false≢true}
 use Rattle.std.proofs.lemmas.List.Elements.{filter-append}
 use Rattle.fast_check_symbol_demands.specs.Rules.{each_of}
 use Rattle.fast_check_symbol_demands.proofs.EachAt.{each_more}
@@ -33,3 +34,14 @@ filter_none {X} p e xs = go xs ∙ filter_alike (λ _. false) p e xs
     go : (ys : List X) → [] ≡ filter (λ _. false) ys
     go [] = refl
     go (y ∷ ys) = go ys
+
+-- a test that is made beside one that no element meets
+pub filter_beside : {X : Type 0} (p q : X → Bool) (xs : List X) → list_any q xs ≡ false → filter (λ x. p x && q x) xs ≡ []
+filter_beside p q [] h = refl
+filter_beside p q (x ∷ xs) h = by (p x) (q x) h (filter_beside p q xs)
+  where
+    by : (a b : Bool) → (b || list_any q xs) ≡ false → (list_any q xs ≡ false → filter (λ y. p y && q y) xs ≡ []) →
+        cond (a && b) (x ∷ filter (λ y. p y && q y) xs) (filter (λ y. p y && q y) xs) ≡ []
+    by a true h below = absurd (false≢true (sym h))
+    by true false h below = below h
+    by false false h below = below h

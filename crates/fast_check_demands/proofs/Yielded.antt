@@ -42,14 +42,15 @@ of_map f (x ∷ xs) y c = ⊎_elim
     (λ there. let m = of_map f xs y there in (m.0, later x xs m.0 m.1, m.2))
     (cases (f x) (map f xs) y c)
 
-in_flat : {X Y : Type 0} (f : X → List Y) (xs : List X) (x : X) (y : Y) → Contains xs x → Contains (f x) y → Contains (flat_map f xs) y
+pub in_flat : {X Y : Type 0} (f : X → List Y) (xs : List X) (x : X) (y : Y) → Contains xs x → Contains (f x) y → Contains (flat_map f xs) y
 in_flat f [] x y c h = absurd (no_element x c)
 in_flat {X} f (z ∷ zs) x y c h = ⊎_elim
     (λ is. Contains-append_left (f z) (flat_map f zs) y (subst (λ (w : X). Contains (f w) y) (sym is) h))
     (λ there. Contains-append_right (f z) (flat_map f zs) y (in_flat f zs x y there h))
     (cases z zs x c)
 
-of_flat : {X Y : Type 0} (f : X → List Y) (xs : List X) (y : Y) → Contains (flat_map f xs) y → (x : X) × Contains xs x × Contains (f x) y
+pub of_flat : {X Y : Type 0} (f : X → List Y) (xs : List X) (y : Y) → Contains (flat_map f xs) y →
+    (x : X) × Contains xs x × Contains (f x) y
 of_flat f [] y c = absurd (no_element y c)
 of_flat f (x ∷ xs) y c = ⊎_elim
     (λ here. (x, first x x xs refl, here))

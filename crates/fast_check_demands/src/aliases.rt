@@ -1,13 +1,15 @@
 //! What follows from a demand of an alias, of a member and of a class.
 ghost use Rattle.std.specs.Prelude.{◌≡◌, ◌∷◌, [], ◌++◌, OnOk, cond, string_bytes};
 ghost use Rattle.std.specs.List.{flat_map};
+ghost use Rattle.std.specs.Option.{option_copied};
 ghost use Rattle.fast_check_names.specs.Names.{path_of};
 ghost use Rattle.fast_check_symbol_demands.specs.symbols.Symbols.{symbol_of};
 ghost use Rattle.fast_check_symbol_demands.specs.Demands.{demand_of};
 ghost use Rattle.fast_check_symbol_demands.specs.Rules.{each_of, qualified, parts_names, alias_names, member_names, prototype_names, export_names, first_names, path_names};
+ghost use Rattle.fast_check_demands.specs.Yields.{Adds};
 
 use crate::names::is_prototype;
-use fast_check_symbol_demands::symbols::{CheckedTables, SymbolDecl, SymbolDeclKind, SymbolId};
+use fast_check_symbol_demands::symbols::{CheckedTables, SymbolDeclKind, SymbolDecls, SymbolId};
 use fast_check_symbol_demands::{Demands, Extent, SymbolDemand, bound, push_path, push_references};
 use std::alloc::AllocError;
 use std::slice;
@@ -93,18 +95,37 @@ fn push_alias<'a>(
     }
 }
 
+fn push_alias_at<'a>(
+    tables: &CheckedTables,
+    demand: SymbolDemand<'_>,
+    names: &'a [String],
+    extent: Extent,
+    kind: Option<&'a SymbolDeclKind>,
+    out: &mut Demands<'a>,
+) -> Result<(), AllocError>
+    ensures { OnOk result (out.new ≡ out.old ++
+        each_of (alias_names tables.now (demand_of demand.entry) (path_of names.now) extent) (option_copied kind.entry)) }
+{
+    match kind {
+        None => Ok(()),
+        Some(kind) => push_alias(tables, demand, names, extent, kind, out),
+    }
+}
+
+/// Pushes what the aliases among declarations demand: what several of them stand for, once.
 fn push_aliases<'a>(
     tables: &CheckedTables,
     demand: SymbolDemand<'_>,
     names: &'a [String],
     extent: Extent,
-    decls: &'a [SymbolDecl],
+    decls: &'a SymbolDecls,
     out: &mut Demands<'a>,
 ) -> Result<(), AllocError>
-    ensures { OnOk result (out.new ≡ out.old ++ flat_map (λ x. alias_names tables.now (demand_of demand.entry) (path_of names.now) extent x.kind) decls.now) }
+    ensures { OnOk result (Adds (flat_map (λ x. alias_names tables.now (demand_of demand.entry) (path_of names.now) extent x.kind) decls.now.items)
+        out.old out.new) }
 {
-    for decl in decls {
-        push_alias(tables, demand, names, extent, &decl.kind, out)?;
+    for place in decls.alias_places() {
+        push_alias_at(tables, demand, names, extent, decls.kind_at(*place), out)?;
     }
     Ok(())
 }
@@ -241,7 +262,7 @@ fn push_first<'a>(
     )
 }
 
-/// What a path below the symbol of a demand demands.
+/// Pushes what a path below the symbol of a demand demands. What several of its declarations demand is pushed once.
 pub fn push_path_demands<'a>(
     tables: &'a CheckedTables,
     demand: SymbolDemand<'_>,
@@ -249,14 +270,14 @@ pub fn push_path_demands<'a>(
     extent: Extent,
     out: &mut Demands<'a>,
 ) -> Result<(), AllocError>
-    ensures { OnOk result (out.new ≡ out.old ++ each_of (λ s. path_names tables.now (demand_of demand.entry) (path_of names.now) extent s)
-        (symbol_of demand.entry.symbol tables.now.symbols)) }
+    ensures { OnOk result (Adds (each_of (λ s. path_names tables.now (demand_of demand.entry) (path_of names.now) extent s)
+        (symbol_of demand.entry.symbol tables.now.symbols)) out.old out.new) }
 {
     let Some(symbol) = tables.symbol(demand.symbol) else {
         return Ok(());
     };
     if symbol.decls.has_alias() {
-        push_aliases(tables, demand, names, extent, symbol.decls.as_slice(), out)
+        push_aliases(tables, demand, names, extent, &symbol.decls, out)
     } else {
         push_first(tables, demand, names, extent, out)
     }

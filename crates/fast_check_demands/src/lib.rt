@@ -9,9 +9,7 @@ mod public;
 
 pub use fast_check_symbol_demands as symbol_demands;
 pub use fast_check_symbol_demands::symbols::{CheckedTables, SymbolId};
-pub use fast_check_symbol_demands::{
-    Ask, Demands, Extent, Namespace, SymbolDemand, binds, is_implementation,
-};
+pub use fast_check_symbol_demands::{Ask, Demands, Extent, Namespace, SymbolDemand, binds};
 pub use fast_check_syntax::SourceRange;
 pub use fault::{DemandFaultKind, SymbolFault, fault_of};
 pub use follow::demands_of;

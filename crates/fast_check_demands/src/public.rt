@@ -11,9 +11,7 @@ ghost use Rattle.fast_check_demands.specs.Done.{outside_at, AreThere};
 use fast_check_symbol_demands::symbols::{
     CheckedTables, Symbol, SymbolDecl, SymbolExports, SymbolId,
 };
-use fast_check_symbol_demands::{
-    Ask, Namespace, SymbolDemand, binds, is_function, is_implementation,
-};
+use fast_check_symbol_demands::{Ask, Namespace, SymbolDemand, binds, is_function};
 use fast_check_syntax::{SourcePos, SourceRange};
 use std::alloc::AllocError;
 use std::collections::BTreeSet;
@@ -37,7 +35,7 @@ fn is_within(range: SourceRange, inner: SourceRange) -> bool
 fn has_properties(decl: &SymbolDecl, namespace: Namespace) -> bool
     ensures { result ≡ has_properties namespace decl.now }
 {
-    binds(decl, namespace) && is_function(decl) && !is_implementation(decl)
+    binds(decl, namespace) && is_function(decl) && !decl.is_implementation()
 }
 
 /// The range that lies within two ranges, from the later start to the earlier end.
@@ -236,7 +234,7 @@ fn push_implementing(
     ensures { OnOk result (out.new.items ≡ out.old.items ++ decl_ranges (filter (λ x. binds_in x namespace && implements x) decls.now)) }
 {
     for decl in decls {
-        if binds(decl, namespace) && is_implementation(decl) {
+        if binds(decl, namespace) && decl.is_implementation() {
             out.push(decl.range)?;
         }
     }
@@ -250,7 +248,7 @@ fn push_symbol_implementations(
 ) -> Result<(), AllocError>
     ensures { OnOk result (out.new.items ≡ out.old.items ++ symbol_implementations namespace symbol.now) }
 {
-    if symbol.is_private_member {
+    if symbol.is_private_member || !symbol.decls.has_implementation() {
         return Ok(());
     }
     push_implementing(namespace, symbol.decls.as_slice(), out)

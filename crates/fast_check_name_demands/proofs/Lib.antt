@@ -1,2 +1,3 @@
 mod Held
 pub mod Parts
+mod Below

@@ -47,7 +47,7 @@ grows_more asks a b c g h = record {
   parts = λ x t. ⊎_elim (g.parts x) (h.parts x) (Contains-append_cases g.more h.more x t);
 }
 
-grows_within : (few many a b : List Demand) → ((d : Demand) → Contains few d → Contains many d) → Grows few a b → Grows many a b
+pub grows_within : (few many a b : List Demand) → ((d : Demand) → Contains few d → Contains many d) → Grows few a b → Grows many a b
 grows_within few many a b f g = record { more = g.more; is = g.is; parts = λ x t. f x (g.parts x t) }
 
 -- what is covered by the demands of a search is covered by these beside earlier ones

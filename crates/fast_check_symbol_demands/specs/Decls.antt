@@ -1,8 +1,8 @@
 -- What one declaration says of its symbol, for demands.
-use Rattle.std.specs.Prelude.{Bool, ◌&&◌}
+use Rattle.std.specs.Prelude.{Bool}
 use Rattle.fast_check_symbols.specs.Decls.{definition_of, node_says}
 pub use Rattle.fast_check_symbols.specs.Decls.{is_alias, is_class_decl, is_closed_node, is_closed_decl}
-pub use Rattle.fast_check_symbols.specs.Decls.{has_alias, has_class, is_closed}
+pub use Rattle.fast_check_symbols.specs.Decls.{is_implementation, has_alias, has_class, is_closed, has_implementation}
 use Rattle.fast_check_symbols.specs.declared.decl.SymbolDecl.{SymbolDecl}
 use Rattle.fast_check_symbol_demands.specs.declared.demand.Namespace.{Namespace}
 use Rattle.fast_check_symbol_demands.specs.declared.demand.Namespace.TheVariants.{Value, Type_}
@@ -11,10 +11,6 @@ use Rattle.fast_check_symbol_demands.specs.declared.demand.Namespace.TheVariants
 abbrev pub binds : SymbolDecl → Namespace → Bool
 binds x Value = x.value
 binds x Type_ = x.type_
-
--- it implements overloads
-abbrev pub is_implementation : SymbolDecl → Bool
-is_implementation x = x.has_overloads && x.has_body
 
 abbrev pub is_function : SymbolDecl → Bool
 is_function x = node_says (λ n. n.is_function) (definition_of x.kind)

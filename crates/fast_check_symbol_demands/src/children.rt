@@ -6,7 +6,7 @@ ghost use Rattle.fast_check_symbol_demands.specs.Demands.{demand_of};
 ghost use Rattle.fast_check_symbol_demands.specs.Rules.{each_of, children, decl_names, exports_names, members_names, symbol_names};
 
 use crate::bindings::push_children;
-use crate::decls::{binds, is_implementation};
+use crate::decls::binds;
 use crate::demand::{Namespace, SymbolDemand};
 use crate::dependencies::push_kind;
 use crate::list::Demands;
@@ -23,7 +23,7 @@ fn push_decl<'a>(
 ) -> Result<(), AllocError>
     ensures { OnOk result (out.new ≡ out.old ++ decl_names tables.now (demand_of demand.entry) namespace parent decl.now) }
 {
-    if binds(decl, namespace) && !is_implementation(decl) {
+    if binds(decl, namespace) && !decl.is_implementation() {
         push_kind(tables, demand, namespace, parent, &decl.kind, out)
     } else {
         Ok(())

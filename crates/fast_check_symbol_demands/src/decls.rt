@@ -1,6 +1,6 @@
 //! What is asked of a declaration by its kind.
 ghost use Rattle.std.specs.Prelude.{◌≡◌};
-ghost use Rattle.fast_check_symbol_demands.specs.Decls.{binds, is_implementation, is_function};
+ghost use Rattle.fast_check_symbol_demands.specs.Decls.{binds, is_function};
 
 use crate::demand::Namespace;
 use fast_check_symbols::{SymbolDecl, SymbolDeclKind};
@@ -13,13 +13,6 @@ pub fn binds(decl: &SymbolDecl, namespace: Namespace) -> bool
         Namespace::Value => decl.value,
         Namespace::Type_ => decl.type_,
     }
-}
-
-/// Whether it is the implementation of overloads.
-pub fn is_implementation(decl: &SymbolDecl) -> bool
-    ensures { result ≡ is_implementation decl.now }
-{
-    decl.has_overloads && decl.has_body
 }
 
 /// Whether it defines a function.

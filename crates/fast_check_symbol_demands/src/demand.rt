@@ -32,6 +32,6 @@ pub enum Ask<'a> {
 #[derive(Clone, Copy, PartialEq, Eq, PartialOrd, Ord)]
 pub struct SymbolDemand<'a> {
     pub symbol: SymbolId,
-    pub ask: Ask<'a>,
     pub referrer: SymbolId,
+    pub ask: Ask<'a>,
 }

@@ -10,7 +10,7 @@ mod list;
 
 pub use bindings::{bound, push_path, push_references};
 pub use children::push_symbol;
-pub use decls::{binds, is_function, is_implementation};
+pub use decls::{binds, is_function};
 pub use demand::{Ask, Extent, Namespace, SymbolDemand};
 pub use dependencies::is_same;
 pub use fast_check_symbols as symbols;

@@ -1,8 +1,10 @@
 use Rattle.std.proofs.Common.{◌≡◌, ◌++◌, take}
 use Rattle.std.specs.List.{flat_map}
 use Rattle.fast_check_names.specs.Names.{path_of}
+use Rattle.fast_check_demands.proofs.Aliased.{at}
 use Rattle.fast_check_name_demands.specs.Files.{alias_files}
 use Rattle.fast_check_name_demands.proofs.references.push_aliases.Given as goal
 
-abbrev pub invariant-loop-decl : goal.invariant-loop-decl
-invariant-loop-decl l = l.out ≡ l.initial.out ++ flat_map (λ x. alias_files (path_of l.names) l.extent x.kind) (take l.decl-index l.decls)
+abbrev pub invariant-loop-place : goal.invariant-loop-place
+invariant-loop-place l = l.out ≡ l.initial.out ++ flat_map (at (alias_files (path_of l.names) l.extent) l.decls.items)
+    (take l.place-index l.place-items)
