@@ -234,6 +234,7 @@ impl FromJsonBy<OfTables> for Symbol {
         );
         let (names, (exports, (members, decls))) = both(names, both(exports, lists))?;
         let (maybe_name, qualified_name) = names;
+        let decls = SymbolDecls::new(alloc, decls)?;
         Ok(Symbol {
             id,
             parent_id,
@@ -242,7 +243,7 @@ impl FromJsonBy<OfTables> for Symbol {
             qualified_name,
             exports,
             members,
-            decls: SymbolDecls::new(decls),
+            decls,
         })
     }
 }

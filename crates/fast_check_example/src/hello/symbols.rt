@@ -14,8 +14,8 @@ const ROOT: SymbolId = SymbolId(0);
 const HELLO: SymbolId = SymbolId(1);
 
 /// A symbol without declarations.
-fn symbol(alloc: Global, id: SymbolId) -> Symbol {
-    Symbol {
+fn symbol(alloc: Global, id: SymbolId) -> Result<Symbol, AllocError> {
+    Ok(Symbol {
         id,
         parent_id: None,
         is_private_member: false,
@@ -23,14 +23,14 @@ fn symbol(alloc: Global, id: SymbolId) -> Symbol {
         qualified_name: None,
         exports: SymbolExports::new(alloc),
         members: Vec::new(alloc),
-        decls: SymbolDecls::new(Vec::new(alloc)),
-    }
+        decls: SymbolDecls::new(alloc, Vec::new(alloc))?,
+    })
 }
 
 /// The symbol of the module, which exports `hello`.
 fn module_symbol(alloc: Global) -> Result<Symbol, AllocError> {
     let name = String::from_str(alloc, "hello")?;
-    let mut module = symbol(alloc, ROOT);
+    let mut module = symbol(alloc, ROOT)?;
     module.exports.put(name, HELLO)?;
     Ok(module)
 }
@@ -66,8 +66,8 @@ fn hello_symbol(alloc: Global, range: SourceRange) -> Result<Symbol, AllocError>
         parent_id: Some(ROOT),
         maybe_name: Some(name),
         qualified_name: Some(qualified_name),
-        decls: SymbolDecls::new(decls),
-        ..symbol(alloc, HELLO)
+        decls: SymbolDecls::new(alloc, decls)?,
+        ..symbol(alloc, HELLO)?
     })
 }
 

@@ -50,7 +50,7 @@ returns c =
     let members = reads_seen _ (λ (v : Vec SymbolId Global). v.items) _ _ (λ v. map_same _ v.items (λ _. refl)) c.read_list.ensures in
     let lists = both_reads _ _ _ _ _ _ _ c.both-lists.ensures members c.read_list_by.ensures in
     let rest = both_reads _ _ _ _ _ _ _ c.both.ensures exports lists in
-    rw c.new.ensures (given_some _ c.in_ok-id.ensures
+    rw c.in_ok-decls.ensures (given_some _ c.in_ok-id.ensures
     ∙ (given_some _ (c.in_ok-parent_id.ensures ∙ ap Some (option_same c.in_ok-parent_id.parent_id))
     ∙ (given_some _ (some_of_ok _ _ _ c.in_ok-is_private_member.ensures)
     ∙ (given_five (optional as_str (codes "maybe_name") value) (optional as_str (codes "qualified_name") value)
