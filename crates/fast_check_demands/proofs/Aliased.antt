@@ -22,7 +22,7 @@ use Rattle.fast_check_symbol_demands.specs.Demands.{Demand}
 use Rattle.fast_check_symbol_demands.specs.Rules.{each_of, bound, qualified, parts_names, alias_names, first_names, path_names}
 use Rattle.fast_check_symbol_demands.specs.Decls.{has_alias}
 use Rattle.fast_check_demands.specs.Yields.{Adds}
-use Rattle.fast_check_demands.proofs.Yielded.{in_flat, of_flat}
+use Rattle.fast_check_demands.proofs.Elements.{in_flat, of_flat}
 
 -- what the declaration at a place gives
 abbrev pub at : {Y : Type 0} → (SymbolDeclKind → List Y) → List SymbolDecl → ℕ → List Y

@@ -1,7 +1,9 @@
 pub use Rattle.fast_check_symbol_demands.proofs.EachAt
 pub mod Touched
 pub mod Adds
-mod Done
+mod Elements
+pub mod Joins
+mod OneMore
 mod Outside
 pub mod Yielded
 pub mod Aliased

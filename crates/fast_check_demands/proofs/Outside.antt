@@ -45,3 +45,7 @@ filter_beside p q (x ∷ xs) h = by (p x) (q x) h (filter_beside p q xs)
     by a true h below = absurd (false≢true (sym h))
     by true false h below = below h
     by false false h below = below h
+
+pub filter_all : {X : Type 0} (xs : List X) → filter (λ _. true) xs ≡ xs
+filter_all [] = refl
+filter_all (x ∷ xs) = ap (λ ys. x ∷ ys) (filter_all xs)

@@ -1,6 +1,6 @@
 -- What a demand makes public, and what is wrong with it.
 use Rattle.std.specs.Prelude.{◌≡◌, Bool, false, cond, not, ◌&&◌, List, [], ◌∷◌, ◌++◌, map, Option, Some, None, length}
-use Rattle.std.specs.Prelude.{take, option_to_list, leb}
+use Rattle.std.specs.Prelude.{take, option_to_list, leb, ◌⊎◌}
 use Rattle.std.specs.List.{Contains, flat_map, filter, list_any}
 use Rattle.fast_check_names.specs.Names.{Name, Path, path_of}
 use Rattle.fast_check_syntax.specs.declared.source.SourceRange.{SourceRange}
@@ -26,11 +26,6 @@ decl_ranges decls = map (λ x. x.range) decls
 -- a range lies within another: it starts not before it, and ends not after it
 abbrev pub is_within : SourceRange → SourceRange → Bool
 is_within r inner = leb r.start.0 inner.start.0 && leb inner.end.0 r.end.0
-
--- a range lies outside of another, where there is one
-abbrev pub is_outside : Option SourceRange → SourceRange → Bool
-is_outside None inner = false
-is_outside (Some r) inner = not (is_within r inner)
 
 -- properties are assigned to a function that is bound in the namespace and does not implement overloads
 abbrev pub has_properties : Namespace → SymbolDecl → Bool
@@ -72,6 +67,12 @@ pub record Adds {X : Type 0} (these old new : List X) : Type 0 where
   pub more : List X
   pub is : new ≡ old ++ more
   pub parts : (x : X) → Contains more x → Contains these x
+  pub whole : (x : X) → Contains these x → Contains new x
+
+-- the new ones are the old ones and these
+pub record Joins {X : Type 0} (these old new : List X) : Type 0 where
+  pub sound : (x : X) → Contains new x → Contains old x ⊎ Contains these x
+  pub kept : (x : X) → Contains old x → Contains new x
   pub whole : (x : X) → Contains these x → Contains new x
 
 -- implementations of overloads

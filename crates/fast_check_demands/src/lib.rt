@@ -5,6 +5,7 @@ mod aliases;
 mod fault;
 mod follow;
 mod names;
+mod noted;
 mod public;
 
 pub use fast_check_symbol_demands as symbol_demands;
@@ -13,4 +14,5 @@ pub use fast_check_symbol_demands::{Ask, Demands, Extent, Namespace, SymbolDeman
 pub use fast_check_syntax::SourceRange;
 pub use fault::{DemandFaultKind, SymbolFault, fault_of};
 pub use follow::demands_of;
+pub use noted::NotedSymbols;
 pub use public::{push_implementations, push_ranges};

@@ -1,6 +1,6 @@
 -- The turns of the search, from its beginning to an account.
 use Rattle.std.proofs.Common.{◌≡◌, ◌∙◌, sym, ap, refl, subst, ℕ, ◌+◌, ◌<◌, ◌≤◌, Bool, true, List, [], ◌∷◌, ◌++◌, length, map, get_or, take}
-use Rattle.std.proofs.Common.{⊎_elim, arith, length-append, append-nil, append_assoc}
+use Rattle.std.proofs.Common.{⊎_elim, inl, inr, arith, length-append, append-nil, append_assoc}
 use Rattle.std.specs.List.{Contains, list_any}
 use Rattle.std.proofs.lemmas.Bool.{or_left, or_right, or_cases}
 use Rattle.std.proofs.lemmas.List.{take_more, take_all, take-append-le}
@@ -10,13 +10,16 @@ use Rattle.std.proofs.lemmas.List.Elements.{Contains-append_cases}
 use Rattle.fast_check_symbols.specs.Tables.{Tables}
 use Rattle.fast_check_name_demands.specs.demands.Demands.{Demand}
 use Rattle.fast_check_name_demands.specs.demands.Rules.{names}
-use Rattle.fast_check_name_demands.specs.demands.Yields.{ranges, Adds, implementations, faults, fault_seen}
+use Rattle.fast_check_name_demands.specs.demands.Yields.{ranges, Adds, Joins, implementations, faults, fault_seen}
+use Rattle.fast_check_name_demands.specs.demands.Noted.{public_ranges}
+use Rattle.fast_check_name_demands.specs.demands.declared.noted.NotedSymbols.{NotedSymbols}
+use Rattle.fast_check_syntax.specs.declared.source.SourceRange.{SourceRange}
 use Rattle.fast_check_name_demands.specs.demands.Account.{root, step, alike, referred, IsCovered, IsYield}
 use Rattle.fast_check_name_demands.specs.Files.{files}
 use Rattle.fast_check_demands.proofs.Adds.{adds_all, adds_kept, adds_both}
 use Rattle.fast_check_search.specs.declared.found.Found.{Found}
 use Rattle.fast_check_search.specs.SymbolWorklist.{Grows, CoversEach}
-use Rattle.fast_check_search.specs.Found.{IsFound, Gains, IsOnTheWay}
+use Rattle.fast_check_search.specs.Found.{IsFound, Gains, IsFoundSoFar, IsOnTheWay}
 use Rattle.fast_check_search.specs.Searched.{IsContinued}
 use Rattle.fast_check_search.proofs.Each.{Contains_none, Contains_only}
 
@@ -95,16 +98,16 @@ added_more {X} these a b c i d lt e g h = subst (λ (xs : List X). Adds xs a c)
 pub added_all : {X : Type 0} (these a b : List X) (i : ℕ) → length these ≤ i → Adds (take i these) a b → Adds these a b
 added_all {X} these a b i le h = subst (λ (xs : List X). Adds xs a b) (take_all i these le) h
 
-yielded_more : {X : Type 0} (gives : Demand → List X) (account : List Demand) (d : Demand) (old new : List X) → IsYield gives account old →
-    Adds (gives d) old new → IsYield gives (account ++ d ∷ []) new
-yielded_more {X} gives account d old new y a = record {
+yielded_joined : {X : Type 0} (gives : Demand → List X) (account : List Demand) (d : Demand) (old new : List X) →
+    IsYield gives account old → Joins (gives d) old new → IsYield gives (account ++ d ∷ []) new
+yielded_joined {X} gives account d old new y j = record {
   sound = λ r t. ⊎_elim
       (λ before. let h = y.sound r before in (h.0, Contains-append_left account (d ∷ []) h.0 h.1, h.2))
-      (λ now. (d, Contains-push account d, a.parts r now))
-      (Contains-append_cases old a.more r (subst (λ (x : List X). Contains x r) a.is t));
+      (λ now. (d, Contains-push account d, now))
+      (j.sound r t);
   complete = λ f r t u. ⊎_elim
-      (λ before. adds_kept (gives d) old new a r (y.complete f r before u))
-      (λ here. a.whole r (subst (λ (x : Demand). Contains (gives x) r) (sym here) u))
+      (λ before. j.kept r (y.complete f r before u))
+      (λ here. j.whole r (subst (λ (x : Demand). Contains (gives x) r) (sym here) u))
       (Contains-push_cases account d f t);
 }
 
@@ -112,29 +115,40 @@ nothing_yet : {X : Type 0} (gives : Demand → List X) → IsYield gives [] []
 nothing_yet gives = record { sound = λ r t. absurd (Contains_none r t); complete = λ d r t u. absurd (Contains_none d t) }
 
 -- before the first demand
-pub nothing_found : (t : Tables) (found : Found) → found.ranges.items ≡ [] → found.implementations.items ≡ [] →
-    map fault_seen found.faults.items ≡ [] → found.files ≡ [] → IsFound t [] found
-nothing_found t found e f g h = record {
+pub nothing_found : (t : Tables) (public : List SourceRange) (found : Found) → public ≡ [] → found.implementations.items ≡ [] →
+    map fault_seen found.faults.items ≡ [] → found.files ≡ [] → IsFoundSoFar t [] public found
+nothing_found t public found e f g h = record {
   public = rw e (nothing_yet (ranges t));
   implementing = rw f (nothing_yet (implementations t));
   faulty = rw g (nothing_yet (faults t));
   outside = rw h (nothing_yet (files t));
 }
 
-found_more : (t : Tables) (account : List Demand) (d : Demand) (old new : Found) → IsFound t account old → Gains t d old new →
-    IsFound t (account ++ d ∷ []) new
-found_more t account d old new f g = record {
-  public = yielded_more (ranges t) account d _ _ f.public g.public;
-  implementing = yielded_more (implementations t) account d _ _ f.implementing (adds_all (implementations t d) _ _ g.implementing);
-  faulty = yielded_more (faults t) account d _ _ f.faulty (adds_all (faults t d) _ _ g.faulty);
-  outside = yielded_more (files t) account d _ _ f.outside g.outside;
+-- what is added is joined
+joined : {X : Type 0} (these old new : List X) → Adds these old new → Joins these old new
+joined {X} these old new a = record {
+  sound = λ x c. ⊎_elim (λ before. inl before) (λ now. inr (a.parts x now))
+      (Contains-append_cases old a.more x (subst (λ (xs : List X). Contains xs x) a.is c));
+  kept = adds_kept these old new a;
+  whole = a.whole;
+}
+
+found_more : (t : Tables) (account : List Demand) (d : Demand) (before after : NotedSymbols) (old new : Found) →
+    IsFoundSoFar t account (public_ranges t before old.ranges.items) old → Gains t d before after old new →
+    IsFoundSoFar t (account ++ d ∷ []) (public_ranges t after new.ranges.items) new
+found_more t account d before after old new f g = record {
+  public = yielded_joined (ranges t) account d _ _ f.public g.public;
+  implementing = yielded_joined (implementations t) account d _ _ f.implementing
+      (joined (implementations t d) _ _ (adds_all (implementations t d) _ _ g.implementing));
+  faulty = yielded_joined (faults t) account d _ _ f.faulty (joined (faults t d) _ _ (adds_all (faults t d) _ _ g.faulty));
+  outside = yielded_joined (files t) account d _ _ f.outside (joined (files t d) _ _ g.outside);
 }
 
 module _ (t : Tables) (roots before : List Demand) where
   -- after the first demands were asked for
-  pub begun : (asked : List Demand) (found : Found) → Grows roots [] asked → CoversEach roots (before ++ asked) → IsFound t [] found →
-      IsOnTheWay t roots before asked 0 found
-  begun asked found g h f = record {
+  pub begun : (asked : List Demand) (public : List SourceRange) (found : Found) → Grows roots [] asked →
+      CoversEach roots (before ++ asked) → IsFoundSoFar t [] public found → IsOnTheWay t roots before asked 0 public found
+  begun asked public found g h f = record {
     reached = omega arith;
     chained = λ d u. root (g.parts d (subst (λ (x : List Demand). Contains x d) g.is u));
     has_roots = h;
@@ -142,12 +156,13 @@ module _ (t : Tables) (roots before : List Demand) where
     found = f;
   }
 
-  module _ (asked after : List Demand) (next : ℕ) (d : Demand) (old new : Found) (w : IsOnTheWay t roots before asked next old)
+  module _ (asked after : List Demand) (next : ℕ) (d : Demand) (noted noting : NotedSymbols) (old new : Found)
+      (w : IsOnTheWay t roots before asked next (public_ranges t noted old.ranges.items) old)
       (lt : next < length asked)
       (here : get_or asked next d ≡ d) where
     -- after the demand d, at next, was followed
-    pub turned : Grows (names t d) asked after → CoversEach (names t d) (before ++ after) → Gains t d old new →
-        IsOnTheWay t roots before after (next + 1) new
+    pub turned : Grows (names t d) asked after → CoversEach (names t d) (before ++ after) → Gains t d noted noting old new →
+        IsOnTheWay t roots before after (next + 1) (public_ranges t noting new.ranges.items) new
     turned g h j =
         let front : take (next + 1) after ≡ take next asked ++ d ∷ [] =
         ap (λ x. take (next + 1) x) g.is ∙ (take-append-le (next + 1) asked g.more (omega (arith, lt)) ∙
@@ -162,20 +177,27 @@ module _ (t : Tables) (roots before : List Demand) where
               (λ early. grows_covers (names t d) before asked after f g (w.closed e f early v))
               (λ same. h f (subst (λ (x : Demand). Contains (names t x) f) (sym same) v))
               (Contains-push_cases (take next asked) d e (subst (λ (x : List Demand). Contains x e) front u));
-          found = subst (λ (x : List Demand). IsFound t x new) (sym front) (found_more t (take next asked) d old new w.found j);
+          found = subst (λ (x : List Demand). IsFoundSoFar t x (public_ranges t noting new.ranges.items) new) (sym front)
+              (found_more t (take next asked) d noted noting old new w.found j);
         }
 
   -- at the end
-  pub ended : (asked : List Demand) (next : ℕ) (found : Found) → length asked ≤ next → IsOnTheWay t roots before asked next found →
-      IsContinued t roots before asked ×
-      IsFound t asked found
-  ended asked next found le w =
-      let all : take next asked ≡ asked = take_all next asked le in (
+  pub ended : (asked : List Demand) (next : ℕ) (public : List SourceRange) (so_far found : Found) → length asked ≤ next →
+      IsOnTheWay t roots before asked next public so_far → found.ranges.items ≡ public → found.implementations ≡ so_far.implementations →
+      found.faults ≡ so_far.faults → found.files ≡ so_far.files → IsContinued t roots before asked × IsFound t asked found
+  ended asked next public so_far found le w ranges_are e f g =
+      let all : take next asked ≡ asked = take_all next asked le in
+      let way = subst (λ (x : List Demand). IsFoundSoFar t x public so_far) all w.found in (
         record {
           chained = w.chained;
           has_roots = w.has_roots;
           closed =
               λ d e u v. w.closed d e (subst (λ (x : List Demand). Contains x d) (sym all) u) v;
         },
-        subst (λ (x : List Demand). IsFound t x found) all w.found,
+        record {
+          public = rw ranges_are way.public;
+          implementing = rw e way.implementing;
+          faulty = rw f way.faulty;
+          outside = rw g way.outside;
+        },
       )

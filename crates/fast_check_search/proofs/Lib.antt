@@ -9,7 +9,6 @@ pub mod FileRests
 pub mod Wants
 pub mod Compared
 pub mod Kept
-pub mod Opened
 pub mod Own
 pub mod WithoutNames
 pub mod KeptWith

@@ -1,16 +1,15 @@
 -- Inner: no contract of a public call cites what stands here.
 -- What a search finds, and what holds on its way.
-use Rattle.std.specs.Prelude.{◌≡◌, ℕ, ◌≤◌, true, List, ◌++◌, length, take, map}
-use Rattle.std.specs.BTreeSet.{BTreeSet, contains}
+use Rattle.std.specs.Prelude.{◌≡◌, ℕ, ◌≤◌, List, ◌++◌, length, take, map}
 use Rattle.std.specs.List.{Contains}
 use Rattle.fast_check_syntax.specs.declared.source.SourceRange.{SourceRange}
 use Rattle.fast_check_symbols.specs.Tables.{Tables, table_ranges}
-use Rattle.fast_check_symbols.specs.contracts.symbol_id.SymbolIdOrd.TheImpl as order
-use Rattle.fast_check_symbols.specs.declared.symbol_id.SymbolId.{SymbolId}
 use Rattle.fast_check_name_demands.specs.demands.Demands.{Demand}
 use Rattle.fast_check_name_demands.specs.demands.Rules.{names}
 use Rattle.fast_check_name_demands.specs.demands.Account.{Chained, IsCovered, IsYield}
-use Rattle.fast_check_name_demands.specs.demands.Yields.{ranges_at, ranges, Adds, implementations, faults, fault_seen}
+use Rattle.fast_check_name_demands.specs.demands.Yields.{ranges, Adds, Joins, implementations, faults, fault_seen}
+use Rattle.fast_check_name_demands.specs.demands.Noted.{public_ranges}
+use Rattle.fast_check_name_demands.specs.demands.declared.noted.NotedSymbols.{NotedSymbols}
 use Rattle.fast_check_name_demands.specs.Files.{files}
 use Rattle.fast_check_search.specs.declared.found.Found.{Found}
 
@@ -25,23 +24,26 @@ pub record IsFound (t : Tables) (account : List Demand) (found : Found) : Type 0
 abbrev pub AreTableRanges : Tables → List SourceRange → Type 0
 AreTableRanges t found = (r : SourceRange) → Contains found r → Contains (table_ranges t.symbols t.re_exports) r
 
--- of each of these symbols all declarations are public
-abbrev pub AreOpened : Tables → BTreeSet SymbolId → List SourceRange → Type 0
-AreOpened t opened found = (s : SymbolId) → contains order.cmp-value.it opened s ≡ true → (r : SourceRange) →
-    Contains (ranges_at t s) r → Contains found r
-
 -- what one more demand adds
-pub record Gains (t : Tables) (d : Demand) (old new : Found) : Type 0 where
-  pub public : Adds (ranges t d) old.ranges.items new.ranges.items
+pub record Gains (t : Tables) (d : Demand) (before after : NotedSymbols) (old new : Found) : Type 0 where
+  pub public : Joins (ranges t d) (public_ranges t before old.ranges.items) (public_ranges t after new.ranges.items)
   pub implementing : new.implementations.items ≡ old.implementations.items ++ implementations t d
   pub faulty : map fault_seen new.faults.items ≡ map fault_seen old.faults.items ++ faults t d
   pub outside : Adds (files t d) old.files new.files
 
+-- what was found so far is exactly what these demands give, where `these` are the ranges that are listed or noted
+pub record IsFoundSoFar (t : Tables) (account : List Demand) (these : List SourceRange) (found : Found) : Type 0 where
+  pub public : IsYield (ranges t) account these
+  pub implementing : IsYield (implementations t) account found.implementations.items
+  pub faulty : IsYield (faults t) account (map fault_seen found.faults.items)
+  pub outside : IsYield (files t) account found.files
+
 -- all demands are chained, the first ones are covered, by those of earlier searches too, and what follows from those
 -- before the next is covered and found
-pub record IsOnTheWay (t : Tables) (roots before asked : List Demand) (next : ℕ) (so_far : Found) : Type 0 where
+pub record IsOnTheWay (t : Tables) (roots before asked : List Demand) (next : ℕ) (these : List SourceRange)
+    (so_far : Found) : Type 0 where
   pub reached : next ≤ length asked
   pub chained : (d : Demand) → Contains asked d → Chained t roots d
   pub has_roots : (d : Demand) → Contains roots d → IsCovered (before ++ asked) d
   pub closed : (d e : Demand) → Contains (take next asked) d → Contains (names t d) e → IsCovered (before ++ asked) e
-  pub found : IsFound t (take next asked) so_far
+  pub found : IsFoundSoFar t (take next asked) these so_far

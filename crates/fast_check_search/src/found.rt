@@ -1,10 +1,9 @@
 //! What is found by a search through the symbols of a module.
 ghost use Rattle.std.specs.Prelude.{◌≡◌, List, [], map, IfOk, OnOk, ◌++◌, option_map, option_to_list};
 ghost use Rattle.fast_check_name_demands.specs.demands.Demands.{Demand, demand_of};
-ghost use Rattle.fast_check_name_demands.specs.demands.Account.{IsYield};
-ghost use Rattle.fast_check_name_demands.specs.demands.Yields.{fault_seen, ranges, ranges_at, Adds};
+ghost use Rattle.fast_check_name_demands.specs.demands.Yields.{fault_seen};
 ghost use Rattle.fast_check_name_demands.specs.demands.Rules.{names};
-ghost use Rattle.fast_check_search.specs.Found.{IsFound, Gains, AreOpened, AreTableRanges};
+ghost use Rattle.fast_check_search.specs.Found.{IsFound, Gains, AreTableRanges};
 ghost use Rattle.fast_check_search.specs.Searched.{IsContinued, IsKeptWith};
 ghost use Rattle.fast_check_search.specs.Done.{IsNumbered};
 ghost use Rattle.fast_check_search.specs.Numbers.{IsNumbering, Keeps};
@@ -18,7 +17,7 @@ use crate::wanted::{DoneWant, add_files};
 use crate::worklist::{SymbolWorklist, asked_path};
 use fast_check_name_demands::FileWants;
 use fast_check_name_demands::demands::{
-    Ask, CheckedTables, SourceRange, SymbolDemand, SymbolFault, SymbolId, demands_of, fault_of,
+    CheckedTables, NotedSymbols, SourceRange, SymbolDemand, SymbolFault, demands_of, fault_of,
     push_implementations, push_ranges,
 };
 use std::alloc::{AllocError, Global};
@@ -50,43 +49,6 @@ fn push_fault<'a>(
     }
 }
 
-/// Adds the declarations of a symbol to which a path leads, unless they were added before.
-fn add_declared(
-    tables: &CheckedTables,
-    demand: SymbolDemand<'_>,
-    opened: &mut BTreeSet<SymbolId>,
-    out: &mut Vec<SourceRange>,
-) -> Result<(), AllocError>
-    requires opened { AreOpened tables.now opened.old out.old.items }
-    requires path { ranges tables.now (demand_of demand) ≡ ranges_at tables.now demand.symbol }
-    ensures opened { OnOk result (AreOpened tables.now opened.new out.new.items) }
-    ensures ranges { OnOk result (Adds (ranges tables.now (demand_of demand.entry)) out.old.items out.new.items) }
-{
-    if opened.contains(&demand.symbol) {
-        return Ok(());
-    }
-    push_ranges(tables, demand, out)?;
-    opened.insert(demand.symbol)?;
-    Ok(())
-}
-
-/// Adds the ranges that a demand makes public: those of a symbol once, however many paths lead to it.
-fn add_ranges(
-    tables: &CheckedTables,
-    demand: SymbolDemand<'_>,
-    opened: &mut BTreeSet<SymbolId>,
-    out: &mut Vec<SourceRange>,
-) -> Result<(), AllocError>
-    requires { AreOpened tables.now opened.old out.old.items }
-    ensures opened { OnOk result (AreOpened tables.now opened.new out.new.items) }
-    ensures ranges { OnOk result (Adds (ranges tables.now (demand_of demand.entry)) out.old.items out.new.items) }
-{
-    match demand.ask {
-        Ask::Reference(_) | Ask::Child(_) => push_ranges(tables, demand, out),
-        Ask::Path(_, _) => add_declared(tables, demand, opened, out),
-    }
-}
-
 impl<'a> Found<'a> {
     fn new(alloc: Global) -> Found<'a>
         ensures ranges { result.ranges.items ≡ [] }
@@ -102,28 +64,26 @@ impl<'a> Found<'a> {
         }
     }
 
-    /// Adds what one demand makes public, what is wrong with it, and what it asks of other files. The declarations of the opened symbols are public
-    /// already, and what is wanted is asked already.
+    /// Adds what one demand makes public, what is wrong with it, and what it asks of other files. What is public by where it stands is noted, and
+    /// what is wanted is asked already.
     fn add(
         &mut self,
         alloc: Global,
         tables: &'a CheckedTables,
         demand: NumberedDemand<'a>,
         paths: &mut PathNumbers<'a>,
-        opened: &mut BTreeSet<SymbolId>,
+        noted: &mut NotedSymbols,
         wanted: &mut BTreeSet<DoneWant<'a>>,
     ) -> Result<(), AllocError>
         requires numbering { IsNumbering paths.old }
         requires number { IsNumbered paths.old (demanded demand) demand.path }
-        requires opened { AreOpened tables.now opened.old self.old.ranges.items }
         requires wanted { AreWanted paths.old wanted.old self.old.files }
         ensures numbering { OnOk result (IsNumbering paths.new) }
         ensures numbers { OnOk result (Keeps paths.old paths.new) }
-        ensures opened { OnOk result (AreOpened tables.now opened.new self.new.ranges.items) }
         ensures wanted { OnOk result (AreWanted paths.new wanted.new self.new.files) }
-        ensures gains { OnOk result (Gains tables.now (demanded demand.entry) self.old self.new) }
+        ensures gains { OnOk result (Gains tables.now (demanded demand.entry) noted.old noted.new self.old self.new) }
     {
-        add_ranges(tables, demand.demand, opened, &mut self.ranges)?;
+        push_ranges(tables, demand.demand, noted, &mut self.ranges)?;
         push_implementations(tables, demand.demand, &mut self.implementations)?;
         push_fault(fault_of(tables, demand.demand), &mut self.faults)?;
         add_files(alloc, tables, demand, paths, wanted, &mut self.files)
@@ -172,7 +132,7 @@ pub fn search<'a>(
     let mut work = SymbolWorklist::new(alloc);
     work.ask_all(&before, NumberedPath::none(), roots)?;
     let mut found = Found::new(alloc);
-    let mut opened = BTreeSet::new(alloc);
+    let mut noted = NotedSymbols::new(alloc);
     let mut wanted = BTreeSet::new(alloc);
     let mut next = 0;
     while next < work.len() {
@@ -182,12 +142,13 @@ pub fn search<'a>(
             tables,
             demand,
             &mut work.paths,
-            &mut opened,
+            &mut noted,
             &mut wanted,
         )?;
         ask_named(alloc, tables, &before, demand, &mut work)?;
         next += 1;
     }
+    noted.push_all(tables, &mut found.ranges)?;
     let mut searched = before;
     searched.keep_all(work.as_slice())?;
     Ok((searched, found))

@@ -1,36 +1,42 @@
-use Rattle.std.proofs.Common.{ap, refl, subst, List, map, length, arith, ◌≤◌}
+use Rattle.std.proofs.Common.{◌≡◌, ap, refl, subst, List, [], ◌++◌, map, length, arith, ◌≤◌}
 use Rattle.std.specs.BTreeMap.{is_at}
 use Rattle.std.specs.List.{list_any}
 use Rattle.std.proofs.lemmas.Option.{get_or_from_slice_get}
-use Rattle.fast_check_symbols.specs.contracts.symbol_id.SymbolIdOrd.TheImpl as order
 use Rattle.fast_check_name_demands.specs.demands.Demands.{Demand, demand_of}
+use Rattle.fast_check_name_demands.specs.demands.Noted.{public_ranges}
 use Rattle.fast_check_name_demands.specs.demands.Yields.{fault_seen}
 use Rattle.fast_check_search.specs.contracts.wanted.DoneWantOrd.TheImpl as wanted_order
 use Rattle.fast_check_search.specs.declared.worklist.SymbolWorklist.{SymbolWorklist}
 use Rattle.fast_check_search.specs.Done.{asked_path}
-use Rattle.fast_check_search.specs.Searched.{IsKeptWith}
+use Rattle.fast_check_search.specs.declared.found.Found.{Found}
+use Rattle.fast_check_search.specs.Found.{IsFound}
+use Rattle.fast_check_search.specs.Searched.{IsContinued, IsKeptWith}
 use Rattle.fast_check_search.specs.Universe.{limit}
 use Rattle.fast_check_search.specs.SymbolWorklist.{demanded, asked}
 use Rattle.fast_check_search.proofs.Closure.{begun, turned, ended, nothing_found}
 use Rattle.fast_check_search.proofs.Inside.{few_asked}
 use Rattle.fast_check_search.proofs.Kept.{kept_numbered}
 use Rattle.fast_check_search.proofs.Numbering.{number_kept}
-use Rattle.fast_check_search.proofs.Opened.{opened_none}
 use Rattle.fast_check_search.proofs.Own.{own_found, own_found_implementations}
 use Rattle.fast_check_search.proofs.Wants.{wanted_none, wanted_kept}
 use Rattle.fast_check_search.proofs.found.search.Goals as goal
+
+-- nothing is listed, and nothing is noted
+nothing : {X : Type 0} (xs ys : List X) → xs ≡ [] → ys ≡ [] → xs ++ ys ≡ []
+nothing xs ys e f = rw e f
 
 pub loop-next-init : goal.loop-next-init
 loop-next-init c =
     let a = c.in_ok-ask_all.ensures in
     let f = c.new-found.ensures in
+    let t = c.args.tables.now in
+    let public = public_ranges t c.new-noted.result c.new-found.result.ranges.items in
     record {
-      way = begun c.args.tables.now (map demand_of c.args.roots.now) c.args.before (asked c.ask_all.new.self) c.new-found.result
+      way = begun t (map demand_of c.args.roots.now) c.args.before (asked c.ask_all.new.self) public c.new-found.result
           (rw c.new-work.ensures.demands at a.grown) a.covered
-          (nothing_found c.args.tables.now c.new-found.result f.ranges f.implementations (ap (map fault_seen) f.faults) f.files);
+          (nothing_found t public c.new-found.result (nothing _ _ f.ranges (c.new-noted.ensures t)) f.implementations
+          (ap (map fault_seen) f.faults) f.files);
       kept = a.kept;
-      opened = opened_none c.args.tables.now c.new-opened.result c.new-found.result.ranges.items
-          (λ s. ap (list_any (is_at (order.cmp-value.it s))) c.new-opened.ensures.empty);
       wanted = wanted_none c.ask_all.new.self.paths c.new-wanted.result c.new-found.result.files
           (λ k. ap (list_any (is_at (wanted_order.cmp-value.it k))) c.new-wanted.ensures.empty);
     }
@@ -51,19 +57,33 @@ loop-next-preserved c =
     let i = c.loop-next.invariant in
     record {
       way = turned c.args.tables.now (map demand_of c.args.roots.now) c.args.before (asked c.loop-next.work) (asked c.ask_named.new.work) c.loop-next.next
-          (demanded c.at-demand.result) c.loop-next.found c.add.new.self
+          (demanded c.at-demand.result) c.loop-next.noted c.add.new.noted c.loop-next.found c.add.new.self
           i.way (omega (arith, c.len.ensures, c.loop-next-test.true))
           (get_or_from_slice_get (asked c.loop-next.work) c.loop-next.next _ _ c.at-demand.ensures.demand) a.grown a.covered c.in_ok-add.ensures.gains;
       kept = a.kept;
-      opened = c.in_ok-add.ensures.opened;
       wanted = wanted_kept c.add.new.paths c.ask_named.new.work.paths a.numbers c.add.new.wanted c.add.new.self.files
           c.in_ok-add.ensures.wanted;
     }
 
+-- what was found, with what was noted
+abbrev all_found : goal.After-drop-work-5 → Found
+all_found c = record {
+  ranges = c.push_all.new.out;
+  implementations = c.loop-next.found.implementations;
+  faults = c.loop-next.found.faults;
+  files = c.loop-next.found.files;
+}
+
+at_end : (c : goal.After-drop-work-5) →
+    IsContinued c.args.tables.now (map demand_of c.args.roots.now) c.args.before (asked c.loop-next.work) ×
+    IsFound c.args.tables.now (asked c.loop-next.work) (all_found c)
+at_end c = ended c.args.tables.now (map demand_of c.args.roots.now) c.args.before (asked c.loop-next.work) c.loop-next.next
+    (public_ranges c.args.tables.now c.loop-next.noted c.loop-next.found.ranges.items) c.loop-next.found (all_found c)
+    (omega (arith, c.len.ensures, c.loop-next-test.false)) c.loop-next.invariant.way c.in_ok-push_all.ensures refl refl refl
+
 pub returns-clause-continued : goal.returns-clause-continued
 returns-clause-continued c =
-    let e = ended c.args.tables.now (map demand_of c.args.roots.now) c.args.before (asked c.loop-next.work) c.loop-next.next c.loop-next.found
-    (omega (arith, c.len.ensures, c.loop-next-test.false)) c.loop-next.invariant.way in (
+    let e = at_end c in (
       asked c.loop-next.work,
       e.0,
       e.1,
@@ -71,16 +91,11 @@ returns-clause-continued c =
     )
 
 pub returns-clause-own_ranges : goal.returns-clause-own_ranges
-returns-clause-own_ranges c =
-    let e = ended c.args.tables.now (map demand_of c.args.roots.now) c.args.before (asked c.loop-next.work) c.loop-next.next c.loop-next.found
-    (omega (arith, c.len.ensures, c.loop-next-test.false)) c.loop-next.invariant.way in
-    own_found c.args.tables.now (asked c.loop-next.work) c.loop-next.found.ranges.items e.1.public
+returns-clause-own_ranges c = own_found c.args.tables.now (asked c.loop-next.work) c.push_all.new.out.items (at_end c).1.public
 
 pub returns-clause-own_implementations : goal.returns-clause-own_implementations
 returns-clause-own_implementations c =
-    let e = ended c.args.tables.now (map demand_of c.args.roots.now) c.args.before (asked c.loop-next.work) c.loop-next.next c.loop-next.found
-    (omega (arith, c.len.ensures, c.loop-next-test.false)) c.loop-next.invariant.way in
-    own_found_implementations c.args.tables.now (asked c.loop-next.work) c.loop-next.found.implementations.items e.1.implementing
+    own_found_implementations c.args.tables.now (asked c.loop-next.work) c.loop-next.found.implementations.items (at_end c).1.implementing
 
 pub loop-next-smaller : goal.loop-next-smaller
 loop-next-smaller c =

@@ -1,16 +1,17 @@
 use Rattle.std.proofs.Common.{◌-◌, map}
 use Rattle.fast_check_name_demands.specs.demands.Demands.{demand_of}
+use Rattle.fast_check_name_demands.specs.demands.Noted.{public_ranges}
 use Rattle.fast_check_search.specs.Universe.{limit}
 use Rattle.fast_check_search.specs.SymbolWorklist.{asked, IsKept}
-use Rattle.fast_check_search.specs.Found.{AreOpened, IsOnTheWay}
+use Rattle.fast_check_search.specs.Found.{IsOnTheWay}
 use Rattle.fast_check_search.specs.Wanted.{AreWanted}
 use Rattle.fast_check_search.proofs.found.search.Given as goal
 
 abbrev pub invariant-loop-next : goal.invariant-loop-next
 invariant-loop-next l = record {
-  way : IsOnTheWay l.tables (map demand_of l.roots) l.fn.before (asked l.work) l.next l.found;
+  way : IsOnTheWay l.tables (map demand_of l.roots) l.fn.before (asked l.work) l.next
+      (public_ranges l.tables l.noted l.found.ranges.items) l.found;
   kept : IsKept l.work;
-  opened : AreOpened l.tables l.opened l.found.ranges.items;
   wanted : AreWanted l.work.paths l.wanted l.found.files;
 }
 

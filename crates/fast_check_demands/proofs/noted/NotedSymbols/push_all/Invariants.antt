@@ -1,0 +1,10 @@
+use Rattle.std.proofs.Common.{◌≡◌, ◌++◌}
+use Rattle.std.specs.List.{flat_map}
+use Rattle.fast_check_demands.specs.Noted.{public_at}
+use Rattle.fast_check_demands.proofs.noted.NotedSymbols.push_all.Given as goal
+
+abbrev pub invariant-loop-id : goal.invariant-loop-id
+invariant-loop-id l = record {
+  all : l.yielded ++ l.id-iterator ≡ l.fn.self.decls.entries;
+  listed : l.out.items ≡ l.initial.out.items ++ flat_map (λ e. public_at l.tables e.0 e.1) l.yielded;
+}
