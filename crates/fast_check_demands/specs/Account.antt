@@ -1,4 +1,5 @@
--- Lists of demands that are closed under what follows, and each of which comes from where the search begins.
+-- When demands ask for one thing, when one is covered by others, how each comes from where a search begins, and what a
+-- list of demands gives.
 use Rattle.std.specs.Prelude.{Bool, true, false, ◌&&◌, ◌||◌, List, [], ◌∷◌, IsTrue}
 use Rattle.std.specs.List.{list_any, Contains}
 use Rattle.std.specs.Str.{bytes_eq}
@@ -91,17 +92,13 @@ touches d e = same_symbol d.symbol e.symbol && (is_begun d.asked e.asked && same
 abbrev pub IsCovered : List Demand → Demand → Type 0
 IsCovered account d = IsTrue (list_any (alike d) account || list_any (alike (referred d)) account)
 
--- accounts
+-- an account is a list of demands of which each comes from the first ones, and which covers these and all that follows
+-- from its members: `IsContinued` of `fast_check_search/specs/Searched.antt`, where nothing was met before
 
 -- a finite derivation leads to the demand from one with which the search begins
 pub data Chained (t : Tables) (roots : List Demand) : Demand → Type 0 where
   root : {d : Demand} → Contains roots d → Chained t roots d
   step : {d e : Demand} → Chained t roots d → Contains (names t d) e → Chained t roots e
-
-pub record IsAccount (t : Tables) (roots account : List Demand) : Type 0 where
-  pub chained : (d : Demand) → Contains account d → Chained t roots d
-  pub has_roots : (d : Demand) → Contains roots d → IsCovered account d
-  pub closed : (d e : Demand) → Contains account d → Contains (names t d) e → IsCovered account e
 
 -- what was found is what demands of the account give, and nothing else
 pub record IsYield {X : Type 0} (gives : Demand → List X) (account : List Demand) (found : List X) : Type 0 where

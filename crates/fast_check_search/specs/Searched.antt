@@ -8,7 +8,8 @@ use Rattle.fast_check_name_demands.specs.demands.Rules.{names}
 use Rattle.fast_check_name_demands.specs.demands.Account.{alike, Chained, IsCovered}
 
 -- each new demand comes from where the search begins; where it begins, and what follows from the new demands, is
--- covered by them and by those that were met before
+-- covered by them and by those that were met before. Where none was met before, the new ones are an account by
+-- themselves
 pub record IsContinued (t : Tables) (roots before more : List Demand) : Type 0 where
   pub chained : (d : Demand) → Contains more d → Chained t roots d
   pub has_roots : (d : Demand) → Contains roots d → IsCovered (before ++ more) d
