@@ -3,3 +3,4 @@ pub mod Lists
 pub mod Compared
 pub mod Kept
 pub mod Distinct
+pub mod Told

@@ -1,5 +1,6 @@
 -- A fault of a demand at its place in a module.
-use Rattle.std.specs.Prelude.{ℕ, List, [], ◌∷◌, ◌++◌, Option, Some, None, option_map, codes, String, string_bytes}
+use Rattle.std.specs.Prelude.{ℕ, List, [], ◌∷◌, ◌++◌, Option, Some, None, option_map, option_to_list, codes}
+use Rattle.std.specs.Prelude.{String, string_bytes}
 use Rattle.std.specs.List.{flat_map}
 use Rattle.std.specs.Option.{option_and_then}
 use Rattle.std.specs.Rc.{rc_str_bytes}
@@ -20,7 +21,8 @@ use Rattle.fast_check_diagnostics.specs.declared.diagnostics.FastCheckDiagnostic
 }
 use Rattle.fast_check_demands.specs.declared.fault.DemandFaultKind.{DemandFaultKind}
 use Rattle.fast_check_demands.specs.declared.fault.DemandFaultKind.TheVariants.{PrivateMember, NotFound, TooComplex}
-use Rattle.fast_check_demands.specs.Yields.{Fault}
+use Rattle.fast_check_demands.specs.declared.fault.SymbolFault.{SymbolFault}
+use Rattle.fast_check_demands.specs.Yields.{Fault, fault_seen}
 use Rattle.fast_check_findings.specs.declared.demand_fault.DemandFault.{DemandFault}
 use Rattle.fast_check_findings.specs.declared.demand_fault.FaultyModule.{FaultyModule}
 
@@ -115,3 +117,7 @@ placed_at m f range = record {
 -- a fault stands at the first declaration of its symbol
 abbrev pub placed : FaultSource → Fault → Option PlacedFault
 placed m f = option_map (placed_at m f) (first_range (symbol_of f.symbol m.symbols))
+
+-- of a fault as the code has it
+abbrev pub placed_seen : FaultSource → SymbolFault → List PlacedFault
+placed_seen m f = option_to_list (placed m (fault_seen f))

@@ -1,17 +1,19 @@
 //! A fault of a demand at its place in a module, by the names that a user knows.
 
-ghost use Rattle.std.specs.Prelude.{◌≡◌, ◌++◌, map, option_map, option_to_list, IfOk, OnOk, string_bytes};
+ghost use Rattle.std.specs.Prelude.{◌≡◌, ◌++◌, [], map, IfOk, OnOk, string_bytes};
 ghost use Rattle.std.specs.List.{flat_map};
 ghost use Rattle.std.specs.Option.{option_copied};
 ghost use Rattle.std.specs.Rc.{rc_str_bytes};
 ghost use Rattle.fast_check_names.specs.Names.{path_of};
 ghost use Rattle.fast_check_symbols.specs.Symbols.{symbol_of};
-ghost use Rattle.fast_check_demands.specs.Yields.{fault_seen};
-ghost use Rattle.fast_check_findings.specs.Faults.{placed_in, name_of, full_name, below, first_range, first_of, source_of, placed_at, placed};
+ghost use Rattle.fast_check_demands.specs.Yields.{Adds};
+ghost use Rattle.fast_check_findings.specs.Faults.{placed_in, name_of, full_name, below, first_range, first_of, source_of, placed_seen};
+ghost use Rattle.fast_check_findings.specs.Told.{told_at, tells, AreMet, AreTold};
 
 use fast_check_demands::{CheckedTables, DemandFaultKind, SourceRange, SymbolFault, SymbolId};
 use fast_check_symbols::Symbol;
 use std::alloc::{AllocError, Global};
+use std::collections::BTreeSet;
 use std::rc::RcStr;
 use url::Url;
 
@@ -22,6 +24,17 @@ pub struct FaultyModule<'a> {
     /// The source text.
     pub text: &'a RcStr,
     pub tables: &'a CheckedTables,
+}
+
+/// What a fault tells beside its module, lent. Those of one symbol stand together, so that its name is compared with no other.
+#[derive(Clone, Copy, PartialEq, Eq, PartialOrd, Ord)]
+pub struct ToldFault<'a> {
+    pub kind: DemandFaultKind,
+    pub symbol: SymbolId,
+    /// The names below the symbol.
+    pub names: &'a [String],
+    /// The name of the symbol that asked.
+    pub referrer: &'a str,
 }
 
 /// What is wrong with a demand, at its place in a module. They come in the order of their places in the text.
@@ -85,17 +98,29 @@ fn range_of(tables: &CheckedTables, id: SymbolId) -> Option<SourceRange>
     first_range(symbol)
 }
 
+fn told_of<'a>(faulty: FaultyModule<'a>, fault: SymbolFault<'a>) -> ToldFault<'a>
+    ensures { tells (source_of faulty.entry) result ≡ placed_seen (source_of faulty.entry) fault.entry }
+{
+    ToldFault {
+        kind: fault.kind,
+        symbol: fault.symbol,
+        names: fault.names,
+        referrer: name_of(faulty.tables.symbol(fault.referrer)),
+    }
+}
+
 fn fault_at(
     alloc: Global,
     faulty: FaultyModule<'_>,
-    fault: SymbolFault<'_>,
+    fault: ToldFault<'_>,
     range: SourceRange,
 ) -> Result<(DemandFault, RcStr), AllocError>
-    ensures { IfOk result (λ e. placed_in e ≡ placed_at (source_of faulty.entry) (fault_seen fault.entry) range) }
+    ensures { let f = fault.entry in
+        IfOk result (λ e. placed_in e ≡ told_at (source_of faulty.entry) f.kind f.symbol (path_of f.names.now) f.referrer.now range) }
 {
     let symbol = name_of(faulty.tables.symbol(fault.symbol));
     let name = full_name(alloc, symbol, fault.names)?;
-    let referrer = String::from_str(alloc, name_of(faulty.tables.symbol(fault.referrer)))?;
+    let referrer = String::from_str(alloc, fault.referrer)?;
     let specifier = faulty.specifier.clone()?;
     let text_info = faulty.text.clone()?;
     let fault = DemandFault {
@@ -108,17 +133,17 @@ fn fault_at(
     Ok((fault, text_info))
 }
 
+/// Adds what a fault tells, if its symbol has a declaration.
 fn push_fault_at(
     alloc: Global,
     faulty: FaultyModule<'_>,
-    fault: SymbolFault<'_>,
-    range: Option<SourceRange>,
+    fault: ToldFault<'_>,
     out: &mut Vec<(DemandFault, RcStr)>,
 ) -> Result<(), AllocError>
     ensures { OnOk result (map placed_in out.new.items
-        ≡ map placed_in out.old.items ++ option_to_list (option_map (placed_at (source_of faulty.entry) (fault_seen fault.entry)) range)) }
+        ≡ map placed_in out.old.items ++ tells (source_of faulty.entry) fault.entry) }
 {
-    match range {
+    match range_of(faulty.tables, fault.symbol) {
         None => Ok(()),
         Some(range) => {
             out.push(fault_at(alloc, faulty, fault, range)?)?;
@@ -127,33 +152,64 @@ fn push_fault_at(
     }
 }
 
-fn push_all(
+/// Adds what a fault tells, unless one that tells the same was added.
+fn push_told<'a>(
     alloc: Global,
-    faulty: FaultyModule<'_>,
-    faults: &[SymbolFault<'_>],
+    faulty: FaultyModule<'a>,
+    fault: ToldFault<'a>,
+    told: &mut BTreeSet<ToldFault<'a>>,
     out: &mut Vec<(DemandFault, RcStr)>,
 ) -> Result<(), AllocError>
-    ensures { OnOk result (map placed_in out.new.items
-        ≡ map placed_in out.old.items ++ flat_map (λ f. option_to_list (placed (source_of faulty.entry) (fault_seen f))) faults.now) }
+    requires { AreTold (source_of faulty) told.old (map placed_in out.old.items) }
+    ensures told { OnOk result (AreTold (source_of faulty.entry) told.new (map placed_in out.new.items)) }
+    ensures faults { OnOk result (Adds (tells (source_of faulty.entry) fault.entry) (map placed_in out.old.items) (map placed_in out.new.items)) }
 {
-    for fault in faults {
-        let range = range_of(faulty.tables, fault.symbol);
-        push_fault_at(alloc, faulty, *fault, range, out)?;
+    if told.contains(&fault) {
+        return Ok(());
     }
+    push_fault_at(alloc, faulty, fault, out)?;
+    told.insert(fault)?;
     Ok(())
 }
 
-/// These faults of a module at their places, in order, each with the source text. A fault stands at the first declaration of its symbol, and one
+/// Adds a fault at its place, unless it was added, or one that tells the same was. Faults of the same symbols are found to be one with no look at the
+/// names of these.
+fn push_once<'a>(
+    alloc: Global,
+    faulty: FaultyModule<'a>,
+    fault: SymbolFault<'a>,
+    met: &mut BTreeSet<SymbolFault<'a>>,
+    told: &mut BTreeSet<ToldFault<'a>>,
+    out: &mut Vec<(DemandFault, RcStr)>,
+) -> Result<(), AllocError>
+    requires met { AreMet (source_of faulty) met.old (map placed_in out.old.items) }
+    requires told { AreTold (source_of faulty) told.old (map placed_in out.old.items) }
+    ensures met { OnOk result (AreMet (source_of faulty.entry) met.new (map placed_in out.new.items)) }
+    ensures told { OnOk result (AreTold (source_of faulty.entry) told.new (map placed_in out.new.items)) }
+    ensures faults { OnOk result (Adds (placed_seen (source_of faulty.entry) fault.entry) (map placed_in out.old.items) (map placed_in out.new.items)) }
+{
+    if met.contains(&fault) {
+        return Ok(());
+    }
+    push_told(alloc, faulty, told_of(faulty, fault), told, out)?;
+    met.insert(fault)?;
+    Ok(())
+}
+
+/// These faults of a module at their places, each once, with the source text. A fault stands at the first declaration of its symbol, and one
 /// whose symbol has none is left out. `AllocError` where memory is wanting.
 pub fn faults_in(
     alloc: Global,
     faulty: FaultyModule<'_>,
     faults: &[SymbolFault<'_>],
 ) -> Result<Vec<(DemandFault, RcStr)>, AllocError>
-    ensures { IfOk result (λ out. map placed_in out.items
-        ≡ flat_map (λ f. option_to_list (placed (source_of faulty.entry) (fault_seen f))) faults.now) }
+    ensures { IfOk result (λ out. Adds (flat_map (placed_seen (source_of faulty.entry)) faults.now) [] (map placed_in out.items)) }
 {
     let mut out = Vec::new(alloc);
-    push_all(alloc, faulty, faults, &mut out)?;
+    let mut met = BTreeSet::new(alloc);
+    let mut told = BTreeSet::new(alloc);
+    for fault in faults {
+        push_once(alloc, faulty, *fault, &mut met, &mut told, &mut out)?;
+    }
     Ok(out)
 }

@@ -16,7 +16,7 @@ use Rattle.fast_check_demands.specs.Account.{IsCovered as IsSymbolCovered}
 use Rattle.fast_check_demands.specs.Rules.{each_of, names}
 use Rattle.fast_check_demands.specs.Yields.{ranges, implementations, faults}
 use Rattle.fast_check_entries.specs.findings.declared.finding.FoundModule.{FoundModule}
-use Rattle.fast_check_entries.specs.findings.Faults.{placed_in}
+use Rattle.fast_check_entries.specs.findings.Faults.{PlacedFault, placed_in}
 use Rattle.fast_check_name_demands.specs.Files.{files}
 use Rattle.fast_check_search.specs.Searched.{IsAsked}
 use Rattle.fast_check_traces.specs.declared.modules.TracedModule.{TracedModule}
@@ -38,9 +38,9 @@ use Rattle.fast_check_sources.specs.Sources.{Known, module_at}
 use Rattle.fast_check_sources.specs.Wants.{file_wants, left_wants}
 use Rattle.fast_check_turns.specs.Rules.{names_wants, symbol_wants, world}
 use Rattle.fast_check_entries.specs.findings.Yields.{Yield, recorded, public, implementing}
-use Rattle.fast_check_entries.specs.findings.Findings.{placed_yields, module_yields}
+use Rattle.fast_check_entries.specs.findings.Findings.{placed_yield, placed_yields, module_yields}
 use Rattle.fast_check_turns.specs.Yields.{own_text, dependency_of, dependencies, public_at, implementing_at, source_in, fault_yields}
-use Rattle.fast_check_turns.specs.Yields.{faults_at, names_yields, symbol_yields, untyped_yields, gives}
+use Rattle.fast_check_turns.specs.Yields.{placed_all, faults_at, names_yields, symbol_yields, untyped_yields, gives}
 use Rattle.fast_check_turns.specs.Searches.{IsFollowedAt}
 use Rattle.fast_check_turns.specs.Traced.{IsTraced}
 use Rattle.fast_check_turns.proofs.Lists.{flat_contains}
@@ -362,12 +362,26 @@ module _ (k : Known) (nv : Nv) (t : Text) (m : TracedModule) (here : module_at k
       (Contains-append_left (implementing_at nv m (implementations (own_tables m) s.0)) _ y
       (contains_map (implementing nv (own_text m)) (implementations (own_tables m) s.0) r s.2)))
 
-  placed_faults_are : placed_faults ≡ faults_at nv m a.faulty
-  placed_faults_are = ap (placed_yields nv (own_text m)) a.faults_are ∙ placed_flat nv (own_text m) (source_in m) a.faulty
+  abbrev told : List PlacedFault
+  told = placed_all (source_in m) a.faulty
+
+  all_given : placed_yields nv (own_text m) told ≡ faults_at nv m a.faulty
+  all_given = placed_flat nv (own_text m) (source_in m) a.faulty
+
+  placed_sound : Each (Contains (faults_at nv m a.faulty)) placed_faults
+  placed_sound = each_map (Contains (faults_at nv m a.faulty)) (placed_yield nv (own_text m)) (map placed_in found.faults.items)
+      (λ x c. subst (λ (ys : List Yield). Contains ys (placed_yield nv (own_text m) x)) all_given
+      (contains_map (placed_yield nv (own_text m)) told x
+      (a.faults_are.parts x (subst (λ (xs : List PlacedFault). Contains xs x) a.faults_are.is c))))
+
+  placed_whole : Each (Contains placed_faults) (faults_at nv m a.faulty)
+  placed_whole = subst (λ (ys : List Yield). Each (Contains placed_faults) ys) all_given
+      (each_map (Contains placed_faults) (placed_yield nv (own_text m)) told
+      (λ x c. contains_map (placed_yield nv (own_text m)) (map placed_in found.faults.items) x (a.faults_are.whole x c)))
 
   fault_gift : (y : Yield) → Contains placed_faults y → Gift y
   fault_gift y c =
-      let f = flat_contains (fault_yields nv m) a.faulty y (subst (λ (ys : List Yield). Contains ys y) placed_faults_are c) in
+      let f = flat_contains (fault_yields nv m) a.faulty y (placed_sound y c) in
       let s = a.found_faults.sound f.0 f.1 in
       symbol_gift s.0 y s.1
       (Contains-append_right (public_at nv m (ranges (own_tables m) s.0)) _ y
@@ -428,7 +442,7 @@ module _ (k : Known) (nv : Nv) (t : Text) (m : TracedModule) (here : module_at k
   in_placed_faults y c = Contains_later (recorded nv (own_text m)) _ y
       (Contains-append_right (public_at nv m shown) _ y
       (Contains-append_right (implementing_at nv m found.implementations.items) _ y
-      (Contains-append_left placed_faults _ y (subst (λ (ys : List Yield). Contains ys y) (sym placed_faults_are) c))))
+      (Contains-append_left placed_faults _ y (placed_whole y c))))
 
   in_dependencies : Each IsGiven (dependencies nv wants)
   in_dependencies y c = Contains_later (recorded nv (own_text m)) _ y

@@ -1,13 +1,13 @@
 -- A module that was followed, from what the search of it answers.
-use Rattle.std.proofs.Common.{◌≡◌, ◌∙◌, sym, ap, subst, List, ◌++◌, map, option_to_list}
+use Rattle.std.proofs.Common.{◌≡◌, ◌∙◌, sym, ap, subst, List, [], ◌++◌, map}
 use Rattle.std.specs.List.{flat_map}
 use Rattle.fast_check_syntax.specs.declared.source.SourceRange.{SourceRange}
 use Rattle.fast_check_packages.specs.Package.{Nv}
 use Rattle.fast_check_names.specs.Imports.{NameDemand}
 use Rattle.fast_check_demands.specs.Demands.{Demand as SymbolDemand}
-use Rattle.fast_check_demands.specs.Yields.{fault_seen}
+use Rattle.fast_check_demands.specs.Yields.{fault_seen, Adds}
 use Rattle.fast_check_entries.specs.findings.declared.finding.FoundModule.{FoundModule}
-use Rattle.fast_check_entries.specs.findings.Faults.{placed, placed_in}
+use Rattle.fast_check_entries.specs.findings.Faults.{placed_in}
 use Rattle.fast_check_name_demands.specs.declared.want.NameDemand.{NameDemand as Single}
 use Rattle.fast_check_name_demands.specs.Files.{names_of}
 use Rattle.fast_check_search.specs.declared.found.Found.{Found}
@@ -20,7 +20,7 @@ use Rattle.fast_check_traces.specs.Wants.{Want as ModuleWant, AreRangesThrough, 
 use Rattle.fast_check_worklists.specs.Demands.{Want}
 use Rattle.fast_check_sources.specs.Sources.{Known}
 use Rattle.fast_check_sources.specs.Wants.{file_wants, left_wants}
-use Rattle.fast_check_turns.specs.Yields.{source_in}
+use Rattle.fast_check_turns.specs.Yields.{source_in, placed_all}
 use Rattle.fast_check_turns.specs.Traced.{IsTraced}
 use Rattle.fast_check_turns.proofs.Lists.{flat_mapped}
 
@@ -34,7 +34,7 @@ module _ (k : Known) (nv : Nv) (m : TracedModule) (names : List Single) where
       AreRangesThrough m (map names_of names) again → left ≡ flat_map (λ w. module_wants m (names_of w)) names →
       wants ≡ flat_map (file_wants k nv m) found.files ++ flat_map (left_wants k nv m) left →
       of.ranges.items ≡ found.ranges.items ++ again → of.implementations.items ≡ found.implementations.items →
-      map placed_in of.faults.items ≡ flat_map (λ f. option_to_list (placed (source_in m) f)) (map fault_seen found.faults.items) →
+      Adds (placed_all (source_in m) (map fault_seen found.faults.items)) [] (map placed_in of.faults.items) →
       IsTraced k nv m (map names_of names) before after wants of
   traced_with before after wants found again left of a e f w r i p = record {
     symbols = a.0;

@@ -1,6 +1,6 @@
 -- Inner: no contract of a public call cites what stands here.
 -- A module that was followed, by what the search of it answers. What a turn does is said by the account (`IsFollowed`).
-use Rattle.std.specs.Prelude.{◌≡◌, List, ◌++◌, map, option_to_list}
+use Rattle.std.specs.Prelude.{◌≡◌, List, [], ◌++◌, map}
 use Rattle.std.specs.List.{flat_map}
 use Rattle.fast_check_syntax.specs.declared.source.SourceRange.{SourceRange}
 use Rattle.fast_check_packages.specs.Package.{Nv}
@@ -9,9 +9,9 @@ use Rattle.fast_check_names.specs.Imports.{NameDemand}
 use Rattle.fast_check_name_demands.specs.NameDemands.{AreDemands}
 use Rattle.fast_check_demands.specs.Demands.{Demand as SymbolDemand}
 use Rattle.fast_check_demands.specs.Account.{IsYield as IsSymbolYield}
-use Rattle.fast_check_demands.specs.Yields.{ranges, implementations, Fault, faults}
+use Rattle.fast_check_demands.specs.Yields.{ranges, implementations, Adds, Fault, faults}
 use Rattle.fast_check_entries.specs.findings.declared.finding.FoundModule.{FoundModule}
-use Rattle.fast_check_entries.specs.findings.Faults.{placed, placed_in}
+use Rattle.fast_check_entries.specs.findings.Faults.{placed_in}
 use Rattle.fast_check_name_demands.specs.Files.{FileDemand, files}
 use Rattle.fast_check_search.specs.Searched.{IsContinued, IsKeptWith}
 use Rattle.fast_check_traces.specs.declared.modules.TracedModule.{TracedModule}
@@ -21,7 +21,7 @@ use Rattle.fast_check_traces.specs.Wants.{AreRangesThrough, module_wants}
 use Rattle.fast_check_worklists.specs.Demands.{Want}
 use Rattle.fast_check_sources.specs.Sources.{Known}
 use Rattle.fast_check_sources.specs.Wants.{file_wants, left_wants}
-use Rattle.fast_check_turns.specs.Yields.{source_in}
+use Rattle.fast_check_turns.specs.Yields.{source_in, placed_all}
 
 -- demands of symbols that go on from those of earlier searches, what these ask of files, what names of the module ask of
 -- others, and what is found
@@ -42,7 +42,7 @@ pub record IsTraced (k : Known) (nv : Nv) (m : TracedModule) (names : List NameD
   pub found_implementations : IsSymbolYield (implementations (own_tables m)) symbols found.implementations.items
   pub faulty : List Fault
   pub found_faults : IsSymbolYield (faults (own_tables m)) symbols faulty
-  pub faults_are : map placed_in found.faults.items ≡ flat_map (λ f. option_to_list (placed (source_in m) f)) faulty
+  pub faults_are : Adds (placed_all (source_in m) faulty) [] (map placed_in found.faults.items)
 
 -- the same for what is asked of the module
 pub record IsTracedFor (k : Known) (nv : Nv) (m : TracedModule) (exports : ImportedExports)

@@ -49,8 +49,8 @@ fn followed_module(
     }))
 }
 
-/// Follows names of a module with tables, for a package, from what earlier searches of it came to: what it wants of others, and what is found of it. The
-/// names are held while their single demands are lent.
+/// Follows names of a module with tables, for a package, from what earlier searches of it came to: what it wants of others, and what is found of it, with how
+/// many demands were faulty. The names are held while their single demands are lent.
 fn follow_in<'a>(
     alloc: Global,
     sources: Sources<'a>,
@@ -59,7 +59,7 @@ fn follow_in<'a>(
     package: &PackageNv,
     before: Searched,
     held: &'a HeldDemands,
-) -> Result<(Searched, Vec<OuterWant>, FoundModule), AllocError>
+) -> Result<(Searched, Vec<OuterWant>, FoundModule, usize), AllocError>
     ensures { let without = known sources.entry (url_of provider.now) (nv_at provider.now) in
         IfOk result (λ r. (used : Used) (exports : ImportedExports) → Holds exports held.now → let k = with_used used without in
         IsTracedFor k (nv_of «package».now) (traced_as k info.now) exports before r.0 (map want_of r.1.items) r.2) }
@@ -71,13 +71,14 @@ fn follow_in<'a>(
     };
     let demands = name_demands(alloc, held)?;
     let (searched, traced) = fast_check_traces::trace(alloc, module, before, demands.as_slice())?;
+    let faulty = traced.found.faults.len();
     let asker = Asker {
         sources,
         package,
         traced: module,
     };
     let (outer, found) = found_of(alloc, asker, provider, traced)?;
-    Ok((searched, outer, found))
+    Ok((searched, outer, found, faulty))
 }
 
 /// Tells a module whose types are not known, under the name by which it was asked for.
@@ -104,16 +105,22 @@ fn leave_out(
     push_finding(found, Finding::Untyped(module))
 }
 
-/// Where a search came to less than so many demands, wants, ranges and faults, it is as cheap to repeat as to keep.
+/// Where a search came to less than so many demands, wants, ranges and faulty demands, it is as cheap to repeat as to keep.
 const MUCH: usize = 16;
 
 /// Whether the searches of a module came to much: the last one, or one before it, of which something is kept. Nothing that is found depends on it.
-fn is_much(kept: usize, searched: &Searched, outer: &[OuterWant], found: &FoundModule) -> bool {
+fn is_much(
+    kept: usize,
+    searched: &Searched,
+    outer: &[OuterWant],
+    found: &FoundModule,
+    faulty: usize,
+) -> bool {
     kept > 0
         || searched.len() >= MUCH
         || outer.len() >= MUCH
         || found.ranges.len() >= MUCH
-        || found.faults.len() >= MUCH
+        || faulty >= MUCH
 }
 
 /// Follows names of a module with tables: asks for what follows from them, adds what is found, and keeps what the search came to.
@@ -145,7 +152,7 @@ fn follow_at(
     };
     let before = searches.take(alloc, &followed);
     let kept = before.len();
-    let (searched, outer, found) = follow_in(
+    let (searched, outer, found, faulty) = follow_in(
         alloc,
         sources,
         provider,
@@ -154,7 +161,7 @@ fn follow_at(
         before,
         &held,
     )?;
-    let is_much = is_much(kept, &searched, outer.as_slice(), &found);
+    let is_much = is_much(kept, &searched, outer.as_slice(), &found, faulty);
     searches.keep(&followed, searched, is_much)?;
     let finding = followed_module(alloc, followed.nv, info, outer.as_slice(), found)?;
     push_finding(&mut progress.found, finding)?;

@@ -1,16 +1,16 @@
 //! What a module that is followed asks, and what is found of it.
 
-ghost use Rattle.std.specs.Prelude.{◌≡◌, ◌++◌, map, option_to_list, OnOk, IfOk};
+ghost use Rattle.std.specs.Prelude.{◌≡◌, ◌++◌, [], map, OnOk, IfOk};
 ghost use Rattle.std.specs.List.{flat_map};
 ghost use Rattle.std.specs.Rc.{rc_str_bytes};
 ghost use Rattle.fast_check_packages.specs.Package.{nv_of};
-ghost use Rattle.fast_check_demands.specs.Yields.{fault_seen};
+ghost use Rattle.fast_check_demands.specs.Yields.{fault_seen, Adds};
 ghost use Rattle.fast_check_worklists.specs.State.{want_of};
-ghost use Rattle.fast_check_entries.specs.findings.Faults.{placed_in, placed};
+ghost use Rattle.fast_check_entries.specs.findings.Faults.{placed_in};
 ghost use Rattle.fast_check_entries.specs.findings.Yields.{dependency};
 ghost use Rattle.fast_check_sources.specs.Sources.{known};
 ghost use Rattle.fast_check_sources.specs.Wants.{file_wants, left_wants};
-ghost use Rattle.fast_check_turns.specs.Yields.{text_of, source_with, source_in, dependency_of, dependencies};
+ghost use Rattle.fast_check_turns.specs.Yields.{text_of, source_with, source_in, placed_all, dependency_of, dependencies};
 
 use fast_check_demands::SymbolFault;
 use fast_check_entries::findings::{DemandFault, FaultyModule, FoundModule, faults_in};
@@ -33,15 +33,15 @@ fn text_of(alloc: Global, info: &AnyModuleInfo) -> Result<RcStr, AllocError>
     }
 }
 
-/// These faults at their places in a module with this text.
+/// These faults at their places in a module with this text, each once.
 fn faults_with(
     alloc: Global,
     traced: TracedModule<'_>,
     text: &RcStr,
     faults: &[SymbolFault<'_>],
 ) -> Result<Vec<(DemandFault, RcStr)>, AllocError>
-    ensures { IfOk result (λ out. map placed_in out.items
-        ≡ flat_map (λ f. option_to_list (placed (source_with traced.entry (rc_str_bytes text.now)) f)) (map fault_seen faults.now)) }
+    ensures { IfOk result (λ out. Adds (placed_all (source_with traced.entry (rc_str_bytes text.now)) (map fault_seen faults.now)) []
+        (map placed_in out.items)) }
 {
     let faulty = FaultyModule {
         specifier: traced.info.specifier(),
@@ -52,14 +52,13 @@ fn faults_with(
     Ok(placed)
 }
 
-/// These faults at their places in a module.
+/// These faults at their places in a module, each once.
 fn faults_of(
     alloc: Global,
     traced: TracedModule<'_>,
     faults: &[SymbolFault<'_>],
 ) -> Result<Vec<(DemandFault, RcStr)>, AllocError>
-    ensures { IfOk result (λ out. map placed_in out.items
-        ≡ flat_map (λ f. option_to_list (placed (source_in traced.entry) f)) (map fault_seen faults.now)) }
+    ensures { IfOk result (λ out. Adds (placed_all (source_in traced.entry) (map fault_seen faults.now)) [] (map placed_in out.items)) }
 {
     let text = text_of(alloc, traced.info)?;
     let placed = faults_with(alloc, traced, &text, faults)?;
@@ -79,8 +78,8 @@ pub fn found_of(
         ++ flat_map (left_wants k nv asker.entry.traced) traced.entry.wants) }
     ensures ranges { IfOk result (λ r. r.1.ranges.items ≡ traced.entry.found.ranges.items ++ traced.entry.re_export_ranges.items) }
     ensures implementations { IfOk result (λ r. r.1.implementations.items ≡ traced.entry.found.implementations.items) }
-    ensures faults { IfOk result (λ r. map placed_in r.1.faults.items
-        ≡ flat_map (λ f. option_to_list (placed (source_in asker.entry.traced) f)) (map fault_seen traced.entry.found.faults.items)) }
+    ensures faults { IfOk result (λ r. Adds (placed_all (source_in asker.entry.traced) (map fault_seen traced.entry.found.faults.items)) []
+        (map placed_in r.1.faults.items)) }
 {
     let Traced {
         found,
