@@ -2,7 +2,7 @@
 use Rattle.std.proofs.Common.{◌≡◌, ◌∙◌, sym, ap, refl, subst, ℕ, Bool, true, false, cond, List, [], ◌∷◌, ◌++◌, Option, Some, None, ◌⊎◌, ⊎_elim}
 use Rattle.std.proofs.Common.{inl, inr}
 use Rattle.std.specs.List.{list_any, Contains}
-use Rattle.std.specs.BTreeMap.{get, is_at}
+use Rattle.std.specs.BTreeMap.{BTreeMap, get, is_at}
 use Rattle.std.specs.Map.{lookup}
 use Rattle.std.specs.Ordering.{nat_cmp}
 use Rattle.std.specs.Cmp.Lexicographic.{slice_cmp}
@@ -64,35 +64,38 @@ pub found_kept : (s : KeptSearches) (m : ModuleOfPackage) (searched : List Symbo
 found_kept s m searched found d h =
     (m, refl, refl, subst (λ (o : Option (List SymbolDemand)). IsAsked (searched_of o) d) found h)
 
--- after something was taken or put
-
-module _ (old new : KeptSearches) (k : ModuleOfPackage) where
-  abbrev Changes : Option (List SymbolDemand) → Type 0
-  Changes w = (q : ModuleOfPackage) →
-      get order.cmp-value.it new.searches q ≡ cond (is_at (order.cmp-value.it k) q) w (get order.cmp-value.it old.searches q)
-
-  pub left_kept : Changes None → (nv : Nv) (t : Text) (d : SymbolDemand) → IsKeptAt new nv t d → IsKeptAt old nv t d
-  left_kept changes nv t d (m, p, u, h) =
-      (m, p, u, by_key (is_at (order.cmp-value.it k) m) (subst (λ (o : Option (List SymbolDemand)). IsAsked (searched_of o) d) (changes m) h))
-    where
-      by_key : (same : Bool) → IsAsked (searched_of (cond same None (get order.cmp-value.it old.searches m))) d → IsAsked (searched_at old m) d
-      by_key true h = absurd (false≢true h)
-      by_key false h = h
-
-  -- under a copy of the module
-  pub put_kept : (of : ModuleOfPackage) → nv_of k.nv ≡ nv_of of.nv → serialize k.specifier ≡ serialize of.specifier →
-      (searched : List SymbolDemand) → Changes (Some searched) → (nv : Nv) (t : Text) (d : SymbolDemand) → IsKeptAt new nv t d →
-      IsKeptAt old nv t d ⊎ ((nv_of of.nv ≡ nv) × (serialize of.specifier ≡ t) × IsAsked searched d)
-  put_kept of same_package same_specifier searched changes nv t d (m, p, u, h) =
+-- after another list is kept at a key
+module _ (old new : KeptSearches) (k : ModuleOfPackage) (searched : List SymbolDemand)
+    (changes : (q : ModuleOfPackage) → get order.cmp-value.it new.searches q
+    ≡ cond (is_at (order.cmp-value.it k) q) (Some searched) (get order.cmp-value.it old.searches q)) where
+  pub put_kept : (nv : Nv) (t : Text) (d : SymbolDemand) → IsKeptAt new nv t d →
+      IsKeptAt old nv t d ⊎ ((nv_of k.nv ≡ nv) × (serialize k.specifier ≡ t) × IsAsked searched d)
+  put_kept nv t d (m, p, u, h) =
       by_key (is_at (order.cmp-value.it k) m) refl (subst (λ (o : Option (List SymbolDemand)). IsAsked (searched_of o) d) (changes m) h)
     where
       by_key : (same : Bool) → is_at (order.cmp-value.it k) m ≡ same →
           IsAsked (searched_of (cond same (Some searched) (get order.cmp-value.it old.searches m))) d →
-          IsKeptAt old nv t d ⊎ ((nv_of of.nv ≡ nv) × (serialize of.specifier ≡ t) × IsAsked searched d)
+          IsKeptAt old nv t d ⊎ ((nv_of k.nv ≡ nv) × (serialize k.specifier ≡ t) × IsAsked searched d)
       by_key true e h =
           let s = same_keys k m e in
-          inr (sym same_package ∙ (ap (λ (x : Text × Nv). x.1) s ∙ p), sym same_specifier ∙ (ap (λ (x : Text × Nv). x.0) s ∙ u), h)
+          inr (ap (λ (x : Text × Nv). x.1) s ∙ p, ap (λ (x : Text × Nv). x.0) s ∙ u, h)
       by_key false e h = inl (m, p, u, h)
+
+  pub left_kept : searched ≡ [] → (nv : Nv) (t : Text) (d : SymbolDemand) → IsKeptAt new nv t d → IsKeptAt old nv t d
+  left_kept none nv t d h = ⊎_elim (λ l. l)
+      (λ r. absurd (false≢true (subst (λ (ds : List SymbolDemand). IsAsked ds d) none r.2))) (put_kept nv t d h)
+
+-- under a copy of a key, where nothing changed before
+pub put_copied : (old mid new : KeptSearches) (k of : ModuleOfPackage) → nv_of k.nv ≡ nv_of of.nv →
+    serialize k.specifier ≡ serialize of.specifier → mid.searches ≡ old.searches → (searched : List SymbolDemand) →
+    ((q : ModuleOfPackage) → get order.cmp-value.it new.searches q
+    ≡ cond (is_at (order.cmp-value.it k) q) (Some searched) (get order.cmp-value.it mid.searches q)) →
+    (nv : Nv) (t : Text) (d : SymbolDemand) → IsKeptAt new nv t d →
+    IsKeptAt old nv t d ⊎ ((nv_of of.nv ≡ nv) × (serialize of.specifier ≡ t) × IsAsked searched d)
+put_copied old mid new k of same_package same_specifier same searched changes nv t d h =
+    ⊎_elim (λ l. inl (subst (λ (m : BTreeMap ModuleOfPackage (List SymbolDemand)). IsKeptAt (record { searches = m }) nv t d) same l))
+    (λ r. inr (sym same_package ∙ r.0, sym same_specifier ∙ r.1, r.2))
+    (put_kept mid new k searched changes nv t d h)
 
 -- what was followed
 

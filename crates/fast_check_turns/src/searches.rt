@@ -13,6 +13,7 @@ use fast_check_traces::Searched;
 use fast_check_worklists::copy_of;
 use std::alloc::{AllocError, Global};
 use std::collections::BTreeMap;
+use std::mem;
 use url::Url;
 
 /// A module under the specifier by which it is asked for, and the package for which it is followed.
@@ -55,9 +56,10 @@ impl KeptSearches {
         ensures taken { (d : Demand) → IsAsked result d → IsKeptAt self.old (nv_of followed.now.nv) (serialize followed.now.specifier) d }
         ensures left { (nv : Nv) (t : Text) (d : Demand) → IsKeptAt self.new nv t d → IsKeptAt self.old nv t d }
     {
-        match self.searches.remove(followed) {
-            None => Searched::new(alloc),
-            Some(searched) => searched,
+        let nothing = Searched::new(alloc);
+        match self.searches.get_mut(followed) {
+            None => nothing,
+            Some(searched) => mem::replace(searched, nothing),
         }
     }
 
@@ -72,6 +74,10 @@ impl KeptSearches {
             ⊎ ((nv_of followed.now.nv ≡ nv) × (serialize followed.now.specifier ≡ t) × IsAsked searched d)) }
     {
         if !is_much {
+            return Ok(());
+        }
+        if let Some(kept) = self.searches.get_mut(followed) {
+            *kept = searched;
             return Ok(());
         }
         let copy = followed.copied()?;
