@@ -49,7 +49,7 @@ finding_joins (Entered e) =
     (λ x c. faulty_joins (nv_of e.package) (serialize x.0) (entry_fault x.1))))
 finding_joins (Followed f) =
     let p = nv_of f.package in
-    let t = serialize f.specifier in
+    let t = serialize f.specifier.now in
     each_cons Joins (recorded p t) _ tt
     (each_append Joins (map (public p t) f.found.ranges.items) _
     (each_map Joins (public p t) f.found.ranges.items (λ r c. tt))

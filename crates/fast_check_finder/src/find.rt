@@ -29,7 +29,7 @@ fn enter_next(
     provider: &dyn JsrUrlProvider,
     cache: Option<&dyn FastCheckCache>,
     next: usize,
-    progress: &mut Progress,
+    progress: &mut Progress<'_>,
 ) -> Result<Option<usize>, BuildFault>
     requires { pending progress.old.worklist.waiting ≡ [] }
     ensures turned { let i = input.entry in
@@ -52,14 +52,14 @@ fn enter_next(
 
 /// Follows what waits last, or enters the next package where nothing waits. Answers the number of packages that were entered, and None where
 /// nothing is left.
-fn turn(
+fn turn<'a>(
     alloc: Global,
-    input: FinderInput<'_>,
+    input: FinderInput<'a>,
     provider: &dyn JsrUrlProvider,
     cache: Option<&dyn FastCheckCache>,
     next: usize,
     searches: &mut KeptSearches,
-    progress: &mut Progress,
+    progress: &mut Progress<'a>,
 ) -> Result<Option<usize>, BuildFault>
     ensures turned { let i = input.entry in
         let used = used_of cache.entry (λ c. used_item (hash_of c.now i.seed.now) (stored c.now) i.sources.graph.now) in
@@ -91,13 +91,13 @@ fn turn(
 ///
 /// A package whose exports neither the graph nor a member of the workspace has is passed over. An export text that does not join refuses the
 /// build: `InvalidExport` has the first one of its package. `OutOfMemory` where memory is wanting, or a URL comes to 4 GB.
-pub fn find_all(
+pub fn find_all<'a>(
     alloc: Global,
-    input: FinderInput<'_>,
+    input: FinderInput<'a>,
     provider: &dyn JsrUrlProvider,
     cache: Option<&dyn FastCheckCache>,
     roots: &[PackageNv],
-) -> Result<Vec<Finding>, BuildFault>
+) -> Result<Vec<Finding<'a>>, BuildFault>
     ensures found { let i = input.entry in
         let used = used_of cache.entry (λ c. used_item (hash_of c.now i.seed.now) (stored c.now) i.sources.graph.now) in
         let k = with_used used (known i.sources (url_of provider.now) (nv_at provider.now)) in

@@ -50,7 +50,7 @@ module_yields nv t found depends =
     ++ depends)))
 
 abbrev pub followed_yields : FollowedModule → List Yield
-followed_yields f = module_yields (nv_of f.package) (serialize f.specifier) f.found
+followed_yields f = module_yields (nv_of f.package) (serialize f.specifier.now) f.found
     (map (λ p. dependency (nv_of f.package) (nv_of p)) f.dependencies.items)
 
 -- a package whose item is used

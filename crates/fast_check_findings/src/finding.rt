@@ -74,10 +74,10 @@ impl FoundModule {
 
 /// A module of which names were followed, for a package.
 #[derive(Drop)]
-pub struct FollowedModule {
+pub struct FollowedModule<'a> {
     pub package: PackageNv,
-    /// The module's own name.
-    pub specifier: Url,
+    /// The module's own name, which is lent: it may be long, and a module may be followed in many turns.
+    pub specifier: &'a Url,
     pub found: FoundModule,
     /// The packages that the module asks for.
     pub dependencies: Vec<PackageNv>,
@@ -102,9 +102,9 @@ pub struct KeptPackage {
 
 /// What was found in a turn.
 #[derive(Drop)]
-pub enum Finding {
+pub enum Finding<'a> {
     Entered(EnteredPackage),
-    Followed(FollowedModule),
+    Followed(FollowedModule<'a>),
     Untyped(UntypedModule),
     Kept(KeptPackage),
 }

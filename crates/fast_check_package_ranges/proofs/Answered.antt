@@ -77,7 +77,7 @@ own_entered nv e = own_both nv (nv_of e.package) (known_package (nv_of e.package
 own_followed : (nv : Nv) (f : FollowedModule) → Owned nv (nv_of f.package) (followed_yields f)
 own_followed nv f =
     let n = nv_of f.package in
-    let t = serialize f.specifier in
+    let t = serialize f.specifier.now in
     let publics = map (public n t) f.found.ranges.items in
     let others = map (implementing n t) f.found.implementations.items in
     let faults = placed_yields n t (map placed_in f.found.faults.items) in

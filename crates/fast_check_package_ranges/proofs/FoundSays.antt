@@ -115,11 +115,11 @@ pieces t q ranges implementations ds dependencies = asks_module t is_recorded q
     || (list_any (placed_says t q) ds || list_any (λ p. asks_dependency (nv_of p) q) dependencies)))
 
 followed_pieces : (f : FollowedModule) (q : Question) → list_any (says q) (followed_yields f)
-    ≡ pieces (serialize f.specifier) q f.found.ranges.items f.found.implementations.items
+    ≡ pieces (serialize f.specifier.now) q f.found.ranges.items f.found.implementations.items
     (map placed_in f.found.faults.items) f.dependencies.items
 followed_pieces f q =
     let nv = nv_of f.package in
-    let t = serialize f.specifier in
+    let t = serialize f.specifier.now in
     let publics = map (public nv t) f.found.ranges.items in
     let others = map (implementing nv t) f.found.implementations.items in
     let faults = placed_yields nv t (map placed_in f.found.faults.items) in
@@ -209,25 +209,25 @@ pieces_about true m ranges implementations ds dependencies = refl
 pieces_about false m ranges implementations ds dependencies = all_false ranges implementations ds dependencies
 
 pub followed_found : (f : FollowedModule) (found : FoundPackage) (parts : JoinedModule) →
-    IsOne found f.specifier parts f.dependencies.items →
+    IsOne found f.specifier.now parts f.dependencies.items →
     IsFollowed f parts → (q : Question) → found_says found q ≡ finding_says (Followed f) q
 followed_found f found parts h p whether_known = refl
 followed_found f found parts h p (whether_entry_point t) = ap (list_any (is_text t)) h.entry_points ∙
     sym (followed_pieces f (whether_entry_point t) ∙
-    (none_of (serialize f.specifier) (whether_entry_point t) f.found.ranges.items f.found.implementations.items
+    (none_of (serialize f.specifier.now) (whether_entry_point t) f.found.ranges.items f.found.implementations.items
     (map placed_in f.found.faults.items)
     f.dependencies.items (λ s. refl) ∙ any_false f.dependencies.items))
 followed_found f found parts h p (whether_dependency nv) = ap (list_any (is_package nv)) h.dependencies_are ∙
     sym (followed_pieces f (whether_dependency nv) ∙
-    none_of (serialize f.specifier) (whether_dependency nv) f.found.ranges.items f.found.implementations.items
+    none_of (serialize f.specifier.now) (whether_dependency nv) f.found.ranges.items f.found.implementations.items
     (map placed_in f.found.faults.items)
     f.dependencies.items (λ s. refl))
 followed_found f found parts h p (whether_refused t) = sym (followed_pieces f (whether_refused t) ∙
-    (none_of (serialize f.specifier) (whether_refused t) f.found.ranges.items f.found.implementations.items
+    (none_of (serialize f.specifier.now) (whether_refused t) f.found.ranges.items f.found.implementations.items
     (map placed_in f.found.faults.items)
     f.dependencies.items (λ s. refl) ∙ any_false f.dependencies.items))
-followed_found f found parts h p (about t m) = one_about found f.specifier parts f.dependencies.items h t m ∙
-    (ap (λ b. bytes_eq t (serialize f.specifier) && b) (parts_here f parts p m) ∙ sym (followed_pieces f (about t m) ∙
-    pieces_about (bytes_eq t (serialize f.specifier)) m f.found.ranges.items f.found.implementations.items
+followed_found f found parts h p (about t m) = one_about found f.specifier.now parts f.dependencies.items h t m ∙
+    (ap (λ b. bytes_eq t (serialize f.specifier.now) && b) (parts_here f parts p m) ∙ sym (followed_pieces f (about t m) ∙
+    pieces_about (bytes_eq t (serialize f.specifier.now)) m f.found.ranges.items f.found.implementations.items
     (map placed_in f.found.faults.items)
     f.dependencies.items))

@@ -92,7 +92,7 @@ not_entered nv e = not_both nv (map (λ url. entry_point (nv_of e.package) (seri
 not_followed : (nv : Nv) (f : FollowedModule) → Not nv (followed_yields f)
 not_followed nv f =
     let n = nv_of f.package in
-    let t = serialize f.specifier in
+    let t = serialize f.specifier.now in
     let publics = map (public n t) f.found.ranges.items in
     let others = map (implementing n t) f.found.implementations.items in
     let faults = placed_yields n t (map placed_in f.found.faults.items) in

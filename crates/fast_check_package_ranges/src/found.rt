@@ -85,10 +85,10 @@ fn found_entered(
 
 fn found_followed(
     alloc: Global,
-    followed: FollowedModule,
+    followed: FollowedModule<'_>,
 ) -> Result<(PackageNv, FoundPackage), AllocError>
-    ensures nv { IfOk result (λ r. nv_of r.0 ≡ package_found (Followed followed)) }
-    ensures says { IfOk result (λ r. (q : Question) → found_says r.1 q ≡ finding_says (Followed followed) q) }
+    ensures nv { IfOk result (λ r. nv_of r.0 ≡ package_found (Followed followed.entry)) }
+    ensures says { IfOk result (λ r. (q : Question) → found_says r.1 q ≡ finding_says (Followed followed.entry) q) }
 {
     let FollowedModule {
         package,
@@ -102,6 +102,7 @@ fn found_followed(
         is_untyped_entry: false,
         is_untyped: false,
     };
+    let specifier = specifier.clone()?;
     let of_package = one_module(alloc, specifier, parts, dependencies)?;
     Ok((package, of_package))
 }
@@ -143,11 +144,11 @@ fn add_finding(
     alloc: Global,
     packages: &mut JoinedPackages,
     kept: &mut Vec<KeptPackage>,
-    finding: Finding,
+    finding: Finding<'_>,
 ) -> Result<(), AllocError>
     ensures says { OnOk result ((nv : Nv) (q : Question) →
-        joined_say packages.new nv q ≡ (joined_say packages.old nv q || finding_says_of nv q finding)) }
-    ensures kept { OnOk result (kept.new.items ≡ kept.old.items ++ kept_in finding) }
+        joined_say packages.new nv q ≡ (joined_say packages.old nv q || finding_says_of nv q finding.entry)) }
+    ensures kept { OnOk result (kept.new.items ≡ kept.old.items ++ kept_in finding.entry) }
 {
     match finding {
         Finding::Entered(entered) => {
@@ -179,9 +180,12 @@ pub struct FoundPackages {
 }
 
 /// What was found of each package, and the packages whose items are used.
-pub fn packages_found(alloc: Global, findings: Vec<Finding>) -> Result<FoundPackages, AllocError>
-    ensures says { IfOk result (λ found. (nv : Nv) (q : Question) → packages_say found.joined.entries nv q ≡ findings_say findings.items nv q) }
-    ensures kept { IfOk result (λ found. found.kept.items ≡ flat_map kept_in findings.items) }
+pub fn packages_found(
+    alloc: Global,
+    findings: Vec<Finding<'_>>,
+) -> Result<FoundPackages, AllocError>
+    ensures says { IfOk result (λ found. (nv : Nv) (q : Question) → packages_say found.joined.entries nv q ≡ findings_say findings.entry.items nv q) }
+    ensures kept { IfOk result (λ found. found.kept.items ≡ flat_map kept_in findings.entry.items) }
 {
     let mut packages = JoinedPackages::new(alloc);
     let mut kept = Vec::new(alloc);

@@ -212,9 +212,9 @@ fn all_ranges(
 /// That the types of a module are not known is told where nothing else is told of it.
 pub fn package_ranges(
     alloc: Global,
-    found: Vec<Finding>,
+    found: Vec<Finding<'_>>,
 ) -> Result<BTreeMap<PackageNv, PackagePublicRanges>, AllocError>
-    ensures { IfOk result (AreAnswers (flat_map yields_of found.items)) }
+    ensures { IfOk result (AreAnswers (flat_map yields_of found.entry.items)) }
 {
     let packages = packages_found(alloc, found)?;
     let FoundPackages { joined, kept } = packages;

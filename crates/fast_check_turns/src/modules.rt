@@ -29,21 +29,20 @@ use fast_check_worklists::{OuterWant, PendingTrace};
 use std::alloc::{AllocError, Global};
 
 /// What is found of a module that is followed for a package, with the packages that it asks for.
-fn followed_module(
+fn followed_module<'a>(
     alloc: Global,
     package: PackageNv,
-    info: &AnyModuleInfo,
+    info: &'a AnyModuleInfo,
     outer: &[OuterWant],
     found: FoundModule,
-) -> Result<Finding, AllocError>
+) -> Result<Finding<'a>, AllocError>
     ensures { IfOk result (λ finding. yields_of finding
         ≡ module_yields (nv_of «package») (serialize (specifier_of info.now)) found (dependencies (nv_of «package») (map want_of outer.now))) }
 {
     let dependencies = dependencies_of(alloc, &package, outer)?;
-    let specifier = info.specifier().clone()?;
     Ok(Finding::Followed(FollowedModule {
         package,
-        specifier,
+        specifier: info.specifier(),
         found,
         dependencies,
     }))
@@ -85,7 +84,7 @@ fn follow_in<'a>(
 fn leave_out(
     graph: &ModuleGraph,
     trace: PendingTrace,
-    found: &mut Vec<Finding>,
+    found: &mut Vec<Finding<'_>>,
 ) -> Result<(), AllocError>
     ensures { OnOk result (flat_map yields_of found.new.items
         ≡ flat_map yields_of found.old.items ++ untyped_yields graph.now (nv_of trace.package_nv) (serialize trace.specifier)) }
@@ -124,14 +123,14 @@ fn is_much(
 }
 
 /// Follows names of a module with tables: asks for what follows from them, adds what is found, and keeps what the search came to.
-fn follow_at(
+fn follow_at<'a>(
     alloc: Global,
     sources: Sources<'_>,
     provider: &dyn JsrUrlProvider,
-    info: &AnyModuleInfo,
+    info: &'a AnyModuleInfo,
     trace: PendingTrace,
     searches: &mut KeptSearches,
-    progress: &mut Progress,
+    progress: &mut Progress<'a>,
 ) -> Result<(), AllocError>
     ensures { let without = known sources.entry (url_of provider.now) (nv_at provider.now) in
         OnOk result ((used : Used) (earlier : List Followed) → AreFollowed earlier searches.old → let k = with_used used without in
@@ -171,13 +170,13 @@ fn follow_at(
 
 /// Follows names of a module, if it is one that is followed: asks for what follows from them, and adds what is found. It is the same whatever
 /// items are used.
-pub fn follow(
+pub fn follow<'a>(
     alloc: Global,
-    sources: Sources<'_>,
+    sources: Sources<'a>,
     provider: &dyn JsrUrlProvider,
     trace: PendingTrace,
     searches: &mut KeptSearches,
-    progress: &mut Progress,
+    progress: &mut Progress<'a>,
 ) -> Result<(), AllocError>
     ensures { let without = known sources.entry (url_of provider.now) (nv_at provider.now) in
         OnOk result ((used : Used) (earlier : List Followed) → AreFollowed earlier searches.old → let k = with_used used without in

@@ -77,11 +77,11 @@ fn entry_wants(
 }
 
 /// What is answered of a package with these entry points.
-fn entered_package(
+fn entered_package<'a>(
     nv: &PackageNv,
     entry_points: Vec<Url>,
     faults: Vec<(Url, EntryFault)>,
-) -> Result<Finding, AllocError>
+) -> Result<Finding<'a>, AllocError>
     ensures { IfOk result (λ finding. yields_of finding
         ≡ known_package (nv_of nv.now)
         ∷ (map (λ url. entry_point (nv_of nv.now) (serialize url)) entry_points.items ++ flat_map (entry_fault_yields (nv_of nv.now)) faults.items)) }
@@ -100,7 +100,7 @@ fn enter_at(
     graph: &ModuleGraph,
     nv: &PackageNv,
     entry_points: Vec<Url>,
-    progress: &mut Progress,
+    progress: &mut Progress<'_>,
 ) -> Result<(), AllocError>
     ensures { OnOk result (EntersAt graph.now (nv_of nv.now) entry_points.items None
         (state_of progress.old.worklist) (state_of progress.new.worklist)
@@ -139,7 +139,7 @@ fn enter_kept(
     nv: &PackageNv,
     entry_points: BTreeSet<Url>,
     item: FastCheckCacheItem,
-    progress: &mut Progress,
+    progress: &mut Progress<'_>,
 ) -> Result<(), AllocError>
     ensures { OnOk result (AsksAndGives (map to_package (item_of item).0) (kept (nv_of nv.now) entry_points.keys (item_of item) ∷ [])
         (state_of progress.old.worklist) (state_of progress.new.worklist)
@@ -164,7 +164,7 @@ fn enter_known(
     cache: Option<&dyn FastCheckCache>,
     nv: &PackageNv,
     entry_points: Vec<Url>,
-    progress: &mut Progress,
+    progress: &mut Progress<'_>,
 ) -> Result<(), AllocError>
     ensures { let i = input.entry in
         let used = used_of cache.entry (λ c. used_item (hash_of c.now i.seed.now) (stored c.now) i.sources.graph.now) in
@@ -188,7 +188,7 @@ fn enter_some(
     cache: Option<&dyn FastCheckCache>,
     nv: &PackageNv,
     entry_points: Option<Vec<Url>>,
-    progress: &mut Progress,
+    progress: &mut Progress<'_>,
 ) -> Result<(), AllocError>
     ensures { let i = input.entry in
         let used = used_of cache.entry (λ c. used_item (hash_of c.now i.seed.now) (stored c.now) i.sources.graph.now) in
@@ -210,7 +210,7 @@ pub fn enter(
     provider: &dyn JsrUrlProvider,
     cache: Option<&dyn FastCheckCache>,
     nv: &PackageNv,
-    progress: &mut Progress,
+    progress: &mut Progress<'_>,
 ) -> Result<(), BuildFault>
     ensures entered { let i = input.entry in
         let used = used_of cache.entry (λ c. used_item (hash_of c.now i.seed.now) (stored c.now) i.sources.graph.now) in

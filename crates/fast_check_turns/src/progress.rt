@@ -10,14 +10,17 @@ use std::alloc::AllocError;
 
 /// What was asked for so far, and what was found.
 #[derive(Drop)]
-pub struct Progress {
+pub struct Progress<'a> {
     pub worklist: Worklist,
-    pub found: Vec<Finding>,
+    pub found: Vec<Finding<'a>>,
 }
 
 /// Adds what was found in a turn.
-pub fn push_finding(found: &mut Vec<Finding>, finding: Finding) -> Result<(), AllocError>
-    ensures { OnOk result (flat_map yields_of found.new.items ≡ flat_map yields_of found.old.items ++ yields_of finding) }
+pub fn push_finding<'a>(
+    found: &mut Vec<Finding<'a>>,
+    finding: Finding<'a>,
+) -> Result<(), AllocError>
+    ensures { OnOk result (flat_map yields_of found.new.items ≡ flat_map yields_of found.old.items ++ yields_of finding.entry) }
 {
     found.push(finding)?;
     Ok(())
