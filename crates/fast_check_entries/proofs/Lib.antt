@@ -1,2 +1,5 @@
 mod First
 pub mod Passed
+mod Keys
+mod Once
+mod Named

@@ -8,9 +8,9 @@ use Rattle.std.specs.Option.{option_or}
 use Rattle.std.specs.Result.{result_ok}
 use Rattle.std.specs.Ordering.{nat_cmp}
 use Rattle.std.specs.Cmp.Lexicographic.{slice_cmp}
-use Rattle.std.specs.BTreeSet.{insert_key}
+use Rattle.std.specs.BTreeSet.{BTreeSet, insert_key}
 use Rattle.std.specs.declared.alloc.Global.{Global}
-use Rattle.std.specs.declared.vec.Vec.{Vec}
+use Rattle.std.specs.declared.rc.Rc.{Rc}
 use Rattle.url.specs.Parts.{Parts, serialize}
 use Rattle.url.specs.Parser.{parse_url}
 use Rattle.fast_check_packages.specs.Package.{Nv, nv_of}
@@ -58,8 +58,16 @@ all_joined base texts = flat_map (λ t. option_to_list (joined base t)) texts
 abbrev pub first_refused : Parts → List (List ℕ) → Option (List ℕ)
 first_refused base texts = find (λ t. is_none (joined base t)) texts
 
+-- a URL at its place in the order of their texts, unless its text stands there
+abbrev pub put_url : List Parts → Parts → List Parts
+put_url urls url = insert_key (λ a b. slice_cmp nat_cmp (serialize a) (serialize b)) urls url
+
+-- in the order of their texts, each once
+abbrev pub in_order : List Parts → List Parts
+in_order urls = fold put_url [] urls
+
 -- A package is passed over where its exports are not known, refused for a text that does not join, or entered at these
--- modules.
+-- modules, which stand in the order of their texts, each once.
 pub data Entrance : Type 0 where
   passed_over : Entrance
   refused : List ℕ → Entrance
@@ -72,7 +80,7 @@ unless_refused (Some text) urls = refused text
 abbrev pub entrance_by : Parts → Option Exports → Entrance
 entrance_by base None = passed_over
 entrance_by base (Some exports) = unless_refused (first_refused base (texts_of exports))
-    (all_joined base (texts_of exports))
+    (in_order (all_joined base (texts_of exports)))
 
 abbrev pub entrance_as : ModuleGraph → Option WorkspaceMember → (Nv → Parts) → Nv → Entrance
 entrance_as g member url_of nv = entrance_by (base_or (url_of nv) member) (exports_at g member nv)
@@ -80,15 +88,11 @@ entrance_as g member url_of nv = entrance_by (base_or (url_of nv) member) (expor
 abbrev pub entrance_of : ModuleGraph → List WorkspaceMember → (Nv → Parts) → Nv → Entrance
 entrance_of g members url_of nv = entrance_as g (member_named members nv) url_of nv
 
--- in the order of their texts, each once
-abbrev pub in_order : List Parts → List Parts
-in_order urls = fold (insert_key (λ a b. slice_cmp nat_cmp (serialize a) (serialize b))) [] urls
-
 -- what is answered
 
-abbrev pub entrance_seen : Option (Vec Parts Global) → Entrance
+abbrev pub entrance_seen : Option (Rc (BTreeSet Parts) Global) → Entrance
 entrance_seen None = passed_over
-entrance_seen (Some urls) = entered urls.items
+entrance_seen (Some urls) = entered urls.value.keys
 
 -- the fault tells the text of the package, if there is one. Of want of memory nothing is said
 abbrev pub Diagnoses : Nv → Option (List ℕ) → BuildFault → Type 0

@@ -5,6 +5,7 @@ ghost use Rattle.fast_check_entries.specs.Entries.{fault_at, faults_at, all_faul
 use fast_check_findings::EntryFault;
 use fast_check_graph::ModuleGraph;
 use std::alloc::{AllocError, Global};
+use std::collections::BTreeSet;
 use url::Url;
 
 /// What is wrong with an entry point, if anything is.
@@ -44,9 +45,9 @@ fn push_fault(
 pub fn entry_faults(
     alloc: Global,
     graph: &ModuleGraph,
-    urls: &[Url],
+    urls: &BTreeSet<Url>,
 ) -> Result<Vec<(Url, EntryFault)>, AllocError>
-    ensures { IfOk result (λ faults. faults.items ≡ all_faults graph.now urls.now) }
+    ensures { IfOk result (λ faults. faults.items ≡ all_faults graph.now urls.now.keys) }
 {
     let mut faults = Vec::new(alloc);
     for url in urls {

@@ -1,16 +1,15 @@
-//! The entry points of a package: its export texts joined to its base.
-ghost use Rattle.std.specs.Prelude.{◌≡◌, ◌++◌, ◌∷◌, [], Some, None, false, map, is_none, option_to_list, OnOk, IfOk, IfErr, string_bytes};
-ghost use Rattle.std.specs.Option.{option_copied};
+//! What export texts are joined to.
+ghost use Rattle.std.specs.Prelude.{◌≡◌, ◌++◌, ◌∷◌, [], List, ℕ, Some, None, false, map, fold, is_none, option_to_list, OnOk, IfOk, IfErr, string_bytes};
 ghost use Rattle.fast_check_packages.specs.Package.{nv_of};
-ghost use Rattle.fast_check_packages.specs.MembersIn.{members_in};
-ghost use Rattle.fast_check_entries.specs.Entries.{joined, all_joined, first_refused, entrance_by, entrance_as, entrance_of, entrance_seen};
+ghost use Rattle.fast_check_entries.specs.Entries.{joined, all_joined, first_refused, put_url, in_order, entrance_by, entered};
 ghost use Rattle.fast_check_entries.specs.Entries.{Diagnoses, DiagnosesRefused};
+ghost use Rattle.fast_check_entries.specs.Joined.{AreJoined};
 
-use crate::exports::{base_of, exports_of};
-use fast_check_graph::ModuleGraph;
-use fast_check_packages::{BuildFault, IndexedMembers, JsrUrlProvider, PackageNv, WorkspaceMember};
+use fast_check_packages::{BuildFault, PackageNv};
 use indexmap::IndexMap;
 use std::alloc::{AllocError, Global};
+use std::collections::BTreeSet;
+use std::rc::Rc;
 use url::{ParseError, Url};
 
 /// What an export text is joined to, None where it does not join.
@@ -33,94 +32,77 @@ fn invalid_export(alloc: Global, nv: &PackageNv, text: &str) -> Result<BuildFaul
     Ok(BuildFault::InvalidExport { package, export })
 }
 
-/// Adds what one more text is joined to, or refuses it.
+/// Adds what a text is joined to, or refuses it.
 fn push_joined(
     alloc: Global,
     nv: &PackageNv,
     base: &Url,
     text: &str,
-    out: &mut Vec<Url>,
+    urls: &mut BTreeSet<Url>,
 ) -> Result<(), BuildFault>
     ensures joins { OnOk result (is_none (joined base.now text.now) ≡ false) }
-    ensures pushed { OnOk result (out.new.items ≡ out.old.items ++ option_to_list (joined base.now text.now)) }
+    ensures put { OnOk result (urls.new.keys ≡ fold put_url urls.old.keys (option_to_list (joined base.now text.now))) }
     ensures refused { IfErr result (Diagnoses (nv_of nv.now) (first_refused base.now (text.now ∷ []))) }
 {
     match join_text(base, text)? {
         None => Err(invalid_export(alloc, nv, text)?),
         Some(url) => {
-            out.push(url)?;
+            urls.insert(url)?;
             Ok(())
         }
     }
 }
 
-/// What the export texts of a package are joined to, in order. The first one that does not join is refused.
+/// Adds what one more text is joined to, or refuses it. A text that was joined is not joined again, since many may be equal and the base long.
+fn push_once<'a>(
+    alloc: Global,
+    nv: &PackageNv,
+    base: &Url,
+    text: &'a str,
+    texts: &mut BTreeSet<&'a str>,
+    urls: &mut BTreeSet<Url>,
+) -> Result<(), BuildFault>
+    ensures joined { OnOk result ((done : List (List ℕ)) → AreJoined base.now done texts.old urls.old
+        → AreJoined base.now (done ++ text.entry.now ∷ []) texts.new urls.new) }
+    ensures refused { IfErr result (Diagnoses (nv_of nv.now) (first_refused base.now (text.entry.now ∷ []))) }
+{
+    if texts.contains(text) {
+        return Ok(());
+    }
+    push_joined(alloc, nv, base, text, urls)?;
+    texts.insert(text)?;
+    Ok(())
+}
+
+/// What the export texts of a package are joined to, in order and each once. The first one that does not join is refused.
 fn join_all(
     alloc: Global,
     nv: &PackageNv,
     base: &Url,
-    texts: &[String],
-) -> Result<Vec<Url>, BuildFault>
-    ensures all { OnOk result (first_refused base.now (map string_bytes texts.now) ≡ None) }
-    ensures joined { IfOk result (λ urls. urls.items ≡ all_joined base.now (map string_bytes texts.now)) }
-    ensures refused { IfErr result (Diagnoses (nv_of nv.now) (first_refused base.now (map string_bytes texts.now))) }
+    exports: &[String],
+) -> Result<BTreeSet<Url>, BuildFault>
+    ensures all { OnOk result (first_refused base.now (map string_bytes exports.now) ≡ None) }
+    ensures joined { IfOk result (λ urls. urls.keys ≡ in_order (all_joined base.now (map string_bytes exports.now))) }
+    ensures refused { IfErr result (Diagnoses (nv_of nv.now) (first_refused base.now (map string_bytes exports.now))) }
 {
-    let mut urls = Vec::new(alloc);
-    for text in texts {
-        push_joined(alloc, nv, base, text.as_str(), &mut urls)?;
+    let mut texts = BTreeSet::new(alloc);
+    let mut urls = BTreeSet::new(alloc);
+    for text in exports {
+        push_once(alloc, nv, base, text.as_str(), &mut texts, &mut urls)?;
     }
     Ok(urls)
 }
 
 /// What the exports of a package are joined to.
-fn join_exports(
+pub fn join_exports(
     alloc: Global,
     nv: &PackageNv,
     base: &Url,
     exports: &IndexMap<String, String>,
-) -> Result<Vec<Url>, BuildFault>
-    ensures entered { IfOk result (λ urls. entrance_by base.now (Some exports.now.entries) ≡ entrance_seen (Some urls)) }
+) -> Result<Rc<BTreeSet<Url>>, BuildFault>
+    ensures entered { IfOk result (λ urls. entrance_by base.now (Some exports.now.entries) ≡ entered urls.value.keys) }
     ensures refused { IfErr result (DiagnosesRefused (nv_of nv.now) (entrance_by base.now (Some exports.now.entries))) }
 {
-    join_all(alloc, nv, base, exports.values().as_slice())
-}
-
-/// The entry points of a package that the workspace has as this member, if it has it.
-fn member_entry_points(
-    alloc: Global,
-    graph: &ModuleGraph,
-    member: Option<&WorkspaceMember>,
-    provider: &dyn JsrUrlProvider,
-    nv: &PackageNv,
-) -> Result<Option<Vec<Url>>, BuildFault>
-    ensures entered { IfOk result (λ urls.
-        entrance_as graph.now (option_copied member.entry) (url_of provider.now) (nv_of nv.now) ≡ entrance_seen urls) }
-    ensures refused { IfErr result (DiagnosesRefused (nv_of nv.now)
-        (entrance_as graph.now (option_copied member.entry) (url_of provider.now) (nv_of nv.now))) }
-{
-    match exports_of(graph, member, nv) {
-        None => Ok(None),
-        Some(exports) => {
-            let base = base_of(provider, member, nv)?;
-            let urls = join_exports(alloc, nv, &base, exports)?;
-            Ok(Some(urls))
-        }
-    }
-}
-
-/// The entry points of a package: what its export texts are joined to, in the order of the exports. None where neither the graph nor a member
-/// of the workspace has its exports.
-///
-/// The first text that does not join is answered as `InvalidExport`. `OutOfMemory` where memory is wanting, or a URL comes to 4 GB.
-pub fn entry_points(
-    alloc: Global,
-    graph: &ModuleGraph,
-    members: &IndexedMembers<'_>,
-    provider: &dyn JsrUrlProvider,
-    nv: &PackageNv,
-) -> Result<Option<Vec<Url>>, BuildFault>
-    ensures entered { IfOk result (λ urls. entrance_of graph.now (members_in members.now) (url_of provider.now) (nv_of nv.now) ≡ entrance_seen urls) }
-    ensures refused { IfErr result (DiagnosesRefused (nv_of nv.now) (entrance_of graph.now (members_in members.now) (url_of provider.now) (nv_of nv.now))) }
-{
-    member_entry_points(alloc, graph, members.named(nv), provider, nv)
+    let urls = join_all(alloc, nv, base, exports.values().as_slice())?;
+    Ok(Rc::new(alloc, urls)?)
 }

@@ -54,7 +54,7 @@ use Rattle.fast_check_worklists.specs.Demands.{Text, same_nv, asked_by, Want, to
 use Rattle.fast_check_worklists.specs.Demands.{of_module, of_symbol}
 use Rattle.fast_check_worklists.specs.Measure.{IsWithin, IsPathWithin, IsInside, IsWantInside, IsUniverse}
 use Rattle.fast_check_findings.specs.declared.finding.EntryFault.{EntryFault}
-use Rattle.fast_check_turns.specs.entries.Entries.{Entrance, passed_over, refused, entered, all_faults, in_order}
+use Rattle.fast_check_turns.specs.entries.Entries.{Entrance, passed_over, refused, entered, all_faults}
 use Rattle.fast_check_turns.specs.wants.Sources.{Used, Known, is_text, node_at, named_at, typed_info, info_at, traced_as, module_at}
 use Rattle.fast_check_turns.specs.wants.Wants.{file_at, behind, resolved, file_wants, left_wants}
 use Rattle.fast_check_turns.specs.Rules.{names_wants, symbol_wants, entry_want, unless_faulty, entrance_at, entered_wants, entry_wants}
@@ -465,17 +465,17 @@ module _ (k : Known) (stored roots_in : List Nv) (has_all : HasDependencies k.us
       sound urls e [] = each_map In (entry_want nv) urls (λ url c. entry_in nv i urls e url c)
       sound urls e (f ∷ faults) = each_nil In
 
-      by_item : (urls : List Parts) → entrance_at k nv ≡ entered urls → (item : Option ItemView) → k.used nv (in_order urls) ≡ item →
+      by_item : (urls : List Parts) → entrance_at k nv ≡ entered urls → (item : Option ItemView) → k.used nv urls ≡ item →
           Each In (entered_wants k.graph nv urls item)
       by_item urls e None h = sound urls e (all_faults k.graph urls)
       by_item urls e (Some item) h = each_map In to_package item.0
           (λ p c. Contains-append_right roots_in (owners ++ stored) p
-          (Contains-append_right owners stored p (has_all nv (in_order urls) item h p c)))
+          (Contains-append_right owners stored p (has_all nv urls item h p c)))
 
       go : (entrance : Entrance) → entrance_at k nv ≡ entrance → Each In (entry_wants k.graph k.used nv entrance)
       go passed_over e = each_nil In
       go (refused text) e = each_nil In
-      go (entered urls) e = by_item urls e (k.used nv (in_order urls)) refl
+      go (entered urls) e = by_item urls e (k.used nv urls) refl
 
   closed : (d : Demand) → IsInside (reach k stored roots_in) d → Each In (world k d)
   closed (of_package nv) i = entries_in nv i

@@ -3,12 +3,14 @@
 ghost use Rattle.std.specs.Prelude.{◌≡◌, List, [], Some, map, OnOk, IfOk, IfErr};
 ghost use Rattle.std.specs.List.{flat_map};
 ghost use Rattle.fast_check_packages.specs.Package.{nv_of};
+ghost use Rattle.fast_check_packages.specs.MembersIn.{members_in};
 ghost use Rattle.fast_check_cache.specs.CachedPackages.{used_item};
 ghost use Rattle.fast_check_worklists.specs.Traces.{pending};
 ghost use Rattle.fast_check_worklists.specs.Account.{Followed, Account, IsAccount, IsYield};
 ghost use Rattle.fast_check_worklists.specs.State.{state_of};
 ghost use Rattle.fast_check_worklists.specs.Turn.{IsEntryTurn, IsTurn};
 ghost use Rattle.fast_check_findings.specs.Findings.{yields_of};
+ghost use Rattle.fast_check_turns.specs.entries.Kept.{AreKept};
 ghost use Rattle.fast_check_turns.specs.wants.Sources.{known, with_used};
 ghost use Rattle.fast_check_turns.specs.Lent.{used_of};
 ghost use Rattle.fast_check_turns.specs.Rules.{world};
@@ -18,9 +20,18 @@ ghost use Rattle.fast_check_finder.specs.Refusals.{IsRefusal, IsRefusedOf, JoinA
 
 use fast_check_cache::FastCheckCache;
 use fast_check_packages::{BuildFault, JsrUrlProvider, PackageNv};
-use fast_check_turns::{FinderInput, Finding, KeptSearches, Progress, enter, follow};
+use fast_check_turns::{
+    FinderInput, Finding, KeptSearches, MemberEntries, Progress, enter, follow,
+};
 use fast_check_worklists::{begin, copy_of};
 use std::alloc::{AllocError, Global};
+
+/// What is kept from turn to turn, so that it is not worked out again.
+#[derive(Drop)]
+struct Kept {
+    searches: KeptSearches,
+    members: MemberEntries,
+}
 
 /// Enters the next package, if there is one, and answers the number of those that were entered.
 fn enter_next(
@@ -29,14 +40,18 @@ fn enter_next(
     provider: &dyn JsrUrlProvider,
     cache: Option<&dyn FastCheckCache>,
     next: usize,
+    members: &mut MemberEntries,
     progress: &mut Progress<'_>,
 ) -> Result<Option<usize>, BuildFault>
     requires { pending progress.old.worklist.waiting ≡ [] }
     ensures turned { let i = input.entry in
         let used = used_of cache.entry (λ c. used_item (hash_of c.now i.seed.now) (stored c.now) i.sources.graph.now) in
         let k = with_used used (known i.sources (url_of provider.now) (nv_at provider.now)) in
-        IfOk result (IsEntryTurn (world k) (gives k) next (state_of progress.old.worklist) (state_of progress.new.worklist)
-        (flat_map yields_of progress.old.found.items) (flat_map yields_of progress.new.found.items)) }
+        IfOk result (λ after. AreKept k.workspace_members members.old
+        → IsEntryTurn (world k) (gives k) next (state_of progress.old.worklist) (state_of progress.new.worklist)
+        (flat_map yields_of progress.old.found.items) (flat_map yields_of progress.new.found.items) after) }
+    ensures kept { let ours = members_in input.entry.sources.workspace_members.now in
+        OnOk result (AreKept ours members.old → AreKept ours members.new) }
     ensures refused { let i = input.entry in
         let used = used_of cache.entry (λ c. used_item (hash_of c.now i.seed.now) (stored c.now) i.sources.graph.now) in
         let k = with_used used (known i.sources (url_of provider.now) (nv_at provider.now)) in
@@ -46,7 +61,7 @@ fn enter_next(
         return Ok(None);
     }
     let nv = copy_of(&progress.worklist.packages[next])?;
-    enter(alloc, input, provider, cache, &nv, progress)?;
+    enter(alloc, input, provider, cache, &nv, members, progress)?;
     Ok(Some(next + 1))
 }
 
@@ -58,15 +73,17 @@ fn turn<'a>(
     provider: &dyn JsrUrlProvider,
     cache: Option<&dyn FastCheckCache>,
     next: usize,
-    searches: &mut KeptSearches,
+    kept: &mut Kept,
     progress: &mut Progress<'a>,
 ) -> Result<Option<usize>, BuildFault>
     ensures turned { let i = input.entry in
         let used = used_of cache.entry (λ c. used_item (hash_of c.now i.seed.now) (stored c.now) i.sources.graph.now) in
         let k = with_used used (known i.sources (url_of provider.now) (nv_at provider.now)) in
-        IfOk result (λ after. (done : List Followed) → AreFollowed done searches.old
-        → IsTurn (world k) (gives k) done (λ all. AreFollowed all searches.new) next (state_of progress.old.worklist)
+        IfOk result (λ after. (done : List Followed) → AreFollowed done kept.old.searches → AreKept k.workspace_members kept.old.members
+        → IsTurn (world k) (gives k) done (λ all. AreFollowed all kept.new.searches) next (state_of progress.old.worklist)
         (state_of progress.new.worklist) (flat_map yields_of progress.old.found.items) (flat_map yields_of progress.new.found.items) after) }
+    ensures kept { let ours = members_in input.entry.sources.workspace_members.now in
+        OnOk result (AreKept ours kept.old.members → AreKept ours kept.new.members) }
     ensures refused { let i = input.entry in
         let used = used_of cache.entry (λ c. used_item (hash_of c.now i.seed.now) (stored c.now) i.sources.graph.now) in
         let k = with_used used (known i.sources (url_of provider.now) (nv_at provider.now)) in
@@ -74,11 +91,26 @@ fn turn<'a>(
 {
     match progress.worklist.waiting.pop() {
         None => {
-            let after = enter_next(alloc, input, provider, cache, next, progress)?;
+            let after = enter_next(
+                alloc,
+                input,
+                provider,
+                cache,
+                next,
+                &mut kept.members,
+                progress,
+            )?;
             Ok(after)
         }
         Some(trace) => {
-            follow(alloc, input.sources, provider, trace, searches, progress)?;
+            follow(
+                alloc,
+                input.sources,
+                provider,
+                trace,
+                &mut kept.searches,
+                progress,
+            )?;
             Ok(Some(next))
         }
     }
@@ -112,7 +144,9 @@ pub fn find_all<'a>(
     let worklist = begin(alloc, roots)?;
     let found = Vec::new(alloc);
     let mut progress = Progress { worklist, found };
-    let mut searches = KeptSearches::new(alloc);
+    let searches = KeptSearches::new(alloc);
+    let members = MemberEntries::new(alloc);
+    let mut kept = Kept { searches, members };
     let mut next = 0;
     'turns: while let Some(after) = turn(
         alloc,
@@ -120,7 +154,7 @@ pub fn find_all<'a>(
         provider,
         cache,
         next,
-        &mut searches,
+        &mut kept,
         &mut progress,
     )? {
         next = after;

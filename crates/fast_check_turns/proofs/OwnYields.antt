@@ -31,7 +31,7 @@ use Rattle.fast_check_worklists.specs.Demands.{Text, Want, to_package, to_module
 use Rattle.fast_check_entries.specs.findings.Yields.{Yield, known_package, entry_point, refused_export, dependency, public, implementing}
 use Rattle.fast_check_entries.specs.findings.Yields.{ModuleFault, recorded, faulty, untyped_module, kept}
 use Rattle.fast_check_entries.specs.findings.Findings.{faulty_module, entry_fault, placed_yield, placed_yields}
-use Rattle.fast_check_entries.specs.Entries.{Entrance, passed_over, refused, entered, all_faults, in_order}
+use Rattle.fast_check_entries.specs.Entries.{Entrance, passed_over, refused, entered, all_faults}
 use Rattle.fast_check_sources.specs.Sources.{Known, is_text, node_at, named_at, traced_as, typed_info, info_at, module_at, untyped_at}
 use Rattle.fast_check_turns.specs.Rules.{names_wants, symbol_wants, entrance_at}
 use Rattle.fast_check_turns.specs.Yields.{own_text, dependency_of, dependencies, public_at, implementing_at, names_yields, source_in}
@@ -164,7 +164,7 @@ module _ (k : Known) (found : AreFoundByOwnNames k.root_symbol) where
       (each_append Q faults_of depends (all_faults_placed nv m (faults (own_tables m) s)) (all_dependencies nv (symbol_wants k nv t s m))))
 
   of_entered : (nv : Nv) (urls : List Parts) (item : Option ItemView) → Each Q (entered_yields k.graph nv urls item)
-  of_entered nv urls (Some item) = each_one Q (kept nv (in_order urls) item) tt
+  of_entered nv urls (Some item) = each_one Q (kept nv urls item) tt
   of_entered nv urls None = each_cons Q (known_package nv) _ tt
       (each_append Q (map (λ url. entry_point nv (serialize url)) urls) (flat_map (entry_fault_yields nv) (all_faults k.graph urls))
       (each_map Q (λ url. entry_point nv (serialize url)) urls (λ url _. tt))
@@ -173,7 +173,7 @@ module _ (k : Known) (found : AreFoundByOwnNames k.root_symbol) where
   of_entrance : (nv : Nv) (e : Entrance) → Each Q (entry_yields k.graph k.used nv e)
   of_entrance nv passed_over = each_nil Q
   of_entrance nv (refused text) = each_one Q (refused_export nv text) tt
-  of_entrance nv (entered urls) = of_entered nv urls (k.used nv (in_order urls))
+  of_entrance nv (entered urls) = of_entered nv urls (k.used nv urls)
 
   pub own_yields : (d : Demand) → Each Q (gives k d)
   own_yields (of_package nv) = of_entrance nv (entrance_at k nv)

@@ -18,7 +18,7 @@ use Rattle.fast_check_worklists.specs.Demands.{of_module, of_symbol}
 use Rattle.fast_check_worklists.specs.State.{IsOuter}
 use Rattle.fast_check_worklists.specs.Turn.{IsOrderly}
 use Rattle.fast_check_entries.specs.findings.declared.finding.EntryFault.{EntryFault}
-use Rattle.fast_check_entries.specs.Entries.{Entrance, passed_over, refused, entered, all_faults, in_order}
+use Rattle.fast_check_entries.specs.Entries.{Entrance, passed_over, refused, entered, all_faults}
 use Rattle.fast_check_sources.specs.Sources.{Known, module_at}
 use Rattle.fast_check_sources.specs.Wants.{file_at, behind, resolved, file_wants, left_wants}
 use Rattle.fast_check_turns.specs.Rules.{names_wants, symbol_wants, entry_want, unless_faulty, entrance_at, entered_wants, entry_wants}
@@ -105,7 +105,7 @@ module _ (k : Known) where
       go : (entrance : Entrance) → Each IsEntry (entry_wants k.graph k.used nv entrance)
       go passed_over = each_nil IsEntry
       go (refused text) = each_nil IsEntry
-      go (entered urls) = by_item urls (k.used nv (in_order urls))
+      go (entered urls) = by_item urls (k.used nv urls)
 
   pub orderly : IsOrderly (world k) k.owner
   orderly = record {

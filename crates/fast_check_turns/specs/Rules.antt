@@ -14,7 +14,7 @@ use Rattle.fast_check_traces.specs.Modules.{own_tables}
 use Rattle.fast_check_traces.specs.Roots.{roots}
 use Rattle.fast_check_traces.specs.Wants.{module_wants}
 use Rattle.fast_check_entries.specs.findings.declared.finding.EntryFault.{EntryFault}
-use Rattle.fast_check_entries.specs.Entries.{Entrance, passed_over, refused, entered, all_faults, entrance_of, in_order}
+use Rattle.fast_check_entries.specs.Entries.{Entrance, passed_over, refused, entered, all_faults, entrance_of}
 use Rattle.fast_check_worklists.specs.Demands.{Text, asked_by, Want, to_package, to_module, to_symbol, of_package}
 use Rattle.fast_check_worklists.specs.Demands.{of_module, of_symbol, World}
 use Rattle.fast_check_sources.specs.Sources.{Used, Known, module_at}
@@ -51,7 +51,7 @@ entered_wants g nv urls None = unless_faulty (all_faults g urls) (map (entry_wan
 abbrev pub entry_wants : ModuleGraph → Used → Nv → Entrance → List Want
 entry_wants g used nv passed_over = []
 entry_wants g used nv (refused text) = []
-entry_wants g used nv (entered urls) = entered_wants g nv urls (used nv (in_order urls))
+entry_wants g used nv (entered urls) = entered_wants g nv urls (used nv urls)
 
 abbrev pub world : Known → World
 world k (of_package nv) = entry_wants k.graph k.used nv (entrance_at k nv)

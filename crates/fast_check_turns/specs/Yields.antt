@@ -24,7 +24,7 @@ use Rattle.fast_check_entries.specs.findings.declared.finding.EntryFault.{EntryF
 use Rattle.fast_check_entries.specs.findings.Yields.{Yield, known_package, entry_point, refused_export, dependency}
 use Rattle.fast_check_entries.specs.findings.Yields.{recorded, public, implementing, untyped_module, kept}
 use Rattle.fast_check_entries.specs.findings.Findings.{faulty_module, entry_fault, placed_yields}
-use Rattle.fast_check_entries.specs.Entries.{Entrance, passed_over, refused, entered, all_faults, in_order}
+use Rattle.fast_check_entries.specs.Entries.{Entrance, passed_over, refused, entered, all_faults}
 use Rattle.fast_check_sources.specs.Sources.{Used, Known, module_at, untyped_at}
 use Rattle.fast_check_turns.specs.Rules.{names_wants, symbol_wants, entrance_at}
 
@@ -89,7 +89,7 @@ entry_fault_yields nv f = faulty_module nv (serialize f.0) (entry_fault f.1)
 
 -- a package whose item is used gives the item, and nothing of its entry points
 abbrev pub entered_yields : ModuleGraph → Nv → List Parts → Option ItemView → List Yield
-entered_yields g nv urls (Some item) = kept nv (in_order urls) item ∷ []
+entered_yields g nv urls (Some item) = kept nv urls item ∷ []
 entered_yields g nv urls None =
     known_package nv ∷
     (map (λ url. entry_point nv (serialize url)) urls ++ flat_map (entry_fault_yields nv) (all_faults g urls))
@@ -97,7 +97,7 @@ entered_yields g nv urls None =
 abbrev pub entry_yields : ModuleGraph → Used → Nv → Entrance → List Yield
 entry_yields g used nv passed_over = []
 entry_yields g used nv (refused text) = refused_export nv text ∷ []
-entry_yields g used nv (entered urls) = entered_yields g nv urls (used nv (in_order urls))
+entry_yields g used nv (entered urls) = entered_yields g nv urls (used nv urls)
 
 abbrev pub gives : Known → Demand → List Yield
 gives k (of_package nv) = entry_yields k.graph k.used nv (entrance_at k nv)

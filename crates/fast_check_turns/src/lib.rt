@@ -8,6 +8,7 @@ mod progress;
 mod searches;
 mod traced;
 
+pub use fast_check_entries::MemberEntries;
 pub use fast_check_entries::findings::{
     EnteredPackage, EntryFault, Finding, FollowedModule, FoundModule, KeptPackage, UntypedModule,
 };

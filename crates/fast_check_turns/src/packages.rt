@@ -4,11 +4,13 @@ ghost use Rattle.std.specs.Prelude.{◌≡◌, ◌++◌, ◌∷◌, [], None, ma
 ghost use Rattle.std.specs.List.{flat_map};
 ghost use Rattle.url.specs.Parts.{serialize};
 ghost use Rattle.fast_check_packages.specs.Package.{nv_of};
+ghost use Rattle.fast_check_packages.specs.MembersIn.{members_in};
 ghost use Rattle.fast_check_cache.specs.Cache.{item_of};
 ghost use Rattle.fast_check_cache.specs.CachedPackages.{used_item};
 ghost use Rattle.fast_check_entries.specs.findings.Yields.{known_package, entry_point, kept};
 ghost use Rattle.fast_check_entries.specs.findings.Findings.{yields_of};
-ghost use Rattle.fast_check_entries.specs.Entries.{entrance_seen, in_order, DiagnosesRefused};
+ghost use Rattle.fast_check_entries.specs.Entries.{entrance_seen, DiagnosesRefused};
+ghost use Rattle.fast_check_entries.specs.Kept.{AreKept};
 ghost use Rattle.fast_check_worklists.specs.Demands.{to_package};
 ghost use Rattle.fast_check_worklists.specs.State.{want_of, state_of, IsEntered};
 ghost use Rattle.fast_check_sources.specs.Sources.{known, with_used};
@@ -21,10 +23,11 @@ use crate::input::FinderInput;
 use crate::progress::{Progress, push_finding};
 use fast_check_cache::{FastCheckCache, FastCheckCacheItem, look_up};
 use fast_check_entries::findings::{EnteredPackage, EntryFault, Finding, KeptPackage};
-use fast_check_entries::{entry_faults, entry_point_set, entry_points};
+use fast_check_entries::{MemberEntries, entry_faults, entry_points};
 use fast_check_graph::ModuleGraph;
 use fast_check_names::ImportedExports;
 use fast_check_packages::{BuildFault, JsrUrlProvider, PackageNv};
+use fast_check_sources::Sources;
 use fast_check_worklists::{OuterWant, copy_of};
 use std::alloc::{AllocError, Global};
 use std::collections::BTreeSet;
@@ -49,9 +52,9 @@ fn push_entry(
 fn entries_of(
     alloc: Global,
     nv: &PackageNv,
-    entry_points: &[Url],
+    entry_points: &BTreeSet<Url>,
 ) -> Result<Vec<OuterWant>, AllocError>
-    ensures { IfOk result (λ out. map want_of out.items ≡ map (entry_want (nv_of nv.now)) entry_points.now) }
+    ensures { IfOk result (λ out. map want_of out.items ≡ map (entry_want (nv_of nv.now)) entry_points.now.keys) }
 {
     let shared = Rc::new(alloc, copy_of(nv)?)?;
     let mut out = Vec::new(alloc);
@@ -65,10 +68,10 @@ fn entries_of(
 fn entry_wants(
     alloc: Global,
     nv: &PackageNv,
-    entry_points: &[Url],
+    entry_points: &BTreeSet<Url>,
     faults: &[(Url, EntryFault)],
 ) -> Result<Vec<OuterWant>, AllocError>
-    ensures { IfOk result (λ out. map want_of out.items ≡ unless_faulty faults.now (map (entry_want (nv_of nv.now)) entry_points.now)) }
+    ensures { IfOk result (λ out. map want_of out.items ≡ unless_faulty faults.now (map (entry_want (nv_of nv.now)) entry_points.now.keys)) }
 {
     match faults.split_first() {
         None => entries_of(alloc, nv, entry_points),
@@ -76,17 +79,30 @@ fn entry_wants(
     }
 }
 
+/// A copy of each entry point.
+fn copies_of(alloc: Global, entry_points: &BTreeSet<Url>) -> Result<Vec<Url>, AllocError>
+    ensures { IfOk result (λ copies. copies.items ≡ entry_points.now.keys) }
+{
+    let mut copies = Vec::new(alloc);
+    for url in entry_points {
+        copies.push(url.clone()?)?;
+    }
+    Ok(copies)
+}
+
 /// What is answered of a package with these entry points.
 fn entered_package<'a>(
+    alloc: Global,
     nv: &PackageNv,
-    entry_points: Vec<Url>,
+    entry_points: &BTreeSet<Url>,
     faults: Vec<(Url, EntryFault)>,
 ) -> Result<Finding<'a>, AllocError>
     ensures { IfOk result (λ finding. yields_of finding
         ≡ known_package (nv_of nv.now)
-        ∷ (map (λ url. entry_point (nv_of nv.now) (serialize url)) entry_points.items ++ flat_map (entry_fault_yields (nv_of nv.now)) faults.items)) }
+        ∷ (map (λ url. entry_point (nv_of nv.now) (serialize url)) entry_points.now.keys ++ flat_map (entry_fault_yields (nv_of nv.now)) faults.items)) }
 {
     let package = copy_of(nv)?;
+    let entry_points = copies_of(alloc, entry_points)?;
     Ok(Finding::Entered(EnteredPackage {
         package,
         entry_points,
@@ -99,16 +115,16 @@ fn enter_at(
     alloc: Global,
     graph: &ModuleGraph,
     nv: &PackageNv,
-    entry_points: Vec<Url>,
+    entry_points: &BTreeSet<Url>,
     progress: &mut Progress<'_>,
 ) -> Result<(), AllocError>
-    ensures { OnOk result (EntersAt graph.now (nv_of nv.now) entry_points.items None
+    ensures { OnOk result (EntersAt graph.now (nv_of nv.now) entry_points.now.keys None
         (state_of progress.old.worklist) (state_of progress.new.worklist)
         (flat_map yields_of progress.old.found.items) (flat_map yields_of progress.new.found.items)) }
 {
-    let faults = entry_faults(alloc, graph, entry_points.as_slice())?;
-    let outer = entry_wants(alloc, nv, entry_points.as_slice(), faults.as_slice())?;
-    let finding = entered_package(nv, entry_points, faults)?;
+    let faults = entry_faults(alloc, graph, entry_points)?;
+    let outer = entry_wants(alloc, nv, entry_points, faults.as_slice())?;
+    let finding = entered_package(alloc, nv, entry_points, faults)?;
     push_finding(&mut progress.found, finding)?;
     progress.worklist.ask_all(alloc, outer)?;
     Ok(())
@@ -137,16 +153,17 @@ fn kept_wants(alloc: Global, item: &FastCheckCacheItem) -> Result<Vec<OuterWant>
 fn enter_kept(
     alloc: Global,
     nv: &PackageNv,
-    entry_points: BTreeSet<Url>,
+    entry_points: &BTreeSet<Url>,
     item: FastCheckCacheItem,
     progress: &mut Progress<'_>,
 ) -> Result<(), AllocError>
-    ensures { OnOk result (AsksAndGives (map to_package (item_of item).0) (kept (nv_of nv.now) entry_points.keys (item_of item) ∷ [])
+    ensures { OnOk result (AsksAndGives (map to_package (item_of item).0) (kept (nv_of nv.now) entry_points.now.keys (item_of item) ∷ [])
         (state_of progress.old.worklist) (state_of progress.new.worklist)
         (flat_map yields_of progress.old.found.items) (flat_map yields_of progress.new.found.items)) }
 {
     let outer = kept_wants(alloc, &item)?;
     let package = copy_of(nv)?;
+    let entry_points = entry_points.clone()?;
     let kept = KeptPackage {
         package,
         entry_points,
@@ -163,21 +180,20 @@ fn enter_known(
     input: FinderInput<'_>,
     cache: Option<&dyn FastCheckCache>,
     nv: &PackageNv,
-    entry_points: Vec<Url>,
+    entry_points: &BTreeSet<Url>,
     progress: &mut Progress<'_>,
 ) -> Result<(), AllocError>
     ensures { let i = input.entry in
         let used = used_of cache.entry (λ c. used_item (hash_of c.now i.seed.now) (stored c.now) i.sources.graph.now) in
-        OnOk result (EntersAt i.sources.graph.now (nv_of nv.now) entry_points.items (used (nv_of nv.now) (in_order entry_points.items))
+        OnOk result (EntersAt i.sources.graph.now (nv_of nv.now) entry_points.now.keys (used (nv_of nv.now) entry_points.now.keys)
         (state_of progress.old.worklist) (state_of progress.new.worklist)
         (flat_map yields_of progress.old.found.items) (flat_map yields_of progress.new.found.items)) }
 {
-    let sorted = entry_point_set(alloc, entry_points.as_slice())?;
     let graph = input.sources.graph;
-    let item = look_up(cache, input.seed, graph, nv, &sorted)?;
+    let item = look_up(cache, input.seed, graph, nv, entry_points)?;
     match item {
         None => enter_at(alloc, graph, nv, entry_points, progress),
-        Some(item) => enter_kept(alloc, nv, sorted, item, progress),
+        Some(item) => enter_kept(alloc, nv, entry_points, item, progress),
     }
 }
 
@@ -187,7 +203,7 @@ fn enter_some(
     input: FinderInput<'_>,
     cache: Option<&dyn FastCheckCache>,
     nv: &PackageNv,
-    entry_points: Option<Vec<Url>>,
+    entry_points: Option<Rc<BTreeSet<Url>>>,
     progress: &mut Progress<'_>,
 ) -> Result<(), AllocError>
     ensures { let i = input.entry in
@@ -198,31 +214,38 @@ fn enter_some(
 {
     match entry_points {
         None => Ok(()),
-        Some(entry_points) => enter_known(alloc, input, cache, nv, entry_points, progress),
+        Some(entry_points) => enter_known(alloc, input, cache, nv, &entry_points, progress),
     }
 }
 
 /// Enters a package: asks for its entry points, or for what its item in the cache depends on, where that is used. It is refused for the first
-/// export text that does not join, before the cache is asked.
+/// export text that does not join, before the cache is asked. The entry points of members are kept from one package to the next.
 pub fn enter(
     alloc: Global,
     input: FinderInput<'_>,
     provider: &dyn JsrUrlProvider,
     cache: Option<&dyn FastCheckCache>,
     nv: &PackageNv,
+    members: &mut MemberEntries,
     progress: &mut Progress<'_>,
 ) -> Result<(), BuildFault>
     ensures entered { let i = input.entry in
         let used = used_of cache.entry (λ c. used_item (hash_of c.now i.seed.now) (stored c.now) i.sources.graph.now) in
         let k = with_used used (known i.sources (url_of provider.now) (nv_at provider.now)) in
-        OnOk result (IsEntered (world k) (gives k) (nv_of nv.now) (state_of progress.old.worklist) (state_of progress.new.worklist)
+        OnOk result (AreKept k.workspace_members members.old
+        → IsEntered (world k) (gives k) (nv_of nv.now) (state_of progress.old.worklist) (state_of progress.new.worklist)
         (flat_map yields_of progress.old.found.items) (flat_map yields_of progress.new.found.items)) }
+    ensures kept { let ours = members_in input.entry.sources.workspace_members.now in
+        OnOk result (AreKept ours members.old → AreKept ours members.new) }
     ensures refused { IfErr result (DiagnosesRefused (nv_of nv.now)
         (entrance_at (known input.entry.sources (url_of provider.now) (nv_at provider.now)) (nv_of nv.now))) }
 {
-    let members = input.sources.workspace_members;
-    let graph = input.sources.graph;
-    let entry_points = entry_points(alloc, graph, members, provider, nv)?;
+    let Sources {
+        graph,
+        workspace_members,
+        ..
+    } = input.sources;
+    let entry_points = entry_points(alloc, graph, workspace_members, provider, nv, members)?;
     enter_some(alloc, input, cache, nv, entry_points, progress)?;
     Ok(())
 }

@@ -12,7 +12,7 @@ use Rattle.fast_check_finder.proofs.Refused.{refused_of}
 use Rattle.fast_check_finder.proofs.find.enter_next.Goals as goal
 
 pub returns-clause-turned : goal.returns-clause-turned
-returns-clause-turned g c =
+returns-clause-turned g c mine =
     let m = goal.JsrUrlProvider-dyn g c.args.provider.now in
     record {
       package_nv = nv_of c.in_ok-nv.nv;
@@ -24,7 +24,7 @@ returns-clause-turned g c =
           (get_or_from_slice_get c.args.progress.now.worklist.packages.keys c.args.next c.index.result.now c.index.result.now
           c.index.ensures)
           ∙ sym c.in_ok-nv.ensures);
-      entered = c.in_ok-enter.ensures.entered;
+      entered = c.in_ok-enter.ensures.entered mine;
       next_is = refl;
     }
 

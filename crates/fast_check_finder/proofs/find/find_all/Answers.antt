@@ -1,6 +1,7 @@
 use Rattle.std.proofs.Common.{map, []}
 use Rattle.std.specs.List.{flat_map}
 use Rattle.fast_check_packages.specs.Package.{nv_of}
+use Rattle.fast_check_packages.specs.MembersIn.{members_in}
 use Rattle.fast_check_worklists.specs.State.{state_of}
 use Rattle.fast_check_worklists.proofs.Last.{started, later, over}
 use Rattle.fast_check_cache.specs.CachedPackages.{used_item}
@@ -33,6 +34,7 @@ turns-init g c =
         c.new-searches.ensures,
       );
       bounded = record { distinct = c.in_ok-worklist.ensures.distinct };
+      members = c.new-members.ensures (members_in c.args.input.sources.workspace_members.now);
     }
 
 pub turns-smaller : goal.turns-smaller
@@ -49,7 +51,7 @@ turns-smaller g c =
     (later (world k) (gives k) k.owner (orderly k) rs (reach k ds rs) (universe k ds rs has) i.way.0 c.turns.next
     (state_of c.turns.progress.worklist) (state_of c.turn.new.progress.worklist)
     (flat_map yields_of c.turns.progress.found.items) (flat_map yields_of c.turn.new.progress.found.items) i.way.1 i.bounded
-    (λ all. AreFollowed all c.turn.new.searches) c.in-Some.after (rw c.in-Some.is at c.in_ok-after.ensures.turned i.way.0 i.way.2)).falls
+    (λ all. AreFollowed all c.turn.new.kept.searches) c.in-Some.after (rw c.in-Some.is at c.in_ok-after.ensures.turned i.way.0 i.way.2 i.members)).falls
 
 pub turns-preserved : goal.turns-preserved
 turns-preserved g c =
@@ -66,8 +68,8 @@ turns-preserved g c =
     (state_of c.turns.progress.worklist)
     (state_of c.turn.new.progress.worklist) (flat_map yields_of c.turns.progress.found.items)
     (flat_map yields_of c.turn.new.progress.found.items) i.way.1 i.bounded
-    (λ all. AreFollowed all c.turn.new.searches) c.in-Some.after (rw c.in-Some.is at c.in_ok-after.ensures.turned i.way.0 i.way.2) in
-    record { way = (l.traces, l.next_way, l.holds); bounded = l.still }
+    (λ all. AreFollowed all c.turn.new.kept.searches) c.in-Some.after (rw c.in-Some.is at c.in_ok-after.ensures.turned i.way.0 i.way.2 i.members) in
+    record { way = (l.traces, l.next_way, l.holds); bounded = l.still; members = c.in_ok-after.ensures.kept i.members }
 
 pub returns-clause-found : goal.returns-clause-found
 returns-clause-found g c =
@@ -84,7 +86,7 @@ returns-clause-found g c =
     (state_of c.turns.progress.worklist)
     (state_of c.turn.new.progress.worklist) (flat_map yields_of c.turns.progress.found.items)
     (flat_map yields_of c.turn.new.progress.found.items) i.way.1 i.bounded
-    (rw c.in_default.is at c.in_ok-after.ensures.turned i.way.0 i.way.2) in
+    (rw c.in_default.is at c.in_ok-after.ensures.turned i.way.0 i.way.2 i.members) in
     (o.0, o.1, o.2, all_join k o.0 c.turn.new.progress.found.items o.2)
 
 pub returns-in_err-after-clause-refused : goal.returns-in_err-after-clause-refused

@@ -1,11 +1,13 @@
 use Rattle.std.proofs.Common.{List, map}
 use Rattle.std.specs.List.{flat_map}
 use Rattle.fast_check_packages.specs.Package.{nv_of}
+use Rattle.fast_check_packages.specs.MembersIn.{members_in}
 use Rattle.fast_check_worklists.specs.Account.{Followed}
 use Rattle.fast_check_worklists.specs.State.{state_of}
 use Rattle.fast_check_worklists.specs.Turn.{IsOnTheWay}
 use Rattle.fast_check_worklists.specs.Measure.{IsBounded, left}
 use Rattle.fast_check_cache.specs.CachedPackages.{used_item}
+use Rattle.fast_check_turns.specs.entries.Kept.{AreKept}
 use Rattle.fast_check_turns.specs.Lent.{used_of}
 use Rattle.fast_check_turns.specs.wants.Sources.{known, with_used}
 use Rattle.fast_check_turns.specs.Rules.{world}
@@ -25,8 +27,9 @@ invariant-turns g l =
       way : (done : List Followed)
           × IsOnTheWay (world k) (gives k) k.owner (map nv_of l.roots) done l.next (state_of l.progress.worklist)
           (flat_map yields_of l.progress.found.items)
-          × AreFollowed done l.searches;
+          × AreFollowed done l.kept.searches;
       bounded : IsBounded (state_of l.progress.worklist);
+      members : AreKept (members_in l.input.sources.workspace_members.now) l.kept.members;
     }
 
 abbrev pub decreases-turns : goal.decreases-turns

@@ -15,19 +15,19 @@ use Rattle.fast_check_finder.proofs.TurnLaws.{traced_turn}
 use Rattle.fast_check_finder.proofs.find.turn.Goals as goal
 
 pub returns-in_ok-after-in-None-clause-turned : goal.returns-in_ok-after-in-None-clause-turned
-returns-in_ok-after-in-None-clause-turned g c done are =
+returns-in_ok-after-in-None-clause-turned g c done are mine =
     let m = goal.JsrUrlProvider-dyn g c.args.provider.now in
     let used = used_of c.args.cache (λ x. let n = goal.FastCheckCache-dyn g x.now in
     used_item (n.hash_of x.now.1 c.args.input.seed.now) (n.stored x.now.1) c.args.input.sources.graph.now) in
     let k = with_used used (known c.args.input.sources (m.url_of c.args.provider.now.1) (m.nv_at c.args.provider.now.1)) in
-    same_turn (world k) (gives k) done (λ all. AreFollowed all c.args.searches.now) c.args.next (handled c.args.progress.now.worklist.handled)
+    same_turn (world k) (gives k) done (λ all. AreFollowed all c.args.kept.now.searches) c.args.next (handled c.args.progress.now.worklist.handled)
     (map nv_of c.args.progress.now.worklist.packages.keys) (pending c.args.progress.now.worklist.waiting)
     (pending c.pop.new.self) (state_of c.enter_next.new.progress.worklist) (flat_map yields_of c.args.progress.now.found.items)
     (flat_map yields_of c.enter_next.new.progress.found.items)
-    c.in_ok-after-in-None.after c.in-None.ensures.taken are c.in_ok-after-in-None.ensures.turned
+    c.in_ok-after-in-None.after c.in-None.ensures.taken are (c.in_ok-after-in-None.ensures.turned mine)
 
 pub returns-in_ok-follow-in-Some-clause-turned : goal.returns-in_ok-follow-in-Some-clause-turned
-returns-in_ok-follow-in-Some-clause-turned g c done are =
+returns-in_ok-follow-in-Some-clause-turned g c done are mine =
     let m = goal.JsrUrlProvider-dyn g c.args.provider.now in
     let used = used_of c.args.cache (λ x. let n = goal.FastCheckCache-dyn g x.now in
     used_item (n.hash_of x.now.1 c.args.input.seed.now) (n.stored x.now.1) c.args.input.sources.graph.now) in

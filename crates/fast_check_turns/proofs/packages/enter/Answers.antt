@@ -12,7 +12,7 @@ use Rattle.fast_check_turns.proofs.Turns.{entered_at}
 use Rattle.fast_check_turns.proofs.packages.enter.Goals as goal
 
 pub returns-clause-entered : goal.returns-clause-entered
-returns-clause-entered g c =
+returns-clause-entered g c mine =
     let m = goal.JsrUrlProvider-dyn g c.args.provider.now in
     let used = used_of c.args.cache (λ x. let n = goal.FastCheckCache-dyn g x.now in
     used_item (n.hash_of x.now.1 c.args.input.seed.now) (n.stored x.now.1) c.args.input.sources.graph.now) in
@@ -22,4 +22,4 @@ returns-clause-entered g c =
     entered_at k (nv_of c.args.nv.now) (state_of c.args.progress.now.worklist) (state_of c.enter_some.new.progress.worklist) old new
     (subst (λ (e : Entrance). Enters k.graph used (nv_of c.args.nv.now) e (state_of c.args.progress.now.worklist)
     (state_of c.enter_some.new.progress.worklist) old new)
-    (sym c.in_ok-entry_points.ensures.entered) c.in_ok-enter_some.ensures)
+    (sym (c.in_ok-entry_points.ensures.entered mine)) c.in_ok-enter_some.ensures)
