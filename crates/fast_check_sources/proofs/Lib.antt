@@ -1,3 +1,5 @@
 mod ExportsAsked
+pub mod Packages
 mod Asking
 mod Kept
+mod Meetings

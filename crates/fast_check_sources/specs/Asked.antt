@@ -1,19 +1,24 @@
 -- Inner: no contract of a public call cites what stands here.
 -- What is kept of a module of which something is asked, for as long as more is asked of it.
-use Rattle.std.specs.Prelude.{ℕ, ◌≡◌, true, false, List, [], ◌∷◌, Option, Some, None}
+use Rattle.std.specs.Prelude.{ℕ, ◌≡◌, Bool, true, false, List, [], ◌∷◌, map, Option, Some, None, option_map, String}
+use Rattle.std.specs.List.{Contains}
 use Rattle.std.specs.Borrow.{Bor}
 use Rattle.std.specs.Option.{option_and_then}
 use Rattle.std.specs.BTreeMap as tree
 use Rattle.std.specs.BTreeMap.{BTreeMap}
 use Rattle.std.specs.Cmp.Lexicographic.{slice_cmp}
 use Rattle.std.specs.Ordering.{nat_cmp}
+use Rattle.std.specs.declared.alloc.Global.{Global}
 use Rattle.url.specs.Parts.{Parts, serialize}
 use Rattle.fast_check_packages.specs.Package.{Nv, nv_of}
+use Rattle.fast_check_graph.specs.Resolutions.{text_resolved}
+use Rattle.fast_check_demands.specs.Yields.{Adds}
 use Rattle.fast_check_worklists.specs.Demands.{Text, Wanted, same_nv, Want, to_package, to_module}
+use Rattle.fast_check_worklists.specs.State.{want_of}
 use Rattle.fast_check_sources.specs.declared.asked.Owner.{Owner}
 use Rattle.fast_check_sources.specs.declared.asked.Owner.TheVariants.{Nobody, Own, Another}
 use Rattle.fast_check_sources.specs.declared.asked.AskedModule.{AskedModule}
-use Rattle.fast_check_sources.specs.declared.wants.KeptModules.{KeptModules}
+use Rattle.fast_check_sources.specs.declared.wants.Asking.{Asking}
 use Rattle.fast_check_sources.specs.Wants.{resolved}
 use Rattle.fast_check_traces.specs.declared.modules.TracedModule.{TracedModule}
 
@@ -23,26 +28,66 @@ IsOwner nv owner Nobody = owner ≡ None
 IsOwner nv owner (Own p) = (owner ≡ Some (nv_of p.value)) × (same_nv nv (nv_of p.value) ≡ true)
 IsOwner nv owner (Another p) = (owner ≡ Some (nv_of p.value)) × (same_nv nv (nv_of p.value) ≡ false)
 
--- what is asked of a file with this owner
-abbrev pub file_of : Owner → Text → Wanted → List Want
-file_of Nobody t w = []
-file_of (Own p) t w = to_module (nv_of p.value) t w ∷ []
-file_of (Another p) t w = to_package (nv_of p.value) ∷ []
+-- the package that is asked for with whatever is asked of a module of it
+abbrev pub package_of : Owner → List Want
+package_of Nobody = []
+package_of (Own p) = []
+package_of (Another p) = to_package (nv_of p.value) ∷ []
 
--- the same behind a re-export of all
-abbrev pub behind_of : Owner → Text → Wanted → List Want
-behind_of Nobody t w = []
-behind_of (Own p) t w = to_module (nv_of p.value) t w ∷ []
-behind_of (Another p) t w = to_module (nv_of p.value) t w ∷ to_package (nv_of p.value) ∷ []
+-- names of a file are asked for in the package that asks
+abbrev pub names_of_file : Owner → Text → Wanted → List Want
+names_of_file Nobody t w = []
+names_of_file (Own p) t w = to_module (nv_of p.value) t w ∷ []
+names_of_file (Another p) t w = []
+
+-- behind a re-export of all in whatever package
+abbrev pub names_behind : Owner → Text → Wanted → List Want
+names_behind Nobody t w = []
+names_behind (Own p) t w = to_module (nv_of p.value) t w ∷ []
+names_behind (Another p) t w = to_module (nv_of p.value) t w ∷ []
 
 -- the module under a specifier, with the package that it belongs to
 abbrev pub IsModuleAt : (Text → Option Nv) → Nv → Text → AskedModule → Type 0
 IsModuleAt owner nv t m = (serialize m.specifier.value ≡ t) × IsOwner nv (owner t) m.owner
 
--- the module that a text names, if it names one
-abbrev pub IsNamed : (Text → Option Nv) → Nv → Option Parts → Option AskedModule → Type 0
-IsNamed owner nv None m = m ≡ None
-IsNamed owner nv (Some url) m = (found : AskedModule) × (m ≡ Some found) × IsModuleAt owner nv (serialize url) found
+-- the package of a module is asked for already, if that has to be
+abbrev pub IsTold : List Want → Owner → Type 0
+IsTold wants owner = (w : Want) → Contains (package_of owner) w → Contains wants w
+
+-- a package is the last one
+abbrev pub is_last : Option Nv → Nv → Bool
+is_last None nv = false
+is_last (Some p) nv = same_nv p nv
+
+-- the last one is asked for
+abbrev pub IsLastTold : List Want → Option Nv → Type 0
+IsLastTold wants None = Unit {0}
+IsLastTold wants (Some p) = Contains wants (to_package p)
+
+-- a module that was met, where this is asked for
+abbrev pub IsMet : (Text → Option Nv) → Nv → List Want → Text → AskedModule → Type 0
+IsMet owner nv wants t m = IsModuleAt owner nv t m × IsTold wants m.owner
+
+-- the module at a URL, if there is one
+abbrev pub IsNamed : (Text → Option Nv) → Nv → List Want → Option Parts → Option AskedModule → Type 0
+IsNamed owner nv wants None m = m ≡ None
+IsNamed owner nv wants (Some url) m = (found : AskedModule) × (m ≡ Some found) ×
+    IsMet owner nv wants (serialize url) found
+
+-- the same module once more
+abbrev pub IsSameOwner : Owner → Owner → Type 0
+IsSameOwner Nobody Nobody = Unit {0}
+IsSameOwner (Own p) (Own q) = q.value ≡ p.value
+IsSameOwner (Another p) (Another q) = q.value ≡ p.value
+IsSameOwner _ _ = ⊥
+
+abbrev pub IsSameModule : AskedModule → AskedModule → Type 0
+IsSameModule m n = (n.specifier.value ≡ m.specifier.value) × IsSameOwner m.owner n.owner
+
+abbrev pub IsSameFound : Option AskedModule → Option AskedModule → Type 0
+IsSameFound None None = Unit {0}
+IsSameFound (Some m) (Some n) = IsSameModule m n
+IsSameFound _ _ = ⊥
 
 -- what was kept, if anything was
 abbrev pub IfKept : {X : Type 0} → (X → Type 0) → Option X → Type 0
@@ -53,17 +98,31 @@ IfKept P (Some x) = P x
 abbrev pub kept_at : {X : Type 0} → Text → BTreeMap (Bor (List ℕ)) X → Option X
 kept_at text kept = tree.get_by (λ k. slice_cmp nat_cmp text k.now) kept
 
--- the module that a text names, by what was kept
-abbrev pub named_as : Text → BTreeMap (Bor (List ℕ)) (Option AskedModule) → Option AskedModule
-named_as text named = option_and_then (λ target. target) (kept_at text named)
+-- texts resolve as they do in the module
+unfoldable pub IsResolving : TracedModule → Option (BTreeMap (String Global) Parts) → Type 0
+IsResolving traced resolutions = (text : Text) → option_and_then (text_resolved text) resolutions ≡ resolved traced text
 
--- each text that was kept stands by the module that it names in this module
-unfoldable pub AreNamed : (Text → Option Nv) → Nv → TracedModule → BTreeMap (Bor (List ℕ)) (Option AskedModule) → Type 0
-AreNamed owner nv traced named = (text : Text) → IfKept (IsNamed owner nv (resolved traced text)) (kept_at text named)
+-- each text that was kept stands by the module that it names in this module, and each URL by the module there
+pub record IsAsking (owner : Text → Option Nv) (nv : Nv) (traced : TracedModule) (a : Asking) : Type 0 where
+  pub named : (text : Text) → IfKept (IsNamed owner nv (map want_of a.out.items) (resolved traced text))
+      (kept_at text a.named)
+  pub met : (text : Text) → IfKept (IsMet owner nv (map want_of a.out.items) text) (kept_at text a.met)
+  pub last : IsLastTold (map want_of a.out.items) (option_map (λ p. nv_of p.value) a.last_package)
 
--- each module that was kept stands by its URL
-unfoldable pub AreAnswered : (Text → Option Nv) → Nv → BTreeMap (Bor (List ℕ)) AskedModule → Type 0
-AreAnswered owner nv answered = (text : Text) → IfKept (IsModuleAt owner nv text) (kept_at text answered)
+-- the package of what was found
+abbrev pub told : Option AskedModule → List Want
+told None = []
+told (Some m) = package_of m.owner
 
-abbrev pub AreKept : (Text → Option Nv) → Nv → TracedModule → KeptModules → Type 0
-AreKept owner nv traced kept = AreNamed owner nv traced kept.named × AreAnswered owner nv kept.answered
+-- the module at a URL was found, and its package is asked for
+pub record Finds (owner : Text → Option Nv) (nv : Nv) (traced : TracedModule) (target : Option Parts) (old new : Asking)
+    (found : Option AskedModule) : Type 0 where
+  pub asking : IsAsking owner nv traced new
+  pub named : IsNamed owner nv (map want_of new.out.items) target found
+  pub adds : Adds (told found) (map want_of old.out.items) (map want_of new.out.items)
+
+-- these wants are asked for
+pub record Asks (owner : Text → Option Nv) (nv : Nv) (traced : TracedModule) (these : List Want)
+    (old new : Asking) : Type 0 where
+  pub asking : IsAsking owner nv traced new
+  pub adds : Adds these (map want_of old.out.items) (map want_of new.out.items)

@@ -1,16 +1,20 @@
 //! A module of which something is asked, with the package that it belongs to.
 
-ghost use Rattle.std.specs.Prelude.{◌≡◌, ◌++◌, map, option_map, OnOk, IfOk};
+ghost use Rattle.std.specs.Prelude.{◌≡◌, ◌++◌, ◌∷◌, [], map, option_map, OnOk, IfOk};
 ghost use Rattle.url.specs.Parts.{serialize};
 ghost use Rattle.fast_check_packages.specs.Package.{nv_of};
 ghost use Rattle.fast_check_packages.specs.MembersIn.{members_in};
-ghost use Rattle.fast_check_worklists.specs.Demands.{asked};
+ghost use Rattle.fast_check_name_demands.specs.Files.{names_of};
+ghost use Rattle.fast_check_worklists.specs.Demands.{asked_by, to_package};
 ghost use Rattle.fast_check_worklists.specs.State.{want_of};
 ghost use Rattle.fast_check_sources.specs.Sources.{owner_by};
-ghost use Rattle.fast_check_sources.specs.Asked.{IsOwner, IsModuleAt, file_of, behind_of};
+ghost use Rattle.fast_check_demands.specs.Yields.{Adds};
+ghost use Rattle.fast_check_sources.specs.Asked.{IsOwner, IsSameOwner, IsModuleAt, IsSameModule, package_of, names_of_file, names_behind};
+ghost use Rattle.fast_check_sources.specs.Asked.{is_last, IsLastTold};
 
+use crate::exports::exports_to_ask;
 use crate::sources::owner_of;
-use fast_check_names::ImportedExports;
+use fast_check_name_demands::NameDemand;
 use fast_check_packages::{IndexedMembers, JsrUrlProvider, PackageNv};
 use fast_check_worklists::{OuterWant, is_same_package};
 use std::alloc::{AllocError, Global};
@@ -33,17 +37,98 @@ pub struct AskedModule {
     pub owner: Owner,
 }
 
+/// The packages that modules belonged to last: where the next one belongs to the same, it shares the name.
+#[derive(Drop)]
+pub struct LastOwners {
+    own: Option<Rc<PackageNv>>,
+    another: Option<Rc<PackageNv>>,
+}
+
+impl LastOwners {
+    /// None so far.
+    pub fn new() -> LastOwners {
+        LastOwners {
+            own: None,
+            another: None,
+        }
+    }
+}
+
+impl Owner {
+    fn shared(&self) -> Result<Owner, AllocError>
+        ensures { IfOk result (IsSameOwner self.now) }
+    {
+        match self {
+            Owner::Nobody => Ok(Owner::Nobody),
+            Owner::Own(nv) => Ok(Owner::Own(nv.clone()?)),
+            Owner::Another(nv) => Ok(Owner::Another(nv.clone()?)),
+        }
+    }
+}
+
+impl AskedModule {
+    /// The same module once more.
+    pub fn shared(&self) -> Result<AskedModule, AllocError>
+        ensures { IfOk result (IsSameModule self.now) }
+    {
+        Ok(AskedModule {
+            specifier: self.specifier.clone()?,
+            owner: self.owner.shared()?,
+        })
+    }
+}
+
+/// Whether a package is the last one.
+fn is_last(last: &Option<Rc<PackageNv>>, nv: &PackageNv) -> bool
+    ensures { result ≡ is_last (option_map (λ p. nv_of p.value) last.now) (nv_of nv.now) }
+{
+    match last {
+        None => false,
+        Some(last) => is_same_package(last, nv),
+    }
+}
+
+/// The same name once more.
+fn shared(nv: &Rc<PackageNv>) -> Result<Rc<PackageNv>, AllocError>
+    ensures { IfOk result (λ shared. nv_of shared.value ≡ nv_of nv.now.value) }
+{
+    nv.clone()
+}
+
+/// A package, as it is held already if it is the last one.
+fn held(
+    alloc: Global,
+    nv: PackageNv,
+    last: &mut Option<Rc<PackageNv>>,
+) -> Result<Rc<PackageNv>, AllocError>
+    ensures { IfOk result (λ held. nv_of held.value ≡ nv_of nv) }
+{
+    if let Some(last) = last {
+        if is_same_package(last, &nv) {
+            return Ok(shared(last)?);
+        }
+    }
+    let held = Rc::new(alloc, nv)?;
+    *last = Some(held.clone()?);
+    Ok(held)
+}
+
 /// A package as another one sees it.
-fn owner_seen(alloc: Global, nv: &PackageNv, owner: Option<PackageNv>) -> Result<Owner, AllocError>
+fn owner_seen(
+    alloc: Global,
+    nv: &PackageNv,
+    owner: Option<PackageNv>,
+    last: &mut LastOwners,
+) -> Result<Owner, AllocError>
     ensures { IfOk result (λ seen. IsOwner (nv_of nv.now) (option_map nv_of owner) seen) }
 {
     let Some(owner) = owner else {
         return Ok(Owner::Nobody);
     };
     if is_same_package(nv, &owner) {
-        return Ok(Owner::Own(Rc::new(alloc, owner)?));
+        return Ok(Owner::Own(held(alloc, owner, &mut last.own)?));
     }
-    Ok(Owner::Another(Rc::new(alloc, owner)?))
+    Ok(Owner::Another(held(alloc, owner, &mut last.another)?))
 }
 
 /// The module under a specifier, as a package asks for it.
@@ -53,56 +138,79 @@ pub fn module_at(
     members: &IndexedMembers<'_>,
     provider: &dyn JsrUrlProvider,
     specifier: &Url,
+    last: &mut LastOwners,
 ) -> Result<AskedModule, AllocError>
     ensures { IfOk result (λ found. IsModuleAt (owner_by (members_in members.now) (nv_at provider.now)) (nv_of nv.now)
         (serialize specifier.now) found) }
 {
     let owner = owner_of(alloc, members, provider, specifier)?;
-    let owner = owner_seen(alloc, nv, owner)?;
+    let owner = owner_seen(alloc, nv, owner, last)?;
     let specifier = Rc::new(alloc, specifier.clone()?)?;
     Ok(AskedModule { specifier, owner })
 }
 
-/// Adds what is asked of a file: names of it in the same package, and else the package alone.
-pub fn push_file_of(
-    target: &AskedModule,
-    exports: ImportedExports,
-    out: &mut Vec<OuterWant>,
-) -> Result<(), AllocError>
-    ensures { OnOk result (map want_of out.new.items
-        ≡ map want_of out.old.items ++ file_of target.now.owner (serialize target.now.specifier.value) (asked exports)) }
+/// Adds a package.
+fn push_shared(nv: &Rc<PackageNv>, out: &mut Vec<OuterWant>) -> Result<(), AllocError>
+    ensures { OnOk result (map want_of out.new.items ≡ map want_of out.old.items ++ to_package (nv_of nv.now.value) ∷ []) }
 {
-    match &target.owner {
-        Owner::Nobody => Ok(()),
-        Owner::Own(owner) => {
-            out.push(OuterWant::Module(owner.clone()?, target.specifier.clone()?, exports))?;
-            Ok(())
-        }
-        Owner::Another(owner) => {
-            out.push(OuterWant::Package(owner.clone()?))?;
-            Ok(())
-        }
-    }
+    out.push(OuterWant::Package(nv.clone()?))?;
+    Ok(())
 }
 
-/// Adds what is asked of a module behind a re-export of all: names of it, and its package where that is another.
-pub fn push_behind(
-    target: &AskedModule,
-    exports: ImportedExports,
+/// Adds the package of a module, if that is another than the one that asks, and not the one that was added last.
+pub fn push_package(
+    owner: &Owner,
+    last: &mut Option<Rc<PackageNv>>,
     out: &mut Vec<OuterWant>,
 ) -> Result<(), AllocError>
-    ensures { OnOk result (map want_of out.new.items
-        ≡ map want_of out.old.items ++ behind_of target.now.owner (serialize target.now.specifier.value) (asked exports)) }
+    requires { IsLastTold (map want_of out.old.items) (option_map (λ p. nv_of p.value) last.old) }
+    ensures last { OnOk result (IsLastTold (map want_of out.new.items) (option_map (λ p. nv_of p.value) last.new)) }
+    ensures adds { OnOk result (Adds (package_of owner.now) (map want_of out.old.items) (map want_of out.new.items)) }
+{
+    let Owner::Another(nv) = owner else {
+        return Ok(());
+    };
+    if is_last(last, nv) {
+        return Ok(());
+    }
+    push_shared(nv, out)?;
+    *last = Some(shared(nv)?);
+    Ok(())
+}
+
+/// Adds names of a file, if it is one of the package that asks.
+pub fn push_names_of_file(
+    alloc: Global,
+    target: &AskedModule,
+    demand: NameDemand<'_>,
+    out: &mut Vec<OuterWant>,
+) -> Result<(), AllocError>
+    ensures { OnOk result (map want_of out.new.items ≡ map want_of out.old.items
+        ++ names_of_file target.now.owner (serialize target.now.specifier.value) (asked_by (names_of demand.entry))) }
+{
+    let Owner::Own(nv) = &target.owner else {
+        return Ok(());
+    };
+    let exports = exports_to_ask(alloc, demand)?;
+    out.push(OuterWant::Module(nv.clone()?, target.specifier.clone()?, exports))?;
+    Ok(())
+}
+
+/// Adds names of a module behind a re-export of all, if it belongs to a package.
+pub fn push_names_behind(
+    alloc: Global,
+    target: &AskedModule,
+    demand: NameDemand<'_>,
+    out: &mut Vec<OuterWant>,
+) -> Result<(), AllocError>
+    ensures { OnOk result (map want_of out.new.items ≡ map want_of out.old.items
+        ++ names_behind target.now.owner (serialize target.now.specifier.value) (asked_by (names_of demand.entry))) }
 {
     match &target.owner {
         Owner::Nobody => Ok(()),
-        Owner::Own(owner) => {
-            out.push(OuterWant::Module(owner.clone()?, target.specifier.clone()?, exports))?;
-            Ok(())
-        }
-        Owner::Another(owner) => {
-            out.push(OuterWant::Module(owner.clone()?, target.specifier.clone()?, exports))?;
-            out.push(OuterWant::Package(owner.clone()?))?;
+        Owner::Own(nv) | Owner::Another(nv) => {
+            let exports = exports_to_ask(alloc, demand)?;
+            out.push(OuterWant::Module(nv.clone()?, target.specifier.clone()?, exports))?;
             Ok(())
         }
     }

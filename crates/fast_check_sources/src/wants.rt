@@ -1,21 +1,24 @@
 //! What a module that is followed wants of other modules and of packages.
 
-ghost use Rattle.std.specs.Prelude.{◌≡◌, ◌++◌, map, Some, OnOk, IfOk};
-ghost use Rattle.std.specs.Option.{option_copied};
+ghost use Rattle.std.specs.Prelude.{◌≡◌, ◌++◌, [], map, Option, Some, OnOk, IfOk};
+ghost use Rattle.std.specs.Option.{option_copied, option_and_then};
 ghost use Rattle.std.specs.List.{flat_map};
 ghost use Rattle.url.specs.Parts.{serialize};
-ghost use Rattle.fast_check_packages.specs.Package.{nv_of};
+ghost use Rattle.fast_check_packages.specs.Package.{Nv, nv_of};
+ghost use Rattle.fast_check_graph.specs.Resolutions.{text_resolved};
 ghost use Rattle.fast_check_name_demands.specs.Files.{names_of, file_demand_of};
+ghost use Rattle.fast_check_traces.specs.declared.modules.TracedModule.{TracedModule as TracedSeen};
 ghost use Rattle.fast_check_traces.specs.Wants.{want_of as want_seen, re_exported, answered as name_answered};
-ghost use Rattle.fast_check_demands.specs.Rules.{each_of};
-ghost use Rattle.fast_check_worklists.specs.Demands.{asked_by};
+ghost use Rattle.fast_check_demands.specs.Yields.{Adds};
+ghost use Rattle.fast_check_worklists.specs.Demands.{Text};
 ghost use Rattle.fast_check_worklists.specs.State.{want_of};
 ghost use Rattle.fast_check_sources.specs.Sources.{known};
 ghost use Rattle.fast_check_sources.specs.Wants.{resolved, file_wants, left_wants};
-ghost use Rattle.fast_check_sources.specs.Asked.{file_of, behind_of, IsModuleAt, IsNamed, kept_at, named_as, AreNamed, AreAnswered, AreKept};
+ghost use Rattle.fast_check_sources.specs.Asked.{kept_at, IsSameFound, IsResolving, IsAsking, Finds, Asks};
 
-use crate::asked::{AskedModule, module_at, push_behind, push_file_of};
-use crate::exports::exports_to_ask;
+use crate::asked::{
+    AskedModule, LastOwners, module_at, push_names_behind, push_names_of_file, push_package,
+};
 use crate::sources::Sources;
 use fast_check_name_demands::{FileWant, FileWants, NameDemand};
 use fast_check_packages::{JsrUrlProvider, PackageNv};
@@ -23,6 +26,7 @@ use fast_check_traces::{ModuleWant, ModuleWants, TracedModule};
 use fast_check_worklists::OuterWant;
 use std::alloc::{AllocError, Global};
 use std::collections::BTreeMap;
+use std::rc::Rc;
 use url::Url;
 
 /// Who asks: a module that is followed for a package, with what is known of others.
@@ -33,157 +37,151 @@ pub struct Asker<'a> {
     pub traced: TracedModule<'a>,
 }
 
-/// What was asked already: the module that each text names, if it names one, and the module at each URL that answers names.
+/// What was asked so far: the module that each text names, if it names one, the module at each URL, and all that is asked for. The package of
+/// a module is asked for where the module is met first, unless it was the last one that was asked for.
 #[derive(Drop)]
-struct KeptModules<'a> {
+struct Asking<'a> {
     named: BTreeMap<&'a str, Option<AskedModule>>,
-    answered: BTreeMap<&'a str, AskedModule>,
+    met: BTreeMap<&'a str, AskedModule>,
+    owners: LastOwners,
+    last_package: Option<Rc<PackageNv>>,
+    out: Vec<OuterWant>,
 }
 
-/// What a text in a module resolves to.
-fn resolved<'a>(traced: TracedModule<'a>, text: &str) -> Option<&'a Url>
-    ensures { option_copied result ≡ resolved traced.entry text.now }
+/// What the texts in a module resolve to.
+fn resolutions_in<'a>(traced: TracedModule<'a>) -> Option<&'a BTreeMap<String, Url>>
+    ensures { IsResolving traced.entry (option_copied result) }
 {
-    traced
-        .graph
-        .resolve_dependency(text, traced.info.specifier())
+    traced.graph.resolutions_of(traced.info.specifier())
 }
 
-/// The module that is asked at a URL.
-fn asked_at(
-    alloc: Global,
-    asker: Asker<'_>,
-    provider: &dyn JsrUrlProvider,
-    target: &Url,
-) -> Result<AskedModule, AllocError>
-    ensures { let k = known asker.entry.sources (url_of provider.now) (nv_at provider.now) in
-        IfOk result (λ found. IsModuleAt k.owner (nv_of asker.entry.package.now) (serialize target.now) found) }
+/// What a text resolves to.
+fn resolved<'a>(resolutions: Option<&'a BTreeMap<String, Url>>, text: &str) -> Option<&'a Url>
+    ensures { option_copied result ≡ option_and_then (text_resolved text.now) (option_copied resolutions.entry) }
 {
-    module_at(
-        alloc,
-        asker.package,
-        asker.sources.workspace_members,
-        provider,
-        target,
-    )
+    resolutions?.get(text)
 }
 
-/// The module that a text names.
-fn named_by(
-    alloc: Global,
-    asker: Asker<'_>,
-    provider: &dyn JsrUrlProvider,
-    text: &str,
-) -> Result<Option<AskedModule>, AllocError>
-    ensures { let k = known asker.entry.sources (url_of provider.now) (nv_at provider.now) in
-        IfOk result (λ named. IsNamed k.owner (nv_of asker.entry.package.now) (resolved asker.entry.traced text.now) named) }
+/// The module at a URL, among those that were met.
+fn module_met<'b>(met: &'b BTreeMap<&str, AskedModule>, target: &Url) -> Option<&'b AskedModule>
+    ensures { option_copied result ≡ kept_at (serialize target.now) met.now }
 {
-    match resolved(asker.traced, text) {
-        None => Ok(None),
-        Some(target) => Ok(Some(asked_at(alloc, asker, provider, target)?)),
-    }
+    met.get(target.as_str())
 }
 
-/// Puts the module that a text names, unless the text was asked before.
-fn put_named<'a>(
-    alloc: Global,
-    asker: Asker<'_>,
-    provider: &dyn JsrUrlProvider,
-    text: &'a str,
-    named: &mut BTreeMap<&'a str, Option<AskedModule>>,
-) -> Result<(), AllocError>
-    requires { let k = known asker.sources (url_of provider.now) (nv_at provider.now) in
-        AreNamed k.owner (nv_of asker.package.now) asker.traced named.old }
-    ensures kept { let k = known asker.entry.sources (url_of provider.now) (nv_at provider.now) in
-        OnOk result (AreNamed k.owner (nv_of asker.entry.package.now) asker.entry.traced named.new) }
-    ensures put { let k = known asker.entry.sources (url_of provider.now) (nv_at provider.now) in
-        OnOk result (IsNamed k.owner (nv_of asker.entry.package.now) (resolved asker.entry.traced text.now) (named_as text.now named.new)) }
-{
-    if named.contains_key(text) {
-        return Ok(());
-    }
-    let target = named_by(alloc, asker, provider, text)?;
-    named.insert(text, target)?;
-    Ok(())
-}
-
-/// The module that a text names, among those that were put.
-fn module_named<'a>(
-    named: &'a BTreeMap<&str, Option<AskedModule>>,
-    text: &str,
-) -> Option<&'a AskedModule>
-    ensures { option_copied result ≡ named_as text.now named.now }
-{
-    named.get(text)?.as_ref()
-}
-
-/// The module at a URL, among those that were put.
-fn module_answered<'a>(
-    answered: &'a BTreeMap<&str, AskedModule>,
-    target: &Url,
-) -> Option<&'a AskedModule>
-    ensures { option_copied result ≡ kept_at (serialize target.now) answered.now }
-{
-    answered.get(target.as_str())
-}
-
-/// Puts the module at a URL, unless it was asked before.
-fn put_answered<'a>(
+/// The module at a URL, which was not met before.
+fn meet_first<'a>(
     alloc: Global,
     asker: Asker<'_>,
     provider: &dyn JsrUrlProvider,
     target: &'a Url,
-    answered: &mut BTreeMap<&'a str, AskedModule>,
-) -> Result<(), AllocError>
+    asking: &mut Asking<'a>,
+) -> Result<AskedModule, AllocError>
     requires { let k = known asker.sources (url_of provider.now) (nv_at provider.now) in
-        AreAnswered k.owner (nv_of asker.package.now) answered.old }
-    ensures kept { let k = known asker.entry.sources (url_of provider.now) (nv_at provider.now) in
-        OnOk result (AreAnswered k.owner (nv_of asker.entry.package.now) answered.new) }
-    ensures put { let k = known asker.entry.sources (url_of provider.now) (nv_at provider.now) in
-        OnOk result (IsNamed k.owner (nv_of asker.entry.package.now) (Some target.now) (kept_at (serialize target.now) answered.new)) }
+        IsAsking k.owner (nv_of asker.package.now) asker.traced asking.old }
+    ensures { let k = known asker.entry.sources (url_of provider.now) (nv_at provider.now) in
+        IfOk result (λ found. Finds k.owner (nv_of asker.entry.package.now) asker.entry.traced (Some target.now) asking.old asking.new (Some found)) }
 {
-    if module_answered(answered, target).is_some() {
-        return Ok(());
+    let members = asker.sources.workspace_members;
+    let owners = &mut asking.owners;
+    let found = module_at(alloc, asker.package, members, provider, target, owners)?;
+    push_package(&found.owner, &mut asking.last_package, &mut asking.out)?;
+    let kept = found.shared()?;
+    asking.met.insert(target.as_str(), kept)?;
+    Ok(found)
+}
+
+/// The module at a URL.
+fn meet<'a>(
+    alloc: Global,
+    asker: Asker<'_>,
+    provider: &dyn JsrUrlProvider,
+    target: &'a Url,
+    asking: &mut Asking<'a>,
+) -> Result<AskedModule, AllocError>
+    requires { let k = known asker.sources (url_of provider.now) (nv_at provider.now) in
+        IsAsking k.owner (nv_of asker.package.now) asker.traced asking.old }
+    ensures { let k = known asker.entry.sources (url_of provider.now) (nv_at provider.now) in
+        IfOk result (λ found. Finds k.owner (nv_of asker.entry.package.now) asker.entry.traced (Some target.now) asking.old asking.new (Some found)) }
+{
+    match module_met(&asking.met, target) {
+        Some(known) => known.shared(),
+        None => meet_first(alloc, asker, provider, target, asking),
     }
-    let found = asked_at(alloc, asker, provider, target)?;
-    answered.insert(target.as_str(), found)?;
-    Ok(())
 }
 
-/// Adds what is asked of the file that a text names, if it names one.
-fn push_named(
+/// The module at a URL, if there is one.
+fn meet_some<'a>(
     alloc: Global,
-    target: Option<&AskedModule>,
-    demand: NameDemand<'_>,
-    out: &mut Vec<OuterWant>,
-) -> Result<(), AllocError>
-    ensures { OnOk result (map want_of out.new.items
-        ≡ map want_of out.old.items ++ each_of (λ m. file_of m.owner (serialize m.specifier.value) (asked_by (names_of demand.entry)))
-        (option_copied target.entry)) }
+    asker: Asker<'_>,
+    provider: &dyn JsrUrlProvider,
+    target: Option<&'a Url>,
+    asking: &mut Asking<'a>,
+) -> Result<Option<AskedModule>, AllocError>
+    requires { let k = known asker.sources (url_of provider.now) (nv_at provider.now) in
+        IsAsking k.owner (nv_of asker.package.now) asker.traced asking.old }
+    ensures { let k = known asker.entry.sources (url_of provider.now) (nv_at provider.now) in
+        IfOk result (λ found. Finds k.owner (nv_of asker.entry.package.now) asker.entry.traced (option_copied target.entry) asking.old asking.new found) }
 {
-    let Some(target) = target else {
-        return Ok(());
-    };
-    let exports = exports_to_ask(alloc, demand)?;
-    push_file_of(target, exports, out)
+    match target {
+        None => Ok(None),
+        Some(target) => Ok(Some(meet(alloc, asker, provider, target, asking)?)),
+    }
 }
 
-/// Adds what is asked of a module behind a re-export of all, if there is one.
-fn push_left(
-    alloc: Global,
-    target: Option<&AskedModule>,
-    demand: NameDemand<'_>,
-    out: &mut Vec<OuterWant>,
-) -> Result<(), AllocError>
-    ensures { OnOk result (map want_of out.new.items
-        ≡ map want_of out.old.items ++ each_of (λ m. behind_of m.owner (serialize m.specifier.value) (asked_by (names_of demand.entry)))
-        (option_copied target.entry)) }
+/// The module that a text names, if it names one, once more.
+fn shared_name(named: &Option<AskedModule>) -> Result<Option<AskedModule>, AllocError>
+    ensures { IfOk result (IsSameFound named.now) }
 {
-    let Some(target) = target else {
-        return Ok(());
-    };
-    let exports = exports_to_ask(alloc, demand)?;
-    push_behind(target, exports, out)
+    match named {
+        None => Ok(None),
+        Some(module) => Ok(Some(module.shared()?)),
+    }
+}
+
+/// The module that a text names, if it names one. The text was not asked before.
+fn name_first<'a>(
+    alloc: Global,
+    asker: Asker<'_>,
+    provider: &dyn JsrUrlProvider,
+    resolutions: Option<&'a BTreeMap<String, Url>>,
+    text: &'a str,
+    asking: &mut Asking<'a>,
+) -> Result<Option<AskedModule>, AllocError>
+    requires resolving { IsResolving asker.traced (option_copied resolutions) }
+    requires asking { let k = known asker.sources (url_of provider.now) (nv_at provider.now) in
+        IsAsking k.owner (nv_of asker.package.now) asker.traced asking.old }
+    ensures { let k = known asker.entry.sources (url_of provider.now) (nv_at provider.now) in
+        let nv = nv_of asker.entry.package.now in
+        IfOk result (λ found. Finds k.owner nv asker.entry.traced (resolved asker.entry.traced text.now) asking.old asking.new found) }
+{
+    let target = resolved(resolutions, text);
+    let found = meet_some(alloc, asker, provider, target, asking)?;
+    let kept = shared_name(&found)?;
+    asking.named.insert(text, kept)?;
+    Ok(found)
+}
+
+/// The module that a text names, if it names one.
+fn name<'a>(
+    alloc: Global,
+    asker: Asker<'_>,
+    provider: &dyn JsrUrlProvider,
+    resolutions: Option<&'a BTreeMap<String, Url>>,
+    text: &'a str,
+    asking: &mut Asking<'a>,
+) -> Result<Option<AskedModule>, AllocError>
+    requires resolving { IsResolving asker.traced (option_copied resolutions) }
+    requires asking { let k = known asker.sources (url_of provider.now) (nv_at provider.now) in
+        IsAsking k.owner (nv_of asker.package.now) asker.traced asking.old }
+    ensures { let k = known asker.entry.sources (url_of provider.now) (nv_at provider.now) in
+        let nv = nv_of asker.entry.package.now in
+        IfOk result (λ found. Finds k.owner nv asker.entry.traced (resolved asker.entry.traced text.now) asking.old asking.new found) }
+{
+    match asking.named.get(text) {
+        Some(named) => shared_name(named),
+        None => name_first(alloc, asker, provider, resolutions, text, asking),
+    }
 }
 
 /// Adds what is asked of a file, by the text that names it.
@@ -191,22 +189,21 @@ fn push_file<'a>(
     alloc: Global,
     asker: Asker<'_>,
     provider: &dyn JsrUrlProvider,
+    resolutions: Option<&'a BTreeMap<String, Url>>,
     file: FileWant<'a>,
-    named: &mut BTreeMap<&'a str, Option<AskedModule>>,
-    out: &mut Vec<OuterWant>,
+    asking: &mut Asking<'a>,
 ) -> Result<(), AllocError>
-    requires { let k = known asker.sources (url_of provider.now) (nv_at provider.now) in
-        AreNamed k.owner (nv_of asker.package.now) asker.traced named.old }
-    ensures kept { let k = known asker.entry.sources (url_of provider.now) (nv_at provider.now) in
-        OnOk result (AreNamed k.owner (nv_of asker.entry.package.now) asker.entry.traced named.new) }
-    ensures pushed { let k = known asker.entry.sources (url_of provider.now) (nv_at provider.now) in
-        OnOk result (map want_of out.new.items
-        ≡ map want_of out.old.items ++ file_wants k (nv_of asker.entry.package.now) asker.entry.traced
-        (file_demand_of file.entry)) }
+    requires resolving { IsResolving asker.traced (option_copied resolutions) }
+    requires asking { let k = known asker.sources (url_of provider.now) (nv_at provider.now) in
+        IsAsking k.owner (nv_of asker.package.now) asker.traced asking.old }
+    ensures { let k = known asker.entry.sources (url_of provider.now) (nv_at provider.now) in
+        let nv = nv_of asker.entry.package.now in
+        OnOk result (Asks k.owner nv asker.entry.traced (file_wants k nv asker.entry.traced (file_demand_of file.entry)) asking.old asking.new) }
 {
-    put_named(alloc, asker, provider, file.specifier, named)?;
-    let target = module_named(named, file.specifier);
-    push_named(alloc, target, file.names, out)
+    match name(alloc, asker, provider, resolutions, file.specifier, asking)? {
+        None => Ok(()),
+        Some(target) => push_names_of_file(alloc, &target, file.names, &mut asking.out),
+    }
 }
 
 /// Adds what a re-export of all asks of the module that its text names.
@@ -214,46 +211,44 @@ fn push_again<'a>(
     alloc: Global,
     asker: Asker<'_>,
     provider: &dyn JsrUrlProvider,
+    resolutions: Option<&'a BTreeMap<String, Url>>,
     text: &'a str,
-    named: &mut BTreeMap<&'a str, Option<AskedModule>>,
-    out: &mut Vec<OuterWant>,
+    asking: &mut Asking<'a>,
 ) -> Result<(), AllocError>
-    requires { let k = known asker.sources (url_of provider.now) (nv_at provider.now) in
-        AreNamed k.owner (nv_of asker.package.now) asker.traced named.old }
-    ensures kept { let k = known asker.entry.sources (url_of provider.now) (nv_at provider.now) in
-        OnOk result (AreNamed k.owner (nv_of asker.entry.package.now) asker.entry.traced named.new) }
-    ensures pushed { let k = known asker.entry.sources (url_of provider.now) (nv_at provider.now) in
-        OnOk result (map want_of out.new.items
-        ≡ map want_of out.old.items ++ left_wants k (nv_of asker.entry.package.now) asker.entry.traced (re_exported text.now)) }
+    requires resolving { IsResolving asker.traced (option_copied resolutions) }
+    requires asking { let k = known asker.sources (url_of provider.now) (nv_at provider.now) in
+        IsAsking k.owner (nv_of asker.package.now) asker.traced asking.old }
+    ensures { let k = known asker.entry.sources (url_of provider.now) (nv_at provider.now) in
+        let nv = nv_of asker.entry.package.now in
+        OnOk result (Asks k.owner nv asker.entry.traced (left_wants k nv asker.entry.traced (re_exported text.now)) asking.old asking.new) }
 {
-    put_named(alloc, asker, provider, text, named)?;
-    let target = module_named(named, text);
-    let demand = NameDemand::AllButDefault;
-    push_left(alloc, target, demand, out)
+    match name(alloc, asker, provider, resolutions, text, asking)? {
+        None => Ok(()),
+        Some(target) => {
+            let demand = NameDemand::AllButDefault;
+            push_names_behind(alloc, &target, demand, &mut asking.out)
+        }
+    }
 }
 
 /// Adds what a name that another module answers asks of that.
-#[tactic(auto, using(crate::proofs::Asking::behind_asked))]
 fn push_answered<'a>(
     alloc: Global,
     asker: Asker<'_>,
     provider: &dyn JsrUrlProvider,
     target: &'a Url,
     demand: NameDemand<'_>,
-    answered: &mut BTreeMap<&'a str, AskedModule>,
-    out: &mut Vec<OuterWant>,
+    asking: &mut Asking<'a>,
 ) -> Result<(), AllocError>
     requires { let k = known asker.sources (url_of provider.now) (nv_at provider.now) in
-        AreAnswered k.owner (nv_of asker.package.now) answered.old }
-    ensures kept { let k = known asker.entry.sources (url_of provider.now) (nv_at provider.now) in
-        OnOk result (AreAnswered k.owner (nv_of asker.entry.package.now) answered.new) }
-    ensures pushed { let k = known asker.entry.sources (url_of provider.now) (nv_at provider.now) in
-        OnOk result (map want_of out.new.items
-        ≡ map want_of out.old.items ++ left_wants k (nv_of asker.entry.package.now) asker.entry.traced
-        (name_answered target.now (names_of demand.entry))) }
+        IsAsking k.owner (nv_of asker.package.now) asker.traced asking.old }
+    ensures { let k = known asker.entry.sources (url_of provider.now) (nv_at provider.now) in
+        let nv = nv_of asker.entry.package.now in
+        OnOk result (Asks k.owner nv asker.entry.traced
+        (left_wants k nv asker.entry.traced (name_answered target.now (names_of demand.entry))) asking.old asking.new) }
 {
-    put_answered(alloc, asker, provider, target, answered)?;
-    push_left(alloc, module_answered(answered, target), demand, out)
+    let found = meet(alloc, asker, provider, target, asking)?;
+    push_names_behind(alloc, &found, demand, &mut asking.out)
 }
 
 /// Adds what is asked of another module by what the module exports again.
@@ -261,76 +256,83 @@ fn push_want<'a>(
     alloc: Global,
     asker: Asker<'_>,
     provider: &dyn JsrUrlProvider,
+    resolutions: Option<&'a BTreeMap<String, Url>>,
     want: ModuleWant<'a>,
-    kept: &mut KeptModules<'a>,
-    out: &mut Vec<OuterWant>,
+    asking: &mut Asking<'a>,
 ) -> Result<(), AllocError>
-    requires { let k = known asker.sources (url_of provider.now) (nv_at provider.now) in
-        AreKept k.owner (nv_of asker.package.now) asker.traced kept.old }
-    ensures kept { let k = known asker.entry.sources (url_of provider.now) (nv_at provider.now) in
-        OnOk result (AreKept k.owner (nv_of asker.entry.package.now) asker.entry.traced kept.new) }
-    ensures pushed { let k = known asker.entry.sources (url_of provider.now) (nv_at provider.now) in
-        OnOk result (map want_of out.new.items
-        ≡ map want_of out.old.items ++ left_wants k (nv_of asker.entry.package.now) asker.entry.traced
-        (want_seen want.entry)) }
+    requires resolving { IsResolving asker.traced (option_copied resolutions) }
+    requires asking { let k = known asker.sources (url_of provider.now) (nv_at provider.now) in
+        IsAsking k.owner (nv_of asker.package.now) asker.traced asking.old }
+    ensures { let k = known asker.entry.sources (url_of provider.now) (nv_at provider.now) in
+        let nv = nv_of asker.entry.package.now in
+        OnOk result (Asks k.owner nv asker.entry.traced (left_wants k nv asker.entry.traced (want_seen want.entry)) asking.old asking.new) }
 {
     match want {
         ModuleWant::ReExported(text) => {
-            push_again(alloc, asker, provider, text, &mut kept.named, out)
+            push_again(alloc, asker, provider, resolutions, text, asking)
         }
-        ModuleWant::Answered(target, demand) => push_answered(
-            alloc,
-            asker,
-            provider,
-            target,
-            demand,
-            &mut kept.answered,
-            out,
-        ),
+        ModuleWant::Answered(target, demand) => {
+            push_answered(alloc, asker, provider, target, demand, asking)
+        }
     }
 }
 
 /// What is asked of files.
-fn push_files(
+fn push_files<'a>(
     alloc: Global,
     asker: Asker<'_>,
     provider: &dyn JsrUrlProvider,
-    files: &[FileWant<'_>],
-    out: &mut Vec<OuterWant>,
+    resolutions: Option<&'a BTreeMap<String, Url>>,
+    files: &[FileWant<'a>],
+    asking: &mut Asking<'a>,
 ) -> Result<(), AllocError>
+    requires resolving { IsResolving asker.traced (option_copied resolutions) }
+    requires asking { let k = known asker.sources (url_of provider.now) (nv_at provider.now) in
+        IsAsking k.owner (nv_of asker.package.now) asker.traced asking.old }
     ensures { let k = known asker.entry.sources (url_of provider.now) (nv_at provider.now) in
-        OnOk result (map want_of out.new.items
-        ≡ map want_of out.old.items ++ flat_map (file_wants k (nv_of asker.entry.package.now) asker.entry.traced)
-        (map file_demand_of files.now)) }
+        let nv = nv_of asker.entry.package.now in
+        OnOk result (Asks k.owner nv asker.entry.traced (flat_map (file_wants k nv asker.entry.traced) (map file_demand_of files.now)) asking.old asking.new) }
 {
-    let mut named = BTreeMap::new(alloc);
     for file in files {
-        push_file(alloc, asker, provider, *file, &mut named, out)?;
+        push_file(alloc, asker, provider, resolutions, *file, asking)?;
     }
     Ok(())
 }
 
 /// What is asked of other modules by what a module exports again.
-fn push_wants(
+fn push_wants<'a>(
     alloc: Global,
     asker: Asker<'_>,
     provider: &dyn JsrUrlProvider,
-    wants: &[ModuleWant<'_>],
-    out: &mut Vec<OuterWant>,
+    resolutions: Option<&'a BTreeMap<String, Url>>,
+    wants: &[ModuleWant<'a>],
+    asking: &mut Asking<'a>,
 ) -> Result<(), AllocError>
+    requires resolving { IsResolving asker.traced (option_copied resolutions) }
+    requires asking { let k = known asker.sources (url_of provider.now) (nv_at provider.now) in
+        IsAsking k.owner (nv_of asker.package.now) asker.traced asking.old }
     ensures { let k = known asker.entry.sources (url_of provider.now) (nv_at provider.now) in
-        OnOk result (map want_of out.new.items
-        ≡ map want_of out.old.items ++ flat_map (left_wants k (nv_of asker.entry.package.now) asker.entry.traced)
-        (map want_seen wants.now)) }
+        let nv = nv_of asker.entry.package.now in
+        OnOk result (Asks k.owner nv asker.entry.traced (flat_map (left_wants k nv asker.entry.traced) (map want_seen wants.now)) asking.old asking.new) }
 {
-    let mut kept = KeptModules {
-        named: BTreeMap::new(alloc),
-        answered: BTreeMap::new(alloc),
-    };
     for want in wants {
-        push_want(alloc, asker, provider, *want, &mut kept, out)?;
+        push_want(alloc, asker, provider, resolutions, *want, asking)?;
     }
     Ok(())
+}
+
+/// Nothing was asked.
+fn nothing_asked<'a>(alloc: Global) -> Asking<'a>
+    ensures none { result.out.items ≡ [] }
+    ensures asking { (owner : Text → Option Nv) (nv : Nv) (traced : TracedSeen) → IsAsking owner nv traced result }
+{
+    Asking {
+        named: BTreeMap::new(alloc),
+        met: BTreeMap::new(alloc),
+        owners: LastOwners::new(),
+        last_package: None,
+        out: Vec::new(alloc),
+    }
 }
 
 /// What a module asks of other modules and of packages: by what its symbols ask of files, and by what it exports again.
@@ -343,11 +345,15 @@ pub fn outer_wants(
 ) -> Result<Vec<OuterWant>, AllocError>
     ensures { let k = known asker.entry.sources (url_of provider.now) (nv_at provider.now) in
         let nv = nv_of asker.entry.package.now in
-        IfOk result (λ out. map want_of out.items
-        ≡ flat_map (file_wants k nv asker.entry.traced) files.now ++ flat_map (left_wants k nv asker.entry.traced) wants.now) }
+        IfOk result (λ out. Adds
+        (flat_map (file_wants k nv asker.entry.traced) files.now ++ flat_map (left_wants k nv asker.entry.traced) wants.now)
+        [] (map want_of out.items)) }
 {
-    let mut out = Vec::new(alloc);
-    push_files(alloc, asker, provider, files.as_slice(), &mut out)?;
-    push_wants(alloc, asker, provider, wants.as_slice(), &mut out)?;
-    Ok(out)
+    let resolutions = resolutions_in(asker.traced);
+    let mut asking = nothing_asked(alloc);
+    let files = files.as_slice();
+    push_files(alloc, asker, provider, resolutions, files, &mut asking)?;
+    let wants = wants.as_slice();
+    push_wants(alloc, asker, provider, resolutions, wants, &mut asking)?;
+    Ok(asking.out)
 }

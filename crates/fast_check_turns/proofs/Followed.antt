@@ -245,7 +245,7 @@ module _ (k : Known) (nv : Nv) (t : Text) (m : TracedModule) (here : module_at k
       ))
       (Contains-append_cases (flat_map (file_wants k nv m) a.asked_files)
       (flat_map (left_wants k nv m) (flat_map (module_wants m) listed)) w
-      (subst (λ (ws : List Want). Contains ws w) a.wants_are c))
+      (a.wants_are.parts w (subst (λ (ws : List Want). Contains ws w) a.wants_are.is c)))
 
   not_symbol : (ss : List SymbolDemand) (w : Want) → Contains (map (to_symbol nv t) ss) w → IsOuter w → ⊥
   not_symbol ss w c o = let s = map_contains (to_symbol nv t) ss w c in subst (λ (v : Want). IsOuter v → ⊥) s.2 (λ z. z) o
@@ -253,7 +253,7 @@ module _ (k : Known) (nv : Nv) (t : Text) (m : TracedModule) (here : module_at k
   in_wants : (w : Want) →
       Contains (flat_map (file_wants k nv m) a.asked_files ++ flat_map (left_wants k nv m) (flat_map (module_wants m) listed)) w →
       Contains wants w
-  in_wants w c = subst (λ (ws : List Want). Contains ws w) (sym a.wants_are) c
+  in_wants w c = a.wants_are.whole w c
 
   -- a want is within one of those that came of the trace
   abbrev IsWanted : Want → Type 0

@@ -32,7 +32,7 @@ module _ (k : Known) (nv : Nv) (m : TracedModule) (names : List Single) where
       ((more : List SymbolDemand) × IsContinued (own_tables m) (flat_map (λ w. roots (own_tables m) (names_of w)) names) before more
       × IsFound (own_tables m) more found × IsKeptWith before more after) →
       AreRangesThrough m (map names_of names) again → left ≡ flat_map (λ w. module_wants m (names_of w)) names →
-      wants ≡ flat_map (file_wants k nv m) found.files ++ flat_map (left_wants k nv m) left →
+      Adds (flat_map (file_wants k nv m) found.files ++ flat_map (left_wants k nv m) left) [] wants →
       of.ranges.items ≡ found.ranges.items ++ again → of.implementations.items ≡ found.implementations.items →
       Adds (placed_all (source_in m) (map fault_seen found.faults.items)) [] (map placed_in of.faults.items) →
       IsTraced k nv m (map names_of names) before after wants of
@@ -42,8 +42,9 @@ module _ (k : Known) (nv : Nv) (m : TracedModule) (names : List Single) where
     kept = a.3;
     asked_files = found.files;
     found_files = a.2.outside;
-    wants_are = w ∙ ap (λ (vs : List ModuleWant). flat_map (file_wants k nv m) found.files ++ flat_map (left_wants k nv m) vs)
-        (f ∙ mapped (module_wants m));
+    wants_are = subst
+        (λ (vs : List ModuleWant). Adds (flat_map (file_wants k nv m) found.files ++ flat_map (left_wants k nv m) vs) [] wants)
+        (f ∙ mapped (module_wants m)) w;
     declared = found.ranges.items;
     found_ranges = a.2.public;
     again = again;

@@ -32,8 +32,8 @@ pub record IsTraced (k : Known) (nv : Nv) (m : TracedModule) (names : List NameD
   pub kept : IsKeptWith before symbols after
   pub asked_files : List FileDemand
   pub found_files : IsSymbolYield (files (own_tables m)) symbols asked_files
-  pub wants_are : wants ≡ flat_map (file_wants k nv m) asked_files ++ flat_map (left_wants k nv m)
-      (flat_map (module_wants m) names)
+  pub wants_are : Adds (flat_map (file_wants k nv m) asked_files ++ flat_map (left_wants k nv m)
+      (flat_map (module_wants m) names)) [] wants
   pub declared : List SourceRange
   pub found_ranges : IsSymbolYield (ranges (own_tables m)) symbols declared
   pub again : List SourceRange

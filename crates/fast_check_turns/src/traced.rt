@@ -74,8 +74,8 @@ pub fn found_of(
 ) -> Result<(Vec<OuterWant>, FoundModule), AllocError>
     ensures wants { let k = known asker.entry.sources (url_of provider.now) (nv_at provider.now) in
         let nv = nv_of asker.entry.package.now in
-        IfOk result (λ r. map want_of r.0.items ≡ flat_map (file_wants k nv asker.entry.traced) traced.entry.found.files
-        ++ flat_map (left_wants k nv asker.entry.traced) traced.entry.wants) }
+        IfOk result (λ r. Adds (flat_map (file_wants k nv asker.entry.traced) traced.entry.found.files
+        ++ flat_map (left_wants k nv asker.entry.traced) traced.entry.wants) [] (map want_of r.0.items)) }
     ensures ranges { IfOk result (λ r. r.1.ranges.items ≡ traced.entry.found.ranges.items ++ traced.entry.re_export_ranges.items) }
     ensures implementations { IfOk result (λ r. r.1.implementations.items ≡ traced.entry.found.implementations.items) }
     ensures faults { IfOk result (λ r. Adds (placed_all (source_in asker.entry.traced) (map fault_seen traced.entry.found.faults.items)) []
