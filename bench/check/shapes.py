@@ -5,8 +5,10 @@ A line for each shape: the largest number, its megabytes, the status, the proces
 the quickest), the bytes held a byte of the largest, and the exponent by which seconds grow with bytes, fitted to the three. The first size is doubled until a run takes
 a tenth of a second, or the input has 4 MB. An exponent above 1.2 is told, and so is a run that ends by a signal; then the status is 1.
 
-From some shapes more demands follow than they have bytes: as many as the product of two of their lengths. Of these the seconds are fitted to the demands
-in place of the bytes, and a line says so. What is known to grow with a square though no more follows stands in `squares.py`.
+From some shapes more follows than they have bytes: as much as the product of two of their lengths. What follows are the demands of the account
+(docs/ARCHITECTURE.md), each written out with its package, the URL of its module and its names, and the items of trees that are gone through. Of these
+shapes the seconds are fitted to the bytes of the input and of what follows together, and a line says so. What is known to grow with a square though no
+more follows stands in `squares.py`.
 
 Usage: bench/check/shapes.py PROGRAM [SHAPE ..]
 """
@@ -90,8 +92,10 @@ def single(symbols, exports, **more):
 
 
 SHAPES = {}
-# Of the shapes from which more follows than they have bytes.
-DEMANDS = {}
+# Of the shapes from which more follows than they have bytes: about how many bytes that are, for each number.
+FOLLOWS = {}
+# The bytes of a demand whose texts are short, and of an item of a tree.
+DEMAND, ITEM = 60, 250
 # Of those that are for another command than `build`.
 COMMANDS = {}
 
@@ -111,11 +115,11 @@ def shape_of(command):
     return noted
 
 
-def shape_by(demands):
-    """A shape from which so many demands follow, each of them counted by its names."""
+def shape_by(follows):
+    """A shape from which so many bytes follow."""
 
     def noted(made):
-        DEMANDS[made.__name__] = demands
+        FOLLOWS[made.__name__] = follows
         return shape(made)
 
     return noted
@@ -231,7 +235,7 @@ def path_through_aliases(n):
     return single([*alias_chain_of(n, last), symbol(n + 1, part("s1", *["N"] * n))], [[f"s{n + 1}", n + 1]])
 
 
-@shape_by(lambda n: n * n)
+@shape_by(lambda n: DEMAND * n * n)
 def parts_through_aliases(n):
     """Parts of a namespace that are asked of the first of a chain of aliases: each alias is asked for each of them."""
     parts = [symbol(n + i, definition(), parent=n, name=f"x{i}") for i in range(1, n + 1)]
@@ -240,7 +244,7 @@ def parts_through_aliases(n):
     return single([*alias_chain_of(n, last), *parts, *asks], [[f"s{2 * n + i}", 2 * n + i] for i in range(1, n + 1)])
 
 
-@shape_by(lambda n: n * n)
+@shape_by(lambda n: DEMAND * n * n)
 def askers_through_aliases(n):
     """One part that many declarations ask of the first of a chain of aliases: each of them gets its own faults, and so is followed by itself."""
     last = [symbol(n, definition(is_ts_namespace=True), exports=[["x", n + 1]]), symbol(n + 1, definition(), parent=n, name="x")]
@@ -630,6 +634,86 @@ def two_packages_of_each_other(n):
     return request(*(each(i, p) for i in range(n) for p in (0, 1)), packages=2)
 
 
+# ---- more follows than they have bytes
+
+
+@shape_by(lambda n: 2 * DEMAND * n * n)
+def aliases_of_a_module(n):
+    """Aliases of a module that are asked for, and its names: a demand has the URL by which a module was asked for, so each alias is asked for each name."""
+    of = module(url(1), [symbol(i, definition()) for i in range(1, n + 1)], exports_of("s", n))
+    names = [url(f"a{i}") for i in range(n)]
+    made = request(module(url(0), [], [], again=names), of, aliases=[[each, url(1)] for each in names])
+    made["graph"]["modules"] += [[each, {"Js": {"media_type": "TypeScript"}}] for each in names]
+    return made
+
+
+@shape_by(lambda n: ITEM * n * n)
+def packages_of_an_alias(n):
+    """Packages that have one module for their entry point, each under a name of its own, and its items: each package has the module's tree gone through, though
+    nothing of it is public."""
+    of = f"{HOST}m.ts"
+    names = [f"{HOST}a{i}.ts" for i in range(n)]
+    made = request(aliases=[[each, of] for each in names], pending=[f"@p/p{i}@1.0.0" for i in range(n)])
+    made["modules"] = [[of, {"Esm": tree_module([exported_const(i, f"x{i}", ONE) for i in range(1, n + 1)], specifier=of)}]]
+    made["graph"] = {"modules": [[each, {"Js": {"media_type": "TypeScript"}}] for each in [of, *names]],
+                     "packages": [[f"@p/p{i}@1.0.0", [[".", each]]] for i, each in enumerate(names)]}
+    return made
+
+
+@shape_by(lambda n: 2 * n * n + 3 * DEMAND * n)
+def path_through_files(n):
+    """Modules in a chain, each of which asks the next one for a path: each is asked for all that is left of its names."""
+    asks = [symbol(1, part("f", *["N"] * n)), symbol(2, file_ref(url(1), "N"), name="f")]
+    through = [module(url(i), [symbol(1, file_ref(url(i + 1), "N"), name="N")], [["N", 1]]) for i in range(1, n)]
+    return request(module(url(0), asks, [["s1", 1]]), *through, module(url(n), [symbol(1, definition(), name="N")], [["N", 1]]))
+
+
+def wants(texts, own, resolved, *modules, exports=()):
+    """A request in which the module of the URL `own` asks for a name by each of these texts, all of which resolve so; and these modules more."""
+    asked = definition(*(import_type(text, f"s{i}") for i, text in enumerate(texts)))
+    made = request(module(own, [symbol(1, asked)], [["s1", 1]]), *modules, exports=exports)
+    made["graph"]["resolutions"] = [[own, text, resolved] for text in dict.fromkeys(texts)]
+    return made
+
+
+def file_texts(n):
+    return [f"./{i}.ts" for i in range(n)]
+
+
+def one_name(at):
+    return module(at, [symbol(1, definition())], [["s1", 1]])
+
+
+@shape_by(lambda n: 100 * n * n)
+def wants_of_a_long_package(n):
+    """Texts by which names of a module are asked for, whose package has a long name: each demand has that name."""
+    return renamed(wants(file_texts(n), url(0), url("m"), one_name(url("m"))), "@p/" + "p" * (100 * n) + "@1.0.0")
+
+
+@shape_by(lambda n: 100 * n * n)
+def references_to_a_long_url(n):
+    """Names that are asked of a module with a long URL: each demand has that URL."""
+    long = url("b" * (100 * n))
+    return wants(["./b.ts"] * n, url(0), long, one_name(long))
+
+
+@shape_by(lambda n: 600 * n * n)
+def turns_of_a_long_url(n):
+    """Turns in which two modules ask each other for a name, one of which has a long URL: each of the demands of a turn there has that URL."""
+    return two_in_turns(n, url(0), url("m" * (200 * n)))
+
+
+@shape_by(lambda n: 200 * n * n)
+def parts_of_a_long_import(n):
+    """Parts that are asked of an import with a long name: each is asked of the other module as a path that begins with that name."""
+    long = "N" * (200 * n)
+    asks = [symbol(1 + i, part("f", f"x{i}")) for i in range(1, n + 1)]
+    parts = [symbol(1 + i, definition(), parent=1, name=f"x{i}") for i in range(1, n + 1)]
+    gives = [symbol(1, definition(is_ts_namespace=True), name=long, exports=[[f"x{i}", 1 + i] for i in range(1, n + 1)]), *parts]
+    return request(module(url(0), [symbol(1, file_ref(url(1), long), name="f"), *asks], [[f"s{1 + i}", 1 + i] for i in range(1, n + 1)]),
+                   module(url(1), gives, [[long, 1]], ids=[]))
+
+
 def run(program, path, command="build"):
     """The status, the processor seconds and the bytes held of a run."""
     child = subprocess.Popen(["timeout", "120", program, command, path], stdout=subprocess.DEVNULL, stderr=subprocess.DEVNULL)
@@ -679,10 +763,10 @@ def row(name, largest, runs, grows, said):
 def measure(program, name):
     """Prints the line of a shape. Answers whether it grows as it may."""
     n, runs = in_three_sizes(lambda number: spent(program, SHAPES[name](number), COMMANDS.get(name, "build")), FIRST, LEAST_SECONDS)
-    demands = DEMANDS.get(name)
-    grows = exponent([(demands(number) if demands else ran[0], ran[2]) for number, ran in zip((n, 2 * n, 4 * n), runs)])
+    follows = FOLLOWS.get(name, lambda number: 0)
+    grows = exponent([(ran[0] + follows(number), ran[2]) for number, ran in zip((n, 2 * n, 4 * n), runs)])
     is_good = grows <= MOST_EXPONENT and all(status in (0, 1, 2) for _, status, _, _ in runs)
-    print(row(name, 4 * n, runs, grows, "  too much" if not is_good else "  by demands" if demands else ""), flush=True)
+    print(row(name, 4 * n, runs, grows, "  too much" if not is_good else "  by what follows" if name in FOLLOWS else ""), flush=True)
     return is_good
 
 

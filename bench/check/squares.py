@@ -21,8 +21,8 @@ sys.dont_write_bytecode = True
 sys.path[:0] = [os.path.join(os.path.dirname(os.path.dirname(os.path.abspath(__file__))), folder) for folder in ("rules", "cases", "check", "time")]
 
 from shapes import (
-    HOST, MOST_EXPONENT, ONE, covered, decl, definition, exponent, exported_const, exports_of, file_ref, import_type, imported, in_three_sizes, measured,
-    module, of_references, part, renamed, request, row, single, span, spent, symbol, transform, tree_module, two_in_turns, url,
+    HOST, MOST_EXPONENT, covered, decl, definition, exponent, file_texts, import_type, imported, in_three_sizes, measured, module, of_references, one_name,
+    part, request, row, single, span, spent, symbol, transform, url, wants,
 )
 
 FIRST, LEAST_SECONDS, RUNS = 125, 0.04, 2
@@ -97,19 +97,6 @@ def export_names_of_one_hash(n):
     return transform([], [], graph={"packages": [["@p/p0@1.0.0", [[each, ""] for each in colliding(n, TEXT_LETTERS)]]]})
 
 
-# ---- a module is followed under each name by which it is asked for
-
-
-@known()
-def aliases_of_a_module(n):
-    """Aliases of a module that are asked for times its names: it is followed under each of them (fast_check_traces, `trace`)."""
-    of = module(url(1), [symbol(i, definition()) for i in range(1, n + 1)], exports_of("s", n))
-    names = [url(f"a{i}") for i in range(n)]
-    made = request(module(url(0), [], [], again=names), of, aliases=[[each, url(1)] for each in names])
-    made["graph"]["modules"] += [[each, {"Js": {"media_type": "TypeScript"}}] for each in names]
-    return made
-
-
 # ---- all declarations of a symbol are gone through for each of those that lead to it
 
 
@@ -152,91 +139,23 @@ def versions_of_a_member(n):
     return request(module("file:///w/m.ts", [symbol(1, definition())], [["s1", 1]]), workspace_members=[member], pending=[f"@w/w@0.0.{i}" for i in range(n)])
 
 
-@known(first=500)
-def packages_of_an_alias(n):
-    """Packages that have one module for their entry point, each under a name of its own, times its items: its tree is gone through for each, though nothing
-    of it is public (fast_check_package_answers, `answer_tree`)."""
-    of = f"{HOST}m.ts"
-    names = [f"{HOST}a{i}.ts" for i in range(n)]
-    made = request(aliases=[[each, of] for each in names], pending=[f"@p/p{i}@1.0.0" for i in range(n)])
-    made["modules"] = [[of, {"Esm": tree_module([exported_const(i, f"x{i}", ONE) for i in range(1, n + 1)], specifier=of)}]]
-    made["graph"] = {"modules": [[each, {"Js": {"media_type": "TypeScript"}}] for each in [of, *names]],
-                     "packages": [[f"@p/p{i}@1.0.0", [[".", each]]] for i, each in enumerate(names)]}
-    return made
-
-
-@known(last=500)
-def path_through_files(n):
-    """Modules in a chain, each of which asks the next one for a path, times the names of the path: each is asked for all that is left of it
-    (fast_check_sources, `exports_to_ask`)."""
-    asks = [symbol(1, part("f", *["N"] * n)), symbol(2, file_ref(url(1), "N"), name="f")]
-    through = [module(url(i), [symbol(1, file_ref(url(i + 1), "N"), name="N")], [["N", 1]]) for i in range(1, n)]
-    return request(module(url(0), asks, [["s1", 1]]), *through, module(url(n), [symbol(1, definition(), name="N")], [["N", 1]]))
-
-
 # ---- one long text is copied or compared for each of many
-
-
-def wants(texts, own, resolved, *modules, exports=()):
-    """A request in which the module of the URL `own` asks for a name by each of these texts, all of which resolve so; and these modules more."""
-    asked = definition(*(import_type(text, f"s{i}") for i, text in enumerate(texts)))
-    made = request(module(own, [symbol(1, asked)], [["s1", 1]]), *modules, exports=exports)
-    made["graph"]["resolutions"] = [[own, text, resolved] for text in dict.fromkeys(texts)]
-    return made
-
-
-def texts_of(n):
-    return [f"./{i}.ts" for i in range(n)]
-
-
-def one_name(at):
-    return module(at, [symbol(1, definition())], [["s1", 1]])
-
-
-@known(last=500)
-def wants_of_a_long_package(n):
-    """Texts that name a module times the bytes of its package's name, which is copied for each (fast_check_packages, `IndexedPackages::package_url_to_nv`)."""
-    return renamed(wants(texts_of(n), url(0), url("m"), one_name(url("m"))), "@p/" + "p" * (100 * n) + "@1.0.0")
 
 
 @known(last=500)
 def wants_of_a_long_member(n):
     """Texts that name a file times the bytes of its member's name, which is copied for each (fast_check_sources, `member_nv_of`)."""
     member = {"name": "@w/" + "w" * (100 * n), "base": "file:///w/", "version": "1.0.0"}
-    return {**wants(texts_of(n), url(0), "file:///w/b.ts"), "workspace_members": [member]}
-
-
-@known(last=500)
-def references_to_a_long_url(n):
-    """Wants of a module times the bytes of its URL, by which what was asked of it is found (fast_check_worklists, `HandledExports::add`)."""
-    long = url("b" * (100 * n))
-    return wants(["./b.ts"] * n, url(0), long, one_name(long))
+    return {**wants(file_texts(n), url(0), "file:///w/b.ts"), "workspace_members": [member]}
 
 
 @known(first=1000)
 def references_of_a_long_url(n):
     """Texts in a module times the bytes of its URL, by which each is resolved (fast_check_graph, `ModuleGraph::resolutions_of`)."""
     long = "a" * (100 * n)
-    made = wants(texts_of(n), url(long), "https://b.example/", exports=[[".", f"./{long}.ts"]])
+    made = wants(file_texts(n), url(long), "https://b.example/", exports=[[".", f"./{long}.ts"]])
     del made["graph"]["resolutions"][1:]
     return made
-
-
-@known(last=500)
-def turns_of_a_long_url(n):
-    """Turns in which two modules ask each other for a name times the bytes of a URL, which is copied for each turn (fast_check_turns, `followed_module`)."""
-    return two_in_turns(n, url(0), url("m" * (200 * n)))
-
-
-@known(last=500)
-def parts_of_a_long_import(n):
-    """Parts of an import that are asked for times the bytes of its name, which is copied for each (fast_check_sources, `exports_to_ask`)."""
-    long = "N" * (200 * n)
-    asks = [symbol(1 + i, part("f", f"x{i}")) for i in range(1, n + 1)]
-    parts = [symbol(1 + i, definition(), parent=1, name=f"x{i}") for i in range(1, n + 1)]
-    gives = [symbol(1, definition(is_ts_namespace=True), name=long, exports=[[f"x{i}", 1 + i] for i in range(1, n + 1)]), *parts]
-    return request(module(url(0), [symbol(1, file_ref(url(1), long), name="f"), *asks], [[f"s{1 + i}", 1 + i] for i in range(1, n + 1)]),
-                   module(url(1), gives, [[long, 1]], ids=[]))
 
 
 @known(last=1000)
