@@ -410,10 +410,10 @@ def packages_within_each_other(n):
 
 
 def chain_to(n, asked, of, *more):
-    """A chain of n modules, each of which asks the next one for its only name and the module `of` for the name that `asked` gives; and these modules more."""
+    """A chain of n modules, each of which asks the next one for its only name and the module `of` for the path that `asked` gives; and these modules more."""
 
     def at(i):
-        deps = ([import_type(url(i + 1), "s1")] if i < n else []) + [import_type(of[0], asked(i))]
+        deps = ([import_type(url(i + 1), "s1")] if i < n else []) + [import_type(of[0], *asked(i))]
         return module(url(i), [symbol(1, definition(*deps))], [["s1", 1]])
 
     return request(*map(at, range(1, n + 1)), of, *more, exports=[[".", "./1.ts"]])
@@ -441,7 +441,7 @@ def namespace_of_items(n):
 @shape
 def names_asked_in_turns(n):
     """Turns in which a name of one module is asked for, each of which leads to the items of a namespace."""
-    return chain_to(n, lambda i: f"a{i}", names_that_ask("N", n, *namespace_of_items(n)))
+    return chain_to(n, lambda i: [f"a{i}"], names_that_ask("N", n, *namespace_of_items(n)))
 
 
 def two_in_turns(n, first, second, symbols=(), *deps):
@@ -465,14 +465,14 @@ def names_of_two_modules_in_turns(n):
 def chain_asked_from_its_end(n):
     """Turns in which a name is asked for that leads to all that were asked for before."""
     links = [symbol(i, definition(by_name(f"a{i + 1}")), name=f"a{i}") for i in range(1, n + 1)]
-    return chain_to(n, lambda i: f"a{n + 1 - i}", module(url("m"), links, exports_of("a", n)))
+    return chain_to(n, lambda i: [f"a{n + 1 - i}"], module(url("m"), links, exports_of("a", n)))
 
 
 @shape
 def files_asked_in_turns(n):
     """Turns in which a name is asked for that leads to the import types of one symbol."""
     big = symbol(n + 1, definition(*(import_type("o:o", f"x{i}") for i in range(n))), name="B")
-    made = chain_to(n, lambda i: f"a{i}", names_that_ask("B", n, big), module(url(n + 1), [symbol(1, definition())], [["s1", 1]]))
+    made = chain_to(n, lambda i: [f"a{i}"], names_that_ask("B", n, big), module(url(n + 1), [symbol(1, definition())], [["s1", 1]]))
     made["graph"]["resolutions"].append([url("m"), "o:o", url(n + 1)])
     return made
 
@@ -481,7 +481,7 @@ def files_asked_in_turns(n):
 def faults_found_in_turns(n):
     """Turns in which a name is asked for that leads to the faults of one symbol."""
     big = symbol(n + 1, definition(*([{"QualifiedId": [["N", 1], [f"x{i}"]]}, "Type_"] for i in range(n))), name="B")
-    return chain_to(n, lambda i: f"a{i}", names_that_ask("B", n, big, symbol(n + 2, definition(is_ts_namespace=True), name="N")))
+    return chain_to(n, lambda i: [f"a{i}"], names_that_ask("B", n, big, symbol(n + 2, definition(is_ts_namespace=True), name="N")))
 
 
 # Trees, whose places count only where they are public.

@@ -21,8 +21,8 @@ sys.dont_write_bytecode = True
 sys.path[:0] = [os.path.join(os.path.dirname(os.path.dirname(os.path.abspath(__file__))), folder) for folder in ("rules", "cases", "check", "time")]
 
 from shapes import (
-    HOST, MOST_EXPONENT, covered, decl, definition, exponent, file_texts, import_type, imported, in_three_sizes, measured, module, of_references, one_name,
-    part, request, row, single, span, spent, symbol, transform, url, wants,
+    FEW, HOST, MOST_EXPONENT, chain_to, covered, decl, definition, exponent, exports_of, file_ref, file_texts, import_type, imported, in_three_sizes,
+    measured, module, of_references, one_name, part, request, row, single, span, spent, symbol, target, transform, url, wants,
 )
 
 FIRST, LEAST_SECONDS, RUNS = 125, 0.04, 2
@@ -123,10 +123,85 @@ def paths_of_many_references(n):
     return of_references(n, *([f"x{i}"] for i in range(1, n + 1)))
 
 
+def paths_below(n, *decls):
+    """One declaration asks n paths of one name of a symbol with these declarations, which are aliases of another symbol."""
+    asks = definition(*([{"QualifiedId": [["s2", 1], [f"x{i}"]]}, "Type_"] for i in range(n)))
+    return single([symbol(1, asks), symbol(2, *decls), symbol(3, definition())], [["s1", 1]])
+
+
+@known(last=500)
+def paths_of_many_targets(n):
+    """Paths that are asked of a symbol times its declarations, which are all aliases of one symbol (fast_check_demands, `push_aliases`)."""
+    return paths_below(n, *[target("s3")] * n)
+
+
+@known(last=500)
+def paths_of_a_qualified_alias(n):
+    """Paths that are asked of an alias of a path times the names of that: each of these is asked for with each (fast_check_demands, `push_parts`)."""
+    return paths_below(n, part("s3", *(f"y{i}" for i in range(n))))
+
+
+@known(first=8, last=16)
+def levels_of_qualified_aliases(n):
+    """The same of n such aliases, each of a path of n names below the next one: what is asked of one times the names of its own path (`push_parts`)."""
+    aliases = [symbol(i, part(f"s{i + 1}", *(f"y{i}_{j}" for j in range(n)))) for i in range(2, n + 2)]
+    return single([symbol(1, part("s2", "x")), *aliases, symbol(n + 2, definition())], [["s1", 1]])
+
+
 @known(first=1000)
 def a_long_name_of_many_references(n):
     """The declarations of a symbol, which all stand for one name of a file, times the letters of a name below it (fast_check_search, `PathNumbers::noted`)."""
     return of_references(n, ["N" * (150 * n)])
+
+
+# ---- what is no demand without names is gone through anew in each turn in which more is asked of a module
+
+
+@known(first=500, last=1000)
+def declarations_asked_in_turns(n):
+    """Turns in which a part of a symbol is asked for times its declarations: all are public in each (fast_check_search, `add_declared`)."""
+    parts = [symbol(1 + i, definition(), parent=1, name=f"x{i}") for i in range(1, n + 1)]
+    whole = symbol(1, *[FEW] * (3 * n), exports=[[f"x{i}", 1 + i] for i in range(1, n + 1)])
+    return chain_to(n, lambda i: ["s1", f"x{i}"], module(url("m"), [whole, *parts], [["s1", 1]]))
+
+
+def qualified_in_turns(n, *symbols):
+    """Turns in which a path is asked of an alias that is one of a path itself, of n names below the second of these symbols."""
+    return chain_to(n, lambda i: ["s1", f"x{i}"], module(url("m"), [symbol(1, part("s2", *(f"y{i}" for i in range(n)))), *symbols], [["s1", 1]]))
+
+
+@known(last=500)
+def qualified_alias_in_turns(n):
+    """Such turns times the names of that path: demands with names are not kept from turn to turn (fast_check_search, `Searched::keep`)."""
+    return qualified_in_turns(n, symbol(2, definition()))
+
+
+@known(first=32, last=64)
+def parts_through_aliases_in_turns(n):
+    """Such turns times the demands of the names of that path, each of which goes through a chain of aliases: the cube of n, of which the square follows
+    (fast_check_search, `Searched::keep`)."""
+    return qualified_in_turns(n, *(symbol(i, target(f"s{i + 1}")) for i in range(2, n + 2)), symbol(n + 2, definition()))
+
+
+@known(first=500, last=1000)
+def one_property_in_turns(n):
+    """Turns in which a function is asked for times the declarations of one symbol that each of them exports (fast_check_demands, `push_properties`)."""
+    functions = [symbol(i, definition(is_function=True), name=f"a{i}", exports=[["x", n + 1]]) for i in range(1, n + 1)]
+    outside = symbol(n + 1, *[decl({"Definition": {}}, range=[20, 29])] * n, parent=1, name="x")
+    return chain_to(n, lambda i: [f"a{i}"], module(url("m"), [*functions, outside], exports_of("a", n)))
+
+
+@known(first=250, last=500)
+def re_exports_in_turns(n):
+    """Turns in which a name is asked for times the re-exports of all before the one that has it: each is resolved (fast_check_traces, `first_with`)."""
+    others = [module(url(f"m{i}"), [symbol(1, definition(), name=f"a{i}")], [[f"a{i}", 1]]) for i in range(1, n + 1)]
+    return chain_to(n, lambda i: [f"a{i}"], module(url("m"), [], [], again=[each[0] for each in others]), *others)
+
+
+@known(first=250, last=500)
+def no_re_export_in_turns(n):
+    """The same where none has the name: all re-exports are public in each turn (fast_check_traces, `push_whole`)."""
+    return chain_to(n, lambda i: [f"a{i}"], module(url("m"), [], [], again=[url(0)] * n), module(url(0), [], []))
 
 
 # ---- what many have in common is gone through for each of them
@@ -155,6 +230,34 @@ def references_of_a_long_url(n):
     long = "a" * (100 * n)
     made = wants(file_texts(n), url(long), "https://b.example/", exports=[[".", f"./{long}.ts"]])
     del made["graph"]["resolutions"][1:]
+    return made
+
+
+@known(last=1000)
+def re_exports_of_a_long_url(n):
+    """Re-exports of all of a module times the bytes of its URL, by which what was asked of it is found (fast_check_worklists, `HandledExports::add`)."""
+    long = url("b" * (100 * n))
+    made = request(module(url(0), [], [], again=["./b.ts"] * n), one_name(long))
+    made["graph"]["resolutions"] = [[url(0), "./b.ts", long]]
+    return made
+
+
+@known(first=1000, last=2000)
+def names_behind_a_long_url(n):
+    """Re-exports of all of a module times the bytes of its URL, by which it is found for each where two names are asked (fast_check_traces, `leads_of`)."""
+    long = url("b" * (100 * n))
+    made = wants([url(1)] * 2, url(0), url(1), module(url(1), [], [], again=["./b.ts"] * n), one_name(long))
+    made["graph"]["resolutions"].append([url(1), "./b.ts", long])
+    return made
+
+
+@known(first=1000, last=1000)
+def parts_of_a_long_text(n):
+    """Parts of an import that are asked for times the bytes of its text, by which its module is found for each (fast_check_sources, `put_named`)."""
+    long = "./" + "a" * (200 * n)
+    asks = definition(*([{"QualifiedId": [["f", 1], [f"x{i}"]]}, "Type_"] for i in range(n)))
+    made = request(module(url(0), [symbol(1, asks), symbol(2, file_ref(long, "s1"), name="f")], [["s1", 1]]), one_name(url(1)))
+    made["graph"]["resolutions"] = [[url(0), long, url(1)]]
     return made
 
 
