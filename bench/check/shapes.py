@@ -637,14 +637,21 @@ def two_packages_of_each_other(n):
 # ---- more follows than they have bytes
 
 
+def alias_urls(n):
+    return [url(f"a{i}") for i in range(n)]
+
+
+def under_aliases(n, of, *more):
+    """A module that exports all of n others, which are all this one by aliases; and these modules more."""
+    made = request(module(url(0), [], [], again=alias_urls(n)), of, *more, aliases=[[each, of[0]] for each in alias_urls(n)])
+    made["graph"]["modules"] += [[each, {"Js": {"media_type": "TypeScript"}}] for each in alias_urls(n)]
+    return made
+
+
 @shape_by(lambda n: 2 * DEMAND * n * n)
 def aliases_of_a_module(n):
     """Aliases of a module that are asked for, and its names: a demand has the URL by which a module was asked for, so each alias is asked for each name."""
-    of = module(url(1), [symbol(i, definition()) for i in range(1, n + 1)], exports_of("s", n))
-    names = [url(f"a{i}") for i in range(n)]
-    made = request(module(url(0), [], [], again=names), of, aliases=[[each, url(1)] for each in names])
-    made["graph"]["modules"] += [[each, {"Js": {"media_type": "TypeScript"}}] for each in names]
-    return made
+    return under_aliases(n, module(url(1), [symbol(i, definition()) for i in range(1, n + 1)], exports_of("s", n)))
 
 
 @shape_by(lambda n: ITEM * n * n)

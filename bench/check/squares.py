@@ -21,8 +21,9 @@ sys.dont_write_bytecode = True
 sys.path[:0] = [os.path.join(os.path.dirname(os.path.dirname(os.path.abspath(__file__))), folder) for folder in ("rules", "cases", "check", "time")]
 
 from shapes import (
-    FEW, HOST, MOST_EXPONENT, chain_to, covered, decl, definition, exponent, exports_of, file_ref, file_texts, import_type, imported, in_three_sizes,
-    measured, module, of_references, one_name, part, request, row, single, span, spent, symbol, target, transform, url, wants,
+    FEW, HOST, MOST_EXPONENT, alias_urls, chain_to, covered, decl, definition, exponent, exports_of, file_ref, file_texts, import_type, imported,
+    in_three_sizes, measured, module, of_references, one_name, part, request, row, single, span, spent, symbol, target, transform, under_aliases, url,
+    wants,
 )
 
 FIRST, LEAST_SECONDS, RUNS = 125, 0.04, 2
@@ -95,6 +96,22 @@ def packages_of_one_hash(n):
 def export_names_of_one_hash(n):
     """Export names of a package times those before them: they have one hash (fast_check_read_graph, `gather` of its exports)."""
     return transform([], [], graph={"packages": [["@p/p0@1.0.0", [[each, ""] for each in colliding(n, TEXT_LETTERS)]]]})
+
+
+# ---- a module is followed anew under each alias by which it is asked for
+
+
+@known(last=500)
+def aliases_of_re_exports(n):
+    """Aliases of a module that are asked for times its re-exports of all, which are the same demands under each (fast_check_traces, `push_all_wants`)."""
+    return under_aliases(n, module(url(1), [], [], again=alias_urls(n)))
+
+
+@known(last=500)
+def aliases_of_import_types(n):
+    """Aliases of a module that are asked for times the import types of its one name, as in `aliases_of_re_exports` (fast_check_sources, `push_files`)."""
+    asks = symbol(1, definition(*(import_type(url(2), f"x{i}") for i in range(n))))
+    return under_aliases(n, module(url(1), [asks], [["s1", 1]]), module(url(2), [], []))
 
 
 # ---- all declarations of a symbol are gone through for each of those that lead to it
