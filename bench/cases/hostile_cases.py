@@ -3,6 +3,7 @@ paths, names that come twice, and modules that lead back to themselves. The tree
 empty skeleton: what is shown is that the call ends, which modules are answered, and which fault of the tables is told."""
 import shapes
 import squares
+import tables
 
 def skeleton(leading=(), trailing=()):
     """An empty skeleton with these comments."""
@@ -24,55 +25,55 @@ def a_ring_of_re_exports_of_all(n):
 def exports_of_a_symbol(n):
     """A namespace of so many names, in few bytes."""
     inside = [{"id": i, "parent_id": 1, "decls": [{"value": True, "kind": {"Definition": None}}]} for i in range(2, n + 2)]
-    return shapes.single([shapes.symbol(1, shapes.definition(is_ts_namespace=True), exports=[[f"s{i}", i] for i in range(2, n + 2)]), *inside], [["s1", 1]],
+    return tables.single([tables.symbol(1, tables.definition(is_ts_namespace=True), exports=[[f"s{i}", i] for i in range(2, n + 2)]), *inside], [["s1", 1]],
                          ids=[[["s1", 1], 1]])
 
 
 def a_long_name(size):
     """A name of so many bytes, which the module exports, and by which another one asks for it."""
-    url = [shapes.url(0), shapes.url(1)]
-    asks = shapes.module(url[0], [shapes.symbol(1, shapes.file_ref(url[1], "a" * size))], [["s1", 1]])
-    gives = shapes.module(url[1], [shapes.symbol(1, shapes.definition())], [["a" * size, 1]], resolved_exports=[])
-    return shapes.request(asks, gives), url
+    url = [tables.url(0), tables.url(1)]
+    asks = tables.module(url[0], [tables.symbol(1, tables.file_ref(url[1], "a" * size))], [["s1", 1]])
+    gives = tables.module(url[1], [tables.symbol(1, tables.definition())], [["a" * size, 1]], resolved_exports=[])
+    return tables.request(asks, gives), url
 
 
 def a_class_among_its_own_members(n):
     """A class that lists itself, a member that lists its class, and two aliases of each other."""
-    symbols = [shapes.symbol(1, shapes.definition(is_class=True), members=[1, 2] * n), shapes.symbol(2, shapes.definition(is_member=True), parent=1, members=[1]),
-               shapes.symbol(3, shapes.target("s4")), shapes.symbol(4, shapes.target("s3"))]
-    return shapes.single(symbols, [["s1", 1], ["s3", 3]])
+    symbols = [tables.symbol(1, tables.definition(is_class=True), members=[1, 2] * n), tables.symbol(2, tables.definition(is_member=True), parent=1, members=[1]),
+               tables.symbol(3, tables.target("s4")), tables.symbol(4, tables.target("s3"))]
+    return tables.single(symbols, [["s1", 1], ["s3", 3]])
 
 
 def every_name_twice(n):
     """Members of one name, and paths to it and to one that no member has."""
-    same = [shapes.symbol(i, shapes.definition(is_member=True), parent=1, name="m") for i in range(2, n + 2)]
-    asks = [shapes.symbol(n + i, shapes.part("s1", "prototype", "m")) for i in range(2, 4)]
-    return shapes.single([shapes.symbol(1, shapes.definition(is_class=True), members=list(range(2, n + 2))), *same, *asks],
+    same = [tables.symbol(i, tables.definition(is_member=True), parent=1, name="m") for i in range(2, n + 2)]
+    asks = [tables.symbol(n + i, tables.part("s1", "prototype", "m")) for i in range(2, 4)]
+    return tables.single([tables.symbol(1, tables.definition(is_class=True), members=list(range(2, n + 2))), *same, *asks],
                          [[f"s{n + i}", n + i] for i in range(2, 4)])
 
 
 def builds_of_a_version():
     """Packages whose versions differ in what follows a `+` alone. They are ordered by number where it is one, then by text, behind the one without."""
     builds = ["", "+1", "+2", "+10", "+a", "+b"]
-    urls = [f"{shapes.HOST}{place}/0.ts" for place in range(len(builds))]
-    modules = [shapes.module(each, [shapes.symbol(1, shapes.definition())], [["s1", 1]]) for each in urls]
-    bases = [[f"@p/p0@1.0.0{build}", f"{shapes.HOST}{place}/"] for place, build in enumerate(builds)]
-    return shapes.request(*modules, versions=bases[1:], pending=[nv for nv, _ in reversed(bases)]), urls
+    urls = [f"{tables.HOST}{place}/0.ts" for place in range(len(builds))]
+    modules = [tables.module(each, [tables.symbol(1, tables.definition())], [["s1", 1]]) for each in urls]
+    bases = [[f"@p/p0@1.0.0{build}", f"{tables.HOST}{place}/"] for place, build in enumerate(builds)]
+    return tables.request(*modules, versions=bases[1:], pending=[nv for nv, _ in reversed(bases)]), urls
 
 
 def slashes_at_the_end():
     """Three modules whose URLs differ in slashes at the end, of which each exports all of the next."""
-    urls = [shapes.url(0) + "/" * place for place in range(3)]
-    own = [shapes.symbol(1, shapes.definition())]
-    first, second = (shapes.module(urls[place], [], [], again=[urls[place + 1]]) for place in (0, 1))
-    return shapes.request(first, second, shapes.module(urls[2], own, [["s1", 1]])), urls
+    urls = [tables.url(0) + "/" * place for place in range(3)]
+    own = [tables.symbol(1, tables.definition())]
+    first, second = (tables.module(urls[place], [], [], again=[urls[place + 1]]) for place in (0, 1))
+    return tables.request(first, second, tables.module(urls[2], own, [["s1", 1]])), urls
 
 
 def a_qualified_name_without_names():
     """A reference into another module by a qualified name that has no names behind its first."""
-    asks = [shapes.symbol(1, shapes.part("f")), shapes.symbol(2, shapes.file_ref(shapes.url(1), "N"), name="f")]
-    gives = [shapes.symbol(1, shapes.definition(), name="N")]
-    return shapes.request(shapes.module(shapes.url(0), asks, [["s1", 1]]), shapes.module(shapes.url(1), gives, [["N", 1]]))
+    asks = [tables.symbol(1, tables.part("f")), tables.symbol(2, tables.file_ref(tables.url(1), "N"), name="f")]
+    gives = [tables.symbol(1, tables.definition(), name="N")]
+    return tables.request(tables.module(tables.url(0), asks, [["s1", 1]]), tables.module(tables.url(1), gives, [["N", 1]]))
 
 
 def documented(text):
@@ -81,27 +82,27 @@ def documented(text):
 
 def keys_with_other_values():
     """Each list of pairs has a key twice, and leads on to the second module, to the member of the workspace or to a comment by what stands with the last."""
-    at, other, lost, called, member = shapes.url(0), shapes.url(1), shapes.url(9), shapes.url("called"), "file:///w/0.ts"
-    alias, reference = shapes.symbol(3, shapes.target("s1")), shapes.file_ref("./a", "s1")
-    first = shapes.module(at, [shapes.symbol(1, shapes.definition()), shapes.symbol(2, shapes.definition()), shapes.symbol(1, reference), alias],
+    at, other, lost, called, member = tables.url(0), tables.url(1), tables.url(9), tables.url("called"), "file:///w/0.ts"
+    alias, reference = tables.symbol(3, tables.target("s1")), tables.file_ref("./a", "s1")
+    first = tables.module(at, [tables.symbol(1, tables.definition()), tables.symbol(2, tables.definition()), tables.symbol(1, reference), alias],
                           [["s1", 2], ["s1", 3]], ids=[[["s1", 1], 2], [["s1", 1], 1]], resolved_exports=[["s1", lost], ["s1", at]])
-    second = shapes.module(other, [shapes.symbol(1, shapes.definition())], [["s1", 1]])
-    second[1]["Esm"]["source"] = {**shapes.NO_TEXT, "comments": {side: [documented("gone"), documented(side)] for side in ("leading", "trailing")}}
-    third = shapes.module(member, [shapes.symbol(1, shapes.definition())], [["s1", 1]])
-    made = shapes.request(shapes.module(at, [], []), first, second, third, aliases=[[called, lost], [called, other]],
+    second = tables.module(other, [tables.symbol(1, tables.definition())], [["s1", 1]])
+    second[1]["Esm"]["source"] = {**tables.NO_TEXT, "comments": {side: [documented("gone"), documented(side)] for side in ("leading", "trailing")}}
+    third = tables.module(member, [tables.symbol(1, tables.definition())], [["s1", 1]])
+    made = tables.request(tables.module(at, [], []), first, second, third, aliases=[[called, lost], [called, other]],
                           workspace_members=[{"name": "@w/w", "base": "file:///w/", "exports": [[".", "./9.ts"], [".", "./0.ts"]]}])
     made["graph"] = {"modules": [[at, {"Js": {"media_type": "JavaScript"}}],
                                  *([each, {"Js": {"media_type": "TypeScript"}}] for each in (at, other, called, member))],
                      "resolutions": [[at, "./a", lost], [at, "./a", called]],
                      "packages": [["@p/p0@1.0.0", [[".", "./9.ts"]]], ["@p/p0@1.0.0", [[".", "./9.ts"], [".", "./0.ts"]]]]}
-    made["provider"]["packages"] = [["@p/p0@1.0.0", shapes.HOST + "9/"], ["@p/p0@1.0.0", shapes.HOST + "0/"]]
+    made["provider"]["packages"] = [["@p/p0@1.0.0", tables.HOST + "9/"], ["@p/p0@1.0.0", tables.HOST + "0/"]]
     made["pending"].append("@w/w@0.0.0")
     return made, {at: skeleton(), other: skeleton([documented("leading")], [documented("trailing")]), member: skeleton()}
 
 
-ONE = [shapes.url(0)]
-TWO = [shapes.url(0), shapes.url(1)]
-IN_TURNS = sorted(shapes.url(place) for place in range(1, 51))
+ONE = [tables.url(0)]
+TWO = [tables.url(0), tables.url(1)]
+IN_TURNS = sorted(tables.url(place) for place in range(1, 51))
 # what a run shows, the shape and its size, and the modules that are answered (with their skeletons where these are not empty), or the line of the refusal
 CASES = [
     ("hostile_ring_of_aliases", shapes.alias_ring(1000), ONE),
@@ -115,7 +116,7 @@ CASES = [
     # longer than the stack would hold by a call for each name
     ("hostile_path_behind_a_file", shapes.path_behind_a_file(70_000, "Name"), TWO),
     ("hostile_paths_that_part_behind_a_file", shapes.paths_that_part_behind_a_file(50), TWO),
-    ("hostile_path_through_files", squares.path_through_files(50), sorted(shapes.url(place) for place in range(51))),
+    ("hostile_path_through_files", shapes.path_through_files(50), sorted(tables.url(place) for place in range(51))),
     ("hostile_path_through_aliases", shapes.path_through_aliases(50), ONE),
     ("hostile_parts_through_aliases", shapes.parts_through_aliases(50), ONE),
     ("hostile_askers_through_aliases", shapes.askers_through_aliases(50), ONE),
@@ -124,19 +125,19 @@ CASES = [
     ("hostile_names_covered_before_others", squares.names_covered_before_others(50), TWO),
     # found and told once, though many declarations, names or paths lead to it
     ("hostile_path_of_two_askers", shapes.path_of_two_askers(50), ONE),
-    ("hostile_parts_of_many_declarations", squares.parts_of_many_declarations(50), ONE),
+    ("hostile_parts_of_many_declarations", shapes.parts_of_many_declarations(50), ONE),
     ("hostile_properties_of_overloads", shapes.properties_of_overloads(50), ONE),
     ("hostile_properties_of_one_symbol", shapes.properties_of_one_symbol(50), ONE),
-    ("hostile_one_property_of_many_functions", squares.one_property_of_many_functions(50), ONE),
-    ("hostile_paths_of_many_references", squares.paths_of_many_references(50), TWO),
+    ("hostile_one_property_of_many_functions", shapes.one_property_of_many_functions(50), ONE),
+    ("hostile_paths_of_many_references", shapes.paths_of_many_references(50), TWO),
     # a name behind re-exports of all, and one that none of them has: then what they lead to is asked for nothing
-    ("hostile_names_of_many_re_exports", shapes.names_of_many_re_exports(50), sorted(shapes.url(place) for place in range(52))),
+    ("hostile_names_of_many_re_exports", shapes.names_of_many_re_exports(50), sorted(tables.url(place) for place in range(52))),
     ("hostile_names_that_no_re_export_has", shapes.names_that_no_re_export_has(50), TWO),
     # followed in many turns, of which the later ones go on from what the earlier ones came to
-    ("hostile_names_of_two_modules_in_turns", shapes.names_of_two_modules_in_turns(50), sorted(shapes.url(place) for place in range(3))),
-    ("hostile_names_asked_in_turns", shapes.names_asked_in_turns(50), [*IN_TURNS, shapes.url("m")]),
-    ("hostile_chain_asked_from_its_end", shapes.chain_asked_from_its_end(50), [*IN_TURNS, shapes.url("m")]),
-    ("hostile_files_asked_in_turns", shapes.files_asked_in_turns(50), sorted([*IN_TURNS, shapes.url(51), shapes.url("m")])),
+    ("hostile_names_of_two_modules_in_turns", shapes.names_of_two_modules_in_turns(50), sorted(tables.url(place) for place in range(3))),
+    ("hostile_names_asked_in_turns", shapes.names_asked_in_turns(50), [*IN_TURNS, tables.url("m")]),
+    ("hostile_chain_asked_from_its_end", shapes.chain_asked_from_its_end(50), [*IN_TURNS, tables.url("m")]),
+    ("hostile_files_asked_in_turns", shapes.files_asked_in_turns(50), sorted([*IN_TURNS, tables.url(51), tables.url("m")])),
     ("hostile_urls_beside_bases", shapes.urls_beside_bases(50), ONE),
     ("hostile_entry_points_of_a_long_package", shapes.entry_points_of_a_long_package(50), ONE),
     ("hostile_long_name", *a_long_name(100_000)),
@@ -144,7 +145,7 @@ CASES = [
     ("hostile_members_asked_for", shapes.members_asked_for(50), ONE),
     ("hostile_members_of_one_name", every_name_twice(3), ONE),
     # what leads to another package asks for that package, by its entry points alone
-    ("hostile_packages_of_each_other", shapes.two_packages_of_each_other(100), [shapes.url(0, 0), shapes.url(0, 1)]),
+    ("hostile_packages_of_each_other", shapes.two_packages_of_each_other(100), [tables.url(0, 0), tables.url(0, 1)]),
     ("hostile_keys_that_come_twice", shapes.duplicate_keys(3), ONE),
     ("hostile_keys_with_other_values", *keys_with_other_values()),
     ("hostile_builds_of_a_version", *builds_of_a_version()),

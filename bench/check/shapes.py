@@ -19,77 +19,12 @@ import subprocess
 import sys
 import tempfile
 
-HOST = "https://host.example/"
+from tables import (
+    FEW, HOST, NO_TEXT, ONE, RANGES, assigned, decl, definition, exported_const, file_ref, import_type, module, part, request, single, span, symbol,
+    target, transform, tree_module, url,
+)
+
 FIRST, LEAST_SECONDS, MOST_BYTES, MOST_EXPONENT, RUNS = 500, 0.1, 4_000_000, 1.2, 3
-RANGES = [[1, 9]]
-NO_TEXT = {"media_type": "TypeScript", "text": "", "program": {"Module": {"span": [1, 1], "body": []}}, "comments": {}}
-
-
-def decl(kind, **more):
-    return {"range": [1, 9], "value": True, "type_": True, "kind": kind, **more}
-
-
-def definition(*deps, **flags):
-    return decl({"Definition": {"deps": list(deps), **flags}})
-
-
-def target(name):
-    return decl({"Target": [name, 1]})
-
-
-def part(name, *names):
-    return decl({"QualifiedTarget": [[name, 1], list(names)]})
-
-
-def file_ref(text, name):
-    return decl({"FileRef": {"specifier": text, "name": {"Name": name}}})
-
-
-def import_type(text, *names):
-    return [{"ImportType": [text, list(names)]}, "Type_"]
-
-
-def symbol(id, *decls, parent=0, name=None, **more):
-    name = name or f"s{id}"
-    return {"id": id, "parent_id": parent, "maybe_name": name, "qualified_name": name, "decls": list(decls), **more}
-
-
-def module(url, symbols, exports, again=(), ids=None, **more):
-    """A module at a URL, with these symbols beside its own, of which those at the top have identifiers."""
-    if ids is None:
-        ids = [[[each["maybe_name"], 1], each["id"]] for each in symbols if each["parent_id"] == 0]
-    return [url, {"Esm": {"specifier": url, "source": NO_TEXT, "module_symbol": 0, "symbols": [{"id": 0, "exports": exports}, *symbols], "swc_ids": ids,
-                          "re_export_all_nodes": [[[1, 9], text] for text in again], "resolved_exports": [[name, url] for name, _ in exports], **more}}]
-
-
-def request(*modules, packages=1, exports=(), versions=(), **more):
-    """A request of `build` with these modules, in which each URL resolves to itself."""
-    texts = {(url, text) for url, part in modules for text in texts_of(part["Esm"])}
-    bases = [[f"@p/p{p}@1.0.0", f"{HOST}{p}/"] for p in range(packages)] + list(versions)
-    return {"graph": {"modules": [[url, {"Js": {"media_type": "TypeScript"}}] for url, _ in modules], "resolutions": [[url, text, text] for url, text in sorted(texts)],
-                      "packages": [[nv, list(exports) or [[".", "./0.ts"]]] for nv, _ in bases]},
-            "modules": list(modules), "provider": {"fallback": HOST, "packages": bases}, "pending": ["@p/p0@1.0.0"], **more}
-
-
-def texts_of(tables):
-    for _, text in tables["re_export_all_nodes"]:
-        yield text
-    for each in tables["symbols"]:
-        for it in each.get("decls", []):
-            if "FileRef" in it["kind"]:
-                yield it["kind"]["FileRef"]["specifier"]
-            for dep, _ in (it["kind"].get("Definition") or {}).get("deps", []):
-                if "ImportType" in dep:
-                    yield dep["ImportType"][0]
-
-
-def url(place, package=0):
-    return f"{HOST}{package}/{place}.ts"
-
-
-def single(symbols, exports, **more):
-    return request(module(url(0), symbols, exports, **more))
-
 
 SHAPES = {}
 # Of the shapes from which more follows than they have bytes: about how many bytes that are, for each number.
@@ -229,6 +164,30 @@ def a_long_path_of_many_references(n):
 
 
 @shape
+def paths_of_many_references(n):
+    """Paths that are asked of a symbol of as many declarations, which all stand for one name of a file."""
+    return of_references(n, *([f"x{i}"] for i in range(1, n + 1)))
+
+
+@shape
+def a_long_name_of_many_references(n):
+    """A long name below such a symbol."""
+    return of_references(n, ["N" * (150 * n)])
+
+
+def paths_below(n, *decls):
+    """One declaration asks n paths of one name of a symbol with these declarations, which are aliases of another symbol."""
+    asks = definition(*([{"QualifiedId": [["s2", 1], [f"x{i}"]]}, "Type_"] for i in range(n)))
+    return single([symbol(1, asks), symbol(2, *decls), symbol(3, definition())], [["s1", 1]])
+
+
+@shape
+def paths_of_many_targets(n):
+    """Paths that are asked of a symbol of as many declarations, which are all aliases of one symbol."""
+    return paths_below(n, *[target("s3")] * n)
+
+
+@shape
 def path_through_aliases(n):
     """A path of names that is asked of the first of a chain of aliases."""
     last = [symbol(n, definition(is_ts_namespace=True), exports=[["N", n]])]
@@ -270,6 +229,15 @@ def declarations_of_a_symbol(n):
     return single([symbol(1, *[definition()] * n)], [["s1", 1]])
 
 
+@shape
+def parts_of_many_declarations(n):
+    """Parts that are asked of a namespace of as many declarations, none of which implements overloads."""
+    parts = [symbol(1 + i, definition(), parent=1, name=f"x{i}") for i in range(1, n + 1)]
+    asks = [symbol(n + 1 + i, part("s1", f"x{i}")) for i in range(1, n + 1)]
+    of = symbol(1, *[definition(is_ts_namespace=True)] * n, exports=[[f"x{i}", 1 + i] for i in range(1, n + 1)])
+    return single([of, *parts, *asks], [[f"s{n + 1 + i}", n + 1 + i] for i in range(1, n + 1)])
+
+
 OUTSIDE = decl({"Definition": {}}, range=[20, 29])
 
 
@@ -287,8 +255,23 @@ def properties_of_one_symbol(n):
 
 
 @shape
+def one_property_of_many_functions(n):
+    """Functions that export one symbol of as many declarations, which are public with each."""
+    functions = [symbol(i, definition(is_function=True), exports=[["x", n + 1]]) for i in range(1, n + 1)]
+    return single([*functions, symbol(n + 1, *[OUTSIDE] * n, parent=1, name="x")], [[f"s{i}", i] for i in range(1, n + 1)])
+
+
+@shape
 def faults_of_references(n):
     return single([symbol(1, definition(is_ts_namespace=True)), *(symbol(i, part("s1", f"x{i}")) for i in range(2, n + 2))], [[f"s{i}", i] for i in range(2, n + 2)])
+
+
+@shape
+def faults_of_a_long_name(n):
+    """Equal faults that tell a long name."""
+    of = {**symbol(1, definition(is_ts_namespace=True), name="N"), "qualified_name": "N" * (150 * n)}
+    asks = [{**symbol(i, part("N", "x")), "qualified_name": "r"} for i in range(2, n + 2)]
+    return single([of, *asks], [[f"s{i}", i] for i in range(2, n + 2)])
 
 
 def assignment(name):
@@ -342,6 +325,13 @@ def slashes_at_the_end(n):
 def workspace_members(n):
     members = [{"name": f"@w/w{i}", "base": f"{HOST}w{i}/", "version": "1.0.0", "exports": [[".", "./m.ts"]]} for i in range(n)]
     return request(module(url(0), [], []), workspace_members=members, pending=[f"@w/w{i}@1.0.0" for i in range(n)])
+
+
+@shape
+def versions_of_a_member(n):
+    """Versions of a member of the workspace that has none, and as many exports: each version enters all of them."""
+    member = {"name": "@w/w", "base": "file:///w/", "exports": [[f"{i}", "./m.ts"] for i in range(n)]}
+    return request(module("file:///w/m.ts", [symbol(1, definition())], [["s1", 1]]), workspace_members=[member], pending=[f"@w/w@0.0.{i}" for i in range(n)])
 
 
 @shape
@@ -484,54 +474,6 @@ def faults_found_in_turns(n):
     return chain_to(n, lambda i: [f"a{i}"], names_that_ask("B", n, big, symbol(n + 2, definition(is_ts_namespace=True), name="N")))
 
 
-# Trees, whose places count only where they are public.
-NOWHERE = [0, 0]
-
-
-def span(i):
-    return [10 * i + 1, 10 * i + 8]
-
-
-def ident(name):
-    return {"span": NOWHERE, "ctxt": 2, "sym": name}
-
-
-ONE = {"Lit": {"Num": {"span": NOWHERE, "raw": "1"}}}
-
-
-def exported_const(i, name, value):
-    """`export const name = value;` at span(i)."""
-    declarator = {"span": span(i), "name": {"Ident": {"id": ident(name)}}, "init": value}
-    return {"ModuleDecl": {"ExportDecl": {"span": span(i), "decl": {"Var": {"span": span(i), "kind": "Const", "decls": [declarator]}}}}}
-
-
-def assigned(i, name, key):
-    """`name.key = 1;` at span(i)."""
-    member = {"Member": {"span": NOWHERE, "obj": {"Ident": ident(name)}, "prop": {"Ident": {"span": NOWHERE, "sym": key}}}}
-    assign = {"span": span(i), "op": "=", "left": {"Simple": member}, "right": ONE}
-    return {"Stmt": {"Expr": {"span": span(i), "expr": {"Assign": assign}}}}
-
-
-def imported(i, text, name):
-    """`import name from "text";` at span(i)."""
-    specifier = {"Default": {"span": span(i), "local": ident(name)}}
-    return {"ModuleDecl": {"Import": {"span": span(i), "specifiers": [specifier], "src": {"span": NOWHERE, "value": text}, "phase": "evaluation"}}}
-
-
-def tree_module(body, symbols=(), ids=(), specifier="file:///p/mod.ts"):
-    source = {"media_type": "TypeScript", "text": "", "program": {"Module": {"span": [1, 9], "body": body}}, "comments": {}, "unresolved_context": 1}
-    return {"specifier": specifier, "source": source, "module_symbol": 0, "symbols": [{"id": 0}, *symbols], "swc_ids": list(ids)}
-
-
-def transform(body, ranges, symbols=(), ids=(), specifier="file:///p/mod.ts", graph=None):
-    """A request of `transform` for a module of these items and symbols, with these ranges public."""
-    return {"module": tree_module(body, symbols, ids, specifier), "ranges": list(ranges), "graph": graph or {}}
-
-
-# A declaration in few bytes.
-FEW = {"kind": {"Definition": None}}
-
-
 @shape_of("transform")
 def new_of_many_declarations(n):
     """Expressions `new C()`, and declarations of C: one may be of a class without type parameters."""
@@ -634,6 +576,47 @@ def two_packages_of_each_other(n):
     return request(*(each(i, p) for i in range(n) for p in (0, 1)), packages=2)
 
 
+def wants(texts, own, resolved, *modules, exports=()):
+    """A request in which the module of the URL `own` asks for a name by each of these texts, all of which resolve so; and these modules more."""
+    asked = definition(*(import_type(text, f"s{i}") for i, text in enumerate(texts)))
+    made = request(module(own, [symbol(1, asked)], [["s1", 1]]), *modules, exports=exports)
+    made["graph"]["resolutions"] = [[own, text, resolved] for text in dict.fromkeys(texts)]
+    return made
+
+
+def file_texts(n):
+    return [f"./{i}.ts" for i in range(n)]
+
+
+def one_name(at):
+    return module(at, [symbol(1, definition())], [["s1", 1]])
+
+
+@shape
+def wants_of_a_long_member(n):
+    """Texts by which files are named, of a member of the workspace with a long name."""
+    member = {"name": "@w/" + "w" * (100 * n), "base": "file:///w/", "version": "1.0.0"}
+    return {**wants(file_texts(n), url(0), "file:///w/b.ts"), "workspace_members": [member]}
+
+
+@shape
+def references_of_a_long_url(n):
+    """Texts in a module with a long URL."""
+    long = "a" * (100 * n)
+    made = wants(file_texts(n), url(long), "https://b.example/", exports=[[".", f"./{long}.ts"]])
+    del made["graph"]["resolutions"][1:]
+    return made
+
+
+@shape
+def entry_points_of_a_long_base(n):
+    """Export texts of a package with a long URL, to which they are joined."""
+    base = HOST + "a" * (25 * n) + "/"
+    made = request(one_name(base + "0.ts"), exports=[[f"{i}", "./0.ts"] for i in range(n)])
+    made["provider"]["packages"] = [["@p/p0@1.0.0", base]]
+    return made
+
+
 # ---- more follows than they have bytes
 
 
@@ -673,22 +656,6 @@ def path_through_files(n):
     asks = [symbol(1, part("f", *["N"] * n)), symbol(2, file_ref(url(1), "N"), name="f")]
     through = [module(url(i), [symbol(1, file_ref(url(i + 1), "N"), name="N")], [["N", 1]]) for i in range(1, n)]
     return request(module(url(0), asks, [["s1", 1]]), *through, module(url(n), [symbol(1, definition(), name="N")], [["N", 1]]))
-
-
-def wants(texts, own, resolved, *modules, exports=()):
-    """A request in which the module of the URL `own` asks for a name by each of these texts, all of which resolve so; and these modules more."""
-    asked = definition(*(import_type(text, f"s{i}") for i, text in enumerate(texts)))
-    made = request(module(own, [symbol(1, asked)], [["s1", 1]]), *modules, exports=exports)
-    made["graph"]["resolutions"] = [[own, text, resolved] for text in dict.fromkeys(texts)]
-    return made
-
-
-def file_texts(n):
-    return [f"./{i}.ts" for i in range(n)]
-
-
-def one_name(at):
-    return module(at, [symbol(1, definition())], [["s1", 1]])
 
 
 @shape_by(lambda n: 100 * n * n)

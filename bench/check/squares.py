@@ -21,9 +21,11 @@ sys.dont_write_bytecode = True
 sys.path[:0] = [os.path.join(os.path.dirname(os.path.dirname(os.path.abspath(__file__))), folder) for folder in ("rules", "cases", "check", "time")]
 
 from shapes import (
-    FEW, HOST, MOST_EXPONENT, alias_urls, chain_to, covered, decl, definition, exponent, exports_of, file_ref, file_texts, import_type, imported,
-    in_three_sizes, measured, module, of_references, one_name, part, request, row, single, span, spent, symbol, target, transform, under_aliases, url,
-    wants,
+    MOST_EXPONENT, alias_urls, chain_to, covered, exponent, exports_of, in_three_sizes, measured, one_name, paths_below, row, spent,
+    under_aliases, wants,
+)
+from tables import (
+    FEW, HOST, decl, definition, file_ref, import_type, imported, module, part, request, single, span, symbol, target, transform, url,
 )
 
 FIRST, LEAST_SECONDS, RUNS = 125, 0.04, 2
@@ -117,41 +119,6 @@ def aliases_of_import_types(n):
 # ---- all declarations of a symbol are gone through for each of those that lead to it
 
 
-@known(first=4000)
-def parts_of_many_declarations(n):
-    """Parts that are asked of a namespace times its declarations: one may be an implementation of overloads (fast_check_demands, `push_implementations`)."""
-    parts = [symbol(1 + i, definition(), parent=1, name=f"x{i}") for i in range(1, n + 1)]
-    asks = [symbol(n + 1 + i, part("s1", f"x{i}")) for i in range(1, n + 1)]
-    of = symbol(1, *[definition(is_ts_namespace=True)] * n, exports=[[f"x{i}", 1 + i] for i in range(1, n + 1)])
-    return single([of, *parts, *asks], [[f"s{n + 1 + i}", n + 1 + i] for i in range(1, n + 1)])
-
-
-@known(last=1000)
-def one_property_of_many_functions(n):
-    """Functions times the declarations of one symbol that each of them exports: those are public with each (fast_check_demands, `push_properties`)."""
-    outside = decl({"Definition": {}}, range=[20, 29])
-    functions = [symbol(i, definition(is_function=True), exports=[["x", n + 1]]) for i in range(1, n + 1)]
-    return single([*functions, symbol(n + 1, *[outside] * n, parent=1, name="x")], [[f"s{i}", i] for i in range(1, n + 1)])
-
-
-@known(last=1000)
-def paths_of_many_references(n):
-    """Paths that are asked of a symbol times its declarations, which all stand for one name of a file (fast_check_name_demands, `push_aliases`)."""
-    return of_references(n, *([f"x{i}"] for i in range(1, n + 1)))
-
-
-def paths_below(n, *decls):
-    """One declaration asks n paths of one name of a symbol with these declarations, which are aliases of another symbol."""
-    asks = definition(*([{"QualifiedId": [["s2", 1], [f"x{i}"]]}, "Type_"] for i in range(n)))
-    return single([symbol(1, asks), symbol(2, *decls), symbol(3, definition())], [["s1", 1]])
-
-
-@known(last=500)
-def paths_of_many_targets(n):
-    """Paths that are asked of a symbol times its declarations, which are all aliases of one symbol (fast_check_demands, `push_aliases`)."""
-    return paths_below(n, *[target("s3")] * n)
-
-
 @known(last=500)
 def paths_of_a_qualified_alias(n):
     """Paths that are asked of an alias of a path times the names of that: each of these is asked for with each (fast_check_demands, `push_parts`)."""
@@ -163,12 +130,6 @@ def levels_of_qualified_aliases(n):
     """The same of n such aliases, each of a path of n names below the next one: what is asked of one times the names of its own path (`push_parts`)."""
     aliases = [symbol(i, part(f"s{i + 1}", *(f"y{i}_{j}" for j in range(n)))) for i in range(2, n + 2)]
     return single([symbol(1, part("s2", "x")), *aliases, symbol(n + 2, definition())], [["s1", 1]])
-
-
-@known(first=1000)
-def a_long_name_of_many_references(n):
-    """The declarations of a symbol, which all stand for one name of a file, times the letters of a name below it (fast_check_search, `PathNumbers::noted`)."""
-    return of_references(n, ["N" * (150 * n)])
 
 
 # ---- what is no demand without names is gone through anew in each turn in which more is asked of a module
@@ -224,30 +185,7 @@ def no_re_export_in_turns(n):
 # ---- what many have in common is gone through for each of them
 
 
-@known(last=1000)
-def versions_of_a_member(n):
-    """Versions of a member of the workspace that has none times its exports: each version enters all of them (fast_check_entries, `entry_points`)."""
-    member = {"name": "@w/w", "base": "file:///w/", "exports": [[f"{i}", "./m.ts"] for i in range(n)]}
-    return request(module("file:///w/m.ts", [symbol(1, definition())], [["s1", 1]]), workspace_members=[member], pending=[f"@w/w@0.0.{i}" for i in range(n)])
-
-
 # ---- one long text is copied or compared for each of many
-
-
-@known(last=500)
-def wants_of_a_long_member(n):
-    """Texts that name a file times the bytes of its member's name, which is copied for each (fast_check_sources, `member_nv_of`)."""
-    member = {"name": "@w/" + "w" * (100 * n), "base": "file:///w/", "version": "1.0.0"}
-    return {**wants(file_texts(n), url(0), "file:///w/b.ts"), "workspace_members": [member]}
-
-
-@known(first=1000)
-def references_of_a_long_url(n):
-    """Texts in a module times the bytes of its URL, by which each is resolved (fast_check_graph, `ModuleGraph::resolutions_of`)."""
-    long = "a" * (100 * n)
-    made = wants(file_texts(n), url(long), "https://b.example/", exports=[[".", f"./{long}.ts"]])
-    del made["graph"]["resolutions"][1:]
-    return made
 
 
 @known(last=1000)
@@ -278,15 +216,6 @@ def parts_of_a_long_text(n):
     return made
 
 
-@known(last=1000)
-def entry_points_of_a_long_base(n):
-    """Export texts of a package times the bytes of its URL, to which each is joined (fast_check_entries, `join_all`)."""
-    base = HOST + "a" * (25 * n) + "/"
-    made = request(one_name(base + "0.ts"), exports=[[f"{i}", "./0.ts"] for i in range(n)])
-    made["provider"]["packages"] = [["@p/p0@1.0.0", base]]
-    return made
-
-
 @known(first=2000)
 def packages_of_a_long_fallback(n):
     """Packages that are not listed times the bytes of the URL of such, which is copied for each (fast_check_packages, `IndexedPackages::package_url`)."""
@@ -295,14 +224,6 @@ def packages_of_a_long_fallback(n):
     made["graph"]["packages"] = [[nv, [[".", url(0)]]] for nv in nvs]
     made["provider"]["fallback"] = HOST + "f" * (100 * n) + "/"
     return made
-
-
-@known(last=500)
-def faults_of_a_long_name(n):
-    """Equal faults times the bytes of the name that they tell: each has a copy of it before they come to be one (fast_check_findings, `fault_at`)."""
-    of = {**symbol(1, definition(is_ts_namespace=True), name="N"), "qualified_name": "N" * (150 * n)}
-    asks = [{**symbol(i, part("N", "x")), "qualified_name": "r"} for i in range(2, n + 2)]
-    return single([of, *asks], [[f"s{i}", i] for i in range(2, n + 2)])
 
 
 @known("transform")

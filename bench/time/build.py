@@ -27,8 +27,8 @@ import tempfile
 sys.dont_write_bytecode = True
 sys.path[:0] = [os.path.join(os.path.dirname(os.path.dirname(os.path.abspath(__file__))), folder) for folder in ("rules", "cases", "check", "time")]
 
+import tables
 from build_worlds import Module, World
-import shapes as tables
 from function_cases import ONE, const, func, if_
 from module_trees import export, export_all, import_, interface, named_export, named_import, property_signature
 from package_worlds import HOST
