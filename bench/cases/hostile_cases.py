@@ -19,7 +19,8 @@ def a_ring_of_re_exports_of_all(n):
                for url in urls]
     graph = {"modules": [[url, {"Js": {"media_type": "Mts"}}] for url in urls], "resolutions": [[url, "n", urls[(i + 1) % n]] for i, url in enumerate(urls)],
              "packages": [["@p/p@1.0.0", [[".", "./0"]]]]}
-    return {"graph": graph, "modules": modules, "provider": {"fallback": "http://a/", "packages": [["@p/p@1.0.0", "http://a/"]]}, "pending": ["@p/p@1.0.0"]}, sorted(urls)
+    provider = {"fallback": "http://a/", "packages": [["@p/p@1.0.0", "http://a/"]]}
+    return {"graph": graph, "modules": modules, "provider": provider, "pending": ["@p/p@1.0.0"]}, sorted(urls)
 
 
 def exports_of_a_symbol(n):
@@ -39,7 +40,8 @@ def a_long_name(size):
 
 def a_class_among_its_own_members(n):
     """A class that lists itself, a member that lists its class, and two aliases of each other."""
-    symbols = [tables.symbol(1, tables.definition(is_class=True), members=[1, 2] * n), tables.symbol(2, tables.definition(is_member=True), parent=1, members=[1]),
+    symbols = [tables.symbol(1, tables.definition(is_class=True), members=[1, 2] * n),
+               tables.symbol(2, tables.definition(is_member=True), parent=1, members=[1]),
                tables.symbol(3, tables.target("s4")), tables.symbol(4, tables.target("s3"))]
     return tables.single(symbols, [["s1", 1], ["s3", 3]])
 
@@ -130,6 +132,10 @@ CASES = [
     ("hostile_properties_of_one_symbol", shapes.properties_of_one_symbol(50), ONE),
     ("hostile_one_property_of_many_functions", shapes.one_property_of_many_functions(50), ONE),
     ("hostile_paths_of_many_references", shapes.paths_of_many_references(50), TWO),
+    ("hostile_paths_of_many_targets", shapes.paths_of_many_targets(50), ONE),
+    ("hostile_levels_of_qualified_aliases", squares.levels_of_qualified_aliases(6), ONE),
+    ("hostile_versions_of_a_member", shapes.versions_of_a_member(50), ["file:///w/m.ts"]),
+    ("hostile_aliases_of_a_module", shapes.aliases_of_a_module(20), TWO),
     # a name behind re-exports of all, and one that none of them has: then what they lead to is asked for nothing
     ("hostile_names_of_many_re_exports", shapes.names_of_many_re_exports(50), sorted(tables.url(place) for place in range(52))),
     ("hostile_names_that_no_re_export_has", shapes.names_that_no_re_export_has(50), TWO),
@@ -138,6 +144,10 @@ CASES = [
     ("hostile_names_asked_in_turns", shapes.names_asked_in_turns(50), [*IN_TURNS, tables.url("m")]),
     ("hostile_chain_asked_from_its_end", shapes.chain_asked_from_its_end(50), [*IN_TURNS, tables.url("m")]),
     ("hostile_files_asked_in_turns", shapes.files_asked_in_turns(50), sorted([*IN_TURNS, tables.url(51), tables.url("m")])),
+    ("hostile_declarations_asked_in_turns", squares.declarations_asked_in_turns(50), [*IN_TURNS, tables.url("m")]),
+    ("hostile_one_property_in_turns", squares.one_property_in_turns(50), [*IN_TURNS, tables.url("m")]),
+    ("hostile_re_exports_in_turns", squares.re_exports_in_turns(50), sorted([*IN_TURNS, tables.url("m"), *(tables.url(f"m{i}") for i in range(1, 51))])),
+    ("hostile_no_re_export_in_turns", squares.no_re_export_in_turns(50), [*IN_TURNS, tables.url("m")]),
     ("hostile_urls_beside_bases", shapes.urls_beside_bases(50), ONE),
     ("hostile_entry_points_of_a_long_package", shapes.entry_points_of_a_long_package(50), ONE),
     ("hostile_long_name", *a_long_name(100_000)),

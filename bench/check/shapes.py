@@ -2,8 +2,8 @@
 """Hostile shapes of tables and requests through the program, in three sizes each: does its time grow with the input, or faster?
 
 A line for each shape: the largest number, its megabytes, the status, the processor seconds of the three sizes (each twice the one before; of three runs
-the quickest), the bytes held a byte of the largest, and the exponent by which seconds grow with bytes, fitted to the three. The first size is doubled until a run takes
-a tenth of a second, or the input has 4 MB. An exponent above 1.2 is told, and so is a run that ends by a signal; then the status is 1.
+the quickest), the bytes held a byte of the largest, and the exponent by which seconds grow with bytes, fitted to the three. The first size is doubled until
+a run takes a tenth of a second, or the input has 4 MB. An exponent above 1.2 is told, and so is a run that ends by a signal; then the status is 1.
 
 From some shapes more follows than they have bytes: as much as the product of two of their lengths. What follows are the demands of the account
 (docs/ARCHITECTURE.md), each written out with its package, the URL of its module and its names, and the items of trees that are gone through. Of these
@@ -263,7 +263,8 @@ def one_property_of_many_functions(n):
 
 @shape
 def faults_of_references(n):
-    return single([symbol(1, definition(is_ts_namespace=True)), *(symbol(i, part("s1", f"x{i}")) for i in range(2, n + 2))], [[f"s{i}", i] for i in range(2, n + 2)])
+    asks = [symbol(i, part("s1", f"x{i}")) for i in range(2, n + 2)]
+    return single([symbol(1, definition(is_ts_namespace=True)), *asks], [[f"s{i}", i] for i in range(2, n + 2)])
 
 
 @shape
@@ -745,7 +746,7 @@ def measure(program, name):
 
 
 def measured(words, usage, names, measure, counted, missed):
-    """Measures the shapes that the words name behind a program, or all, and prints how many there are and how many are not as they should be. Answers a status."""
+    """Measures the shapes that the words name behind a program, or all. Prints how many there are and how many are not as they should be. Answers a status."""
     if not words or any(word not in names for word in words[1:]):
         print(usage + "\nShapes: " + " ".join(names))
         return 2

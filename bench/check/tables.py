@@ -46,8 +46,9 @@ def request(*modules, packages=1, exports=(), versions=(), **more):
     """A request of `build` with these modules, in which each URL resolves to itself."""
     texts = {(url, text) for url, part in modules for text in texts_of(part["Esm"])}
     bases = [[f"@p/p{p}@1.0.0", f"{HOST}{p}/"] for p in range(packages)] + list(versions)
-    return {"graph": {"modules": [[url, {"Js": {"media_type": "TypeScript"}}] for url, _ in modules], "resolutions": [[url, text, text] for url, text in sorted(texts)],
-                      "packages": [[nv, list(exports) or [[".", "./0.ts"]]] for nv, _ in bases]},
+    graph = {"modules": [[url, {"Js": {"media_type": "TypeScript"}}] for url, _ in modules], "resolutions": [[url, text, text] for url, text in sorted(texts)],
+             "packages": [[nv, list(exports) or [[".", "./0.ts"]]] for nv, _ in bases]}
+    return {"graph": graph,
             "modules": list(modules), "provider": {"fallback": HOST, "packages": bases}, "pending": ["@p/p0@1.0.0"], **more}
 
 
