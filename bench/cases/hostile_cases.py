@@ -118,7 +118,7 @@ CASES = [
     # longer than the stack would hold by a call for each name
     ("hostile_path_behind_a_file", shapes.path_behind_a_file(70_000, "Name"), TWO),
     ("hostile_paths_that_part_behind_a_file", shapes.paths_that_part_behind_a_file(50), TWO),
-    ("hostile_path_through_files", shapes.path_through_files(50), sorted(tables.url(place) for place in range(51))),
+    ("hostile_path_through_files", squares.path_through_files(50), sorted(tables.url(place) for place in range(51))),
     ("hostile_path_through_aliases", shapes.path_through_aliases(50), ONE),
     ("hostile_parts_through_aliases", shapes.parts_through_aliases(50), ONE),
     ("hostile_askers_through_aliases", shapes.askers_through_aliases(50), ONE),

@@ -651,17 +651,9 @@ def packages_of_an_alias(n):
     return made
 
 
-@shape_by(lambda n: 2 * n * n + 3 * DEMAND * n)
-def path_through_files(n):
-    """Modules in a chain, each of which asks the next one for a path: each is asked for all that is left of its names."""
-    asks = [symbol(1, part("f", *["N"] * n)), symbol(2, file_ref(url(1), "N"), name="f")]
-    through = [module(url(i), [symbol(1, file_ref(url(i + 1), "N"), name="N")], [["N", 1]]) for i in range(1, n)]
-    return request(module(url(0), asks, [["s1", 1]]), *through, module(url(n), [symbol(1, definition(), name="N")], [["N", 1]]))
-
-
-@shape_by(lambda n: 100 * n * n)
+@shape
 def wants_of_a_long_package(n):
-    """Texts by which names of a module are asked for, whose package has a long name: each demand has that name."""
+    """Texts by which names of a module are asked for, whose package has a long name."""
     return renamed(wants(file_texts(n), url(0), url("m"), one_name(url("m"))), "@p/" + "p" * (100 * n) + "@1.0.0")
 
 

@@ -185,6 +185,15 @@ def no_re_export_in_turns(n):
 # ---- what many have in common is gone through for each of them
 
 
+@known(last=500)
+def path_through_files(n):
+    """Modules in a chain, each of which asks the next one for a path, times the names of the path: each is asked for all that is left of it, which its set of
+    names holds (fast_check_sources, `exports_to_ask`)."""
+    asks = [symbol(1, part("f", *["N"] * n)), symbol(2, file_ref(url(1), "N"), name="f")]
+    through = [module(url(i), [symbol(1, file_ref(url(i + 1), "N"), name="N")], [["N", 1]]) for i in range(1, n)]
+    return request(module(url(0), asks, [["s1", 1]]), *through, module(url(n), [symbol(1, definition(), name="N")], [["N", 1]]))
+
+
 # ---- one long text is copied or compared for each of many
 
 
