@@ -1,9 +1,10 @@
 pub use Rattle.fast_check_symbol_demands.proofs.EachAt
 pub mod Touched
 pub mod Adds
-mod Elements
+pub mod Elements
 pub mod Joins
 mod OneMore
 mod Outside
 pub mod Yielded
 pub mod Aliased
+pub mod OwnParts

@@ -4,5 +4,6 @@ pub use Rattle.fast_check_symbol_demands.specs.Demands
 pub use Rattle.fast_check_symbol_demands.specs.Decls
 pub use Rattle.fast_check_symbol_demands.specs.Rules
 pub mod Yields
+pub mod Parts
 pub mod Noted
 pub mod Account

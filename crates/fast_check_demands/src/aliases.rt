@@ -5,34 +5,14 @@ ghost use Rattle.std.specs.Option.{option_copied};
 ghost use Rattle.fast_check_names.specs.Names.{path_of};
 ghost use Rattle.fast_check_symbol_demands.specs.symbols.Symbols.{symbol_of};
 ghost use Rattle.fast_check_symbol_demands.specs.Demands.{demand_of};
-ghost use Rattle.fast_check_symbol_demands.specs.Rules.{each_of, qualified, parts_names, alias_names, member_names, prototype_names, export_names, first_names, path_names};
+ghost use Rattle.fast_check_symbol_demands.specs.Rules.{each_of, qualified, member_names, prototype_names, export_names, first_names};
+ghost use Rattle.fast_check_demands.specs.Parts.{passed_on, path_rest};
 ghost use Rattle.fast_check_demands.specs.Yields.{Adds};
 
 use crate::names::is_prototype;
 use fast_check_symbol_demands::symbols::{CheckedTables, SymbolDeclKind, SymbolDecls, SymbolId};
 use fast_check_symbol_demands::{Demands, Extent, SymbolDemand, bound, push_path, push_references};
 use std::alloc::AllocError;
-use std::slice;
-
-fn push_parts<'a>(
-    demand: SymbolDemand<'_>,
-    symbol: SymbolId,
-    parts: &'a [String],
-    out: &mut Demands<'a>,
-) -> Result<(), AllocError>
-    ensures { OnOk result (out.new ≡ out.old ++ parts_names (demand_of demand.entry) symbol parts.now) }
-{
-    for part in parts {
-        push_path(
-            symbol,
-            slice::from_ref(part),
-            Extent::Whole,
-            demand.referrer,
-            out,
-        )?;
-    }
-    Ok(())
-}
 
 fn push_path_at<'a>(
     demand: SymbolDemand<'_>,
@@ -49,47 +29,20 @@ fn push_path_at<'a>(
     }
 }
 
-fn push_path_and_parts<'a>(
-    demand: SymbolDemand<'_>,
-    symbol: Option<SymbolId>,
-    names: &'a [String],
-    extent: Extent,
-    parts: &'a [String],
-    out: &mut Demands<'a>,
-) -> Result<(), AllocError>
-    ensures { OnOk result (out.new ≡ out.old ++ each_of (λ x. qualified x (path_of names.now) extent demand.entry.referrer ∷
-        parts_names (demand_of demand.entry) x parts.now) symbol) }
-{
-    match symbol {
-        None => Ok(()),
-        Some(symbol) => {
-            push_path(symbol, names, extent, demand.referrer, out)?;
-            push_parts(demand, symbol, parts, out)
-        }
-    }
-}
-
+/// Pushes the path that is asked of an alias, for what that stands for.
 fn push_alias<'a>(
     tables: &CheckedTables,
     demand: SymbolDemand<'_>,
     names: &'a [String],
     extent: Extent,
-    kind: &'a SymbolDeclKind,
+    kind: &SymbolDeclKind,
     out: &mut Demands<'a>,
 ) -> Result<(), AllocError>
-    ensures { OnOk result (out.new ≡ out.old ++ alias_names tables.now (demand_of demand.entry) (path_of names.now) extent kind.now) }
+    ensures { OnOk result (out.new ≡ out.old ++ passed_on tables.now (demand_of demand.entry) (path_of names.now) extent kind.now) }
 {
     match kind {
-        SymbolDeclKind::Target(id) => push_path_at(demand, bound(tables, id), names, extent, out),
-        SymbolDeclKind::QualifiedTarget(id, parts) => {
-            push_path_and_parts(
-                demand,
-                bound(tables, id),
-                names,
-                extent,
-                parts.as_slice(),
-                out,
-            )
+        SymbolDeclKind::Target(id) | SymbolDeclKind::QualifiedTarget(id, _) => {
+            push_path_at(demand, bound(tables, id), names, extent, out)
         }
         SymbolDeclKind::FileRef { .. } | SymbolDeclKind::Definition(_) => Ok(()),
     }
@@ -100,11 +53,11 @@ fn push_alias_at<'a>(
     demand: SymbolDemand<'_>,
     names: &'a [String],
     extent: Extent,
-    kind: Option<&'a SymbolDeclKind>,
+    kind: Option<&SymbolDeclKind>,
     out: &mut Demands<'a>,
 ) -> Result<(), AllocError>
     ensures { OnOk result (out.new ≡ out.old ++
-        each_of (alias_names tables.now (demand_of demand.entry) (path_of names.now) extent) (option_copied kind.entry)) }
+        each_of (passed_on tables.now (demand_of demand.entry) (path_of names.now) extent) (option_copied kind.entry)) }
 {
     match kind {
         None => Ok(()),
@@ -112,16 +65,16 @@ fn push_alias_at<'a>(
     }
 }
 
-/// Pushes what the aliases among declarations demand: what several of them stand for, once.
+/// Pushes the path that is asked of the aliases among declarations, for what they stand for.
 fn push_aliases<'a>(
     tables: &CheckedTables,
     demand: SymbolDemand<'_>,
     names: &'a [String],
     extent: Extent,
-    decls: &'a SymbolDecls,
+    decls: &SymbolDecls,
     out: &mut Demands<'a>,
 ) -> Result<(), AllocError>
-    ensures { OnOk result (Adds (flat_map (λ x. alias_names tables.now (demand_of demand.entry) (path_of names.now) extent x.kind) decls.now.items)
+    ensures { OnOk result (Adds (flat_map (λ x. passed_on tables.now (demand_of demand.entry) (path_of names.now) extent x.kind) decls.now.items)
         out.old out.new) }
 {
     for place in decls.alias_places() {
@@ -262,7 +215,7 @@ fn push_first<'a>(
     )
 }
 
-/// Pushes what a path below the symbol of a demand demands. What several of its declarations demand is pushed once.
+/// Pushes what a path below the symbol of a demand demands, without the own parts of aliases.
 pub fn push_path_demands<'a>(
     tables: &'a CheckedTables,
     demand: SymbolDemand<'_>,
@@ -270,7 +223,7 @@ pub fn push_path_demands<'a>(
     extent: Extent,
     out: &mut Demands<'a>,
 ) -> Result<(), AllocError>
-    ensures { OnOk result (Adds (each_of (λ s. path_names tables.now (demand_of demand.entry) (path_of names.now) extent s)
+    ensures { OnOk result (Adds (each_of (λ s. path_rest tables.now (demand_of demand.entry) (path_of names.now) extent s)
         (symbol_of demand.entry.symbol tables.now.symbols)) out.old out.new) }
 {
     let Some(symbol) = tables.symbol(demand.symbol) else {

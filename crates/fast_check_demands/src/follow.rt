@@ -1,8 +1,9 @@
-//! All that follows from one demand of a module.
+//! What follows from one demand of a module.
 ghost use Rattle.std.specs.Prelude.{◌≡◌, [], ◌++◌, IfOk, OnOk};
 ghost use Rattle.fast_check_symbol_demands.specs.Demands.{demand_of};
-ghost use Rattle.fast_check_symbol_demands.specs.Rules.{each_of, names, symbol_names};
+ghost use Rattle.fast_check_symbol_demands.specs.Rules.{each_of, symbol_names};
 ghost use Rattle.fast_check_symbol_demands.specs.symbols.Symbols.{symbol_of};
+ghost use Rattle.fast_check_demands.specs.Parts.{names_beside};
 ghost use Rattle.fast_check_demands.specs.Yields.{Adds};
 
 use crate::aliases::push_path_demands;
@@ -25,13 +26,13 @@ fn push_symbol_of<'a>(
     }
 }
 
-/// The demands that follow from a demand within its module, in order. What several declarations of a symbol demand for a path stands there once.
+/// The demands that follow from a demand within its module, without the own parts of aliases (`own_parts_of`).
 pub fn demands_of<'a>(
     alloc: Global,
     tables: &'a CheckedTables,
     demand: SymbolDemand<'a>,
 ) -> Result<Demands<'a>, AllocError>
-    ensures { IfOk result (λ out. Adds (names tables.now (demand_of demand.entry)) [] out) }
+    ensures { IfOk result (λ out. Adds (names_beside tables.now (demand_of demand.entry)) [] out) }
 {
     let mut out = Demands::new(alloc);
     match demand.ask {

@@ -6,6 +6,7 @@ mod fault;
 mod follow;
 mod names;
 mod noted;
+mod parts;
 mod public;
 
 pub use fast_check_symbol_demands as symbol_demands;
@@ -15,4 +16,5 @@ pub use fast_check_syntax::SourceRange;
 pub use fault::{DemandFaultKind, SymbolFault, fault_of};
 pub use follow::demands_of;
 pub use noted::NotedSymbols;
+pub use parts::own_parts_of;
 pub use public::{push_implementations, push_ranges};

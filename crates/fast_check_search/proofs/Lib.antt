@@ -7,6 +7,7 @@ pub mod Numbering
 pub mod Rests
 pub mod FileRests
 pub mod Wants
+pub mod OwnParts
 pub mod Compared
 pub mod Kept
 pub mod Own

@@ -2,6 +2,7 @@ pub mod Numbers
 pub mod Done
 pub mod SymbolWorklist
 pub mod Wanted
+pub mod Parts
 pub mod Found
 pub mod Nameless
 pub mod Searched

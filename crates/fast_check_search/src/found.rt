@@ -7,11 +7,13 @@ ghost use Rattle.fast_check_search.specs.Found.{IsFound, Gains, AreTableRanges};
 ghost use Rattle.fast_check_search.specs.Searched.{IsContinued, IsKeptWith};
 ghost use Rattle.fast_check_search.specs.Done.{IsNumbered};
 ghost use Rattle.fast_check_search.specs.Numbers.{IsNumbering, Keeps};
+ghost use Rattle.fast_check_search.specs.Parts.{ArePartsCovered};
 ghost use Rattle.fast_check_search.specs.SymbolWorklist.{demanded, asked, IsKept, Grows, CoversEach};
 ghost use Rattle.fast_check_search.specs.Wanted.{AreWanted};
 
 use crate::done::NumberedDemand;
 use crate::numbers::{NumberedPath, PathNumbers};
+use crate::parts::{PathAsker, ask_parts};
 use crate::searched::Searched;
 use crate::wanted::{DoneWant, add_files};
 use crate::worklist::{SymbolWorklist, asked_path};
@@ -96,12 +98,15 @@ fn ask_named<'a>(
     tables: &'a CheckedTables,
     before: &Searched,
     demand: NumberedDemand<'a>,
+    met: &mut BTreeSet<PathAsker>,
     work: &mut SymbolWorklist<'a>,
 ) -> Result<(), AllocError>
     requires kept { IsKept work.old }
     requires number { IsNumbered work.old.paths (demanded demand) demand.path }
+    requires met { ArePartsCovered tables.now met.old (before.now ++ asked work.old) }
     ensures kept { OnOk result (IsKept work.new) }
     ensures numbers { OnOk result (Keeps work.old.paths work.new.paths) }
+    ensures met { OnOk result (ArePartsCovered tables.now met.new (before.now ++ asked work.new)) }
     ensures grown { OnOk result (Grows (names tables.now (demanded demand.entry)) (asked work.old) (asked work.new)) }
     ensures covered { OnOk result (CoversEach (names tables.now (demanded demand.entry)) (before.now ++ asked work.new)) }
 {
@@ -111,7 +116,9 @@ fn ask_named<'a>(
         names: asked_path(demand.ask),
         number: path,
     };
-    work.ask_all(before, path, named.as_slice())
+    work.ask_all(before, path, named.as_slice())?;
+    ask_parts(alloc, tables, before, demand, met, work)?;
+    Ok(())
 }
 
 /// All that follows from these demands within a module, and did not follow from those of earlier searches of it: what it makes public, what is wrong
@@ -134,6 +141,7 @@ pub fn search<'a>(
     let mut found = Found::new(alloc);
     let mut noted = NotedSymbols::new(alloc);
     let mut wanted = BTreeSet::new(alloc);
+    let mut met = BTreeSet::new(alloc);
     let mut next = 0;
     while next < work.len() {
         let demand = work.at(next);
@@ -145,7 +153,7 @@ pub fn search<'a>(
             &mut noted,
             &mut wanted,
         )?;
-        ask_named(alloc, tables, &before, demand, &mut work)?;
+        ask_named(alloc, tables, &before, demand, &mut met, &mut work)?;
         next += 1;
     }
     noted.push_all(tables, &mut found.ranges)?;

@@ -5,6 +5,7 @@ mod done;
 mod found;
 mod nameless;
 mod numbers;
+mod parts;
 mod searched;
 mod wanted;
 mod worklist;

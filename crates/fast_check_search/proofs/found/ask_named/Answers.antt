@@ -1,28 +1,50 @@
-use Rattle.std.proofs.Common.{◌∙◌, sym, subst, List}
+use Rattle.std.proofs.Common.{◌∙◌, sym, subst, ⊎_elim, List}
 use Rattle.std.specs.List.{Contains}
-use Rattle.std.proofs.lemmas.Result.{on_ok_weaker}
 use Rattle.fast_check_names.specs.Names.{Path}
 use Rattle.fast_check_name_demands.specs.demands.Demands.{Demand}
+use Rattle.fast_check_name_demands.specs.demands.Parts.{names_beside, parts_beside}
+use Rattle.fast_check_name_demands.specs.demands.Rules.{names}
+use Rattle.fast_check_demands.proofs.OwnParts.{names_are}
 use Rattle.fast_check_search.specs.Done.{asked_path}
 use Rattle.fast_check_search.specs.Numbers.{Follows}
-use Rattle.fast_check_search.specs.SymbolWorklist.{demanded}
-use Rattle.fast_check_search.proofs.Closure.{grows_within}
+use Rattle.fast_check_search.specs.SymbolWorklist.{demanded, asked}
+use Rattle.fast_check_search.proofs.Closure.{grows_within, grows_more, grows_covers}
+use Rattle.fast_check_search.proofs.OwnParts.{parts_kept}
 use Rattle.fast_check_search.proofs.Rests.{follow}
 use Rattle.fast_check_search.proofs.found.ask_named.Goals as goal
 
 pub ask_all-requires-clause-follow : goal.ask_all-requires-clause-follow
 ask_all-requires-clause-follow c d h =
+    let t = c.args.tables.now in
+    let x = demanded c.args.demand in
     subst (λ (p : Path). Follows p (asked_path d.asked)) (sym c.asked_path.ensures)
-    (follow c.args.tables.now (demanded c.args.demand) d
-    (c.in_ok-named.ensures.parts d (subst (λ (ds : List Demand). Contains ds d) (c.as_slice.ensures ∙ c.in_ok-named.ensures.is) h)))
+    (follow t x d ((names_are t x d).1
+    (c.in_ok-named.ensures.parts d (subst (λ (ds : List Demand). Contains ds d) (c.as_slice.ensures ∙ c.in_ok-named.ensures.is) h))))
+
+pub ask_parts-requires-clause-met : goal.ask_parts-requires-clause-met
+ask_parts-requires-clause-met c = parts_kept c.args.tables.now c.args.met.now _ c.args.before.now (asked c.args.work.now) (asked c.ask_all.new.self)
+    c.in_ok-ask_all.ensures.grown c.requires.met
 
 pub returns-clause-grown : goal.returns-clause-grown
-returns-clause-grown c = on_ok_weaker c.ask_all.result
-    (λ g. grows_within _ _ _ _ (λ d h. c.in_ok-named.ensures.parts d
-    (subst (λ (ds : List Demand). Contains ds d) (c.as_slice.ensures ∙ c.in_ok-named.ensures.is) h)) g)
-    c.ask_all.ensures.grown
+returns-clause-grown c =
+    let t = c.args.tables.now in
+    let x = demanded c.args.demand in
+    let these = parts_beside t x.symbol x.referrer x.asked in
+    grows_more (names t x) (asked c.args.work.now) (asked c.ask_all.new.self) (asked c.ask_parts.new.work)
+    (grows_within _ (names t x) _ _ (λ d h. (names_are t x d).1
+    (c.in_ok-named.ensures.parts d (subst (λ (ds : List Demand). Contains ds d) (c.as_slice.ensures ∙ c.in_ok-named.ensures.is) h)))
+    c.in_ok-ask_all.ensures.grown)
+    (grows_within these (names t x) _ _ (λ d h. (names_are t x d).2 h) c.in_ok-ask_parts.ensures.grown)
 
 pub returns-clause-covered : goal.returns-clause-covered
-returns-clause-covered c = on_ok_weaker c.ask_all.result
-    (λ all d h. all d (subst (λ (ds : List Demand). Contains ds d) (sym c.as_slice.ensures) (c.in_ok-named.ensures.whole d h)))
-    c.ask_all.ensures.covered
+returns-clause-covered c d h =
+    let t = c.args.tables.now in
+    let x = demanded c.args.demand in
+    let these = parts_beside t x.symbol x.referrer x.asked in
+    ⊎_elim
+    (λ (rest : Contains (names_beside t x) d). grows_covers these c.args.before.now (asked c.ask_all.new.self) (asked c.ask_parts.new.work) d
+    c.in_ok-ask_parts.ensures.grown
+    (c.in_ok-ask_all.ensures.covered d
+    (subst (λ (ds : List Demand). Contains ds d) (sym c.as_slice.ensures) (c.in_ok-named.ensures.whole d rest))))
+    (λ (own : Contains these d). c.in_ok-ask_parts.ensures.covered d own)
+    ((names_are t x d).0 h)

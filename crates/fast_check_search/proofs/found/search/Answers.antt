@@ -5,6 +5,7 @@ use Rattle.std.proofs.lemmas.Option.{get_or_from_slice_get}
 use Rattle.fast_check_name_demands.specs.demands.Demands.{Demand, demand_of}
 use Rattle.fast_check_name_demands.specs.demands.Noted.{public_ranges}
 use Rattle.fast_check_name_demands.specs.demands.Yields.{fault_seen}
+use Rattle.fast_check_search.specs.contracts.parts.PathAskerOrd.TheImpl as asker_order
 use Rattle.fast_check_search.specs.contracts.wanted.DoneWantOrd.TheImpl as wanted_order
 use Rattle.fast_check_search.specs.declared.worklist.SymbolWorklist.{SymbolWorklist}
 use Rattle.fast_check_search.specs.Done.{asked_path}
@@ -17,6 +18,7 @@ use Rattle.fast_check_search.proofs.Closure.{begun, turned, ended, nothing_found
 use Rattle.fast_check_search.proofs.Inside.{few_asked}
 use Rattle.fast_check_search.proofs.Kept.{kept_numbered}
 use Rattle.fast_check_search.proofs.Numbering.{number_kept}
+use Rattle.fast_check_search.proofs.OwnParts.{parts_none}
 use Rattle.fast_check_search.proofs.Own.{own_found, own_found_implementations}
 use Rattle.fast_check_search.proofs.Wants.{wanted_none, wanted_kept}
 use Rattle.fast_check_search.proofs.found.search.Goals as goal
@@ -39,6 +41,8 @@ loop-next-init c =
       kept = a.kept;
       wanted = wanted_none c.ask_all.new.self.paths c.new-wanted.result c.new-found.result.files
           (λ k. ap (list_any (is_at (wanted_order.cmp-value.it k))) c.new-wanted.ensures.empty);
+      met = parts_none t c.new-met.result (c.args.before ++ asked c.ask_all.new.self)
+          (λ a. ap (list_any (is_at (asker_order.cmp-value.it a))) c.new-met.ensures.empty);
     }
 
 pub ask_named-requires-clause-kept : goal.ask_named-requires-clause-kept
@@ -50,6 +54,9 @@ ask_named-requires-clause-kept c =
 pub ask_named-requires-clause-number : goal.ask_named-requires-clause-number
 ask_named-requires-clause-number c = number_kept c.loop-next.work.paths c.add.new.paths c.in_ok-add.ensures.numbers
     (asked_path (demanded c.at-demand.result).asked) c.at-demand.result.path c.at-demand.ensures.number
+
+pub ask_named-requires-clause-met : goal.ask_named-requires-clause-met
+ask_named-requires-clause-met c = c.loop-next.invariant.met
 
 pub loop-next-preserved : goal.loop-next-preserved
 loop-next-preserved c =
@@ -63,6 +70,7 @@ loop-next-preserved c =
       kept = a.kept;
       wanted = wanted_kept c.add.new.paths c.ask_named.new.work.paths a.numbers c.add.new.wanted c.add.new.self.files
           c.in_ok-add.ensures.wanted;
+      met = a.met;
     }
 
 -- what was found, with what was noted

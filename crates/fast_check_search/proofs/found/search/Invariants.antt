@@ -1,9 +1,10 @@
-use Rattle.std.proofs.Common.{◌-◌, map}
+use Rattle.std.proofs.Common.{◌-◌, ◌++◌, map}
 use Rattle.fast_check_name_demands.specs.demands.Demands.{demand_of}
 use Rattle.fast_check_name_demands.specs.demands.Noted.{public_ranges}
 use Rattle.fast_check_search.specs.Universe.{limit}
 use Rattle.fast_check_search.specs.SymbolWorklist.{asked, IsKept}
 use Rattle.fast_check_search.specs.Found.{IsOnTheWay}
+use Rattle.fast_check_search.specs.Parts.{ArePartsCovered}
 use Rattle.fast_check_search.specs.Wanted.{AreWanted}
 use Rattle.fast_check_search.proofs.found.search.Given as goal
 
@@ -13,6 +14,7 @@ invariant-loop-next l = record {
       (public_ranges l.tables l.noted l.found.ranges.items) l.found;
   kept : IsKept l.work;
   wanted : AreWanted l.work.paths l.wanted l.found.files;
+  met : ArePartsCovered l.tables l.met (l.fn.before ++ asked l.work);
 }
 
 abbrev pub decreases-loop-next : goal.decreases-loop-next

@@ -1,0 +1,103 @@
+//! The own parts of aliases: what these ask for beside the paths that are asked of them.
+ghost use Rattle.std.specs.Prelude.{◌≡◌, [], ◌++◌, IfOk, OnOk};
+ghost use Rattle.std.specs.List.{flat_map};
+ghost use Rattle.std.specs.Option.{option_copied};
+ghost use Rattle.fast_check_symbol_demands.specs.Rules.{each_of};
+ghost use Rattle.fast_check_demands.specs.Parts.{whole_parts, kind_parts, own_parts};
+ghost use Rattle.fast_check_demands.specs.Yields.{Adds};
+
+use fast_check_symbol_demands::symbols::{CheckedTables, SymbolDeclKind, SymbolDecls, SymbolId};
+use fast_check_symbol_demands::{Demands, Extent, bound, push_path};
+use std::alloc::{AllocError, Global};
+use std::slice;
+
+fn push_parts<'a>(
+    referrer: SymbolId,
+    symbol: SymbolId,
+    parts: &'a [String],
+    out: &mut Demands<'a>,
+) -> Result<(), AllocError>
+    ensures { OnOk result (out.new ≡ out.old ++ whole_parts referrer symbol parts.now) }
+{
+    for part in parts {
+        push_path(symbol, slice::from_ref(part), Extent::Whole, referrer, out)?;
+    }
+    Ok(())
+}
+
+fn push_parts_at<'a>(
+    referrer: SymbolId,
+    symbol: Option<SymbolId>,
+    parts: &'a [String],
+    out: &mut Demands<'a>,
+) -> Result<(), AllocError>
+    ensures { OnOk result (out.new ≡ out.old ++ each_of (λ x. whole_parts referrer x parts.now) symbol) }
+{
+    match symbol {
+        None => Ok(()),
+        Some(symbol) => push_parts(referrer, symbol, parts, out),
+    }
+}
+
+fn push_kind_parts<'a>(
+    tables: &CheckedTables,
+    referrer: SymbolId,
+    kind: &'a SymbolDeclKind,
+    out: &mut Demands<'a>,
+) -> Result<(), AllocError>
+    ensures { OnOk result (out.new ≡ out.old ++ kind_parts tables.now referrer kind.now) }
+{
+    match kind {
+        SymbolDeclKind::QualifiedTarget(id, parts) => {
+            push_parts_at(referrer, bound(tables, id), parts.as_slice(), out)
+        }
+        SymbolDeclKind::Target(_)
+        | SymbolDeclKind::FileRef { .. }
+        | SymbolDeclKind::Definition(_) => Ok(()),
+    }
+}
+
+fn push_kind_parts_at<'a>(
+    tables: &CheckedTables,
+    referrer: SymbolId,
+    kind: Option<&'a SymbolDeclKind>,
+    out: &mut Demands<'a>,
+) -> Result<(), AllocError>
+    ensures { OnOk result (out.new ≡ out.old ++ each_of (kind_parts tables.now referrer) (option_copied kind.entry)) }
+{
+    match kind {
+        None => Ok(()),
+        Some(kind) => push_kind_parts(tables, referrer, kind, out),
+    }
+}
+
+/// Pushes the own parts of the aliases among declarations.
+fn push_symbol_parts<'a>(
+    tables: &CheckedTables,
+    referrer: SymbolId,
+    decls: &'a SymbolDecls,
+    out: &mut Demands<'a>,
+) -> Result<(), AllocError>
+    ensures { OnOk result (Adds (flat_map (λ x. kind_parts tables.now referrer x.kind) decls.now.items) out.old out.new) }
+{
+    for place in decls.alias_places() {
+        push_kind_parts_at(tables, referrer, decls.kind_at(*place), out)?;
+    }
+    Ok(())
+}
+
+/// The own parts of a symbol's aliases: what these ask for beside each path that the referrer asks of the symbol.
+pub fn own_parts_of<'a>(
+    alloc: Global,
+    tables: &'a CheckedTables,
+    symbol: SymbolId,
+    referrer: SymbolId,
+) -> Result<Demands<'a>, AllocError>
+    ensures { IfOk result (λ out. Adds (own_parts tables.now symbol referrer) [] out) }
+{
+    let mut out = Demands::new(alloc);
+    if let Some(symbol) = tables.symbol(symbol) {
+        push_symbol_parts(tables, referrer, &symbol.decls, &mut out)?;
+    }
+    Ok(out)
+}
