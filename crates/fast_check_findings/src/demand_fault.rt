@@ -196,8 +196,8 @@ fn push_once<'a>(
     Ok(())
 }
 
-/// These faults of a module at their places, each once, with the source text. A fault stands at the first declaration of its symbol, and one
-/// whose symbol has none is left out. `AllocError` where memory is wanting.
+/// These faults of a module at their places, with the source text, as a set: in whatever order and number. A fault stands at the first declaration
+/// of its symbol, and one whose symbol has none is left out. `AllocError` where memory is wanting.
 pub fn faults_in(
     alloc: Global,
     faulty: FaultyModule<'_>,
