@@ -1,2 +1,3 @@
 pub mod Links
+pub mod Relative
 pub mod StaticSources

@@ -2,8 +2,10 @@
 #![tactic(auto)]
 
 mod links;
+mod relative;
 mod sources;
 
 pub use fast_check_parsed_source::StaticSource;
 pub use links::keep_link;
+pub use relative::RelativeSources;
 pub use sources::static_sources;

@@ -7,11 +7,13 @@ ghost use Rattle.fast_check_surroundings.specs.skeleton.declared.rules.LinkRule.
 ghost use Rattle.fast_check_surroundings.specs.Surroundings.{seen_around};
 ghost use Rattle.fast_check_surroundings.specs.Kept.{as_list};
 ghost use Rattle.fast_check_links.specs.Links.{link_answer};
+ghost use Rattle.fast_check_links.specs.Relative.{AreRelative};
 
+use crate::relative::RelativeSources;
 use fast_check_program_forms::{ExportAll, ImportDecl, NamedExport, Str, TsImportEqualsDecl};
 use fast_check_ranges::range_of_node;
+use fast_check_surroundings::Surroundings;
 use fast_check_surroundings::skeleton::LinkRule;
-use fast_check_surroundings::{Surroundings, relative_source};
 use fast_check_syntax::{Atom, Items, Part, Tree};
 use std::alloc::{AllocError, Global};
 
@@ -21,23 +23,21 @@ fn answered_source(
     alloc: Global,
     around: Surroundings<'_>,
     src: Part<'_>,
+    sources: &mut RelativeSources,
 ) -> Result<Tree, AllocError>
-    ensures { IfOk result (λ tree. tree ≡ answered_source (seen_around around.entry) (seen src.entry)) }
+    ensures answer { IfOk result (λ tree. AreRelative (seen_around around.entry) sources.old →
+        tree ≡ answered_source (seen_around around.entry) (seen src.entry)) }
+    ensures sources { IfOk result (λ _. AreRelative (seen_around around.entry) sources.old → AreRelative (seen_around around.entry) sources.new) }
 {
     if src.is_absent() {
         return src.to_tree(alloc);
     }
     let Str { span, value, .. } = Str::of(src);
-    match relative_source(
-        alloc,
-        around.resolutions,
-        around.es_module_info.specifier(),
-        value,
-    )? {
-        Some(text) => {
+    match sources.of_text(alloc, around, value)? {
+        Some(value) => {
             let source = Str {
                 span,
-                value: Atom::from_str(alloc, &text)?,
+                value,
                 raw: Tree::Absent,
             };
             source.into_tree(alloc)
@@ -52,10 +52,14 @@ fn source_and_attributes(
     around: Surroundings<'_>,
     src: Part<'_>,
     with: Part<'_>,
+    sources: &mut RelativeSources,
 ) -> Result<(Tree, Tree), AllocError>
-    ensures { IfOk result (λ made. (made.0 ≡ answered_source (seen_around around.entry) (seen src.entry)) × (made.1 ≡ seen with.entry)) }
+    ensures source { IfOk result (λ made. AreRelative (seen_around around.entry) sources.old →
+        made.0 ≡ answered_source (seen_around around.entry) (seen src.entry)) }
+    ensures attributes { IfOk result (λ made. made.1 ≡ seen with.entry) }
+    ensures sources { IfOk result (λ _. AreRelative (seen_around around.entry) sources.old → AreRelative (seen_around around.entry) sources.new) }
 {
-    let src = answered_source(alloc, around, src)?;
+    let src = answered_source(alloc, around, src, sources)?;
     let with = with.to_tree(alloc)?;
     Ok((src, with))
 }
@@ -84,8 +88,11 @@ fn keep_import(
     alloc: Global,
     around: Surroundings<'_>,
     item: Part<'_>,
+    sources: &mut RelativeSources,
 ) -> Result<Option<Tree>, AllocError>
-    ensures { IfOk result (λ tree. link_answer (seen_around around.entry) (seen item.entry) links.Import ≡ faultless (as_list tree)) }
+    ensures answer { IfOk result (λ tree. AreRelative (seen_around around.entry) sources.old →
+        link_answer (seen_around around.entry) (seen item.entry) links.Import ≡ faultless (as_list tree)) }
+    ensures sources { IfOk result (λ _. AreRelative (seen_around around.entry) sources.old → AreRelative (seen_around around.entry) sources.new) }
 {
     let ImportDecl {
         span,
@@ -100,7 +107,7 @@ fn keep_import(
         return Ok(None);
     }
     let phase = Atom::from_str(alloc, phase)?;
-    let (src, with) = source_and_attributes(alloc, around, src, with)?;
+    let (src, with) = source_and_attributes(alloc, around, src, with, sources)?;
     let import = ImportDecl {
         span,
         specifiers: Tree::list(specifiers),
@@ -117,8 +124,11 @@ fn keep_export(
     alloc: Global,
     around: Surroundings<'_>,
     item: Part<'_>,
+    sources: &mut RelativeSources,
 ) -> Result<Option<Tree>, AllocError>
-    ensures { IfOk result (λ tree. link_answer (seen_around around.entry) (seen item.entry) links.Export ≡ faultless (as_list tree)) }
+    ensures answer { IfOk result (λ tree. AreRelative (seen_around around.entry) sources.old →
+        link_answer (seen_around around.entry) (seen item.entry) links.Export ≡ faultless (as_list tree)) }
+    ensures sources { IfOk result (λ _. AreRelative (seen_around around.entry) sources.old → AreRelative (seen_around around.entry) sources.new) }
 {
     let NamedExport {
         span,
@@ -131,7 +141,7 @@ fn keep_export(
     if specifiers.is_empty() {
         return Ok(None);
     }
-    let (src, with) = source_and_attributes(alloc, around, src, with)?;
+    let (src, with) = source_and_attributes(alloc, around, src, with, sources)?;
     let export = NamedExport {
         span,
         specifiers: Tree::list(specifiers),
@@ -147,8 +157,11 @@ fn keep_all(
     alloc: Global,
     around: Surroundings<'_>,
     item: Part<'_>,
+    sources: &mut RelativeSources,
 ) -> Result<Option<Tree>, AllocError>
-    ensures { IfOk result (λ tree. link_answer (seen_around around.entry) (seen item.entry) links.All ≡ faultless (as_list tree)) }
+    ensures answer { IfOk result (λ tree. AreRelative (seen_around around.entry) sources.old →
+        link_answer (seen_around around.entry) (seen item.entry) links.All ≡ faultless (as_list tree)) }
+    ensures sources { IfOk result (λ _. AreRelative (seen_around around.entry) sources.old → AreRelative (seen_around around.entry) sources.new) }
 {
     let ExportAll {
         span,
@@ -159,7 +172,7 @@ fn keep_all(
     if !around.public_ranges.contains(&span) {
         return Ok(None);
     }
-    let (src, with) = source_and_attributes(alloc, around, src, with)?;
+    let (src, with) = source_and_attributes(alloc, around, src, with, sources)?;
     let export = ExportAll {
         span,
         src,
@@ -192,13 +205,16 @@ pub fn keep_link(
     around: Surroundings<'_>,
     item: Part<'_>,
     rule: LinkRule,
+    sources: &mut RelativeSources,
 ) -> Result<Option<Tree>, AllocError>
-    ensures { IfOk result (λ tree. link_answer (seen_around around.entry) (seen item.entry) rule ≡ faultless (as_list tree)) }
+    ensures answer { IfOk result (λ tree. AreRelative (seen_around around.entry) sources.old →
+        link_answer (seen_around around.entry) (seen item.entry) rule ≡ faultless (as_list tree)) }
+    ensures sources { IfOk result (λ _. AreRelative (seen_around around.entry) sources.old → AreRelative (seen_around around.entry) sources.new) }
 {
     match rule {
-        LinkRule::Import => keep_import(alloc, around, item),
-        LinkRule::Export => keep_export(alloc, around, item),
-        LinkRule::All => keep_all(alloc, around, item),
+        LinkRule::Import => keep_import(alloc, around, item, sources),
+        LinkRule::Export => keep_export(alloc, around, item, sources),
+        LinkRule::All => keep_all(alloc, around, item, sources),
         LinkRule::Alias => keep_alias(alloc, around, item),
     }
 }

@@ -8,6 +8,7 @@ ghost use Rattle.fast_check_declarations.specs.surroundings.skeleton.Rules.{is_a
 ghost use Rattle.fast_check_declarations.specs.surroundings.skeleton.Visible.{item_properties};
 ghost use Rattle.fast_check_declarations.specs.surroundings.Surroundings.{seen_around};
 ghost use Rattle.fast_check_declarations.specs.surroundings.Kept.{as_list};
+ghost use Rattle.fast_check_links.specs.Relative.{AreRelative};
 ghost use Rattle.fast_check_module_transform.specs.PartAnswers.{namespace_answer, decl_answer, export_answer, starts_in_export, refused_answer, item_answer};
 ghost use Rattle.fast_check_module_transform.specs.PartAnswers.{each_answer, items_answer};
 
@@ -16,7 +17,7 @@ use fast_check_declarations::surroundings::Surroundings;
 use fast_check_declarations::surroundings::skeleton::expandos::{ExpandoProperty, keep_namespaces};
 use fast_check_declarations::surroundings::skeleton::{DeclRule, ItemRule, item_rule};
 use fast_check_declarations::{keep_default, keep_public_class, remove_inside};
-use fast_check_links::keep_link;
+use fast_check_links::{RelativeSources, keep_link};
 use fast_check_program_forms::ExportDecl;
 use fast_check_ranges::range_of_node;
 use fast_check_signatures::{Fault, FaultKind};
@@ -36,14 +37,25 @@ pub fn keep_items(
     around: Surroundings<'_>,
     body: Part<'_>,
     comments: &mut CommentsMut,
+    sources: &mut RelativeSources,
     faults: &mut Vec<Fault>,
 ) -> Result<Items<Tree>, AllocError>
+    requires sources { AreRelative (seen_around around) sources.old }
     ensures answer { IfOk result (λ items. Adds (items_answer (seen_around around.entry) (parts (seen body.entry))) items faults.old.items faults.new.items) }
     ensures comments { IfOk result (λ _.
         comments.new ≡ without_all_leading (removed_from (seen_around around.entry) (parts (seen body.entry))) comments.old) }
+    ensures sources { IfOk result (λ _. AreRelative (seen_around around.entry) sources.new) }
 {
     let mut properties = Vec::new(alloc);
-    let mut items = keep_each(alloc, around, body, comments, &mut properties, faults)?;
+    let mut items = keep_each(
+        alloc,
+        around,
+        body,
+        comments,
+        sources,
+        &mut properties,
+        faults,
+    )?;
     items.append(keep_namespaces(alloc, properties, faults)?)?;
     Ok(items)
 }
@@ -55,14 +67,17 @@ fn keep_each(
     around: Surroundings<'_>,
     body: Part<'_>,
     comments: &mut CommentsMut,
+    sources: &mut RelativeSources,
     properties: &mut Vec<ExpandoProperty>,
     faults: &mut Vec<Fault>,
 ) -> Result<Items<Tree>, AllocError>
+    requires sources { AreRelative (seen_around around) sources.old }
     ensures answer { IfOk result (λ items. Adds (each_answer (seen_around around.entry) (parts (seen body.entry))) items faults.old.items faults.new.items) }
     ensures properties { IfOk result (λ _.
         properties.new.items ≡ properties.old.items ++ flat_map (item_properties (seen_around around.entry)) (parts (seen body.entry))) }
     ensures comments { IfOk result (λ _.
         comments.new ≡ without_all_leading (removed_from (seen_around around.entry) (parts (seen body.entry))) comments.old) }
+    ensures sources { IfOk result (λ _. AreRelative (seen_around around.entry) sources.new) }
 {
     let mut items = Items::new(alloc);
     for item in body.parts() {
@@ -72,7 +87,7 @@ fn keep_each(
             comments.remove_leading(range_of_node(item).start);
             continue;
         }
-        match keep_item(alloc, around, item, comments, faults)? {
+        match keep_item(alloc, around, item, comments, sources, faults)? {
             None => {
                 comments.remove_leading(range_of_node(item).start);
                 remove_inside(alloc, around, item, comments)?;
@@ -96,12 +111,15 @@ fn keep_namespace(
     place: SourceRange,
     decl: Part<'_>,
     comments: &mut CommentsMut,
+    sources: &mut RelativeSources,
     faults: &mut Vec<Fault>,
 ) -> Result<Option<Tree>, AllocError>
+    requires sources { AreRelative (seen_around around) sources.old }
     ensures answer { IfOk result (λ tree.
         Adds (namespace_answer (seen_around around.entry) place (seen decl.entry)) (as_list tree) faults.old.items faults.new.items) }
     ensures comments { IfOk result (λ _.
         comments.new ≡ without_all_leading (starts_in_namespace start_look (seen_around around.entry) place (seen decl.entry)) comments.old) }
+    ensures sources { IfOk result (λ _. AreRelative (seen_around around.entry) sources.new) }
 {
     if let Some(fault) = module_fault(decl) {
         faults.push(fault)?;
@@ -115,6 +133,7 @@ fn keep_namespace(
         around.inside(decl),
         items_inside(decl),
         comments,
+        sources,
         faults,
     )?;
     Ok(Some(namespace_with(alloc, decl, items)?))
@@ -135,14 +154,17 @@ fn keep_decl(
     around: Surroundings<'_>,
     declared: Declared<'_>,
     comments: &mut CommentsMut,
+    sources: &mut RelativeSources,
     faults: &mut Vec<Fault>,
 ) -> Result<Option<Tree>, AllocError>
+    requires sources { AreRelative (seen_around around) sources.old }
     ensures answer { IfOk result (λ tree. Adds
         (decl_answer (seen_around around.entry) declared.entry.place (seen declared.entry.decl) declared.entry.rule)
         (as_list tree) faults.old.items faults.new.items) }
     ensures comments { IfOk result (λ _. comments.new ≡ without_all_leading
         (starts_in_body start_look (seen_around around.entry) declared.entry.place (seen declared.entry.decl) declared.entry.rule)
         comments.old) }
+    ensures sources { IfOk result (λ _. AreRelative (seen_around around.entry) sources.new) }
 {
     let Declared { decl, rule, place } = declared;
     match rule {
@@ -150,7 +172,9 @@ fn keep_decl(
         DeclRule::Function => keep_public_function(alloc, around, place, decl, faults),
         DeclRule::Class => keep_public_class(alloc, around, place, decl, faults),
         DeclRule::Standing => keep_standing(alloc, around, place, decl),
-        DeclRule::Namespace => keep_namespace(alloc, around, place, decl, comments, faults),
+        DeclRule::Namespace => keep_namespace(
+            alloc, around, place, decl, comments, sources, faults,
+        ),
         DeclRule::Using => keep_using(around, place, decl, faults),
         DeclRule::NoDeclaration => Ok(None),
     }
@@ -164,12 +188,15 @@ fn keep_export(
     item: Part<'_>,
     rule: DeclRule,
     comments: &mut CommentsMut,
+    sources: &mut RelativeSources,
     faults: &mut Vec<Fault>,
 ) -> Result<Option<Tree>, AllocError>
+    requires sources { AreRelative (seen_around around) sources.old }
     ensures answer { IfOk result (λ tree.
         Adds (export_answer (seen_around around.entry) (seen item.entry) rule) (as_list tree) faults.old.items faults.new.items) }
     ensures comments { IfOk result (λ _.
         comments.new ≡ without_all_leading (starts_in_export (seen_around around.entry) (seen item.entry) rule) comments.old) }
+    ensures sources { IfOk result (λ _. AreRelative (seen_around around.entry) sources.new) }
 {
     let ExportDecl { span, decl } = ExportDecl::of(item);
     let declared = Declared {
@@ -177,7 +204,7 @@ fn keep_export(
         rule,
         place: span,
     };
-    match keep_decl(alloc, around, declared, comments, faults)? {
+    match keep_decl(alloc, around, declared, comments, sources, faults)? {
         Some(decl) => Ok(Some(ExportDecl { span, decl }.into_tree(alloc)?)),
         None => Ok(None),
     }
@@ -211,12 +238,15 @@ fn keep_item(
     around: Surroundings<'_>,
     item: Part<'_>,
     comments: &mut CommentsMut,
+    sources: &mut RelativeSources,
     faults: &mut Vec<Fault>,
 ) -> Result<Option<Tree>, AllocError>
     requires no_assignment { is_assigned (item_rule (seen item)) ≡ false }
+    requires sources { AreRelative (seen_around around) sources.old }
     ensures answer { IfOk result (λ tree. Adds (item_answer (seen_around around.entry) (seen item.entry)) (as_list tree) faults.old.items faults.new.items) }
     ensures comments { IfOk result (λ _.
         comments.new ≡ without_all_leading (starts_below start_look (seen_around around.entry) (seen item.entry) (item_rule (seen item.entry))) comments.old) }
+    ensures sources { IfOk result (λ _. AreRelative (seen_around around.entry) sources.new) }
 {
     match item_rule(item) {
         ItemRule::Declared(rule) => {
@@ -225,10 +255,12 @@ fn keep_item(
                 rule,
                 place: range_of_node(item),
             };
-            keep_decl(alloc, around, declared, comments, faults)
+            keep_decl(alloc, around, declared, comments, sources, faults)
         }
-        ItemRule::Exported(rule) => keep_export(alloc, around, item, rule, comments, faults),
-        ItemRule::Linked(rule) => keep_link(alloc, around, item, rule),
+        ItemRule::Exported(rule) => keep_export(
+            alloc, around, item, rule, comments, sources, faults,
+        ),
+        ItemRule::Linked(rule) => keep_link(alloc, around, item, rule, sources),
         ItemRule::Default(rule) => keep_default(alloc, around, item, rule, faults),
         ItemRule::Refused(kind) => refuse(item, kind, faults),
         ItemRule::Assigned => Ok(None),

@@ -4,6 +4,7 @@ ghost use Rattle.fast_check_syntax.specs.Part.{seen};
 ghost use Rattle.fast_check_signatures.specs.Answers.{Adds};
 ghost use Rattle.fast_check_declarations.specs.surroundings.skeleton.KeptComments.{removed_starts, without_all_leading};
 ghost use Rattle.fast_check_declarations.specs.surroundings.Surroundings.{seen_around};
+ghost use Rattle.fast_check_links.specs.Relative.{AreRelative};
 ghost use Rattle.fast_check_module_transform.specs.PartAnswers.{program_answer};
 ghost use Rattle.fast_check_module_transform.specs.Transform.{surroundings_of, skeleton, comments, faults};
 
@@ -11,6 +12,7 @@ use crate::items::keep_items;
 use fast_check_comments::{Comments, CommentsMut};
 use fast_check_declarations::surroundings::Surroundings;
 use fast_check_graph::ModuleGraph;
+use fast_check_links::RelativeSources;
 use fast_check_modules::EsModuleInfo;
 use fast_check_modules::diagnostics::ModulePublicRanges;
 use fast_check_program_forms::Module;
@@ -53,12 +55,14 @@ pub fn keep_module(
     let around = surroundings_of(graph, es_module_info, public_ranges);
     let source = es_module_info.source();
     let mut comments = CommentsMut::new(source.comments.clone()?);
+    let mut sources = RelativeSources::new(alloc);
     let mut faults = Vec::new(alloc);
     let program = keep_program(
         alloc,
         around,
         source.program.read(),
         &mut comments,
+        &mut sources,
         &mut faults,
     )?;
     Ok(KeptModule {
@@ -74,8 +78,10 @@ fn keep_program(
     around: Surroundings<'_>,
     program: Part<'_>,
     comments: &mut CommentsMut,
+    sources: &mut RelativeSources,
     faults: &mut Vec<Fault>,
 ) -> Result<Tree, AllocError>
+    requires sources { AreRelative (seen_around around) sources.old }
     ensures answer { IfOk result (λ tree. Adds (program_answer (seen_around around.entry) (seen program.entry)) tree faults.old.items faults.new.items) }
     ensures comments { IfOk result (λ _. comments.new ≡ without_all_leading (removed_starts (seen_around around.entry) (seen program.entry)) comments.old) }
 {
@@ -84,7 +90,7 @@ fn keep_program(
         body,
         shebang,
     } = Module::of(program);
-    let items = keep_items(alloc, around, body, comments, faults)?;
+    let items = keep_items(alloc, around, body, comments, sources, faults)?;
     let module = Module {
         span,
         body: Tree::list(items),

@@ -22,6 +22,7 @@ use Rattle.fast_check_module_transform.proofs.ByRule.{no_items, one_more_item, o
 use Rattle.fast_check_module_transform.proofs.ByRule.{assigned_is, same_properties, more_properties, all_properties}
 use Rattle.fast_check_declarations.specs.surroundings.skeleton.Rules.{is_assigned, item_rule}
 use Rattle.fast_check_module_transform.proofs.Namespaces.{inside_at_most, refused_module, private_namespace, public_namespace}
+use Rattle.fast_check_declarations.specs.surroundings.skeleton.Surroundings.{Surroundings}
 use Rattle.fast_check_module_transform.proofs.Namespaces.{nothing_refused, nothing_private, all_inside}
 use Rattle.fast_check_module_transform.proofs.Removed.{item_lower, inside, below, below_nothing, below_declared, below_exported}
 use Rattle.fast_check_module_transform.proofs.Removed.{without_append, removed_if_none, removed_if_some, removed_if_assigned, one_more}
@@ -30,7 +31,7 @@ use Rattle.fast_check_module_transform.proofs.items.+items.Goals as goal
 -- ---- the items of a body
 
 pub keep_items-keep_each-requires : goal.keep_items-keep_each-requires
-keep_items-keep_each-requires t c = (omega (arith, c.decreases), tt)
+keep_items-keep_each-requires t c = (omega (arith, c.decreases), c.requires.sources)
 
 pub keep_items-returns-clause-answer : goal.keep_items-returns-clause-answer
 keep_items-returns-clause-answer t c =
@@ -51,13 +52,14 @@ keep_each-keep_item-requires t c =
     let i = c.loop-item.item-index in
     let here : item ≡ get_or all i item = c.read-item.ensures ∙ (c.item-item.is ∙ ap (get_or all i) (sym c.read-item.ensures)) in
     let lower = item_lower (seen c.args.body) item all i c.loop-item-test.true c.parts-item-items.ensures here in
-    (omega (arith, c.decreases, lower), sym c.is_assigned.ensures ∙ c.if-is_assigned.false)
+    (omega (arith, c.decreases, lower), (sym c.is_assigned.ensures ∙ c.if-is_assigned.false, c.loop-item.invariant.sources))
 
 pub keep_each-loop-item-init : goal.keep_each-loop-item-init
 keep_each-loop-item-init t c = record {
   answer = no_items (seen_around c.args.around) c.new-items.ensures c.args.faults.now.items;
   properties = sym (append-nil c.args.properties.now.items);
   comments = refl;
+  sources = c.requires.sources;
 }
 
 pub keep_each-loop-item-preserved-then-is_assigned : goal.keep_each-loop-item-preserved-then-is_assigned
@@ -79,6 +81,7 @@ keep_each-loop-item-preserved-then-is_assigned t c =
       comments = c.remove_leading.ensures ∙ ((λ i. without_leading (start i) (c.loop-item.invariant.comments i))
           ∙ sym (one_more around all i item ((range_of_node item).start ∷ []) c.args.comments.now c.loop-item-test.true here
           (removed_if_assigned around item rule)));
+      sources = c.loop-item.invariant.sources;
     }
 
 pub keep_each-loop-item-preserved-in-None : goal.keep_each-loop-item-preserved-in-None
@@ -105,6 +108,7 @@ keep_each-loop-item-preserved-in-None t c =
           c.loop-item-test.true here
           (removed_if_none around item (sym c.is_assigned.ensures ∙ c.if-is_assigned.false) kept.answer (ap as_list c.in-None.is))
           ∙ without_append (below around item) starts _));
+      sources = kept.sources;
     }
 
 pub keep_each-loop-item-preserved : goal.keep_each-loop-item-preserved
@@ -127,6 +131,7 @@ keep_each-loop-item-preserved t c =
           ∙ sym (one_more around all i item (below around item ++ inside around item)
           c.args.comments.now c.loop-item-test.true here (removed_if_some around item kept.answer (ap as_list c.in-Some.is))
           ∙ without_append (below around item) (inside around item) _));
+      sources = kept.sources;
     }
 
 pub keep_each-returns-clause-answer : goal.keep_each-returns-clause-answer
@@ -144,11 +149,16 @@ keep_each-returns-clause-comments t c =
     let all = take_all c.loop-item.item-index c.parts-item-items.result.now c.loop-item-test.false ∙ c.parts-item-items.ensures in
     c.loop-item.invariant.comments ∙ ap (λ ts. without_all_leading (removed_from (seen_around c.args.around) ts) c.args.comments.now) all
 
+pub keep_each-returns-clause-sources : goal.keep_each-returns-clause-sources
+keep_each-returns-clause-sources t c = c.loop-item.invariant.sources
+
 -- ---- namespaces
 
 pub keep_namespace-keep_items-requires : goal.keep_namespace-keep_items-requires
-keep_namespace-keep_items-requires t c =
-    (omega (arith, c.decreases, inside_at_most (seen c.args.decl) (seen c.items_inside.result) c.items_inside.ensures), tt)
+keep_namespace-keep_items-requires t c = (
+  omega (arith, c.decreases, inside_at_most (seen c.args.decl) (seen c.items_inside.result) c.items_inside.ensures),
+  λ text other there. c.requires.sources text other there ∙ ap (λ (a : Surroundings). a.relative text) (sym c.inside.ensures),
+)
 
 pub keep_namespace-returns-in-Some-clause-answer : goal.keep_namespace-returns-in-Some-clause-answer
 keep_namespace-returns-in-Some-clause-answer t c =
@@ -189,6 +199,10 @@ keep_namespace-returns-clause-comments t c =
     (sym (all_inside (seen_around c.args.around) c.args.place (seen c.args.decl) (sym c.module_fault.ensures ∙ none_of c.module_fault.result
     (λ f e. c.in_default.not-Some f e))
     (sym c.contains.ensures ∙ c.if-not-contains.false) c.inside.ensures c.items_inside.ensures))
+
+pub keep_namespace-returns-clause-sources : goal.keep_namespace-returns-clause-sources
+keep_namespace-returns-clause-sources t c = λ text other there.
+    c.in_ok-items.ensures.sources text other there ∙ ap (λ (a : Surroundings). a.relative text) c.inside.ensures
 
 -- ---- declarations
 
@@ -273,11 +287,14 @@ keep_decl-returns-in-NoDeclaration-clause-comments t c =
     (starts_in_body start_look (seen_around c.args.around) c.args.declared.place (seen c.args.declared.decl) r) c.args.comments.now)
     (sym c.in-NoDeclaration.is)
 
+pub keep_decl-returns-in-Namespace-clause-sources : goal.keep_decl-returns-in-Namespace-clause-sources
+keep_decl-returns-in-Namespace-clause-sources t c = c.keep_namespace.ensures.sources
+
 -- ---- exports
 
 pub keep_export-keep_decl-requires : goal.keep_export-keep_decl-requires
 keep_export-keep_decl-requires t c =
-    (omega (arith, c.decreases, height_at_most (seen c.args.item) 1, ap height c.of.ensures.decl), tt)
+    (omega (arith, c.decreases, height_at_most (seen c.args.item) 1, ap height c.of.ensures.decl), c.requires.sources)
 
 pub keep_export-returns-in_ok-into_tree-in-Some-clause-answer : goal.keep_export-returns-in_ok-into_tree-in-Some-clause-answer
 keep_export-returns-in_ok-into_tree-in-Some-clause-answer t c =
@@ -319,8 +336,8 @@ pub keep_item-returns-in-Linked-clause-answer : goal.keep_item-returns-in-Linked
 keep_item-returns-in-Linked-clause-answer t c =
     IfOk-weaker c.keep_link.result _ _
     (λ tree h. linked (seen_around c.args.around) (seen c.args.item)
-    (sym c.item_rule.ensures ∙ c.in-Linked.is) tree h c.args.faults.now.items)
-    c.keep_link.ensures
+    (sym c.item_rule.ensures ∙ c.in-Linked.is) tree (h c.requires.sources) c.args.faults.now.items)
+    c.keep_link.ensures.answer
 
 pub keep_item-returns-in-Default-clause-answer : goal.keep_item-returns-in-Default-clause-answer
 keep_item-returns-in-Default-clause-answer t c =
@@ -353,7 +370,7 @@ keep_item-returns-in-Linked-clause-comments t c =
     IfOk-weaker c.keep_link.result _ _
     (λ tree h. below_nothing (seen_around c.args.around) (seen c.args.item) c.args.comments.now
     (sym c.item_rule.ensures ∙ c.in-Linked.is) refl)
-    c.keep_link.ensures
+    c.keep_link.ensures.answer
 
 pub keep_item-returns-in-Default-clause-comments : goal.keep_item-returns-in-Default-clause-comments
 keep_item-returns-in-Default-clause-comments t c =
@@ -380,3 +397,7 @@ keep_item-returns-in-Assigned-clause-answer t c =
 pub keep_item-returns-in-Assigned-clause-comments : goal.keep_item-returns-in-Assigned-clause-comments
 keep_item-returns-in-Assigned-clause-comments t c =
     below_nothing (seen_around c.args.around) (seen c.args.item) c.args.comments.now (sym c.item_rule.ensures ∙ c.in-Assigned.is) refl
+
+pub keep_item-returns-in-Linked-clause-sources : goal.keep_item-returns-in-Linked-clause-sources
+keep_item-returns-in-Linked-clause-sources t c =
+    IfOk-weaker c.keep_link.result _ _ (λ tree h. h c.requires.sources) c.keep_link.ensures.sources

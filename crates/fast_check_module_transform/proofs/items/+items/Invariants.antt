@@ -6,6 +6,7 @@ use Rattle.fast_check_declarations.specs.surroundings.skeleton.KeptComments.{rem
 use Rattle.std.specs.List.{flat_map}
 use Rattle.fast_check_declarations.specs.surroundings.skeleton.Visible.{item_properties}
 use Rattle.fast_check_declarations.specs.surroundings.Surroundings.{seen_around}
+use Rattle.fast_check_links.specs.Relative.{AreRelative}
 use Rattle.fast_check_module_transform.specs.PartAnswers.{each_answer}
 use Rattle.fast_check_module_transform.proofs.items.+items.Given as goal
 
@@ -33,4 +34,5 @@ invariant-keep_each-loop-item l = record {
   properties : l.properties.items ≡ l.initial.properties.items ++ flat_map (item_properties (seen_around l.around))
       (take l.item-index l.item-items);
   comments : l.comments ≡ without_all_leading (removed_from (seen_around l.around) (take l.item-index l.item-items)) l.initial.comments;
+  sources : AreRelative (seen_around l.around) l.sources;
 }
