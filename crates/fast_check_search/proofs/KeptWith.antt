@@ -1,6 +1,6 @@
 -- What searches keep as it grows.
 use Rattle.std.proofs.Common.{◌≡◌, ◌∙◌, sym, ap, refl, subst, ⊎_elim, Bool, true, false, cond, List, [], ◌∷◌, ◌++◌, map, Option, Some, None}
-use Rattle.std.proofs.Common.{ℕ, ◌+◌, ◌<◌, ◌≤◌, length, get_or, take, append-nil, append_assoc}
+use Rattle.std.proofs.Common.{ℕ, ◌+◌, ◌<◌, ◌≤◌, length, get_or, take, append-nil, append_assoc, ◌⊎◌}
 use Rattle.std.specs.BTreeSet as sorted
 use Rattle.std.specs.List.{list_any, Contains}
 use Rattle.std.specs.Ordering.{is_eq}
@@ -19,14 +19,14 @@ use Rattle.fast_check_search.proofs.Each.{Contains_none, Contains_only, Contains
 use Rattle.fast_check_search.proofs.WithoutNames.{keys_compare, key_alike, nameless_some, found_nameless, no_names_found}
 use Rattle.fast_check_search.proofs.Same.{alike_itself, alike_laws}
 
-asked_more : (demands more : List Demand) (d : Demand) → IsAsked demands d → IsAsked (demands ++ more) d
+pub asked_more : (demands more : List Demand) (d : Demand) → IsAsked demands d → IsAsked (demands ++ more) d
 asked_more demands more d h = any_more (alike d) demands more h
 
-asked_behind : (demands more : List Demand) (d : Demand) → IsAsked more d → IsAsked (demands ++ more) d
+pub asked_behind : (demands more : List Demand) (d : Demand) → IsAsked more d → IsAsked (demands ++ more) d
 asked_behind demands more d h =
     list_any-append (alike d) demands more ∙ or_right (list_any (alike d) demands) (list_any (alike d) more) h
 
-asked_one : (d e : Demand) → alike e d ≡ true → IsAsked (d ∷ []) e
+pub asked_one : (d e : Demand) → alike e d ≡ true → IsAsked (d ∷ []) e
 asked_one d e h = or_left (alike e d) false h
 
 -- nothing more
@@ -113,4 +113,41 @@ module _ (old new : sorted.BTreeSet NamelessDemand) (d : Demand) (k : NamelessDe
     kept = λ e h. kept_one e (nameless_of e) refl h;
     added = λ e c i. subst (λ (x : Demand). IsAsked (demands new) x) (Contains_only d e c)
         (now_asks d k is ∙ ap (λ b. cond b true (list_any (alike d) (demands old))) (alike_itself d));
+  }
+
+-- beside others that stay
+module _ (before more after others : List Demand) (h : IsKeptWith before more after) where
+  either : (xs ys : List Demand) (d : Demand) → IsAsked (xs ++ ys) d → IsAsked xs d ⊎ IsAsked ys d
+  either xs ys d i = or_cases (list_any (alike d) xs) (list_any (alike d) ys) (sym (list_any-append (alike d) xs ys) ∙ i)
+
+  pub kept_beside : IsKeptWith (before ++ others) more (after ++ others)
+  kept_beside = record {
+    met = λ d i. ⊎_elim
+        (λ now. ⊎_elim
+        (λ l. asked_more (before ++ others) more d (asked_more before others d l))
+        (λ r. asked_behind (before ++ others) more d r)
+        (either before more d (h.met d now)))
+        (λ other. asked_more (before ++ others) more d (asked_behind before others d other))
+        (either after others d i);
+    kept = λ d i. ⊎_elim
+        (λ l. asked_more after others d (h.kept d l))
+        (λ r. asked_behind after others d r)
+        (either before others d i);
+    added = λ d c i. asked_more after others d (h.added d c i);
+  }
+
+  pub kept_behind : IsKeptWith (others ++ before) more (others ++ after)
+  kept_behind = record {
+    met = λ d i. ⊎_elim
+        (λ other. asked_more (others ++ before) more d (asked_more others before d other))
+        (λ now. ⊎_elim
+        (λ l. asked_more (others ++ before) more d (asked_behind others before d l))
+        (λ r. asked_behind (others ++ before) more d r)
+        (either before more d (h.met d now)))
+        (either others after d i);
+    kept = λ d i. ⊎_elim
+        (λ l. asked_more others after d l)
+        (λ r. asked_behind others after d (h.kept d r))
+        (either others before d i);
+    added = λ d c i. asked_behind others after d (h.added d c i);
   }

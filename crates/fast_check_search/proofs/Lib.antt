@@ -13,3 +13,4 @@ pub mod Kept
 pub mod Own
 pub mod WithoutNames
 pub mod KeptWith
+pub mod OneName

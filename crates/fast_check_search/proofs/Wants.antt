@@ -27,7 +27,7 @@ use Rattle.fast_check_search.proofs.Numbering.{then_equal, numbers_compare, numb
 then_parts : (a b : Ordering) → is_eq (ordering_then a b) ≡ true → (is_eq a ≡ true) × (is_eq b ≡ true)
 then_parts a b h = and_parts (is_eq a) (is_eq b) (sym (then_equal a b) ∙ h)
 
-one_text : (a b : List ℕ) → is_eq (slice_cmp nat_cmp a b) ≡ true → a ≡ b
+pub one_text : (a b : List ℕ) → is_eq (slice_cmp nat_cmp a b) ≡ true → a ≡ b
 one_text a b h = (bytes_decides a b).0 (sym (is_eq-slice_cmp a b) ∙ h)
 
 one_extent : (a b : Extent) → is_eq (extent_order.cmp-value.it a b) ≡ true → a ≡ b

@@ -5,5 +5,6 @@ pub mod Wanted
 pub mod Parts
 pub mod Found
 pub mod Nameless
+pub mod Named
 pub mod Searched
 pub mod Universe

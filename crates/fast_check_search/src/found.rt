@@ -157,7 +157,8 @@ pub fn search<'a>(
         next += 1;
     }
     noted.push_all(tables, &mut found.ranges)?;
+    let demands = work.into_demands();
     let mut searched = before;
-    searched.keep_all(work.as_slice())?;
+    searched.keep_all(alloc, demands.as_slice())?;
     Ok((searched, found))
 }

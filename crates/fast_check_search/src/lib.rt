@@ -3,6 +3,7 @@
 
 mod done;
 mod found;
+mod named;
 mod nameless;
 mod numbers;
 mod parts;

@@ -1,33 +1,39 @@
 //! What a search came to, from which a later one goes on.
-ghost use Rattle.std.specs.Prelude.{◌≡◌, [], ◌∷◌, length, map, OnOk};
+ghost use Rattle.std.specs.Prelude.{◌≡◌, [], ◌∷◌, None, map, OnOk};
 ghost use Rattle.std.specs.List.{list_any};
 ghost use Rattle.fast_check_name_demands.specs.demands.Demands.{demand_of};
 ghost use Rattle.fast_check_name_demands.specs.demands.Account.{alike};
+ghost use Rattle.fast_check_search.specs.Nameless.{nameless_of};
 ghost use Rattle.fast_check_search.specs.Searched.{IsKeptWith};
 ghost use Rattle.fast_check_search.specs.SymbolWorklist.{demanded};
 
 use crate::done::NumberedDemand;
+use crate::named::{NamedDemands, one_name_of};
 use crate::nameless::{NamelessDemand, nameless_of};
 use fast_check_name_demands::demands::SymbolDemand;
 use std::alloc::{AllocError, Global};
 use std::collections::BTreeSet;
 use std::marker::Model;
 
-/// The demands without names that searches of a module came to. What follows from them was found, so a later search does not follow them again. A
-/// demand of names is not kept, since its names are lent for one search alone.
+/// The demands that searches of a module came to: those without names and, from the second search on, those of one name. What follows from them was found, so
+/// a later search does not follow them again. A demand of more names is not kept, since its names are lent for one search alone.
 #[derive(Drop)]
 pub struct Searched {
     demands: BTreeSet<NamelessDemand>,
+    named: NamedDemands,
+    /// Whether a search came to this, so that the next one is not the first.
+    was_searched: bool,
 }
 
 impl Model for Searched {
-    ghost use Rattle.std.specs.Prelude.{List, map};
+    ghost use Rattle.std.specs.Prelude.{List, ◌++◌, map};
     ghost use Rattle.fast_check_name_demands.specs.demands.Demands.{Demand};
+    ghost use Rattle.fast_check_search.specs.Named.{of_names};
     ghost use Rattle.fast_check_search.specs.Nameless.{without_names};
 
     ghost Value = { List Demand };
 
-    ghost view = { λ s. map without_names s.demands.keys };
+    ghost view = { λ s. map without_names s.demands.keys ++ of_names s.named.names };
 }
 
 impl Searched {
@@ -37,43 +43,66 @@ impl Searched {
     {
         Searched {
             demands: BTreeSet::new(alloc),
+            named: NamedDemands::new(alloc),
+            was_searched: false,
         }
     }
 
-    /// How many demands are kept.
-    pub fn len(&self) -> usize
-        ensures { result ≡ length self.now }
-    {
-        self.demands.len()
+    /// How much is kept: the demands without names, and the different names of the others. Nothing that is found depends on it.
+    pub fn len(&self) -> usize {
+        self.demands.len().saturating_add(self.named.count())
     }
 
     /// Whether a demand that asks for the same is kept.
     pub fn has(&self, demand: SymbolDemand<'_>) -> bool
         ensures { result ≡ list_any (alike (demand_of demand.entry)) self.now }
     {
-        match nameless_of(demand) {
-            Some(key) => self.demands.contains(&key),
+        if let Some(key) = nameless_of(demand) {
+            return self.demands.contains(&key);
+        }
+        match one_name_of(demand) {
+            Some(one) => self.named.has(one),
             None => false,
         }
     }
 
-    /// Keeps a demand, unless it asks for names.
-    fn keep(&mut self, demand: SymbolDemand<'_>) -> Result<(), AllocError>
+    /// Keeps a demand of one name, where this is not the first search.
+    fn keep_named(&mut self, alloc: Global, demand: SymbolDemand<'_>) -> Result<(), AllocError>
+        requires { nameless_of (demand_of demand) ≡ None }
         ensures { OnOk result (IsKeptWith self.old (demand_of demand.entry ∷ []) self.new) }
     {
-        if let Some(key) = nameless_of(demand) {
-            self.demands.insert(key)?;
+        if !self.was_searched {
+            return Ok(());
+        }
+        if let Some(one) = one_name_of(demand) {
+            self.named.keep(alloc, one)?;
         }
         Ok(())
     }
 
-    /// Keeps those of these demands that ask for no names.
-    pub fn keep_all(&mut self, demands: &[NumberedDemand<'_>]) -> Result<(), AllocError>
+    /// Keeps a demand, unless it asks for more than one name.
+    fn keep(&mut self, alloc: Global, demand: SymbolDemand<'_>) -> Result<(), AllocError>
+        ensures { OnOk result (IsKeptWith self.old (demand_of demand.entry ∷ []) self.new) }
+    {
+        if let Some(key) = nameless_of(demand) {
+            self.demands.insert(key)?;
+            return Ok(());
+        }
+        self.keep_named(alloc, demand)
+    }
+
+    /// Keeps those of these demands that ask for no names, and those of one name where this is not the first search.
+    pub fn keep_all(
+        &mut self,
+        alloc: Global,
+        demands: &[NumberedDemand<'_>],
+    ) -> Result<(), AllocError>
         ensures { OnOk result (IsKeptWith self.old (map demanded demands.now) self.new) }
     {
         for each in demands {
-            self.keep(each.demand)?;
+            self.keep(alloc, each.demand)?;
         }
+        self.was_searched = true;
         Ok(())
     }
 }

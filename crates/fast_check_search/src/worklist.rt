@@ -68,11 +68,11 @@ impl<'a> SymbolWorklist<'a> {
         self.demands.len()
     }
 
-    /// All of them.
-    pub fn as_slice(&self) -> &[NumberedDemand<'a>]
-        ensures { map demanded result.now ≡ asked self.now }
+    /// All of them, without what they were looked up by.
+    pub fn into_demands(self) -> Vec<NumberedDemand<'a>>
+        ensures { map demanded result.items ≡ asked self.entry }
     {
-        self.demands.as_slice()
+        self.demands
     }
 
     /// The demand at a place.

@@ -1,4 +1,4 @@
-use Rattle.std.proofs.Common.{◌≡◌, ap, refl, subst, List, [], ◌++◌, map, length, arith, ◌≤◌}
+use Rattle.std.proofs.Common.{◌≡◌, ◌∙◌, ap, refl, subst, List, [], ◌++◌, map, length, arith, ◌≤◌}
 use Rattle.std.specs.BTreeMap.{is_at}
 use Rattle.std.specs.List.{list_any}
 use Rattle.std.proofs.lemmas.Option.{get_or_from_slice_get}
@@ -74,7 +74,7 @@ loop-next-preserved c =
     }
 
 -- what was found, with what was noted
-abbrev all_found : goal.After-drop-work-5 → Found
+abbrev all_found : goal.After-drop-wanted-2 → Found
 all_found c = record {
   ranges = c.push_all.new.out;
   implementations = c.loop-next.found.implementations;
@@ -82,7 +82,7 @@ all_found c = record {
   files = c.loop-next.found.files;
 }
 
-at_end : (c : goal.After-drop-work-5) →
+at_end : (c : goal.After-drop-wanted-2) →
     IsContinued c.args.tables.now (map demand_of c.args.roots.now) c.args.before (asked c.loop-next.work) ×
     IsFound c.args.tables.now (asked c.loop-next.work) (all_found c)
 at_end c = ended c.args.tables.now (map demand_of c.args.roots.now) c.args.before (asked c.loop-next.work) c.loop-next.next
@@ -95,7 +95,8 @@ returns-clause-continued c =
       asked c.loop-next.work,
       e.0,
       e.1,
-      subst (λ (ds : List Demand). IsKeptWith c.args.before ds c.keep_all.new.self) c.as_slice.ensures c.in_ok-keep_all.ensures,
+      subst (λ (ds : List Demand). IsKeptWith c.args.before ds c.keep_all.new.self)
+          (ap (map demanded) c.as_slice.ensures.value ∙ c.into_demands-demands.ensures) c.in_ok-keep_all.ensures,
     )
 
 pub returns-clause-own_ranges : goal.returns-clause-own_ranges

@@ -1,13 +1,21 @@
-use Rattle.std.proofs.Common.{◌∙◌, sym, subst, List, [], ◌∷◌, map}
+use Rattle.std.proofs.Common.{◌∙◌, sym, subst, List, [], ◌∷◌, ◌++◌, map}
 use Rattle.fast_check_name_demands.specs.demands.Demands.{Demand, demand_of}
+use Rattle.fast_check_search.specs.Named.{of_names}
 use Rattle.fast_check_search.specs.Nameless.{without_names}
 use Rattle.fast_check_search.specs.Searched.{IsKeptWith}
-use Rattle.fast_check_search.proofs.KeptWith.{kept_key}
+use Rattle.fast_check_search.proofs.KeptWith.{kept_beside, kept_key}
+use Rattle.fast_check_search.proofs.OneName.{absent}
 use Rattle.fast_check_search.proofs.searched.Searched.keep.Goals as goal
 
-pub returns-in_ok-insert : goal.returns-in_ok-insert
-returns-in_ok-insert c =
+pub returns-in-Some : goal.returns-in-Some
+returns-in-Some c =
     let d = demand_of c.args.demand in
-    subst (λ (ds : List Demand). IsKeptWith ds (d ∷ []) (map without_names c.insert.new.self.keys)) c.self.view_is
-    (kept_key c.self.inside.demands c.insert.new.self d c.in-Some.key (sym c.nameless_of.ensures ∙ c.in-Some.is)
-    c.in_ok-insert.ensures.updates)
+    let old = c.self.inside.demands in
+    let new = c.insert.new.self in
+    let names = of_names c.self.inside.named.names in
+    subst (λ (ds : List Demand). IsKeptWith ds (d ∷ []) (map without_names new.keys ++ names)) c.self.view_is
+    (kept_beside (map without_names old.keys) (d ∷ []) (map without_names new.keys) names
+    (kept_key old new d c.in-Some.key (sym c.nameless_of.ensures ∙ c.in-Some.is) c.in_ok-insert.ensures.updates))
+
+pub keep_named-requires : goal.keep_named-requires
+keep_named-requires c = sym c.nameless_of.ensures ∙ absent c.nameless_of.result (λ k e. c.in_default.not-Some k e)
