@@ -20,8 +20,8 @@ import sys
 import tempfile
 
 from tables import (
-    FEW, HOST, NO_TEXT, ONE, RANGES, assigned, decl, definition, exported_const, file_ref, import_type, module, part, request, single, span, symbol,
-    target, transform, tree_module, url,
+    FEW, HOST, NO_TEXT, ONE, RANGES, assigned, decl, definition, exported_const, file_ref, import_type, imported, module, part, request, single, span,
+    symbol, target, transform, tree_module, url,
 )
 
 FIRST, LEAST_SECONDS, MOST_BYTES, MOST_EXPONENT, RUNS = 500, 0.1, 4_000_000, 1.2, 3
@@ -29,8 +29,8 @@ FIRST, LEAST_SECONDS, MOST_BYTES, MOST_EXPONENT, RUNS = 500, 0.1, 4_000_000, 1.2
 SHAPES = {}
 # Of the shapes from which more follows than they have bytes: about how many bytes that are, for each number.
 FOLLOWS = {}
-# The bytes of a demand whose texts are short, and of an item of a tree.
-DEMAND, ITEM = 60, 250
+# The bytes of a demand whose texts are short, of a name of its path, and of an item of a tree.
+DEMAND, NAME, ITEM = 60, 10, 250
 # Of those that are for another command than `build`.
 COMMANDS = {}
 
@@ -679,6 +679,48 @@ def parts_of_a_long_import(n):
     gives = [symbol(1, definition(is_ts_namespace=True), name=long, exports=[[f"x{i}", 1 + i] for i in range(1, n + 1)]), *parts]
     return request(module(url(0), [symbol(1, file_ref(url(1), long), name="f"), *asks], [[f"s{1 + i}", 1 + i] for i in range(1, n + 1)]),
                    module(url(1), gives, [[long, 1]], ids=[]))
+
+
+@shape
+def paths_of_a_qualified_alias(n):
+    """Paths that are asked of an alias of a path, and the names of that: each of these is asked for once."""
+    return paths_below(n, part("s3", *(f"y{i}" for i in range(n))))
+
+
+@shape_by(lambda n: DEMAND * math.isqrt(n) ** 3 // 2)
+def levels_of_qualified_aliases(n):
+    """Such aliases, each of a path of names below the next one: what is asked of one is asked of all behind it, with the names of its own path."""
+    levels = math.isqrt(n)
+    aliases = [symbol(i, part(f"s{i + 1}", *(f"y{i}_{j}" for j in range(levels)))) for i in range(2, levels + 2)]
+    return single([symbol(1, part("s2", "x")), *aliases, symbol(levels + 2, definition())], [["s1", 1]])
+
+
+def qualified_in_turns(n, *symbols):
+    """Turns in which a path is asked of an alias that is one of a path itself, of n names below the second of these symbols."""
+    return chain_to(n, lambda i: ["s1", f"x{i}"], module(url("m"), [symbol(1, part("s2", *(f"y{i}" for i in range(n)))), *symbols], [["s1", 1]]))
+
+
+@shape_by(lambda n: 2 * DEMAND * (n // 8) ** 2)
+def parts_through_aliases_in_turns(n):
+    """Such turns, and a chain of aliases below: each path that is asked goes through all of them, and each of the names of that path does, once."""
+    turns = n // 8
+    return qualified_in_turns(turns, *(symbol(i, target(f"s{i + 1}")) for i in range(2, turns + 2)), symbol(turns + 2, definition()))
+
+
+@shape_by(lambda n: NAME * n * n // 2)
+def path_through_files(n):
+    """Modules in a chain, each of which asks the next one for a path: each is asked for all that is left of it, and each demand has its names."""
+    asks = [symbol(1, part("f", *["N"] * n)), symbol(2, file_ref(url(1), "N"), name="f")]
+    through = [module(url(i), [symbol(1, file_ref(url(i + 1), "N"), name="N")], [["N", 1]]) for i in range(1, n)]
+    return request(module(url(0), asks, [["s1", 1]]), *through, module(url(n), [symbol(1, definition(), name="N")], [["N", 1]]))
+
+
+@shape_of("transform")
+def imports_in_a_long_url(n):
+    """Imports by one text in a module at a long URL."""
+    own, other = (f"file:///{'a' * (150 * n)}/{name}.ts" for name in ("mod", "a"))
+    body = [imported(i, "./a.ts", f"x{i}") for i in range(1, n + 1)]
+    return transform(body, map(span, range(1, n + 1)), specifier=own, graph={"resolutions": [[own, "./a.ts", other]]})
 
 
 def run(program, path, command="build"):

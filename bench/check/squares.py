@@ -21,11 +21,11 @@ sys.dont_write_bytecode = True
 sys.path[:0] = [os.path.join(os.path.dirname(os.path.dirname(os.path.abspath(__file__))), folder) for folder in ("rules", "cases", "check", "time")]
 
 from shapes import (
-    MOST_EXPONENT, alias_urls, chain_to, covered, exponent, exports_of, in_three_sizes, measured, one_name, paths_below, row, spent,
+    MOST_EXPONENT, alias_urls, chain_to, covered, exponent, exports_of, in_three_sizes, measured, one_name, qualified_in_turns, row, spent,
     under_aliases, wants,
 )
 from tables import (
-    FEW, HOST, decl, definition, file_ref, import_type, imported, module, part, request, single, span, symbol, target, transform, url,
+    FEW, HOST, decl, definition, file_ref, import_type, module, request, symbol, transform, url,
 )
 
 FIRST, LEAST_SECONDS, RUNS = 125, 0.04, 2
@@ -116,23 +116,7 @@ def aliases_of_import_types(n):
     return under_aliases(n, module(url(1), [asks], [["s1", 1]]), module(url(2), [], []))
 
 
-# ---- all declarations of a symbol are gone through for each of those that lead to it
-
-
-@known(last=500)
-def paths_of_a_qualified_alias(n):
-    """Paths that are asked of an alias of a path times the names of that: each of these is asked for with each (fast_check_demands, `push_parts`)."""
-    return paths_below(n, part("s3", *(f"y{i}" for i in range(n))))
-
-
-@known(first=8, last=16)
-def levels_of_qualified_aliases(n):
-    """The same of n such aliases, each of a path of n names below the next one: what is asked of one times the names of its own path (`push_parts`)."""
-    aliases = [symbol(i, part(f"s{i + 1}", *(f"y{i}_{j}" for j in range(n)))) for i in range(2, n + 2)]
-    return single([symbol(1, part("s2", "x")), *aliases, symbol(n + 2, definition())], [["s1", 1]])
-
-
-# ---- what is no demand without names is gone through anew in each turn in which more is asked of a module
+# ---- what is gone through anew in each turn in which more is asked of a module
 
 
 @known(first=500, last=1000)
@@ -143,22 +127,11 @@ def declarations_asked_in_turns(n):
     return chain_to(n, lambda i: ["s1", f"x{i}"], module(url("m"), [whole, *parts], [["s1", 1]]))
 
 
-def qualified_in_turns(n, *symbols):
-    """Turns in which a path is asked of an alias that is one of a path itself, of n names below the second of these symbols."""
-    return chain_to(n, lambda i: ["s1", f"x{i}"], module(url("m"), [symbol(1, part("s2", *(f"y{i}" for i in range(n)))), *symbols], [["s1", 1]]))
-
-
 @known(last=500)
 def qualified_alias_in_turns(n):
-    """Such turns times the names of that path: demands with names are not kept from turn to turn (fast_check_search, `Searched::keep`)."""
+    """Turns in which a path is asked of an alias that is one of a path itself, times the names of that: each is asked for in each turn, and found among what
+    was kept (fast_check_search, `ask_parts`)."""
     return qualified_in_turns(n, symbol(2, definition()))
-
-
-@known(first=32, last=64)
-def parts_through_aliases_in_turns(n):
-    """Such turns times the demands of the names of that path, each of which goes through a chain of aliases: the cube of n, of which the square follows
-    (fast_check_search, `Searched::keep`)."""
-    return qualified_in_turns(n, *(symbol(i, target(f"s{i + 1}")) for i in range(2, n + 2)), symbol(n + 2, definition()))
 
 
 @known(first=500, last=1000)
@@ -180,18 +153,6 @@ def re_exports_in_turns(n):
 def no_re_export_in_turns(n):
     """The same where none has the name: all re-exports are public in each turn (fast_check_traces, `push_whole`)."""
     return chain_to(n, lambda i: [f"a{i}"], module(url("m"), [], [], again=[url(0)] * n), module(url(0), [], []))
-
-
-# ---- what many have in common is gone through for each of them
-
-
-@known(last=500)
-def path_through_files(n):
-    """Modules in a chain, each of which asks the next one for a path, times the names of the path: each is asked for all that is left of it, which its set of
-    names holds (fast_check_sources, `exports_to_ask`)."""
-    asks = [symbol(1, part("f", *["N"] * n)), symbol(2, file_ref(url(1), "N"), name="f")]
-    through = [module(url(i), [symbol(1, file_ref(url(i + 1), "N"), name="N")], [["N", 1]]) for i in range(1, n)]
-    return request(module(url(0), asks, [["s1", 1]]), *through, module(url(n), [symbol(1, definition(), name="N")], [["N", 1]]))
 
 
 # ---- one long text is copied or compared for each of many
@@ -233,14 +194,6 @@ def packages_of_a_long_fallback(n):
     made["graph"]["packages"] = [[nv, [[".", url(0)]]] for nv in nvs]
     made["provider"]["fallback"] = HOST + "f" * (100 * n) + "/"
     return made
-
-
-@known("transform")
-def imports_in_a_long_url(n):
-    """Imports times the bytes of the module's URL, along which a relative one is found for each (fast_check_surroundings, `relative_source`)."""
-    own, other = (f"file:///{'a' * (150 * n)}/{name}.ts" for name in ("mod", "a"))
-    body = [imported(i, "./a.ts", f"x{i}") for i in range(1, n + 1)]
-    return transform(body, map(span, range(1, n + 1)), specifier=own, graph={"resolutions": [[own, "./a.ts", other]]})
 
 
 # ---- a set of names is walked at each cover
