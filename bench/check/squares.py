@@ -129,8 +129,8 @@ def declarations_asked_in_turns(n):
 
 @known(last=500)
 def qualified_alias_in_turns(n):
-    """Turns in which a path is asked of an alias that is one of a path itself, times the names of that: each is asked for in each turn, and found among what
-    was kept (fast_check_search, `ask_parts`)."""
+    """Turns in which a path is asked of an alias that is one of a path itself, times the names of that: nothing is kept of searches that come to little but
+    demands of names (fast_check_turns, `is_much`)."""
     return qualified_in_turns(n, symbol(2, definition()))
 
 
