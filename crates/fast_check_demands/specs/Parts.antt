@@ -1,3 +1,4 @@
+-- Inner: no contract of a public call cites what stands here.
 -- What follows from a demand, in two parts: what the aliases of its symbol ask for beside each path, which is the same
 -- for all paths of one referrer, and the rest (`proofs/OwnParts.antt`).
 use Rattle.std.specs.Prelude.{cond, List, [], ◌∷◌, map, String, string_bytes}
