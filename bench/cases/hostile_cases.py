@@ -118,7 +118,7 @@ CASES = [
     # longer than the stack would hold by a call for each name
     ("hostile_path_behind_a_file", shapes.path_behind_a_file(70_000, "Name"), TWO),
     ("hostile_paths_that_part_behind_a_file", shapes.paths_that_part_behind_a_file(50), TWO),
-    ("hostile_path_through_files", squares.path_through_files(50), sorted(tables.url(place) for place in range(51))),
+    ("hostile_path_through_files", shapes.path_through_files(50), sorted(tables.url(place) for place in range(51))),
     ("hostile_path_through_aliases", shapes.path_through_aliases(50), ONE),
     ("hostile_parts_through_aliases", shapes.parts_through_aliases(50), ONE),
     ("hostile_askers_through_aliases", shapes.askers_through_aliases(50), ONE),
@@ -133,7 +133,7 @@ CASES = [
     ("hostile_one_property_of_many_functions", shapes.one_property_of_many_functions(50), ONE),
     ("hostile_paths_of_many_references", shapes.paths_of_many_references(50), TWO),
     ("hostile_paths_of_many_targets", shapes.paths_of_many_targets(50), ONE),
-    ("hostile_levels_of_qualified_aliases", squares.levels_of_qualified_aliases(6), ONE),
+    ("hostile_levels_of_qualified_aliases", shapes.levels_of_qualified_aliases(6), ONE),
     ("hostile_versions_of_a_member", shapes.versions_of_a_member(50), ["file:///w/m.ts"]),
     ("hostile_aliases_of_a_module", shapes.aliases_of_a_module(20), TWO),
     # a name behind re-exports of all, and one that none of them has: then what they lead to is asked for nothing
@@ -144,8 +144,8 @@ CASES = [
     ("hostile_names_asked_in_turns", shapes.names_asked_in_turns(50), [*IN_TURNS, tables.url("m")]),
     ("hostile_chain_asked_from_its_end", shapes.chain_asked_from_its_end(50), [*IN_TURNS, tables.url("m")]),
     ("hostile_files_asked_in_turns", shapes.files_asked_in_turns(50), sorted([*IN_TURNS, tables.url(51), tables.url("m")])),
-    ("hostile_declarations_asked_in_turns", squares.declarations_asked_in_turns(50), [*IN_TURNS, tables.url("m")]),
-    ("hostile_one_property_in_turns", squares.one_property_in_turns(50), [*IN_TURNS, tables.url("m")]),
+    ("hostile_declarations_asked_in_turns", shapes.declarations_asked_in_turns(50), [*IN_TURNS, tables.url("m")]),
+    ("hostile_one_property_in_turns", shapes.one_property_in_turns(50), [*IN_TURNS, tables.url("m")]),
     ("hostile_re_exports_in_turns", squares.re_exports_in_turns(50), sorted([*IN_TURNS, tables.url("m"), *(tables.url(f"m{i}") for i in range(1, 51))])),
     ("hostile_no_re_export_in_turns", squares.no_re_export_in_turns(50), [*IN_TURNS, tables.url("m")]),
     ("hostile_urls_beside_bases", shapes.urls_beside_bases(50), ONE),

@@ -435,6 +435,33 @@ def names_asked_in_turns(n):
     return chain_to(n, lambda i: [f"a{i}"], names_that_ask("N", n, *namespace_of_items(n)))
 
 
+@shape
+def declarations_asked_in_turns(n):
+    """Turns in which a part of a symbol is asked for, all of whose declarations are public by each."""
+    parts = [symbol(1 + i, definition(), parent=1, name=f"x{i}") for i in range(1, n + 1)]
+    whole = symbol(1, *[FEW] * (3 * n), exports=[[f"x{i}", 1 + i] for i in range(1, n + 1)])
+    return chain_to(n, lambda i: ["s1", f"x{i}"], module(url("m"), [whole, *parts], [["s1", 1]]))
+
+
+def property_in_turns(n, at, ranges):
+    """Turns in which a function is asked for, each of which exports one symbol. The functions and its declarations stand at these ranges."""
+    functions = [symbol(i, {**definition(is_function=True), "range": at(i)}, name=f"a{i}", exports=[["x", n + 1]]) for i in range(1, n + 1)]
+    exported = symbol(n + 1, *(decl({"Definition": {}}, range=each) for each in ranges), parent=1, name="x")
+    return chain_to(n, lambda i: [f"a{i}"], module(url("m"), [*functions, exported], exports_of("a", n)))
+
+
+@shape
+def one_property_in_turns(n):
+    """Such functions at one range, outside of which the symbol is declared as often."""
+    return property_in_turns(n, lambda i: [1, 9], [[20, 29]] * n)
+
+
+@shape
+def one_property_apart_in_turns(n):
+    """Such functions, in each of which it is declared once."""
+    return property_in_turns(n, lambda i: [10 * i, 10 * i + 9], [[10 * i + 1, 10 * i + 2] for i in range(1, n + 1)])
+
+
 def two_in_turns(n, first, second, symbols=(), *deps):
     """Two modules at these URLs that ask each other for a name in turn, n times. The second has these symbols too, and each of its names these dependencies."""
     asks = [symbol(i, definition(import_type("second", f"a{i}")), name=f"b{i}") for i in range(1, n + 1)]

@@ -21,11 +21,11 @@ sys.dont_write_bytecode = True
 sys.path[:0] = [os.path.join(os.path.dirname(os.path.dirname(os.path.abspath(__file__))), folder) for folder in ("rules", "cases", "check", "time")]
 
 from shapes import (
-    MOST_EXPONENT, alias_urls, chain_to, covered, exponent, exports_of, in_three_sizes, measured, one_name, qualified_in_turns, row, spent,
+    MOST_EXPONENT, alias_urls, chain_to, covered, exponent, in_three_sizes, measured, one_name, property_in_turns, qualified_in_turns, row, spent,
     under_aliases, wants,
 )
 from tables import (
-    FEW, HOST, decl, definition, file_ref, import_type, module, request, symbol, transform, url,
+    HOST, definition, file_ref, import_type, module, request, symbol, transform, url,
 )
 
 FIRST, LEAST_SECONDS, RUNS = 125, 0.04, 2
@@ -119,14 +119,6 @@ def aliases_of_import_types(n):
 # ---- what is gone through anew in each turn in which more is asked of a module
 
 
-@known(first=500, last=1000)
-def declarations_asked_in_turns(n):
-    """Turns in which a part of a symbol is asked for times its declarations: all are public in each (fast_check_search, `add_declared`)."""
-    parts = [symbol(1 + i, definition(), parent=1, name=f"x{i}") for i in range(1, n + 1)]
-    whole = symbol(1, *[FEW] * (3 * n), exports=[[f"x{i}", 1 + i] for i in range(1, n + 1)])
-    return chain_to(n, lambda i: ["s1", f"x{i}"], module(url("m"), [whole, *parts], [["s1", 1]]))
-
-
 @known(last=500)
 def qualified_alias_in_turns(n):
     """Turns in which a path is asked of an alias that is one of a path itself, times the names of that: nothing is kept of searches that come to little but
@@ -135,11 +127,10 @@ def qualified_alias_in_turns(n):
 
 
 @known(first=500, last=1000)
-def one_property_in_turns(n):
-    """Turns in which a function is asked for times the declarations of one symbol that each of them exports (fast_check_demands, `push_properties`)."""
-    functions = [symbol(i, definition(is_function=True), name=f"a{i}", exports=[["x", n + 1]]) for i in range(1, n + 1)]
-    outside = symbol(n + 1, *[decl({"Definition": {}}, range=[20, 29])] * n, parent=1, name="x")
-    return chain_to(n, lambda i: [f"a{i}"], module(url("m"), [*functions, outside], exports_of("a", n)))
+def one_property_inside_in_turns(n):
+    """Turns in which a function is asked for, each inside of the one before, times the declarations inside of all of them of one symbol that each exports:
+    they are gone through in each (fast_check_demands, `push_public`)."""
+    return property_in_turns(n, lambda i: [i, 4 * n - i], [[2 * n, 2 * n + 1]] * n)
 
 
 @known(first=250, last=500)

@@ -3,6 +3,7 @@ pub mod Touched
 pub mod Adds
 pub mod Elements
 pub mod Joins
+pub mod Tells
 mod OneMore
 mod Outside
 pub mod Yielded

@@ -6,7 +6,7 @@ use Rattle.std.specs.Cmp.{IsTotalOrder, on_total, nat_cmp_total}
 use Rattle.std.specs.List.{Contains}
 use Rattle.std.proofs.lemmas.Bool.{false≢true, or_cases, or_left, or_right}
 use Rattle.std.proofs.lemmas.Map.Lookups.{CmpEqualImpliesEq, exact_unsigned}
-use Rattle.std.proofs.lemmas.Map.Views.{btree_map_get_iff, tells_apart}
+use Rattle.std.proofs.lemmas.Map.Views.{btree_map_get_iff, tells_apart, Contains-from_lookup}
 use Rattle.fast_check_syntax.specs.declared.source.SourceRange.{SourceRange}
 use Rattle.fast_check_symbol_demands.specs.symbols.Tables.{Tables}
 use Rattle.fast_check_symbol_demands.specs.symbols.contracts.symbol_id.SymbolIdOrd.TheImpl as order
@@ -26,6 +26,17 @@ total = on_total (λ (x : SymbolId). x.0) nat_cmp_total
 exact : CmpEqualImpliesEq order.cmp-value.it
 exact x y e = ap make (exact_unsigned x.0 y.0 e)
 
+-- a declaration is noted where what is noted of its symbol makes it public
+pub noted_at : (t : Tables) (noted : NotedSymbols) (id : SymbolId) (r : SourceRange) →
+    is_noted (get order.cmp-value.it noted.decls id) r ≡ true → Contains (ranges_at t id) r → Contains (noted_ranges t noted) r
+noted_at t noted id r h c = by (get order.cmp-value.it noted.decls id) refl h
+  where
+    by : (o : Option PublicDecls) → get order.cmp-value.it noted.decls id ≡ o → is_noted o r ≡ true → Contains (noted_ranges t noted) r
+    by None e i = absurd (false≢true i)
+    by (Some which) e i = in_flat (λ x. public_at t x.0 x.1) noted.decls.entries (id, which) r
+        (Contains-from_lookup (tells_apart exact) id which noted.decls.entries e)
+        (in_filter (is_public which) (ranges_at t id) r c i)
+
 module _ (t : Tables) (noted : NotedSymbols) (ordered : IsOrdered order.cmp-value.it noted.decls) where
   -- a declaration is noted where its symbol is, and it is among the public ones of that
   in_noted : (id : SymbolId) (which : PublicDecls) (r : SourceRange) → get order.cmp-value.it noted.decls id ≡ Some which →
@@ -41,7 +52,8 @@ module _ (t : Tables) (noted : NotedSymbols) (ordered : IsOrdered order.cmp-valu
 
 module _ (t : Tables) (id : SymbolId) (which all : PublicDecls) (old new : NotedSymbols)
     (was_ordered : IsOrdered order.cmp-value.it old.decls) (ordered : IsOrdered order.cmp-value.it new.decls)
-    (is : (r : SourceRange) → is_public all r ≡ (is_noted (get order.cmp-value.it old.decls id) r || is_public which r))
+    (is : (r : SourceRange) → Contains (ranges_at t id) r →
+    is_public all r ≡ (is_noted (get order.cmp-value.it old.decls id) r || is_public which r))
     (u : Updates order.cmp-value.it old.decls new.decls id (Some all)) where
   abbrev is_here : SymbolId → Bool
   is_here key = is_at (order.cmp-value.it id) key
@@ -49,7 +61,7 @@ module _ (t : Tables) (id : SymbolId) (which all : PublicDecls) (old new : Noted
   -- what is public of the symbol now
   now_public : (r : SourceRange) → Contains (ranges_at t id) r →
       (is_noted (get order.cmp-value.it old.decls id) r || is_public which r) ≡ true → Contains (noted_ranges t new) r
-  now_public r c h = in_noted t new ordered id all r (u.1) (in_filter (is_public all) (ranges_at t id) r c (is r ∙ h))
+  now_public r c h = in_noted t new ordered id all r (u.1) (in_filter (is_public all) (ranges_at t id) r c (is r c ∙ h))
 
   kept : (r : SourceRange) → Contains (noted_ranges t old) r → Contains (noted_ranges t new) r
   kept r c =
@@ -72,17 +84,12 @@ module _ (t : Tables) (id : SymbolId) (which all : PublicDecls) (old new : Noted
       let m = of_noted t new ordered r c in
       by m.0 m.1 m.2 m.3 (is_here m.0) refl
     where
-      before : (o : Option PublicDecls) → get order.cmp-value.it old.decls id ≡ o → is_noted o r ≡ true → Contains (ranges_at t id) r →
-          Contains (noted_ranges t old) r
-      before None e h d = absurd (false≢true h)
-      before (Some had) e h d = in_noted t old was_ordered id had r e (in_filter (is_public had) (ranges_at t id) r d h)
-
       here : Contains (public_at t id all) r → Contains (noted_ranges t old) r ⊎ Contains (public_at t id which) r
       here d =
           let p = of_filter (is_public all) (ranges_at t id) r d in
-          ⊎_elim (λ h. inl (before (get order.cmp-value.it old.decls id) refl h p.0))
+          ⊎_elim (λ h. inl (noted_at t old id r h p.0))
           (λ h. inr (in_filter (is_public which) (ranges_at t id) r p.0 h))
-          (or_cases (is_noted (get order.cmp-value.it old.decls id) r) (is_public which r) (sym (is r) ∙ p.1))
+          (or_cases (is_noted (get order.cmp-value.it old.decls id) r) (is_public which r) (sym (is r p.0) ∙ p.1))
 
       some : (x y : PublicDecls) → Some x ≡ Some y → x ≡ y
       some x y e = ap (λ (o : Option PublicDecls). chosen x o) e

@@ -1,14 +1,14 @@
 -- Inner: no contract of a public call cites what stands here.
 -- The symbols of which declarations are public by where they stand.
-use Rattle.std.specs.Prelude.{Bool, true, false, not, List, ◌++◌, Option, Some, None}
-use Rattle.std.specs.List.{filter, flat_map}
+use Rattle.std.specs.Prelude.{◌≡◌, ◌⊎◌, Bool, true, false, not, List, ◌++◌, Option, Some, None}
+use Rattle.std.specs.List.{Contains, filter, flat_map}
 use Rattle.fast_check_syntax.specs.declared.source.SourceRange.{SourceRange}
 use Rattle.fast_check_symbol_demands.specs.symbols.Tables.{Tables}
 use Rattle.fast_check_symbol_demands.specs.symbols.declared.symbol_id.SymbolId.{SymbolId}
 use Rattle.fast_check_demands.specs.declared.noted.NotedSymbols.{NotedSymbols}
 use Rattle.fast_check_demands.specs.declared.noted.PublicDecls.{PublicDecls}
 use Rattle.fast_check_demands.specs.declared.noted.PublicDecls.TheVariants.{All, Outside}
-use Rattle.fast_check_demands.specs.Yields.{is_within, ranges_at}
+use Rattle.fast_check_demands.specs.Yields.{is_within, ranges_at, Joins}
 
 -- whether a declaration of this range is public
 abbrev pub is_public : PublicDecls → SourceRange → Bool
@@ -31,3 +31,12 @@ noted_ranges t noted = flat_map (λ e. public_at t e.0 e.1) noted.decls.entries
 -- what is public: what is listed, and what is noted
 abbrev pub public_ranges : Tables → NotedSymbols → List SourceRange → List SourceRange
 public_ranges t noted listed = listed ++ noted_ranges t noted
+
+-- Of these, what was told before need not be listed again: each that is listed is one of these, and each of these is
+-- listed or was told. Told is then what was told before and what is listed, and nothing else
+pub record Tells {X : Type 0} (these was_told is_told old new : List X) : Type 0 where
+  pub more : List X
+  pub is : new ≡ old ++ more
+  pub parts : (x : X) → Contains more x → Contains these x
+  pub whole : (x : X) → Contains these x → Contains more x ⊎ Contains was_told x
+  pub told : Joins more was_told is_told

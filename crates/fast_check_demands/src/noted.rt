@@ -1,9 +1,9 @@
 //! Symbols of which declarations are public by where they stand.
-ghost use Rattle.std.specs.Prelude.{◌≡◌, ◌++◌, not, ◌&&◌, ◌||◌, [], OnOk};
-ghost use Rattle.std.specs.List.{filter};
+ghost use Rattle.std.specs.Prelude.{◌≡◌, ◌++◌, true, not, ◌&&◌, ◌||◌, [], OnOk};
+ghost use Rattle.std.specs.List.{filter, list_any, Contains};
 ghost use Rattle.fast_check_symbol_demands.specs.symbols.Tables.{Tables};
-ghost use Rattle.fast_check_demands.specs.Yields.{decl_ranges, is_within, Joins};
-ghost use Rattle.fast_check_demands.specs.Noted.{is_public, is_noted, public_at, noted_ranges, public_ranges};
+ghost use Rattle.fast_check_demands.specs.Yields.{decl_ranges, ranges_at, is_within, Joins};
+ghost use Rattle.fast_check_demands.specs.Noted.{is_public, is_noted, public_at, noted_ranges, Tells};
 
 use fast_check_symbol_demands::symbols::{CheckedTables, SymbolDecl, SymbolId};
 use fast_check_syntax::{SourcePos, SourceRange};
@@ -71,6 +71,63 @@ pub(crate) fn with_noted(before: Option<PublicDecls>, which: PublicDecls) -> Pub
     }
 }
 
+/// Whether what is public so lies outside of the hidden range.
+fn hides_more(hidden: SourceRange, which: PublicDecls) -> bool
+    ensures { result ≡ true → (r : SourceRange) → is_public which r ≡ true → not (is_within hidden r) ≡ true }
+{
+    match which {
+        PublicDecls::All => false,
+        PublicDecls::Outside(more) => is_within(more, hidden),
+    }
+}
+
+/// Whether all that the second makes public is public by the first.
+fn is_wider(wide: PublicDecls, which: PublicDecls) -> bool
+    ensures { result ≡ true → (r : SourceRange) → is_public which r ≡ true → is_public wide r ≡ true }
+{
+    match wide {
+        PublicDecls::All => true,
+        PublicDecls::Outside(hidden) => hides_more(hidden, which),
+    }
+}
+
+/// Whether all that is public so was noted before.
+fn was_noted(before: Option<PublicDecls>, which: PublicDecls) -> bool
+    ensures { result ≡ true → (r : SourceRange) → is_public which r ≡ true → is_noted before r ≡ true }
+{
+    match before {
+        None => false,
+        Some(before) => is_wider(before, which),
+    }
+}
+
+/// Whether one of these declarations is not public so.
+fn hides_some(which: PublicDecls, decls: &[SymbolDecl]) -> bool
+    ensures { result ≡ list_any (λ x. not (is_public which x.range)) decls.now }
+{
+    decls.iter().any(|decl| !is_public(which, decl.range))
+}
+
+/// The same of these declarations: all, where none is hidden.
+fn of_these(which: PublicDecls, decls: &[SymbolDecl]) -> PublicDecls
+    ensures { (r : SourceRange) → Contains (decl_ranges decls.now) r → is_public result r ≡ is_public which r }
+{
+    if hides_some(which, decls) {
+        return which;
+    }
+    PublicDecls::All
+}
+
+/// The same of the declarations of a symbol: all, where none is hidden.
+fn of_symbol(tables: &CheckedTables, id: SymbolId, which: PublicDecls) -> PublicDecls
+    ensures { (r : SourceRange) → Contains (ranges_at tables.now id) r → is_public result r ≡ is_public which r }
+{
+    match tables.symbol(id) {
+        None => which,
+        Some(symbol) => of_these(which, symbol.decls.as_slice()),
+    }
+}
+
 fn push_public(
     which: PublicDecls,
     decls: &[SymbolDecl],
@@ -100,7 +157,26 @@ fn push_public_at(
     }
 }
 
+/// Lists the declarations of a symbol that are public so, and tells them, unless all of them were told.
+fn push_untold_at(
+    tables: &CheckedTables,
+    id: SymbolId,
+    which: PublicDecls,
+    told: &mut NotedSymbols,
+    out: &mut Vec<SourceRange>,
+) -> Result<(), AllocError>
+    ensures { OnOk result (Tells (public_at tables.now id which) (noted_ranges tables.now told.old) (noted_ranges tables.now told.new)
+        out.old.items out.new.items) }
+{
+    if told.has(id, which) {
+        return Ok(());
+    }
+    push_public_at(tables, id, which, out)?;
+    told.tell(tables, id, which)
+}
+
 impl NotedSymbols {
+    /// Nothing is noted.
     pub fn new(alloc: Global) -> NotedSymbols
         ensures { (t : Tables) → noted_ranges t result ≡ [] }
     {
@@ -118,16 +194,40 @@ impl NotedSymbols {
         Ok(())
     }
 
-    /// Lists what is noted: the declarations of each symbol once.
-    pub fn push_all(
+    /// Notes the same of a symbol of these tables, and that all of its declarations are public, where none is left.
+    fn tell(
+        &mut self,
+        tables: &CheckedTables,
+        id: SymbolId,
+        which: PublicDecls,
+    ) -> Result<(), AllocError>
+        ensures { OnOk result (Joins (public_at tables.now id which) (noted_ranges tables.now self.old) (noted_ranges tables.now self.new)) }
+    {
+        let noted = with_noted(self.decls.get(&id).copied(), which);
+        let told = of_symbol(tables, id, noted);
+        self.decls.insert(id, told)?;
+        Ok(())
+    }
+
+    /// Whether all declarations of a symbol that are public so are noted.
+    fn has(&self, id: SymbolId, which: PublicDecls) -> bool
+        ensures { (t : Tables) → result ≡ true → (r : SourceRange) → Contains (public_at t id which) r → Contains (noted_ranges t self.now) r }
+    {
+        was_noted(self.decls.get(&id).copied(), which)
+    }
+
+    /// Lists of what is noted what was not told before, and tells it: the declarations of each symbol once, unless all of them that are noted were told.
+    pub fn push_untold(
         self,
         tables: &CheckedTables,
+        told: &mut NotedSymbols,
         out: &mut Vec<SourceRange>,
     ) -> Result<(), AllocError>
-        ensures { OnOk result (out.new.items ≡ public_ranges tables.now self out.old.items) }
+        ensures { OnOk result (Tells (noted_ranges tables.now self) (noted_ranges tables.now told.old) (noted_ranges tables.now told.new)
+            out.old.items out.new.items) }
     {
         for (id, which) in self.decls {
-            push_public_at(tables, id, which, out)?;
+            push_untold_at(tables, id, which, told, out)?;
         }
         Ok(())
     }

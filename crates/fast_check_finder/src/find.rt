@@ -79,8 +79,8 @@ fn turn<'a>(
     ensures turned { let i = input.entry in
         let used = used_of cache.entry (λ c. used_item (hash_of c.now i.seed.now) (stored c.now) i.sources.graph.now) in
         let k = with_used used (known i.sources (url_of provider.now) (nv_at provider.now)) in
-        IfOk result (λ after. (done : List Followed) → AreFollowed done kept.old.searches → AreKept k.workspace_members kept.old.members
-        → IsTurn (world k) (gives k) done (λ all. AreFollowed all kept.new.searches) next (state_of progress.old.worklist)
+        IfOk result (λ after. (done : List Followed) → AreFollowed k done kept.old.searches → AreKept k.workspace_members kept.old.members
+        → IsTurn (world k) (gives k) done (λ all. AreFollowed k all kept.new.searches) next (state_of progress.old.worklist)
         (state_of progress.new.worklist) (flat_map yields_of progress.old.found.items) (flat_map yields_of progress.new.found.items) after) }
     ensures kept { let ours = members_in input.entry.sources.workspace_members.now in
         OnOk result (AreKept ours kept.old.members → AreKept ours kept.new.members) }

@@ -6,12 +6,12 @@ use Rattle.std.proofs.lemmas.Bool.{or_left, or_right, or_cases}
 use Rattle.std.proofs.lemmas.List.{take_more, take_all, take-append-le}
 use Rattle.std.proofs.lemmas.List.Folds.{list_any-append}
 use Rattle.std.proofs.lemmas.List.Elements.{Contains-get_or, Contains-push_cases, Contains-push, Contains-append_left}
-use Rattle.std.proofs.lemmas.List.Elements.{Contains-append_cases}
+use Rattle.std.proofs.lemmas.List.Elements.{Contains-append_cases, Contains-append_right}
 use Rattle.fast_check_symbols.specs.Tables.{Tables}
 use Rattle.fast_check_name_demands.specs.demands.Demands.{Demand}
 use Rattle.fast_check_name_demands.specs.demands.Rules.{names}
 use Rattle.fast_check_name_demands.specs.demands.Yields.{ranges, Adds, Joins, implementations, faults, fault_seen}
-use Rattle.fast_check_name_demands.specs.demands.Noted.{public_ranges}
+use Rattle.fast_check_name_demands.specs.demands.Noted.{public_ranges, Tells}
 use Rattle.fast_check_name_demands.specs.demands.declared.noted.NotedSymbols.{NotedSymbols}
 use Rattle.fast_check_syntax.specs.declared.source.SourceRange.{SourceRange}
 use Rattle.fast_check_name_demands.specs.demands.Account.{root, step, alike, referred, IsCovered, IsYield}
@@ -19,7 +19,7 @@ use Rattle.fast_check_name_demands.specs.Files.{files}
 use Rattle.fast_check_demands.proofs.Adds.{adds_all, adds_kept, adds_both}
 use Rattle.fast_check_search.specs.declared.found.Found.{Found}
 use Rattle.fast_check_search.specs.SymbolWorklist.{Grows, CoversEach}
-use Rattle.fast_check_search.specs.Found.{IsFound, Gains, IsFoundSoFar, IsOnTheWay}
+use Rattle.fast_check_search.specs.Found.{IsUntold, IsFound, Gains, IsFoundSoFar, IsOnTheWay}
 use Rattle.fast_check_search.specs.Searched.{IsContinued}
 use Rattle.fast_check_search.proofs.Each.{Contains_none, Contains_only}
 
@@ -144,6 +144,24 @@ found_more t account d before after old new f g = record {
   outside = yielded_joined (files t) account d _ _ f.outside (joined (files t d) _ _ g.outside);
 }
 
+-- of what is listed or noted, what was told before is not found
+untold : (t : Tables) (account : List Demand) (listed noted was_told is_told found : List SourceRange) →
+    IsYield (ranges t) account (listed ++ noted) → Tells noted was_told is_told listed found → IsUntold t account was_told is_told found
+untold t account listed noted was_told is_told found y h = record {
+  sound = λ r c. y.sound r (⊎_elim
+      (λ early. Contains-append_left listed noted r early)
+      (λ late. Contains-append_right listed noted r (h.parts r late))
+      (Contains-append_cases listed h.more r (subst (λ (xs : List SourceRange). Contains xs r) h.is c)));
+  complete = λ d r i g. ⊎_elim
+      (λ early. inl (is_found r (Contains-append_left listed h.more r early)))
+      (λ late. ⊎_elim (λ now. inl (is_found r (Contains-append_right listed h.more r now))) (λ before. inr before) (h.whole r late))
+      (Contains-append_cases listed noted r (y.complete d r i g));
+  told = λ r c. ⊎_elim (λ before. inl before) (λ now. inr (is_found r (Contains-append_right listed h.more r now))) (h.told.sound r c);
+}
+  where
+    is_found : (r : SourceRange) → Contains (listed ++ h.more) r → Contains found r
+    is_found r c = subst (λ (xs : List SourceRange). Contains xs r) (sym h.is) c
+
 module _ (t : Tables) (roots before : List Demand) where
   -- after the first demands were asked for
   pub begun : (asked : List Demand) (public : List SourceRange) (found : Found) → Grows roots [] asked →
@@ -182,12 +200,14 @@ module _ (t : Tables) (roots before : List Demand) where
         }
 
   -- at the end
-  pub ended : (asked : List Demand) (next : ℕ) (public : List SourceRange) (so_far found : Found) → length asked ≤ next →
-      IsOnTheWay t roots before asked next public so_far → found.ranges.items ≡ public → found.implementations ≡ so_far.implementations →
-      found.faults ≡ so_far.faults → found.files ≡ so_far.files → IsContinued t roots before asked × IsFound t asked found
-  ended asked next public so_far found le w ranges_are e f g =
+  pub ended : (asked : List Demand) (next : ℕ) (noted was_told is_told : List SourceRange) (so_far found : Found) → length asked ≤ next →
+      IsOnTheWay t roots before asked next (so_far.ranges.items ++ noted) so_far →
+      Tells noted was_told is_told so_far.ranges.items found.ranges.items → found.implementations ≡ so_far.implementations →
+      found.faults ≡ so_far.faults → found.files ≡ so_far.files →
+      IsContinued t roots before asked × IsFound t asked was_told is_told found
+  ended asked next noted was_told is_told so_far found le w told e f g =
       let all : take next asked ≡ asked = take_all next asked le in
-      let way = subst (λ (x : List Demand). IsFoundSoFar t x public so_far) all w.found in (
+      let way = subst (λ (x : List Demand). IsFoundSoFar t x (so_far.ranges.items ++ noted) so_far) all w.found in (
         record {
           chained = w.chained;
           has_roots = w.has_roots;
@@ -195,7 +215,7 @@ module _ (t : Tables) (roots before : List Demand) where
               λ d e u v. w.closed d e (subst (λ (x : List Demand). Contains x d) (sym all) u) v;
         },
         record {
-          public = rw ranges_are way.public;
+          public = untold t asked so_far.ranges.items noted was_told is_told found.ranges.items way.public told;
           implementing = rw e way.implementing;
           faulty = rw f way.faulty;
           outside = rw g way.outside;

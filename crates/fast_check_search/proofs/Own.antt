@@ -16,7 +16,7 @@ use Rattle.fast_check_name_demands.specs.demands.Yields.{decl_ranges, stands_out
 use Rattle.fast_check_name_demands.specs.demands.Yields.{asked_ranges, ranges, symbol_implementations, asked_implementations}
 use Rattle.fast_check_name_demands.specs.demands.Yields.{symbol_ranges, implementations}
 use Rattle.fast_check_name_demands.specs.demands.Account.{IsYield}
-use Rattle.fast_check_search.specs.Found.{AreTableRanges}
+use Rattle.fast_check_search.specs.Found.{AreTableRanges, IsUntold}
 use Rattle.fast_check_search.proofs.Each.{Contains_first, Contains_later, contains_map, contains_flat_map, Each, each_nil}
 use Rattle.fast_check_search.proofs.Each.{each_cons, each_append, each_map, each_flat, each_cond, each_each_of}
 use Rattle.fast_check_search.proofs.Inside.{last_inside}
@@ -80,8 +80,9 @@ module _ (t : Tables) where
       (λ s e. own_asked_implementations d.asked s (last_inside (has_id d.symbol) t.symbols s e))
 
   -- what is found is of the module's own ranges
-  pub own_found : (account : List Demand) (found : List SourceRange) → IsYield (ranges t) account found → AreTableRanges t found
-  own_found account found y r h = let s = y.sound r h in own_ranges s.0 r s.2
+  pub own_found : (account : List Demand) (was_told is_told found : List SourceRange) → IsUntold t account was_told is_told found →
+      AreTableRanges t found
+  own_found account was_told is_told found y r h = let s = y.sound r h in own_ranges s.0 r s.2
 
   pub own_found_implementations : (account : List Demand) (found : List SourceRange) → IsYield (implementations t) account found →
       AreTableRanges t found

@@ -1,6 +1,6 @@
 -- Inner: no contract of a public call cites what stands here.
 -- What a search finds, and what holds on its way.
-use Rattle.std.specs.Prelude.{◌≡◌, ℕ, ◌≤◌, List, ◌++◌, length, take, map}
+use Rattle.std.specs.Prelude.{◌≡◌, ◌⊎◌, ℕ, ◌≤◌, List, ◌++◌, length, take, map}
 use Rattle.std.specs.List.{Contains}
 use Rattle.fast_check_syntax.specs.declared.source.SourceRange.{SourceRange}
 use Rattle.fast_check_symbols.specs.Tables.{Tables, table_ranges}
@@ -13,9 +13,20 @@ use Rattle.fast_check_name_demands.specs.demands.declared.noted.NotedSymbols.{No
 use Rattle.fast_check_name_demands.specs.Files.{files}
 use Rattle.fast_check_search.specs.declared.found.Found.{Found}
 
--- what was found is exactly what these demands make public, what is wrong with them, and what they ask of other files
-pub record IsFound (t : Tables) (account : List Demand) (found : Found) : Type 0 where
-  pub public : IsYield (ranges t) account found.ranges.items
+-- What is found is of what these demands make public, and each range that they make public is found, or was told before
+-- this search. What is told afterwards was told before or is found: so each range that is told was found by this search
+-- or by an earlier one, and need not be found again
+pub record IsUntold (t : Tables) (account : List Demand) (was_told is_told found : List SourceRange) : Type 0 where
+  pub sound : (r : SourceRange) → Contains found r → (d : Demand) × Contains account d × Contains (ranges t d) r
+  pub complete : (d : Demand) (r : SourceRange) → Contains account d → Contains (ranges t d) r →
+      Contains found r ⊎ Contains was_told r
+  pub told : (r : SourceRange) → Contains is_told r → Contains was_told r ⊎ Contains found r
+
+-- what was found is exactly what these demands make public, but for what was told before, what is wrong with them, and
+-- what they ask of other files
+pub record IsFound (t : Tables) (account : List Demand) (was_told is_told : List SourceRange) (found : Found) :
+    Type 0 where
+  pub public : IsUntold t account was_told is_told found.ranges.items
   pub implementing : IsYield (implementations t) account found.implementations.items
   pub faulty : IsYield (faults t) account (map fault_seen found.faults.items)
   pub outside : IsYield (files t) account found.files

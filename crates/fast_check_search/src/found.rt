@@ -2,6 +2,7 @@
 ghost use Rattle.std.specs.Prelude.{◌≡◌, List, [], map, IfOk, OnOk, ◌++◌, option_map, option_to_list};
 ghost use Rattle.fast_check_name_demands.specs.demands.Demands.{Demand, demand_of};
 ghost use Rattle.fast_check_name_demands.specs.demands.Yields.{fault_seen};
+ghost use Rattle.fast_check_name_demands.specs.demands.Noted.{noted_ranges};
 ghost use Rattle.fast_check_name_demands.specs.demands.Rules.{names};
 ghost use Rattle.fast_check_search.specs.Found.{IsFound, Gains, AreTableRanges};
 ghost use Rattle.fast_check_search.specs.Searched.{IsContinued, IsKeptWith};
@@ -122,15 +123,17 @@ fn ask_named<'a>(
 }
 
 /// All that follows from these demands within a module, and did not follow from those of earlier searches of it: what it makes public, what is wrong
-/// with it, and what it asks of other files. Beside it, what the next search goes on from.
+/// with it, and what it asks of other files. Declarations that are public by where they stand are not found again where they were told, and are told
+/// then. Beside it, what the next search goes on from.
 pub fn search<'a>(
     alloc: Global,
     tables: &'a CheckedTables,
     before: Searched,
+    told: &mut NotedSymbols,
     roots: &[SymbolDemand<'a>],
 ) -> Result<(Searched, Found<'a>), AllocError>
     ensures continued { IfOk result (λ r. (more : List Demand) × IsContinued tables.now (map demand_of roots.now) before more ×
-        IsFound tables.now more r.1 × IsKeptWith before more r.0) }
+        IsFound tables.now more (noted_ranges tables.now told.old) (noted_ranges tables.now told.new) r.1 × IsKeptWith before more r.0) }
 
     // What is found is of the tables' own ranges, so a module of these tables admits it.
     ensures own_ranges { IfOk result (λ r. AreTableRanges tables.now r.1.ranges.items) }
@@ -156,7 +159,7 @@ pub fn search<'a>(
         ask_named(alloc, tables, &before, demand, &mut met, &mut work)?;
         next += 1;
     }
-    noted.push_all(tables, &mut found.ranges)?;
+    noted.push_untold(tables, told, &mut found.ranges)?;
     let demands = work.into_demands();
     let mut searched = before;
     searched.keep_all(alloc, demands.as_slice())?;

@@ -23,6 +23,8 @@ pub struct Searched {
     named: NamedDemands,
     /// Whether a search came to this, so that the next one is not the first.
     was_searched: bool,
+    /// How many demands the last search met.
+    met: usize,
 }
 
 impl Model for Searched {
@@ -45,12 +47,15 @@ impl Searched {
             demands: BTreeSet::new(alloc),
             named: NamedDemands::new(alloc),
             was_searched: false,
+            met: 0,
         }
     }
 
-    /// How much is kept: the demands without names, and the different names of the others. Nothing that is found depends on it.
+    /// How much searches came to: what is kept, demands without names and different names of the others, or the demands that the last search met, where
+    /// those are more. Nothing that is found depends on it.
     pub fn len(&self) -> usize {
-        self.demands.len().saturating_add(self.named.count())
+        let kept = self.demands.len().saturating_add(self.named.count());
+        kept.max(self.met)
     }
 
     /// Whether a demand that asks for the same is kept.
@@ -103,6 +108,7 @@ impl Searched {
             self.keep(alloc, each.demand)?;
         }
         self.was_searched = true;
+        self.met = demands.len();
         Ok(())
     }
 }

@@ -61,6 +61,6 @@ module _ (m : TracedModule) where
   own_demand (whole_at []) = each_nil Own
   own_demand (whole_at (n ∷ p)) = own_path n
 
-  pub own_re_exports : (names : List NameDemand) (found : List SourceRange) → AreRangesThrough m names found →
-      AreTableRanges (own_tables m) found
-  own_re_exports names found h = λ r c. each_flat Own (re_export_ranges m) names (λ d _. own_demand d) r (h.sound r c)
+  pub own_re_exports : (names : List NameDemand) (was_told is_told found : List SourceRange) →
+      AreRangesThrough m names was_told is_told found → AreTableRanges (own_tables m) found
+  own_re_exports names was_told is_told found h = λ r c. each_flat Own (re_export_ranges m) names (λ d _. own_demand d) r (h.sound r c)

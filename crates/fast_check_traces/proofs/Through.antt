@@ -1,6 +1,6 @@
 -- The re-exports of all that demands make public: the first ones that have a name, and all of them where one demand needs all.
 use Rattle.std.proofs.Common.{◌≡◌, ◌∙◌, sym, ap, refl, subst, Bool, true, false, not, ◌||◌, cond, is_some, List, [], ◌∷◌, ◌++◌, map}
-use Rattle.std.proofs.Common.{Option, Some, None, option_map, ⊎_elim}
+use Rattle.std.proofs.Common.{Option, Some, None, option_map, ⊎_elim, ◌⊎◌, inl, inr}
 use Rattle.std.specs.List.{Contains, flat_map, list_any}
 use Rattle.std.proofs.lemmas.List.Elements.{Contains-append_left, Contains-append_right, Contains-append_cases}
 use Rattle.fast_check_syntax.specs.declared.source.SourceRange.{SourceRange}
@@ -106,13 +106,48 @@ module _ (m : TracedModule) where
       others_all true true i = i
       others_all true false i = absurd (Contains_none r i)
 
-  pub through : (ds : List Single) (found : List SourceRange)
-      → found ≡ flat_map (λ d. firsts m (names_of d)) ds ++ cond (list_any (λ d. shows_all m (names_of d)) ds) all []
-      → AreRangesThrough m (map names_of ds) found
-  through ds found e = record {
-    sound = λ r c. ⊎_elim (firsts_asked ds r) (all_asked ds r)
-        (Contains-append_cases (flat_map (λ d. firsts m (names_of d)) ds)
-        (cond (list_any (λ d. shows_all m (names_of d)) ds) all []) r
-        (subst (λ (rs : List SourceRange). Contains rs r) e c));
-    complete = λ r c. subst (λ (rs : List SourceRange). Contains rs r) (sym e) (given ds r c);
+  abbrev named : List Single → List SourceRange
+  named ds = flat_map (λ d. firsts m (names_of d)) ds
+
+  abbrev whole : List Single → Bool
+  whole ds = list_any (λ d. shows_all m (names_of d)) ds
+
+  -- all are listed where all are public and were not told
+  abbrev untold : Bool → Bool → List SourceRange
+  untold w o = cond w (cond o [] all) []
+
+  untold_public : (w o : Bool) (r : SourceRange) → Contains (untold w o) r → Contains (cond w all []) r
+  untold_public true true r c = absurd (Contains_none r c)
+  untold_public true false r c = c
+  untold_public false o r c = absurd (Contains_none r c)
+
+  public_untold : (w o : Bool) (r : SourceRange) → Contains (cond w all []) r →
+      Contains (untold w o) r ⊎ Contains (cond o all []) r
+  public_untold true true r c = inr c
+  public_untold true false r c = inl c
+  public_untold false o r c = absurd (Contains_none r c)
+
+  told_then : (w o : Bool) (r : SourceRange) → Contains (cond (w || o) all []) r →
+      Contains (cond o all []) r ⊎ Contains (untold w o) r
+  told_then true true r c = inl c
+  told_then true false r c = inr c
+  told_then false o r c = inl c
+
+  pub through : (ds : List Single) (was_told is_told : Bool) (found : List SourceRange)
+      → found ≡ named ds ++ untold (whole ds) was_told
+      → is_told ≡ (whole ds || was_told)
+      → AreRangesThrough m (map names_of ds) (cond was_told all []) (cond is_told all []) found
+  through ds was_told is_told found e i = record {
+    sound = λ r c. ⊎_elim (firsts_asked ds r) (λ l. all_asked ds r (untold_public (whole ds) was_told r l))
+        (Contains-append_cases (named ds) (untold (whole ds) was_told) r (subst (λ (rs : List SourceRange). Contains rs r) e c));
+    complete = λ r c. ⊎_elim (λ f. inl (is_found r (Contains-append_left (named ds) (untold (whole ds) was_told) r f)))
+        (λ l. ⊎_elim (λ now. inl (is_found r (Contains-append_right (named ds) (untold (whole ds) was_told) r now))) (λ before. inr before)
+        (public_untold (whole ds) was_told r l))
+        (Contains-append_cases (named ds) (cond (whole ds) all []) r (given ds r c));
+    told = λ r c. ⊎_elim (λ before. inl before)
+        (λ now. inr (is_found r (Contains-append_right (named ds) (untold (whole ds) was_told) r now)))
+        (told_then (whole ds) was_told r (subst (λ (b : Bool). Contains (cond b all []) r) i c));
   }
+    where
+      is_found : (r : SourceRange) → Contains (named ds ++ untold (whole ds) was_told) r → Contains found r
+      is_found r c = subst (λ (rs : List SourceRange). Contains rs r) (sym e) c

@@ -2,3 +2,4 @@ pub mod Modules
 pub mod Roots
 pub mod Wants
 pub mod Origins
+pub mod Told

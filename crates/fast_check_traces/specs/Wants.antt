@@ -1,6 +1,6 @@
 -- What a demand of a module asks of other modules, by what the module exports again, and which re-exports of all it
 -- makes public.
-use Rattle.std.specs.Prelude.{ℕ, is_some, cond, List, [], ◌∷◌, map, Option, Some, None, string_bytes}
+use Rattle.std.specs.Prelude.{◌⊎◌, ℕ, is_some, cond, List, [], ◌∷◌, map, Option, Some, None, string_bytes}
 use Rattle.std.specs.List.{Contains, flat_map}
 use Rattle.url.specs.Parts.{Parts}
 use Rattle.fast_check_syntax.specs.declared.source.SourceRange.{SourceRange}
@@ -48,10 +48,14 @@ re_export_ranges m (subset_at (n ∷ p)) = path_ranges m n
 re_export_ranges m (whole_at []) = []
 re_export_ranges m (whole_at (n ∷ p)) = path_ranges m n
 
--- what was found are the ranges that the demands make public, and nothing else
-pub record AreRangesThrough (m : TracedModule) (demands : List NameDemand) (found : List SourceRange) : Type 0 where
+-- what was found are ranges that the demands make public, and each of these was found, or was told before. What is told
+-- afterwards was told before or found
+pub record AreRangesThrough (m : TracedModule) (demands : List NameDemand) (was_told is_told found : List SourceRange) :
+    Type 0 where
   pub sound : (r : SourceRange) → Contains found r → Contains (flat_map (re_export_ranges m) demands) r
-  pub complete : (r : SourceRange) → Contains (flat_map (re_export_ranges m) demands) r → Contains found r
+  pub complete : (r : SourceRange) → Contains (flat_map (re_export_ranges m) demands) r →
+      Contains found r ⊎ Contains was_told r
+  pub told : (r : SourceRange) → Contains is_told r → Contains was_told r ⊎ Contains found r
 
 -- wants
 

@@ -6,13 +6,16 @@ ghost use Rattle.fast_check_search.specs.Found.{IsFound, AreTableRanges};
 ghost use Rattle.fast_check_search.specs.Searched.{IsContinued, IsKeptWith};
 ghost use Rattle.fast_check_name_demands.specs.Files.{names_of};
 ghost use Rattle.fast_check_traces.specs.Modules.{own_tables as tables_at};
+ghost use Rattle.fast_check_demands.specs.Noted.{noted_ranges};
 ghost use Rattle.fast_check_traces.specs.Roots.{roots};
+ghost use Rattle.fast_check_traces.specs.Told.{told_again};
 ghost use Rattle.fast_check_traces.specs.Wants.{AreRangesThrough, module_wants};
 
 use crate::list::ModuleWants;
 use crate::modules::{TracedModule, own_tables};
 use crate::re_exports::re_exports_of;
 use crate::roots::roots_of;
+use crate::told::ToldRanges;
 use fast_check_demands::SourceRange;
 use fast_check_name_demands::NameDemand;
 use fast_check_search::{Found, Searched, search};
@@ -30,17 +33,21 @@ pub struct Traced<'a> {
 }
 
 /// Follows a module: what these demands of it make public, what is wrong with it, and what it asks of other modules. What follows from the demands of
-/// symbols that earlier calls came to is not told again. Beside it, what the next call goes on from.
+/// symbols that earlier calls came to is not told again, nor are ranges that are told already: those that are told now are noted. Beside it, what the next
+/// call goes on from.
 pub fn trace<'a>(
     alloc: Global,
     traced: TracedModule<'a>,
     before: Searched,
+    told: &mut ToldRanges,
     demands: &[NameDemand<'a>],
 ) -> Result<(Searched, Traced<'a>), AllocError>
     ensures continued { IfOk result (λ r. (more : List Demand)
         × IsContinued (tables_at traced.entry) (flat_map (λ d. roots (tables_at traced.entry) (names_of d)) demands.now) before more
-        × IsFound (tables_at traced.entry) more r.1.found × IsKeptWith before more r.0) }
-    ensures re_exports { IfOk result (λ r. AreRangesThrough traced.entry (map names_of demands.now) r.1.re_export_ranges.items) }
+        × IsFound (tables_at traced.entry) more (noted_ranges (tables_at traced.entry) told.old.symbols)
+        (noted_ranges (tables_at traced.entry) told.new.symbols) r.1.found × IsKeptWith before more r.0) }
+    ensures re_exports { IfOk result (λ r. AreRangesThrough traced.entry (map names_of demands.now)
+        (told_again (tables_at traced.entry) told.old.re_exports) (told_again (tables_at traced.entry) told.new.re_exports) r.1.re_export_ranges.items) }
     ensures wants { IfOk result (λ r. r.1.wants ≡ flat_map (λ d. module_wants traced.entry (names_of d)) demands.now) }
 
     // What is public is of the module's own ranges, so a module of these tables admits it.
@@ -50,8 +57,9 @@ pub fn trace<'a>(
 {
     let tables = own_tables(traced);
     let roots = roots_of(alloc, tables, demands)?;
-    let (searched, found) = search(alloc, tables, before, roots.as_slice())?;
-    let (re_export_ranges, wants) = re_exports_of(alloc, traced, demands)?;
+    let (searched, found) = search(alloc, tables, before, &mut told.symbols, roots.as_slice())?;
+    let told = &mut told.re_exports;
+    let (re_export_ranges, wants) = re_exports_of(alloc, traced, told, demands)?;
     Ok((
         searched,
         Traced {

@@ -7,6 +7,7 @@ mod modules;
 mod origins;
 mod re_exports;
 mod roots;
+mod told;
 
 pub use fast_check_graph::{AnyModuleInfo, ModuleGraph, RootSymbol};
 pub use fast_check_name_demands::{FileWant, FileWants, NameDemand};
@@ -14,3 +15,4 @@ pub use fast_check_search::{Found, Searched};
 pub use follow::{Traced, trace};
 pub use list::{ModuleWant, ModuleWants};
 pub use modules::{TracedModule, tables_of};
+pub use told::ToldRanges;

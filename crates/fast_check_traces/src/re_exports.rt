@@ -1,7 +1,9 @@
 //! Re-exports of all: which are public, and what they ask of other modules.
-ghost use Rattle.std.specs.Prelude.{◌≡◌, [], ◌++◌, ◌||◌, not, cond, is_some, map, option_map, OnOk, IfOk, string_bytes};
+ghost use Rattle.std.specs.Prelude.{◌≡◌, [], ◌++◌, ◌||◌, true, not, cond, is_some, map, option_map, OnOk, IfOk, string_bytes};
 ghost use Rattle.std.specs.List.{flat_map, list_any};
 ghost use Rattle.fast_check_name_demands.specs.Files.{names_of};
+ghost use Rattle.fast_check_traces.specs.Modules.{own_tables as tables_at};
+ghost use Rattle.fast_check_traces.specs.Told.{told_again};
 ghost use Rattle.fast_check_traces.specs.Wants.{re_exported, node_ranges, AreRangesThrough, answered_at, path_wants, module_wants};
 ghost use Rattle.fast_check_traces.specs.Origins.{origin_of, AreOriginsOf, first_only, name_firsts, name_shows_all, firsts, shows_all};
 
@@ -32,16 +34,34 @@ fn push_all_ranges(nodes: &[ReExportAllNode], out: &mut Vec<SourceRange>) -> Res
     Ok(())
 }
 
-/// Adds all of them, if all are public.
+/// Adds all of them, and tells them, unless they were told.
+fn push_untold(
+    nodes: &[ReExportAllNode],
+    told: &mut bool,
+    out: &mut Vec<SourceRange>,
+) -> Result<(), AllocError>
+    ensures ranges { OnOk result (out.new.items ≡ out.old.items ++ cond told.old [] (node_ranges nodes.now)) }
+    ensures told { OnOk result (told.new ≡ true) }
+{
+    if *told {
+        return Ok(());
+    }
+    *told = true;
+    push_all_ranges(nodes, out)
+}
+
+/// Adds all of them, if all are public and were not told.
 fn push_whole(
     nodes: &[ReExportAllNode],
     is_whole: bool,
+    told: &mut bool,
     out: &mut Vec<SourceRange>,
 ) -> Result<(), AllocError>
-    ensures { OnOk result (out.new.items ≡ out.old.items ++ cond is_whole (node_ranges nodes.now) []) }
+    ensures ranges { OnOk result (out.new.items ≡ out.old.items ++ cond is_whole (cond told.old [] (node_ranges nodes.now)) []) }
+    ensures told { OnOk result (told.new ≡ (is_whole || told.old)) }
 {
     if is_whole {
-        return push_all_ranges(nodes, out);
+        return push_untold(nodes, told, out);
     }
     Ok(())
 }
@@ -162,12 +182,15 @@ fn gather<'a>(
 }
 
 /// The ranges of the re-exports of all that the demands of a module make public, and what the demands ask of other modules by what it exports again.
+/// Where all are public they are listed unless they were told, and are told then.
 pub fn re_exports_of<'a>(
     alloc: Global,
     traced: TracedModule<'a>,
+    told: &mut bool,
     demands: &[NameDemand<'a>],
 ) -> Result<(Vec<SourceRange>, ModuleWants<'a>), AllocError>
-    ensures ranges { IfOk result (λ r. AreRangesThrough traced.entry (map names_of demands.now) r.0.items) }
+    ensures ranges { IfOk result (λ r. AreRangesThrough traced.entry (map names_of demands.now) (told_again (tables_at traced.entry) told.old)
+        (told_again (tables_at traced.entry) told.new) r.0.items) }
     ensures wants { IfOk result (λ r. r.1 ≡ flat_map (λ d. module_wants traced.entry (names_of d)) demands.now) }
 {
     let ReExports {
@@ -178,6 +201,7 @@ pub fn re_exports_of<'a>(
     push_whole(
         own_tables(traced).re_export_all_nodes(),
         is_whole,
+        told,
         &mut ranges,
     )?;
     Ok((ranges, wants))

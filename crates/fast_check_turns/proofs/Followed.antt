@@ -13,6 +13,7 @@ use Rattle.fast_check_names.specs.Imports.{NameDemand, names_but_default, each_n
 use Rattle.fast_check_demands.specs.Demands.{Demand as SymbolDemand}
 use Rattle.fast_check_demands.specs.Account.{Chained, root as symbol_root, step as symbol_step, alike, referred}
 use Rattle.fast_check_demands.specs.Account.{IsCovered as IsSymbolCovered}
+use Rattle.fast_check_demands.specs.Noted.{noted_ranges}
 use Rattle.fast_check_demands.specs.Rules.{each_of, names}
 use Rattle.fast_check_demands.specs.Yields.{ranges, implementations, faults}
 use Rattle.fast_check_entries.specs.findings.declared.finding.FoundModule.{FoundModule}
@@ -21,7 +22,9 @@ use Rattle.fast_check_name_demands.specs.Files.{files}
 use Rattle.fast_check_search.specs.Searched.{IsAsked}
 use Rattle.fast_check_traces.specs.declared.modules.TracedModule.{TracedModule}
 use Rattle.fast_check_traces.specs.Modules.{own_tables}
+use Rattle.fast_check_traces.specs.declared.told.ToldRanges.{ToldRanges}
 use Rattle.fast_check_traces.specs.Roots.{roots}
+use Rattle.fast_check_traces.specs.Told.{told_again, told_ranges}
 use Rattle.fast_check_traces.specs.Wants.{re_export_ranges, module_wants, Want as ModuleWant}
 use Rattle.fast_check_search.proofs.Each.{Contains_none, Contains_first, Contains_later, Contains_cases, contains_map, contains_flat_map}
 use Rattle.fast_check_search.proofs.Each.{Each, each_append, each_map, each_flat}
@@ -32,7 +35,7 @@ use Rattle.fast_check_worklists.specs.Demands.{of_symbol}
 use Rattle.fast_check_worklists.specs.Account.{Followed, HasIn}
 use Rattle.fast_check_worklists.specs.declared.worklist.OuterWant.{OuterWant}
 use Rattle.fast_check_worklists.specs.State.{State, want_of, AsksAll, Reached, root, step, IsMetAmong, IsSearched, IsOuter, IsWithin}
-use Rattle.fast_check_worklists.specs.State.{AreWants, AreGiven, IsFollowed}
+use Rattle.fast_check_worklists.specs.State.{AreWants, IsGivenAmong, AreGiven, IsFollowed}
 use Rattle.fast_check_name_demands.specs.NameDemands.{GoesWith, AreDemands, IsEmpty}
 use Rattle.fast_check_sources.specs.Sources.{Known, module_at}
 use Rattle.fast_check_sources.specs.Wants.{file_wants, left_wants}
@@ -41,7 +44,7 @@ use Rattle.fast_check_entries.specs.findings.Yields.{Yield, recorded, public, im
 use Rattle.fast_check_entries.specs.findings.Findings.{placed_yield, placed_yields, module_yields}
 use Rattle.fast_check_turns.specs.Yields.{own_text, dependency_of, dependencies, public_at, implementing_at, source_in, fault_yields}
 use Rattle.fast_check_turns.specs.Yields.{placed_all, faults_at, names_yields, symbol_yields, untyped_yields, gives}
-use Rattle.fast_check_turns.specs.Searches.{IsFollowedAt}
+use Rattle.fast_check_turns.specs.Searches.{IsFollowedAt, IsShownAmong}
 use Rattle.fast_check_turns.specs.Traced.{IsTraced}
 use Rattle.fast_check_turns.proofs.Lists.{flat_contains}
 use Rattle.fast_check_turns.proofs.Placed.{placed_flat}
@@ -86,9 +89,11 @@ asked_demanded (Subset s) (subset_at (n ∷ p)) h = inl h
 asked_demanded (Subset s) (whole_at p) h = inl h
 
 module _ (k : Known) (nv : Nv) (t : Text) (m : TracedModule) (here : module_at k t ≡ Some m) (typed : untyped_yields k.graph nv t ≡ [])
-    (x : ImportedExports) (listed : List NameDemand) (are : AreDemands x listed) (before after : List SymbolDemand) (wants : List Want)
-    (found : FoundModule) (a : IsTraced k nv m listed before after wants found) (earlier : List Followed)
-    (met : (d : SymbolDemand) → IsAsked before d → IsFollowedAt earlier nv t d) where
+    (x : ImportedExports) (listed : List NameDemand) (are : AreDemands x listed) (before after : List SymbolDemand)
+    (was_told is_told : ToldRanges) (wants : List Want) (found : FoundModule)
+    (a : IsTraced k nv m listed before after was_told is_told wants found) (earlier : List Followed)
+    (met : (d : SymbolDemand) → IsAsked before d → IsFollowedAt earlier nv t d)
+    (shown_before : (r : SourceRange) → Contains (told_ranges (own_tables m) was_told) r → IsShownAmong k earlier nv m r) where
   abbrev new : Followed
   new = record { trace = record { nv = nv; specifier = t; exports = x }; symbols = a.symbols }
 
@@ -421,8 +426,9 @@ module _ (k : Known) (nv : Nv) (t : Text) (m : TracedModule) (here : module_at k
       (each_append Gift placed_faults (dependencies nv wants) fault_gift dependency_gift)) y r)
       (Contains_cases (recorded nv (own_text m)) _ y c)
 
+  -- by this trace, or by an earlier one
   abbrev IsGiven : Yield → Type 0
-  IsGiven y = Contains given y
+  IsGiven y = Contains given y ⊎ IsGivenAmong (gives k) earlier y
 
   among : (r : SourceRange) → Contains (a.declared ++ a.again) r → Contains shown r
   among r c = subst (λ (rs : List SourceRange). Contains rs r) (sym a.ranges_are) c
@@ -430,25 +436,34 @@ module _ (k : Known) (nv : Nv) (t : Text) (m : TracedModule) (here : module_at k
   in_shown : (r : SourceRange) → Contains shown r → IsGiven (public nv (own_text m) r)
   in_shown r c =
       let y = public nv (own_text m) r in
-      Contains_later (recorded nv (own_text m)) _ y
-      (Contains-append_left (public_at nv m shown) _ y (contains_map (public nv (own_text m)) shown r c))
+      inl (Contains_later (recorded nv (own_text m)) _ y
+      (Contains-append_left (public_at nv m shown) _ y (contains_map (public nv (own_text m)) shown r c)))
 
   in_implementing : Each IsGiven (implementing_at nv m found.implementations.items)
-  in_implementing y c = Contains_later (recorded nv (own_text m)) _ y
+  in_implementing y c = inl (Contains_later (recorded nv (own_text m)) _ y
       (Contains-append_right (public_at nv m shown) _ y
-      (Contains-append_left (implementing_at nv m found.implementations.items) _ y c))
+      (Contains-append_left (implementing_at nv m found.implementations.items) _ y c)))
 
   in_placed_faults : Each IsGiven (faults_at nv m a.faulty)
-  in_placed_faults y c = Contains_later (recorded nv (own_text m)) _ y
+  in_placed_faults y c = inl (Contains_later (recorded nv (own_text m)) _ y
       (Contains-append_right (public_at nv m shown) _ y
       (Contains-append_right (implementing_at nv m found.implementations.items) _ y
-      (Contains-append_left placed_faults _ y (placed_whole y c))))
+      (Contains-append_left placed_faults _ y (placed_whole y c)))))
 
   in_dependencies : Each IsGiven (dependencies nv wants)
-  in_dependencies y c = Contains_later (recorded nv (own_text m)) _ y
+  in_dependencies y c = inl (Contains_later (recorded nv (own_text m)) _ y
       (Contains-append_right (public_at nv m shown) _ y
       (Contains-append_right (implementing_at nv m found.implementations.items) _ y
-      (Contains-append_right placed_faults (dependencies nv wants) y c)))
+      (Contains-append_right placed_faults (dependencies nv wants) y c))))
+
+  -- what was told before was shown before
+  noted_before : (r : SourceRange) → Contains (noted_ranges (own_tables m) was_told.symbols) r → IsShownAmong k earlier nv m r
+  noted_before r c = shown_before r
+      (Contains-append_left (noted_ranges (own_tables m) was_told.symbols) (told_again (own_tables m) was_told.re_exports) r c)
+
+  again_before : (r : SourceRange) → Contains (told_again (own_tables m) was_told.re_exports) r → IsShownAmong k earlier nv m r
+  again_before r c = shown_before r
+      (Contains-append_right (noted_ranges (own_tables m) was_told.symbols) (told_again (own_tables m) was_told.re_exports) r c)
 
   -- what is asked of packages alone makes dependencies
   dependency_outer : (w : Want) (y : Yield) → Contains (dependency_of nv w) y → IsOuter w
@@ -458,7 +473,7 @@ module _ (k : Known) (nv : Nv) (t : Text) (m : TracedModule) (here : module_at k
 
   names_given : (d : NameDemand) → asked x d ≡ true → Each IsGiven (names_yields k nv t d m)
   names_given d h y c =
-      ⊎_elim (λ e. subst IsGiven e (Contains_first (recorded nv (own_text m)) _))
+      ⊎_elim (λ e. subst IsGiven e (inl (Contains_first (recorded nv (own_text m)) _)))
       (λ r. each_append IsGiven (public_at nv m (re_export_ranges m d)) (dependencies nv (names_wants k nv t d m))
       (each_map IsGiven (public nv (own_text m)) (re_export_ranges m d) again_in)
       (λ z i. let f = flat_contains (dependency_of nv) (names_wants k nv t d m) z i in
@@ -469,9 +484,9 @@ module _ (k : Known) (nv : Nv) (t : Text) (m : TracedModule) (here : module_at k
       again_in : (r : SourceRange) → Contains (re_export_ranges m d) r → IsGiven (public nv (own_text m) r)
       again_in r i =
           ⊎_elim
-          (λ l. in_shown r (among r (Contains-append_right a.declared a.again r
+          (λ l. ⊎_elim (λ now. in_shown r (among r (Contains-append_right a.declared a.again r now))) (λ before. inr (again_before r before))
           (a.found_again.complete r (contains_flat_map (re_export_ranges m) listed l.0 r l.1
-          (subst (λ (rs : List SourceRange). Contains rs r) (goes_again m d l.0 l.2) i))))))
+          (subst (λ (rs : List SourceRange). Contains rs r) (goes_again m d l.0 l.2) i))))
           (λ e. absurd (Contains_none r (subst (λ (z : NameDemand). Contains (re_export_ranges m z) r) e i)))
           (asked_listed d h)
 
@@ -479,8 +494,8 @@ module _ (k : Known) (nv : Nv) (t : Text) (m : TracedModule) (here : module_at k
   symbols_given s h =
       each_append IsGiven (public_at nv m (ranges (own_tables m) s)) _
       (each_map IsGiven (public nv (own_text m)) (ranges (own_tables m) s)
-      (λ r i. in_shown r
-      (among r (Contains-append_left a.declared a.again r (a.found_ranges.complete s r h i)))))
+      (λ r i. ⊎_elim (λ now. in_shown r (among r (Contains-append_left a.declared a.again r now))) (λ before. inr (noted_before r before))
+      (a.found_ranges.complete s r h i)))
       (each_append IsGiven (implementing_at nv m (implementations (own_tables m) s)) _
       (each_map IsGiven (implementing nv (own_text m)) (implementations (own_tables m) s)
       (λ r i. in_implementing (implementing nv (own_text m) r) (contains_map (implementing nv (own_text m)) found.implementations.items r
@@ -498,7 +513,7 @@ module _ (k : Known) (nv : Nv) (t : Text) (m : TracedModule) (here : module_at k
       ⊎_elim (λ l. l) (λ r. absurd (Contains_none y (subst (λ (ys : List Yield). Contains ys y) typed r)))
       (Contains-append_cases (each_of (names_yields k nv t d) (module_at k t)) (untyped_yields k.graph nv t) y c)
 
-  are_given : AreGiven (gives k) new given
+  are_given : AreGiven (gives k) earlier new given
   are_given = record {
     sound = given_sound;
     complete = λ d y h c.
@@ -508,8 +523,23 @@ module _ (k : Known) (nv : Nv) (t : Text) (m : TracedModule) (here : module_at k
         (λ s i j. symbols_given s i y (subst (λ (o : Option TracedModule). Contains (each_of (symbol_yields k nv t s) o) y) here j)) d h c;
   }
 
+  -- what is told now was shown before, or is now
+  shown_earlier : (r : SourceRange) → IsShownAmong k earlier nv m r → IsShownAmong k now nv m r
+  shown_earlier r y = (y.0, Contains-append_left earlier (new ∷ []) y.0 y.1, y.2, y.3, y.4)
+
+  shown_here : (r : SourceRange) → Gift (public nv (own_text m) r) → IsShownAmong k now nv m r
+  shown_here r g = (new, Contains-push earlier new, g.0, g.1, g.2)
+
+  shown_now : (r : SourceRange) → Contains (told_ranges (own_tables m) is_told) r → IsShownAmong k now nv m r
+  shown_now r c =
+      ⊎_elim
+      (λ l. ⊎_elim (λ before. shown_earlier r (noted_before r before)) (λ found. shown_here r (public_gift r found)) (a.found_ranges.told r l))
+      (λ l. ⊎_elim (λ before. shown_earlier r (again_before r before)) (λ found. shown_here r (again_gift r found)) (a.found_again.told r l))
+      (Contains-append_cases (noted_ranges (own_tables m) is_told.symbols) (told_again (own_tables m) is_told.re_exports) r c)
+
   pub followed_there : (Holds : List Followed → Type 0) (outer : List OuterWant) (b c : State) (old new_found : List Yield) →
-      wants ≡ map want_of outer → AsksAll outer b c → new_found ≡ old ++ given → Holds now →
+      wants ≡ map want_of outer → AsksAll outer b c → new_found ≡ old ++ given →
+      (((r : SourceRange) → Contains (told_ranges (own_tables m) is_told) r → IsShownAmong k now nv m r) → Holds now) →
       IsFollowed (world k) (gives k) earlier Holds new.trace b c old new_found
   followed_there Holds outer b c old new_found e asks is holds = record {
     symbols = a.symbols;
@@ -520,5 +550,5 @@ module _ (k : Known) (nv : Nv) (t : Text) (m : TracedModule) (here : module_at k
     yields = are_given;
     asks = asks;
     new_is = is;
-    holds = holds;
+    holds = holds shown_now;
   }

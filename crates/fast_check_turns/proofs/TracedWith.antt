@@ -5,6 +5,7 @@ use Rattle.fast_check_syntax.specs.declared.source.SourceRange.{SourceRange}
 use Rattle.fast_check_packages.specs.Package.{Nv}
 use Rattle.fast_check_names.specs.Imports.{NameDemand}
 use Rattle.fast_check_demands.specs.Demands.{Demand as SymbolDemand}
+use Rattle.fast_check_demands.specs.Noted.{noted_ranges}
 use Rattle.fast_check_demands.specs.Yields.{fault_seen, Adds}
 use Rattle.fast_check_entries.specs.findings.declared.finding.FoundModule.{FoundModule}
 use Rattle.fast_check_entries.specs.findings.Faults.{placed_in}
@@ -15,7 +16,9 @@ use Rattle.fast_check_search.specs.Found.{IsFound}
 use Rattle.fast_check_search.specs.Searched.{IsContinued, IsKeptWith}
 use Rattle.fast_check_traces.specs.declared.modules.TracedModule.{TracedModule}
 use Rattle.fast_check_traces.specs.Modules.{own_tables}
+use Rattle.fast_check_traces.specs.declared.told.ToldRanges.{ToldRanges}
 use Rattle.fast_check_traces.specs.Roots.{roots}
+use Rattle.fast_check_traces.specs.Told.{told_again}
 use Rattle.fast_check_traces.specs.Wants.{Want as ModuleWant, AreRangesThrough, module_wants}
 use Rattle.fast_check_worklists.specs.Demands.{Want}
 use Rattle.fast_check_sources.specs.Sources.{Known}
@@ -28,15 +31,18 @@ module _ (k : Known) (nv : Nv) (m : TracedModule) (names : List Single) where
   mapped : {Y : Type 0} (f : NameDemand → List Y) → flat_map (λ w. f (names_of w)) names ≡ flat_map f (map names_of names)
   mapped f = sym (flat_mapped f names_of names)
 
-  pub traced_with : (before after : List SymbolDemand) (wants : List Want) (found : Found) (again : List SourceRange) (left : List ModuleWant) (of : FoundModule) →
+  pub traced_with : (before after : List SymbolDemand) (was_told is_told : ToldRanges) (wants : List Want) (found : Found) (again : List SourceRange)
+      (left : List ModuleWant) (of : FoundModule) →
       ((more : List SymbolDemand) × IsContinued (own_tables m) (flat_map (λ w. roots (own_tables m) (names_of w)) names) before more
-      × IsFound (own_tables m) more found × IsKeptWith before more after) →
-      AreRangesThrough m (map names_of names) again → left ≡ flat_map (λ w. module_wants m (names_of w)) names →
+      × IsFound (own_tables m) more (noted_ranges (own_tables m) was_told.symbols) (noted_ranges (own_tables m) is_told.symbols) found
+      × IsKeptWith before more after) →
+      AreRangesThrough m (map names_of names) (told_again (own_tables m) was_told.re_exports) (told_again (own_tables m) is_told.re_exports) again →
+      left ≡ flat_map (λ w. module_wants m (names_of w)) names →
       Adds (flat_map (file_wants k nv m) found.files ++ flat_map (left_wants k nv m) left) [] wants →
       of.ranges.items ≡ found.ranges.items ++ again → of.implementations.items ≡ found.implementations.items →
       Adds (placed_all (source_in m) (map fault_seen found.faults.items)) [] (map placed_in of.faults.items) →
-      IsTraced k nv m (map names_of names) before after wants of
-  traced_with before after wants found again left of a e f w r i p = record {
+      IsTraced k nv m (map names_of names) before after was_told is_told wants of
+  traced_with before after was_told is_told wants found again left of a e f w r i p = record {
     symbols = a.0;
     continued = subst (λ (rs : List SymbolDemand). IsContinued (own_tables m) rs before a.0) (mapped (roots (own_tables m))) a.1;
     kept = a.3;

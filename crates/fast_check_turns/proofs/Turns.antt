@@ -1,7 +1,8 @@
 -- What a turn does, where there is nothing to follow or to enter, and where there is.
 use Rattle.std.proofs.Common.{◌≡◌, ◌∙◌, sym, ap, refl, subst, Bool, true, cond, not, ◌||◌, List, [], ◌∷◌, ◌++◌, Option, Some, None, map}
-use Rattle.std.proofs.Common.{option_map, ⊎_elim}
+use Rattle.std.proofs.Common.{option_map, ⊎_elim, inl}
 use Rattle.std.specs.List.{Contains}
+use Rattle.fast_check_syntax.specs.declared.source.SourceRange.{SourceRange}
 use Rattle.std.specs.Option.{option_and_then}
 use Rattle.std.proofs.lemmas.Bool.{cases_Bool}
 use Rattle.std.proofs.lemmas.List.Elements.{Contains-append_cases, Contains-append_right}
@@ -17,6 +18,9 @@ use Rattle.fast_check_demands.specs.Demands.{Demand as SymbolDemand}
 use Rattle.fast_check_demands.specs.Rules.{each_of}
 use Rattle.fast_check_search.specs.Searched.{IsAsked, IsKeptWith}
 use Rattle.fast_check_search.proofs.Each.{Contains_none, Each}
+use Rattle.fast_check_traces.specs.declared.told.ToldRanges.{ToldRanges}
+use Rattle.fast_check_traces.specs.Modules.{own_tables}
+use Rattle.fast_check_traces.specs.Told.{told_ranges}
 use Rattle.fast_check_worklists.proofs.Asking.{asked_some}
 use Rattle.fast_check_worklists.specs.Demands.{Text, asked, Want, to_symbol, Demand, of_package, of_module, of_symbol}
 use Rattle.fast_check_worklists.specs.Account.{Trace, Followed, HasIn}
@@ -25,7 +29,7 @@ use Rattle.fast_check_worklists.specs.State.{want_of, State, AsksAll, IsFollowed
 use Rattle.fast_check_sources.specs.Sources.{Known, node_at, named_at, typed_info, info_at, traced_as, module_at, is_untyped}
 use Rattle.fast_check_turns.specs.Rules.{names_wants, entrance_at, world}
 use Rattle.fast_check_turns.specs.Yields.{own_text, dependencies, names_yields, untyped_yields, gives}
-use Rattle.fast_check_turns.specs.Searches.{IsFollowedAt}
+use Rattle.fast_check_turns.specs.Searches.{IsFollowedAt, IsShownAmong}
 use Rattle.fast_check_turns.proofs.Followed.{followed_there}
 use Rattle.fast_check_turns.specs.Traced.{IsTracedFor}
 use Rattle.fast_check_turns.specs.Turns.{Enters}
@@ -96,7 +100,7 @@ module _ (k : Known) (x : Trace) (a b : State) (old new : List Yield) (none : in
         (refl, refl, a_name.1),
         Contains-append_right (each_of (names_yields k x.nv x.specifier a_name.0) (module_at k x.specifier)) given y c,
       );
-      complete = λ d y h c. in_given d h y c;
+      complete = λ d y h c. inl (in_given d h y c);
     };
     asks = same;
     new_is = more;
@@ -108,15 +112,20 @@ pub entered_at : (k : Known) (nv : Nv) (a b : State) (old new : List Yield) → 
 entered_at k nv a b old new h = record { outer = h.0; wants = h.1; asks = h.2; new_is = h.3 }
 
 pub followed_one : (k : Known) (x : Trace) (info : AnyModuleInfo) → info_at k.graph k.root_symbol x.specifier ≡ Some info →
-    (before after : List SymbolDemand) (outer : List OuterWant) (found : FoundModule) →
-    IsTracedFor k x.nv (traced_as k info) x.exports before after (map want_of outer) found →
+    (before after : List SymbolDemand) (was_told is_told : ToldRanges) (outer : List OuterWant) (found : FoundModule) →
+    IsTracedFor k x.nv (traced_as k info) x.exports before after was_told is_told (map want_of outer) found →
     (earlier : List Followed) → ((d : SymbolDemand) → IsAsked before d → IsFollowedAt earlier x.nv x.specifier d) →
+    ((r : SourceRange) → Contains (told_ranges (own_tables (traced_as k info)) was_told) r →
+    IsShownAmong k earlier x.nv (traced_as k info) r) →
     (Holds : List Followed → Type 0) →
-    ((more : List SymbolDemand) → IsKeptWith before more after → Holds (earlier ++ record { trace = x; symbols = more } ∷ [])) →
+    ((more : List SymbolDemand) → IsKeptWith before more after →
+    ((r : SourceRange) → Contains (told_ranges (own_tables (traced_as k info)) is_told) r →
+    IsShownAmong k (earlier ++ record { trace = x; symbols = more } ∷ []) x.nv (traced_as k info) r) →
+    Holds (earlier ++ record { trace = x; symbols = more } ∷ [])) →
     (a b : State) → AsksAll outer a b → (old new : List Yield) →
     new ≡ old ++ module_yields x.nv (own_text (traced_as k info)) found (dependencies x.nv (map want_of outer)) →
     IsFollowed (world k) (gives k) earlier Holds x a b old new
-followed_one k x info e before after outer found h earlier met Holds holds a b asks old new is =
+followed_one k x info e before after was_told is_told outer found h earlier met shown Holds holds a b asks old new is =
     followed_there k x.nv x.specifier (traced_as k info) (ap (option_map (traced_as k)) e)
-    (typed_only k x.nv x.specifier info e) x.exports h.names h.are_names before after
-    (map want_of outer) found h.traced earlier met Holds outer a b old new refl asks is (holds h.traced.symbols h.traced.kept)
+    (typed_only k x.nv x.specifier info e) x.exports h.names h.are_names before after was_told is_told
+    (map want_of outer) found h.traced earlier met shown Holds outer a b old new refl asks is (holds h.traced.symbols h.traced.kept)

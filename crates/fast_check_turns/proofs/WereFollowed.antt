@@ -14,16 +14,27 @@ use Rattle.std.proofs.lemmas.Map.Views.{tells_apart}
 use Rattle.semver.specs.Order.{pre_cmp, build_cmp}
 use Rattle.semver.specs.OrderLaws.{pre-anti, build-anti}
 use Rattle.url.specs.Parts.{serialize}
+use Rattle.fast_check_syntax.specs.declared.source.SourceRange.{SourceRange}
+use Rattle.fast_check_symbols.specs.Tables.{Tables}
 use Rattle.fast_check_packages.specs.Package.{VersionParts, Nv, nv_of, version_cmp, nv_cmp}
 use Rattle.fast_check_demands.specs.Demands.{Demand as SymbolDemand}
 use Rattle.fast_check_demands.specs.Account.{alike}
 use Rattle.fast_check_search.specs.Searched.{IsAsked, IsKeptWith}
+use Rattle.fast_check_search.proofs.Each.{Contains_none}
 use Rattle.fast_check_worklists.specs.Demands.{Text}
 use Rattle.fast_check_worklists.specs.Account.{Followed}
+use Rattle.fast_check_worklists.specs.State.{IsGivenAmong}
+use Rattle.fast_check_entries.specs.findings.Yields.{Yield, public}
+use Rattle.fast_check_traces.specs.declared.modules.TracedModule.{TracedModule}
+use Rattle.fast_check_traces.specs.Modules.{own_tables}
+use Rattle.fast_check_traces.specs.Told.{told_ranges}
+use Rattle.fast_check_sources.specs.Sources.{Known, module_at}
+use Rattle.fast_check_turns.specs.Yields.{own_text, gives}
 use Rattle.fast_check_turns.specs.contracts.searches.ModuleOfPackageOrd.TheImpl as order
 use Rattle.fast_check_turns.specs.declared.searches.ModuleOfPackage.{ModuleOfPackage}
+use Rattle.fast_check_turns.specs.declared.searches.KeptSearch.{KeptSearch}
 use Rattle.fast_check_turns.specs.declared.searches.KeptSearches.{KeptSearches}
-use Rattle.fast_check_turns.specs.Searches.{searched_of, searched_at, IsKeptAt, IsFollowedAt, AreFollowed}
+use Rattle.fast_check_turns.specs.Searches.{searched_of, told_of, IsKeptSo, IsKeptAt, IsToldAt, IsFollowedAt, IsShownAmong, AreFollowed}
 
 -- keys that tie are of one module and package
 
@@ -53,78 +64,112 @@ same_keys m n h = tells_apart (exact_pairs (slice_cmp nat_cmp) nv_cmp exact_byte
 
 -- what is kept at the beginning, and of a module
 
-pub none_kept : (s : KeptSearches) → s.searches.entries ≡ [] → AreFollowed [] s
-none_kept s none nv t d (m, p, u, h) = absurd (false≢true
-    (subst (λ (es : List (ModuleOfPackage × List SymbolDemand)).
-    list_any (alike d) (searched_of (lookup (is_at (order.cmp-value.it m)) es)) ≡ true) none h))
+none_at : (s : KeptSearches) → s.searches.entries ≡ [] → (m : ModuleOfPackage) → get order.cmp-value.it s.searches m ≡ None
+none_at s none m = ap (lookup (is_at (order.cmp-value.it m))) none
 
-pub found_kept : (s : KeptSearches) (m : ModuleOfPackage) (searched : List SymbolDemand) →
-    Some searched ≡ get order.cmp-value.it s.searches m → (d : SymbolDemand) → IsAsked searched d →
-    IsKeptAt s (nv_of m.nv) (serialize m.specifier) d
-found_kept s m searched found d h =
-    (m, refl, refl, subst (λ (o : Option (List SymbolDemand)). IsAsked (searched_of o) d) found h)
+pub none_kept : (k : Known) (s : KeptSearches) → s.searches.entries ≡ [] → AreFollowed k [] s
+none_kept k s none = record {
+  searched = λ nv t d h. absurd (false≢true
+      (subst (λ (o : Option KeptSearch). IsAsked (searched_of o) d) (none_at s none h.0) h.3));
+  told = λ nv t m e r h. absurd (Contains_none r
+      (subst (λ (o : Option KeptSearch). Contains (told_of (own_tables m) o) r) (none_at s none h.0) h.3));
+}
 
--- after another list is kept at a key
-module _ (old new : KeptSearches) (k : ModuleOfPackage) (searched : List SymbolDemand)
-    (changes : (q : ModuleOfPackage) → get order.cmp-value.it new.searches q
-    ≡ cond (is_at (order.cmp-value.it k) q) (Some searched) (get order.cmp-value.it old.searches q)) where
-  pub put_kept : (nv : Nv) (t : Text) (d : SymbolDemand) → IsKeptAt new nv t d →
-      IsKeptAt old nv t d ⊎ ((nv_of k.nv ≡ nv) × (serialize k.specifier ≡ t) × IsAsked searched d)
-  put_kept nv t d (m, p, u, h) =
-      by_key (is_at (order.cmp-value.it k) m) refl (subst (λ (o : Option (List SymbolDemand)). IsAsked (searched_of o) d) (changes m) h)
-    where
-      by_key : (same : Bool) → is_at (order.cmp-value.it k) m ≡ same →
-          IsAsked (searched_of (cond same (Some searched) (get order.cmp-value.it old.searches m))) d →
-          IsKeptAt old nv t d ⊎ ((nv_of k.nv ≡ nv) × (serialize k.specifier ≡ t) × IsAsked searched d)
-      by_key true e h =
-          let s = same_keys k m e in
-          inr (ap (λ (x : Text × Nv). x.1) s ∙ p, ap (λ (x : Text × Nv). x.0) s ∙ u, h)
-      by_key false e h = inl (m, p, u, h)
+module _ (P : Option KeptSearch → Type 0) where
+  pub found_kept : (s : KeptSearches) (m : ModuleOfPackage) (kept : KeptSearch) →
+      Some kept ≡ get order.cmp-value.it s.searches m → P (Some kept) → IsKeptSo P s (nv_of m.nv) (serialize m.specifier)
+  found_kept s m kept found h = (m, refl, refl, subst P found h)
 
-  pub left_kept : searched ≡ [] → (nv : Nv) (t : Text) (d : SymbolDemand) → IsKeptAt new nv t d → IsKeptAt old nv t d
-  left_kept none nv t d h = ⊎_elim (λ l. l)
-      (λ r. absurd (false≢true (subst (λ (ds : List SymbolDemand). IsAsked ds d) none r.2))) (put_kept nv t d h)
+  -- after another search is kept at a key
+  module _ (old new : KeptSearches) (q : ModuleOfPackage) (kept : KeptSearch)
+      (changes : (m : ModuleOfPackage) → get order.cmp-value.it new.searches m
+      ≡ cond (is_at (order.cmp-value.it q) m) (Some kept) (get order.cmp-value.it old.searches m)) where
+    pub put_kept : (nv : Nv) (t : Text) → IsKeptSo P new nv t →
+        IsKeptSo P old nv t ⊎ ((nv_of q.nv ≡ nv) × (serialize q.specifier ≡ t) × P (Some kept))
+    put_kept nv t (m, p, u, h) = by_key (is_at (order.cmp-value.it q) m) refl (subst P (changes m) h)
+      where
+        by_key : (same : Bool) → is_at (order.cmp-value.it q) m ≡ same → P (cond same (Some kept) (get order.cmp-value.it old.searches m)) →
+            IsKeptSo P old nv t ⊎ ((nv_of q.nv ≡ nv) × (serialize q.specifier ≡ t) × P (Some kept))
+        by_key true e h =
+            let s = same_keys q m e in
+            inr (ap (λ (x : Text × Nv). x.1) s ∙ p, ap (λ (x : Text × Nv). x.0) s ∙ u, h)
+        by_key false e h = inl (m, p, u, h)
 
--- under a copy of a key, where nothing changed before
-pub put_copied : (old mid new : KeptSearches) (k of : ModuleOfPackage) → nv_of k.nv ≡ nv_of of.nv →
-    serialize k.specifier ≡ serialize of.specifier → mid.searches ≡ old.searches → (searched : List SymbolDemand) →
-    ((q : ModuleOfPackage) → get order.cmp-value.it new.searches q
-    ≡ cond (is_at (order.cmp-value.it k) q) (Some searched) (get order.cmp-value.it mid.searches q)) →
-    (nv : Nv) (t : Text) (d : SymbolDemand) → IsKeptAt new nv t d →
-    IsKeptAt old nv t d ⊎ ((nv_of of.nv ≡ nv) × (serialize of.specifier ≡ t) × IsAsked searched d)
-put_copied old mid new k of same_package same_specifier same searched changes nv t d h =
-    ⊎_elim (λ l. inl (subst (λ (m : BTreeMap ModuleOfPackage (List SymbolDemand)). IsKeptAt (record { searches = m }) nv t d) same l))
-    (λ r. inr (sym same_package ∙ r.0, sym same_specifier ∙ r.1, r.2))
-    (put_kept mid new k searched changes nv t d h)
+    pub left_kept : (P (Some kept) → ⊥) → (nv : Nv) (t : Text) → IsKeptSo P new nv t → IsKeptSo P old nv t
+    left_kept none nv t h = ⊎_elim (λ l. l) (λ r. absurd (none r.2)) (put_kept nv t h)
 
--- what was followed
+  -- under a copy of a key, where nothing changed before
+  pub put_copied : (old mid new : KeptSearches) (q of : ModuleOfPackage) → nv_of q.nv ≡ nv_of of.nv →
+      serialize q.specifier ≡ serialize of.specifier → mid.searches ≡ old.searches → (kept : KeptSearch) →
+      ((m : ModuleOfPackage) → get order.cmp-value.it new.searches m
+      ≡ cond (is_at (order.cmp-value.it q) m) (Some kept) (get order.cmp-value.it mid.searches m)) →
+      (nv : Nv) (t : Text) → IsKeptSo P new nv t →
+      IsKeptSo P old nv t ⊎ ((nv_of of.nv ≡ nv) × (serialize of.specifier ≡ t) × P (Some kept))
+  put_copied old mid new q of same_package same_specifier same kept changes nv t h =
+      ⊎_elim (λ l. inl (subst (λ (m : BTreeMap ModuleOfPackage KeptSearch). IsKeptSo P (record { searches = m }) nv t) same l))
+      (λ r. inr (sym same_package ∙ r.0, sym same_specifier ∙ r.1, r.2))
+      (put_kept mid new q kept changes nv t h)
 
-pub followed_more : (done more : List Followed) (s : KeptSearches) → ((x : Followed) → Contains done x → Contains more x) →
-    AreFollowed done s → AreFollowed more s
-followed_more done more s within are nv t d h = let m = are nv t d h in (m.0, within m.0 m.1, m.2, m.3, m.4)
+-- what was followed, and what was given
 
-module _ (earlier : List Followed) (x : Followed) (before after : List SymbolDemand) (old mid new : KeptSearches)
-    (are : AreFollowed earlier old)
+given_more : (k : Known) (done more : List Followed) → ((x : Followed) → Contains done x → Contains more x) → (y : Yield) →
+    IsGivenAmong (gives k) done y → IsGivenAmong (gives k) more y
+given_more k done more within y m = (m.0, within m.0 m.1, m.2, m.3, m.4)
+
+pub followed_more : (k : Known) (done more : List Followed) (s : KeptSearches) → ((x : Followed) → Contains done x → Contains more x) →
+    AreFollowed k done s → AreFollowed k more s
+followed_more k done more s within are = record {
+  searched = λ nv t d h. let m = are.searched nv t d h in (m.0, within m.0 m.1, m.2, m.3, m.4);
+  told = λ nv t m e r h. given_more k done more within (public nv (own_text m) r) (are.told nv t m e r h);
+}
+
+some_is : (m n : TracedModule) → Some m ≡ Some n → m ≡ n
+some_is m n e = cc
+
+module _ (k : Known) (earlier : List Followed) (x : Followed) (m : TracedModule) (here : module_at k x.trace.specifier ≡ Some m)
+    (before : List SymbolDemand) (after : KeptSearch) (old mid new : KeptSearches)
+    (are : AreFollowed k earlier old)
     (taken : (d : SymbolDemand) → IsAsked before d → IsKeptAt old x.trace.nv x.trace.specifier d)
     (left : (nv : Nv) (t : Text) (d : SymbolDemand) → IsKeptAt mid nv t d → IsKeptAt old nv t d)
+    (left_told : (nv : Nv) (t : Text) (tables : Tables) (r : SourceRange) → IsToldAt mid nv t tables r → IsToldAt old nv t tables r)
     (put : (nv : Nv) (t : Text) (d : SymbolDemand) → IsKeptAt new nv t d →
-    IsKeptAt mid nv t d ⊎ ((x.trace.nv ≡ nv) × (x.trace.specifier ≡ t) × IsAsked after d))
-    (kept : IsKeptWith before x.symbols after) where
+    IsKeptAt mid nv t d ⊎ ((x.trace.nv ≡ nv) × (x.trace.specifier ≡ t) × IsAsked after.searched d))
+    (put_told : (nv : Nv) (t : Text) (tables : Tables) (r : SourceRange) → IsToldAt new nv t tables r →
+    IsToldAt mid nv t tables r ⊎ ((x.trace.nv ≡ nv) × (x.trace.specifier ≡ t) × Contains (told_ranges tables after.told) r))
+    (kept : IsKeptWith before x.symbols after.searched) where
   abbrev now : List Followed
   now = earlier ++ x ∷ []
 
-  widen : (nv : Nv) (t : Text) (d : SymbolDemand) → IsFollowedAt earlier nv t d → IsFollowedAt now nv t d
-  widen nv t d m = (m.0, Contains-append_left earlier (x ∷ []) m.0 m.1, m.2, m.3, m.4)
+  within : (y : Followed) → Contains earlier y → Contains now y
+  within y c = Contains-append_left earlier (x ∷ []) y c
 
-  here : (d : SymbolDemand) → IsAsked after d → IsFollowedAt now x.trace.nv x.trace.specifier d
-  here d h =
-      ⊎_elim (λ l. widen x.trace.nv x.trace.specifier d (are x.trace.nv x.trace.specifier d (taken d l)))
+  widen : (nv : Nv) (t : Text) (d : SymbolDemand) → IsFollowedAt earlier nv t d → IsFollowedAt now nv t d
+  widen nv t d y = (y.0, within y.0 y.1, y.2, y.3, y.4)
+
+  asked_now : (d : SymbolDemand) → IsAsked after.searched d → IsFollowedAt now x.trace.nv x.trace.specifier d
+  asked_now d h =
+      ⊎_elim (λ l. widen x.trace.nv x.trace.specifier d (are.searched x.trace.nv x.trace.specifier d (taken d l)))
       (λ r. (x, Contains-push earlier x, refl, refl, r))
       (or_cases (list_any (alike d) before) (list_any (alike d) x.symbols)
       (sym (list_any-append (alike d) before x.symbols) ∙ kept.met d h))
 
-  pub still_followed : AreFollowed now new
-  still_followed nv t d h =
-      ⊎_elim (λ l. widen nv t d (are nv t d (left nv t d l)))
-      (λ r. let m = here d r.2 in (m.0, m.1, m.2 ∙ r.0, m.3 ∙ r.1, m.4))
-      (put nv t d h)
+  module _ (given : (r : SourceRange) → Contains (told_ranges (own_tables m) after.told) r → IsShownAmong k now x.trace.nv m r) where
+    -- a module is told by the text of its name
+    given_at : (nv : Nv) (t : Text) (n : TracedModule) → module_at k t ≡ Some n → (r : SourceRange) →
+        (x.trace.nv ≡ nv) × (x.trace.specifier ≡ t) × Contains (told_ranges (own_tables n) after.told) r → IsShownAmong k now nv n r
+    given_at nv t n e r q =
+        let same : m ≡ n = some_is m n (sym here ∙ (ap (module_at k) q.1 ∙ e)) in
+        subst (λ (p : Nv). IsShownAmong k now p n r) q.0
+        (subst (λ (o : TracedModule). Contains (told_ranges (own_tables o) after.told) r → IsShownAmong k now x.trace.nv o r) same (given r) q.2)
+
+    pub still_followed : AreFollowed k now new
+    still_followed = record {
+      searched = λ nv t d h.
+          ⊎_elim (λ l. widen nv t d (are.searched nv t d (left nv t d l)))
+          (λ r. let y = asked_now d r.2 in (y.0, y.1, y.2 ∙ r.0, y.3 ∙ r.1, y.4))
+          (put nv t d h);
+      told = λ nv t n e r h.
+          ⊎_elim (λ l. given_more k earlier now within (public nv (own_text n) r) (are.told nv t n e r (left_told nv t (own_tables n) r l)))
+          (given_at nv t n e r)
+          (put_told nv t (own_tables n) r h);
+    }

@@ -9,14 +9,18 @@ use Rattle.fast_check_names.specs.Imports.{NameDemand}
 use Rattle.fast_check_name_demands.specs.NameDemands.{AreDemands}
 use Rattle.fast_check_demands.specs.Demands.{Demand as SymbolDemand}
 use Rattle.fast_check_demands.specs.Account.{IsYield as IsSymbolYield}
-use Rattle.fast_check_demands.specs.Yields.{ranges, implementations, Adds, Fault, faults}
+use Rattle.fast_check_demands.specs.Noted.{noted_ranges}
+use Rattle.fast_check_demands.specs.Yields.{implementations, Adds, Fault, faults}
 use Rattle.fast_check_entries.specs.findings.declared.finding.FoundModule.{FoundModule}
 use Rattle.fast_check_entries.specs.findings.Faults.{placed_in}
 use Rattle.fast_check_name_demands.specs.Files.{FileDemand, files}
+use Rattle.fast_check_search.specs.Found.{IsUntold}
 use Rattle.fast_check_search.specs.Searched.{IsContinued, IsKeptWith}
 use Rattle.fast_check_traces.specs.declared.modules.TracedModule.{TracedModule}
 use Rattle.fast_check_traces.specs.Modules.{own_tables}
+use Rattle.fast_check_traces.specs.declared.told.ToldRanges.{ToldRanges}
 use Rattle.fast_check_traces.specs.Roots.{roots}
+use Rattle.fast_check_traces.specs.Told.{told_again}
 use Rattle.fast_check_traces.specs.Wants.{AreRangesThrough, module_wants}
 use Rattle.fast_check_worklists.specs.Demands.{Want}
 use Rattle.fast_check_sources.specs.Sources.{Known}
@@ -24,9 +28,10 @@ use Rattle.fast_check_sources.specs.Wants.{file_wants, left_wants}
 use Rattle.fast_check_turns.specs.Yields.{source_in, placed_all}
 
 -- demands of symbols that go on from those of earlier searches, what these ask of files, what names of the module ask of
--- others, and what is found
+-- others, and what is found, but for ranges that were told before
 pub record IsTraced (k : Known) (nv : Nv) (m : TracedModule) (names : List NameDemand)
-    (before after : List SymbolDemand) (wants : List Want) (found : FoundModule) : Type 0 where
+    (before after : List SymbolDemand) (was_told is_told : ToldRanges) (wants : List Want) (found : FoundModule) :
+    Type 0 where
   pub symbols : List SymbolDemand
   pub continued : IsContinued (own_tables m) (flat_map (roots (own_tables m)) names) before symbols
   pub kept : IsKeptWith before symbols after
@@ -35,9 +40,11 @@ pub record IsTraced (k : Known) (nv : Nv) (m : TracedModule) (names : List NameD
   pub wants_are : Adds (flat_map (file_wants k nv m) asked_files ++ flat_map (left_wants k nv m)
       (flat_map (module_wants m) names)) [] wants
   pub declared : List SourceRange
-  pub found_ranges : IsSymbolYield (ranges (own_tables m)) symbols declared
+  pub found_ranges : IsUntold (own_tables m) symbols (noted_ranges (own_tables m) was_told.symbols)
+      (noted_ranges (own_tables m) is_told.symbols) declared
   pub again : List SourceRange
-  pub found_again : AreRangesThrough m names again
+  pub found_again : AreRangesThrough m names (told_again (own_tables m) was_told.re_exports)
+      (told_again (own_tables m) is_told.re_exports) again
   pub ranges_are : found.ranges.items ≡ declared ++ again
   pub found_implementations : IsSymbolYield (implementations (own_tables m)) symbols found.implementations.items
   pub faulty : List Fault
@@ -46,7 +53,8 @@ pub record IsTraced (k : Known) (nv : Nv) (m : TracedModule) (names : List NameD
 
 -- the same for what is asked of the module
 pub record IsTracedFor (k : Known) (nv : Nv) (m : TracedModule) (exports : ImportedExports)
-    (before after : List SymbolDemand) (wants : List Want) (found : FoundModule) : Type 0 where
+    (before after : List SymbolDemand) (was_told is_told : ToldRanges) (wants : List Want) (found : FoundModule) :
+    Type 0 where
   pub names : List NameDemand
   pub are_names : AreDemands exports names
-  pub traced : IsTraced k nv m names before after wants found
+  pub traced : IsTraced k nv m names before after was_told is_told wants found

@@ -17,14 +17,14 @@ ghost use Rattle.fast_check_turns.specs.Traced.{IsTracedFor};
 ghost use Rattle.fast_check_turns.specs.Yields.{dependencies, untyped_yields, gives};
 
 use crate::progress::{Progress, push_finding};
-use crate::searches::{KeptSearches, ModuleOfPackage};
+use crate::searches::{KeptSearch, KeptSearches, ModuleOfPackage};
 use crate::traced::{dependencies_of, found_of};
 use fast_check_entries::findings::{Finding, FollowedModule, FoundModule, UntypedModule};
 use fast_check_graph::{AnyModuleInfo, ModuleGraph};
 use fast_check_name_demands::{HeldDemands, hold, name_demands};
 use fast_check_packages::{JsrUrlProvider, PackageNv};
 use fast_check_sources::{Asker, Sources, info_of, is_untyped};
-use fast_check_traces::{Searched, TracedModule};
+use fast_check_traces::{Searched, ToldRanges, TracedModule};
 use fast_check_worklists::{OuterWant, PendingTrace};
 use std::alloc::{AllocError, Global};
 
@@ -48,8 +48,8 @@ fn followed_module<'a>(
     }))
 }
 
-/// Follows names of a module with tables, for a package, from what earlier searches of it came to: what it wants of others, and what is found of it, with how
-/// many demands were faulty. The names are held while their single demands are lent.
+/// Follows names of a module with tables, for a package, from what earlier searches of it came to: what it wants of others, and what is found of it and was
+/// not told before, with how many demands were faulty. The names are held while their single demands are lent.
 fn follow_in<'a>(
     alloc: Global,
     sources: Sources<'a>,
@@ -57,11 +57,12 @@ fn follow_in<'a>(
     info: &'a AnyModuleInfo,
     package: &PackageNv,
     before: Searched,
+    told: &mut ToldRanges,
     held: &'a HeldDemands,
 ) -> Result<(Searched, Vec<OuterWant>, FoundModule, usize), AllocError>
     ensures { let without = known sources.entry (url_of provider.now) (nv_at provider.now) in
         IfOk result (λ r. (used : Used) (exports : ImportedExports) → Holds exports held.now → let k = with_used used without in
-        IsTracedFor k (nv_of «package».now) (traced_as k info.now) exports before r.0 (map want_of r.1.items) r.2) }
+        IsTracedFor k (nv_of «package».now) (traced_as k info.now) exports before r.0 told.old told.new (map want_of r.1.items) r.2) }
 {
     let module = TracedModule {
         graph: sources.graph,
@@ -69,7 +70,8 @@ fn follow_in<'a>(
         info,
     };
     let demands = name_demands(alloc, held)?;
-    let (searched, traced) = fast_check_traces::trace(alloc, module, before, demands.as_slice())?;
+    let (searched, traced) =
+        fast_check_traces::trace(alloc, module, before, told, demands.as_slice())?;
     let faulty = traced.found.faults.len();
     let asker = Asker {
         sources,
@@ -107,15 +109,15 @@ fn leave_out(
 /// Where a search came to less than so many demands, wants, ranges and faulty demands, it is as cheap to repeat as to keep.
 const MUCH: usize = 16;
 
-/// Whether the searches of a module came to much: the last one, or one before it, of which something is kept. Nothing that is found depends on it.
+/// Whether the searches of a module came to much: the last one, or one before it, which was kept. Nothing that is found depends on it.
 fn is_much(
-    kept: usize,
+    was_kept: bool,
     searched: &Searched,
     outer: &[OuterWant],
     found: &FoundModule,
     faulty: usize,
 ) -> bool {
-    kept > 0
+    was_kept
         || searched.len() >= MUCH
         || outer.len() >= MUCH
         || found.ranges.len() >= MUCH
@@ -133,9 +135,9 @@ fn follow_at<'a>(
     progress: &mut Progress<'a>,
 ) -> Result<(), AllocError>
     ensures { let without = known sources.entry (url_of provider.now) (nv_at provider.now) in
-        OnOk result ((used : Used) (earlier : List Followed) → AreFollowed earlier searches.old → let k = with_used used without in
-        info_at k.graph k.root_symbol (serialize trace.specifier) ≡ Some info.now
-        → IsFollowed (world k) (gives k) earlier (λ done. AreFollowed done searches.new) (trace_of trace)
+        OnOk result ((used : Used) (earlier : List Followed) → let k = with_used used without in AreFollowed k earlier searches.old
+        → info_at k.graph k.root_symbol (serialize trace.specifier) ≡ Some info.now
+        → IsFollowed (world k) (gives k) earlier (λ done. AreFollowed k done searches.new) (trace_of trace)
         (state_of progress.old.worklist) (state_of progress.new.worklist)
         (flat_map yields_of progress.old.found.items) (flat_map yields_of progress.new.found.items)) }
 {
@@ -149,8 +151,12 @@ fn follow_at<'a>(
         specifier,
         nv: package_nv,
     };
-    let before = searches.take(alloc, &followed);
-    let kept = before.len();
+    let was_kept = searches.has(&followed);
+    let taken = searches.take(alloc, &followed);
+    let KeptSearch {
+        searched: before,
+        mut told,
+    } = taken;
     let (searched, outer, found, faulty) = follow_in(
         alloc,
         sources,
@@ -158,10 +164,11 @@ fn follow_at<'a>(
         info,
         &followed.nv,
         before,
+        &mut told,
         &held,
     )?;
-    let is_much = is_much(kept, &searched, outer.as_slice(), &found, faulty);
-    searches.keep(&followed, searched, is_much)?;
+    let is_much = is_much(was_kept, &searched, outer.as_slice(), &found, faulty);
+    searches.keep(&followed, KeptSearch { searched, told }, is_much)?;
     let finding = followed_module(alloc, followed.nv, info, outer.as_slice(), found)?;
     push_finding(&mut progress.found, finding)?;
     progress.worklist.ask_all(alloc, outer)?;
@@ -179,8 +186,8 @@ pub fn follow<'a>(
     progress: &mut Progress<'a>,
 ) -> Result<(), AllocError>
     ensures { let without = known sources.entry (url_of provider.now) (nv_at provider.now) in
-        OnOk result ((used : Used) (earlier : List Followed) → AreFollowed earlier searches.old → let k = with_used used without in
-        IsFollowed (world k) (gives k) earlier (λ done. AreFollowed done searches.new) (trace_of trace)
+        OnOk result ((used : Used) (earlier : List Followed) → let k = with_used used without in AreFollowed k earlier searches.old
+        → IsFollowed (world k) (gives k) earlier (λ done. AreFollowed k done searches.new) (trace_of trace)
         (state_of progress.old.worklist) (state_of progress.new.worklist)
         (flat_map yields_of progress.old.found.items) (flat_map yields_of progress.new.found.items)) }
 {

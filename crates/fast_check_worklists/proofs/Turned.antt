@@ -25,7 +25,7 @@ use Rattle.fast_check_worklists.specs.Demands.{of_package, of_module, of_symbol,
 use Rattle.fast_check_worklists.specs.Account.{Trace, Followed, Account, HasIn, Has, traces_of, Chained, step, is_of, joined}
 use Rattle.fast_check_worklists.specs.Account.{IsCovered, IsWidening, IsAccount, IsYield}
 use Rattle.fast_check_worklists.specs.State.{want_of, State, AsksModule, AsksOne, AsksAll, Reached, root as reached_root}
-use Rattle.fast_check_worklists.specs.State.{step as reached_step, IsMetAmong, IsSearched, IsOuter, IsFollowed, IsEntered}
+use Rattle.fast_check_worklists.specs.State.{step as reached_step, IsMetAmong, IsSearched, IsOuter, IsGivenAmong, IsFollowed, IsEntered}
 use Rattle.fast_check_worklists.specs.Turn.{IsOrderly, handled_at, waiting_of, IsKept, IsAsked, IsMore, IsOnTheWay}
 use Rattle.fast_check_worklists.specs.Measure.{Universe, IsUniverse}
 use Rattle.fast_check_worklists.proofs.Maps.{split_in, first_in, rest_in, none_in, only_in}
@@ -311,6 +311,15 @@ module _ (world : World) (roots : List Nv) (u : Universe) (is_universe : IsUnive
       newer (of_module nv t d) h = (new, Contains-push done new, h)
       newer (of_symbol nv t s) h = (new, Contains-push done new, h)
 
+      -- what an earlier trace gives was found
+      was_found : (y : Y) → IsGivenAmong gives done y → Contains found y
+      was_found y (z, m, e, h, c) = by e h c
+        where
+          by : (e : Demand) → HasIn z e → Contains (gives e) y → Contains found y
+          by (of_package p) h c = absurd h
+          by (of_module nv t d) h c = way.yielded.complete (of_module nv t d) y (z, m, h) c
+          by (of_symbol nv t s) h c = way.yielded.complete (of_symbol nv t s) y (z, m, h) c
+
       yielded : IsYield gives (record { packages = take next b.packages; followed = now }) after
       yielded = record {
         sound = λ y c.
@@ -324,7 +333,8 @@ module _ (world : World) (roots : List Nv) (u : Universe) (is_universe : IsUnive
               (Contains done z → Contains found y) → Contains (found ++ f.given) y
           by_member e y z m h c before =
               ⊎_elim (λ l. Contains-append_left found f.given y (before l))
-              (λ r. Contains-append_right found f.given y (f.yields.complete e y (subst (λ (v : Followed). HasIn v e) (sym r) h) c))
+              (λ r. ⊎_elim (λ given. Contains-append_right found f.given y given) (λ g. Contains-append_left found f.given y (was_found y g))
+              (f.yields.complete e y (subst (λ (v : Followed). HasIn v e) (sym r) h) c))
               (Contains-push_cases done new z m)
 
           from : (e : Demand) (y : Y) → Has (record { packages = take next b.packages; followed = now }) e → Contains (gives e) y → Contains

@@ -1,6 +1,6 @@
 -- Inner: no contract of a public call cites what stands here.
 -- What is asked in one turn of the search.
-use Rattle.std.specs.Prelude.{◌≡◌, ◌++◌, cond, List, [], ◌∷◌, Option, Some, None, map, IsTrue}
+use Rattle.std.specs.Prelude.{◌≡◌, ◌⊎◌, ◌++◌, cond, List, [], ◌∷◌, Option, Some, None, map, IsTrue}
 use Rattle.std.specs.List.{list_any, Contains}
 use Rattle.url.specs.Parts.{Parts, serialize}
 use Rattle.fast_check_packages.specs.declared.package.PackageNv.{PackageNv}
@@ -98,10 +98,16 @@ pub record AreWants (world : World) (x : Followed) (wants : List Want) : Type 0 
   pub complete : (d : Demand) (v : Want) → HasIn x d → Contains (world d) v → IsOuter v → (w : Want) ×
       Contains wants w × IsWithin v w
 
--- what a trace that was followed gives
-pub record AreGiven {Y : Type 0} (gives : Demand → List Y) (x : Followed) (given : List Y) : Type 0 where
+-- one of these traces gives it
+abbrev pub IsGivenAmong : {Y : Type 0} → (Demand → List Y) → List Followed → Y → Type 0
+IsGivenAmong gives among y = (x : Followed) × Contains among x × (d : Demand) × HasIn x d × Contains (gives d) y
+
+-- what a trace that was followed gives, but for what earlier ones gave
+pub record AreGiven {Y : Type 0} (gives : Demand → List Y) (earlier : List Followed) (x : Followed)
+    (given : List Y) : Type 0 where
   pub sound : (y : Y) → Contains given y → (d : Demand) × HasIn x d × Contains (gives d) y
-  pub complete : (d : Demand) (y : Y) → HasIn x d → Contains (gives d) y → Contains given y
+  pub complete : (d : Demand) (y : Y) → HasIn x d → Contains (gives d) y →
+      Contains given y ⊎ IsGivenAmong gives earlier y
 
 -- a trace was followed, after earlier ones; and what holds of all that were followed
 pub record IsFollowed {Y : Type 0} (world : World) (gives : Demand → List Y) (earlier : List Followed)
@@ -112,7 +118,7 @@ pub record IsFollowed {Y : Type 0} (world : World) (gives : Demand → List Y) (
   pub searched : IsSearched world (earlier ++ (record { trace = trace; symbols = symbols }) ∷ [])
       (record { trace = trace; symbols = symbols })
   pub wants : AreWants world (record { trace = trace; symbols = symbols }) (map want_of outer)
-  pub yields : AreGiven gives (record { trace = trace; symbols = symbols }) given
+  pub yields : AreGiven gives earlier (record { trace = trace; symbols = symbols }) given
   pub asks : AsksAll outer a b
   pub new_is : new ≡ old ++ given
   pub holds : Holds (earlier ++ (record { trace = trace; symbols = symbols }) ∷ [])

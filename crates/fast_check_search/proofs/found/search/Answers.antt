@@ -3,7 +3,7 @@ use Rattle.std.specs.BTreeMap.{is_at}
 use Rattle.std.specs.List.{list_any}
 use Rattle.std.proofs.lemmas.Option.{get_or_from_slice_get}
 use Rattle.fast_check_name_demands.specs.demands.Demands.{Demand, demand_of}
-use Rattle.fast_check_name_demands.specs.demands.Noted.{public_ranges}
+use Rattle.fast_check_name_demands.specs.demands.Noted.{public_ranges, noted_ranges}
 use Rattle.fast_check_name_demands.specs.demands.Yields.{fault_seen}
 use Rattle.fast_check_search.specs.contracts.parts.PathAskerOrd.TheImpl as asker_order
 use Rattle.fast_check_search.specs.contracts.wanted.DoneWantOrd.TheImpl as wanted_order
@@ -76,7 +76,7 @@ loop-next-preserved c =
 -- what was found, with what was noted
 abbrev all_found : goal.After-drop-wanted-2 → Found
 all_found c = record {
-  ranges = c.push_all.new.out;
+  ranges = c.push_untold.new.out;
   implementations = c.loop-next.found.implementations;
   faults = c.loop-next.found.faults;
   files = c.loop-next.found.files;
@@ -84,10 +84,12 @@ all_found c = record {
 
 at_end : (c : goal.After-drop-wanted-2) →
     IsContinued c.args.tables.now (map demand_of c.args.roots.now) c.args.before (asked c.loop-next.work) ×
-    IsFound c.args.tables.now (asked c.loop-next.work) (all_found c)
+    IsFound c.args.tables.now (asked c.loop-next.work) (noted_ranges c.args.tables.now c.args.told.now)
+    (noted_ranges c.args.tables.now c.push_untold.new.told) (all_found c)
 at_end c = ended c.args.tables.now (map demand_of c.args.roots.now) c.args.before (asked c.loop-next.work) c.loop-next.next
-    (public_ranges c.args.tables.now c.loop-next.noted c.loop-next.found.ranges.items) c.loop-next.found (all_found c)
-    (omega (arith, c.len.ensures, c.loop-next-test.false)) c.loop-next.invariant.way c.in_ok-push_all.ensures refl refl refl
+    (noted_ranges c.args.tables.now c.loop-next.noted) (noted_ranges c.args.tables.now c.args.told.now)
+    (noted_ranges c.args.tables.now c.push_untold.new.told) c.loop-next.found (all_found c)
+    (omega (arith, c.len.ensures, c.loop-next-test.false)) c.loop-next.invariant.way c.in_ok-push_untold.ensures refl refl refl
 
 pub returns-clause-continued : goal.returns-clause-continued
 returns-clause-continued c =
@@ -100,7 +102,8 @@ returns-clause-continued c =
     )
 
 pub returns-clause-own_ranges : goal.returns-clause-own_ranges
-returns-clause-own_ranges c = own_found c.args.tables.now (asked c.loop-next.work) c.push_all.new.out.items (at_end c).1.public
+returns-clause-own_ranges c = own_found c.args.tables.now (asked c.loop-next.work) (noted_ranges c.args.tables.now c.args.told.now)
+    (noted_ranges c.args.tables.now c.push_untold.new.told) c.push_untold.new.out.items (at_end c).1.public
 
 pub returns-clause-own_implementations : goal.returns-clause-own_implementations
 returns-clause-own_implementations c =

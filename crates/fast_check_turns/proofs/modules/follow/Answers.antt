@@ -18,8 +18,8 @@ returns-in_ok-leave_out-in-None g c used earlier are =
     followed_nowhere k x (state_of c.args.progress.now.worklist) (state_of c.args.progress.now.worklist)
     (flat_map yields_of c.args.progress.now.found.items) (flat_map yields_of c.leave_out.new.found.items)
     (sym c.info_of.ensures ∙ ap option_copied c.in-None.is) refl c.in_ok-leave_out-in-None.ensures earlier
-    (λ done. AreFollowed done c.args.searches.now)
-    (followed_more earlier (earlier ++ record { trace = x; symbols = [] } ∷ []) c.args.searches.now
+    (λ done. AreFollowed k done c.args.searches.now)
+    (followed_more k earlier (earlier ++ record { trace = x; symbols = [] } ∷ []) c.args.searches.now
     (λ y i. Contains-append_left earlier (record { trace = x; symbols = [] } ∷ []) y i) are)
 
 pub returns-in_ok-follow_at-in-Some : goal.returns-in_ok-follow_at-in-Some

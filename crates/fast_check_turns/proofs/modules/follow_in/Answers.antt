@@ -17,8 +17,8 @@ returns g c used exports holds =
     let e = c.in_ok-outer.ensures in
     let again = c.in_ok-searched.ensures.re_exports in
     let t = traced_with k (nv_of c.args.package.now) (traced_as k c.args.info.now) c.as_slice.result.now c.args.before
-    c.in_ok-searched.searched (map want_of c.in_ok-outer.outer.items) found.found found.re_export_ranges.items
-    found.wants c.in_ok-outer.found c.in_ok-searched.ensures.continued (record { sound = again.sound; complete = again.complete })
+    c.in_ok-searched.searched c.args.told.now c.trace.new.told (map want_of c.in_ok-outer.outer.items) found.found found.re_export_ranges.items
+    found.wants c.in_ok-outer.found c.in_ok-searched.ensures.continued (record { sound = again.sound; complete = again.complete; told = again.told })
     c.in_ok-searched.ensures.wants
     e.wants e.ranges e.implementations e.faults in
     record {
@@ -36,7 +36,7 @@ returns g c used exports holds =
         declared = t.declared;
         found_ranges = t.found_ranges;
         again = t.again;
-        found_again = record { sound = t.found_again.sound; complete = t.found_again.complete };
+        found_again = record { sound = t.found_again.sound; complete = t.found_again.complete; told = t.found_again.told };
         ranges_are = t.ranges_are;
         found_implementations = t.found_implementations;
         faulty = t.faulty;

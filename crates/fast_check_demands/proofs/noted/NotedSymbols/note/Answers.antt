@@ -6,5 +6,5 @@ use Rattle.fast_check_demands.proofs.noted.NotedSymbols.note.Goals as goal
 pub returns : goal.returns
 returns c t = noted_more t c.args.id c.args.which c.with_noted-which.result c.args.self.now (record { decls = c.insert.new.self })
     c.insert.ensures.was_ordered c.insert.ensures.ordered
-    (λ r. c.with_noted-which.ensures r ∙ ap (λ o. is_noted o r || is_public c.args.which r) (c.copied.ensures ∙ c.get.ensures.value))
+    (λ r i. c.with_noted-which.ensures r ∙ ap (λ o. is_noted o r || is_public c.args.which r) (c.copied.ensures ∙ c.get.ensures.value))
     c.in_ok-insert.ensures.updates

@@ -1,0 +1,15 @@
+-- Inner: no contract of a public call cites what stands here.
+-- What was told of a module that is followed.
+use Rattle.std.specs.Prelude.{Bool, cond, List, [], ◌++◌}
+use Rattle.fast_check_syntax.specs.declared.source.SourceRange.{SourceRange}
+use Rattle.fast_check_modules.specs.symbols.Tables.{Tables}
+use Rattle.fast_check_demands.specs.Noted.{noted_ranges}
+use Rattle.fast_check_traces.specs.declared.told.ToldRanges.{ToldRanges}
+use Rattle.fast_check_traces.specs.Wants.{node_ranges}
+
+-- all re-exports of all, or none
+abbrev pub told_again : Tables → Bool → List SourceRange
+told_again t told = cond told (node_ranges t.re_exports) []
+
+abbrev pub told_ranges : Tables → ToldRanges → List SourceRange
+told_ranges t told = noted_ranges t told.symbols ++ told_again t told.re_exports
