@@ -1,7 +1,7 @@
 -- The modules that were met, as more is asked.
 use Rattle.std.proofs.Common.{◌≡◌, ◌∙◌, sym, ap, refl, subst, ℕ, List, [], ◌∷◌, ◌++◌, map, Option, Some, None, option_map}
-use Rattle.std.proofs.Common.{true, ⊎_elim, String, arith, ◌+◌, ◌<◌, length, take, get_or}
-use Rattle.std.specs.List.{Contains, flat_map}
+use Rattle.std.proofs.Common.{Bool, true, false, true≢false, cond, ⊎_elim, String, arith, ◌+◌, ◌<◌, length, take, get_or}
+use Rattle.std.specs.List.{Contains, flat_map, list_any}
 use Rattle.std.proofs.lemmas.List.{take_more, map_push, flat_map_more}
 use Rattle.std.specs.Option.{option_and_then}
 use Rattle.std.specs.declared.alloc.Global.{Global}
@@ -9,8 +9,12 @@ use Rattle.std.proofs.lemmas.List.Elements.{Contains-push_cases}
 use Rattle.std.proofs.lemmas.Bool.{false≢true}
 use Rattle.std.specs.BTreeMap as tree
 use Rattle.std.specs.BTreeMap.{BTreeMap}
-use Rattle.std.specs.Cmp.Lexicographic.{slice_cmp}
-use Rattle.std.specs.Ordering.{nat_cmp}
+use Rattle.std.specs.BTreeSet.{BTreeSet, contains_by}
+use Rattle.std.specs.BTreeSet as set
+use Rattle.std.specs.Borrow.{Bor}
+use Rattle.std.proofs.lemmas.Slice.Eq.{bytes_eq-Decides}
+use Rattle.std.specs.Cmp.Lexicographic.{slice_cmp, texts_ties}
+use Rattle.std.specs.Ordering.{is_eq, nat_cmp}
 use Rattle.url.specs.Parts.{Parts, serialize}
 use Rattle.fast_check_packages.specs.Package.{Nv, nv_of}
 use Rattle.fast_check_graph.specs.Graph.{resolutions_of}
@@ -30,6 +34,7 @@ use Rattle.fast_check_sources.specs.Wants.{resolved, file_at, behind}
 use Rattle.fast_check_sources.specs.Asked.{IsOwner, IsModuleAt, package_of, names_of_file, names_behind, told, IsMet, IsNamed}
 use Rattle.fast_check_sources.specs.Asked.{is_last, IsLastTold, IsResolving}
 use Rattle.fast_check_sources.specs.Asked.{IsSameOwner, IsSameModule, IsSameFound, IfKept, kept_at, IsAsking, Finds, Asks}
+use Rattle.fast_check_sources.specs.Asked.{again_wants, is_re_exported}
 use Rattle.fast_check_sources.proofs.Asking.{file_asked, behind_asked, adds_turned}
 use Rattle.fast_check_sources.proofs.Packages.{same_is}
 use Rattle.fast_check_sources.proofs.Kept.{kept_put, kept_none, kept_more, kept_here}
@@ -68,6 +73,13 @@ some_is x y e = cc
 
 none_some : {X : Type 0} (x : X) → None ≡ Some x → ⊥
 none_some x e = cc
+
+no_text : (text : Text) (texts : BTreeSet (Bor (List ℕ))) → set.IsEmpty texts → is_re_exported text texts ≡ true → ⊥
+no_text text texts none is =
+    true≢false (sym is ∙ ap (list_any (tree.is_at (λ k. slice_cmp nat_cmp text k.now))) none)
+
+same_text : (text other : Text) → is_eq (slice_cmp nat_cmp text other) ≡ true → text ≡ other
+same_text text other ties = (bytes_eq-Decides text other).0 (texts_ties text other ∙ ties)
 
 module _ (owner : Text → Option Nv) (nv : Nv) (wants : List Want) where
   pub same_met : (t : Text) (m n : AskedModule) → IsSameModule m n → IsMet owner nv wants t m → IsMet owner nv wants t n
@@ -145,18 +157,21 @@ resolved_in traced resolutions text is = is text
 
 module _ (owner : Text → Option Nv) (nv : Nv) (traced : TracedModule) where
   -- nothing was asked
-  pub asking_none : (a : Asking) → tree.IsEmpty a.named → tree.IsEmpty a.met → a.last_package ≡ None → IsAsking owner nv traced a
-  asking_none a named met last = record {
+  pub asking_none : (a : Asking) → tree.IsEmpty a.named → tree.IsEmpty a.met → set.IsEmpty a.re_exported → a.last_package ≡ None →
+      IsAsking owner nv traced a
+  asking_none a named met again last = record {
     last = subst (λ o. IsLastTold (map want_of a.out.items) (option_map (λ p. nv_of p.value) o)) (sym last) tt;
     named = λ text. kept_none (IsNamed owner nv (map want_of a.out.items) (resolved traced text)) text a.named.entries named;
     met = λ text. kept_none (IsMet owner nv (map want_of a.out.items) text) text a.met.entries met;
+    again = λ text is w c. absurd (no_text text a.re_exported again is);
   }
 
   -- more is asked
-  pub asking_more : (a b : Asking) → b.named ≡ a.named → b.met ≡ a.met → IsLastTold (map want_of b.out.items) (last_of b) →
+  pub asking_more : (a b : Asking) → b.named ≡ a.named → b.met ≡ a.met → b.re_exported ≡ a.re_exported →
+      IsLastTold (map want_of b.out.items) (last_of b) →
       (these : List Want) → Adds these (map want_of a.out.items) (map want_of b.out.items) → IsAsking owner nv traced a →
       IsAsking owner nv traced b
-  asking_more a b named met last these adds is = record {
+  asking_more a b named met again last these adds is = record {
     last = last;
     named = λ text. subst (λ kept. IfKept (IsNamed owner nv now (resolved traced text)) (kept_at text kept)) (sym named)
         (kept_more (IsNamed owner nv before (resolved traced text)) (IsNamed owner nv now (resolved traced text))
@@ -164,6 +179,7 @@ module _ (owner : Text → Option Nv) (nv : Nv) (traced : TracedModule) where
     met = λ text. subst (λ kept. IfKept (IsMet owner nv now text) (kept_at text kept)) (sym met)
         (kept_more (IsMet owner nv before text) (IsMet owner nv now text) (met_more owner nv before now kept text)
         (kept_at text a.met) (is.met text));
+    again = λ text here w c. kept w (is.again text (subst (λ texts. is_re_exported text texts ≡ true) again here) w c);
   }
     where
       before : List Want
@@ -180,12 +196,18 @@ module _ (owner : Text → Option Nv) (nv : Nv) (traced : TracedModule) where
   last_same a b out last is = subst (λ o. IsLastTold (map want_of o.items) (last_of b)) (sym out)
       (subst (λ o. IsLastTold (map want_of a.out.items) (option_map (λ p. nv_of p.value) o)) (sym last) is.last)
 
+  again_same : (a b : Asking) → b.out ≡ a.out → b.re_exported ≡ a.re_exported → IsAsking owner nv traced a → (text : Text) →
+      is_re_exported text b.re_exported ≡ true → (w : Want) → Contains (again_wants owner nv traced text) w →
+      Contains (map want_of b.out.items) w
+  again_same a b out again is text here w c = subst (λ o. Contains (map want_of o.items) w) (sym out)
+      (is.again text (subst (λ texts. is_re_exported text texts ≡ true) again here) w c)
+
   -- a module is met
   pub met_put : (a b : Asking) (t key : Text) (m : AskedModule) → b.named ≡ a.named → b.out ≡ a.out →
-      b.last_package ≡ a.last_package → key ≡ t →
+      b.last_package ≡ a.last_package → b.re_exported ≡ a.re_exported → key ≡ t →
       tree.UpdatesBy (λ x y. slice_cmp nat_cmp x.now y.now) (λ k. slice_cmp nat_cmp key k.now) a.met b.met (Some m) →
       IsMet owner nv (map want_of a.out.items) t m → IsAsking owner nv traced a → IsAsking owner nv traced b
-  met_put a b t key m named out last same updates met is = record {
+  met_put a b t key m named out last again same updates met is = record {
     last = last_same a b out last is;
     named = λ text. subst (λ o. IfKept (IsNamed owner nv (map want_of o.items) (resolved traced text)) (kept_at text b.named)) (sym out)
         (subst (λ kept. IfKept (IsNamed owner nv (map want_of a.out.items) (resolved traced text)) (kept_at text kept)) (sym named)
@@ -193,50 +215,59 @@ module _ (owner : Text → Option Nv) (nv : Nv) (traced : TracedModule) where
     met = λ text. subst (λ o. IfKept (IsMet owner nv (map want_of o.items) text) (kept_at text b.met)) (sym out)
         (kept_put (IsMet owner nv (map want_of a.out.items)) key m a.met b.met updates
         (subst (λ (u : Text). IsMet owner nv (map want_of a.out.items) u m) (sym same) met) is.met text);
+    again = again_same a b out again is;
   }
 
   -- a text is resolved
   pub named_put : (a b : Asking) (key : Text) (m : Option AskedModule) → b.met ≡ a.met → b.out ≡ a.out →
-      b.last_package ≡ a.last_package →
+      b.last_package ≡ a.last_package → b.re_exported ≡ a.re_exported →
       tree.UpdatesBy (λ x y. slice_cmp nat_cmp x.now y.now) (λ k. slice_cmp nat_cmp key k.now) a.named b.named (Some m) →
       IsNamed owner nv (map want_of a.out.items) (resolved traced key) m → IsAsking owner nv traced a → IsAsking owner nv traced b
-  named_put a b key m met out last updates names is = record {
+  named_put a b key m met out last again updates names is = record {
     last = last_same a b out last is;
     named = λ text. subst (λ o. IfKept (IsNamed owner nv (map want_of o.items) (resolved traced text)) (kept_at text b.named)) (sym out)
         (kept_put (λ u. IsNamed owner nv (map want_of a.out.items) (resolved traced u)) key m a.named b.named updates names is.named text);
     met = λ text. subst (λ o. IfKept (IsMet owner nv (map want_of o.items) text) (kept_at text b.met)) (sym out)
         (subst (λ kept. IfKept (IsMet owner nv (map want_of a.out.items) text) (kept_at text kept)) (sym met) (is.met text));
+    again = again_same a b out again is;
   }
 
   -- a module is met first
-  pub first_met : (a b : Asking) (url : Parts) (key : Text) (m kept : AskedModule) → b.named ≡ a.named →
+  pub first_met : (a b : Asking) (url : Parts) (key : Text) (m kept : AskedModule) → b.named ≡ a.named → b.re_exported ≡ a.re_exported →
       tree.UpdatesBy (λ x y. slice_cmp nat_cmp x.now y.now) (λ k. slice_cmp nat_cmp key k.now) a.met b.met (Some kept) →
       key ≡ serialize url → IsModuleAt owner nv (serialize url) m → IsSameModule m kept →
       IsLastTold (map want_of b.out.items) (last_of b) → Adds (package_of m.owner) (map want_of a.out.items) (map want_of b.out.items) →
       IsAsking owner nv traced a → Finds owner nv traced (Some url) a b (Some m)
-  first_met a b url key m kept named updates same here once last adds is = record {
-    asking = met_put mid b (serialize url) key kept named refl refl same updates
+  first_met a b url key m kept named again updates same here once last adds is = record {
+    asking = met_put mid b (serialize url) key kept named refl refl again same updates
         (same_met owner nv (map want_of b.out.items) (serialize url) m kept once met)
-        (asking_more a mid refl refl last (package_of m.owner) adds is);
+        (asking_more a mid refl refl refl last (package_of m.owner) adds is);
     named = (m, refl, met);
     adds = adds;
   }
     where
       mid : Asking
-      mid = record { named = a.named; met = a.met; owners = b.owners; last_package = b.last_package; out = b.out }
+      mid = record {
+        named = a.named;
+        met = a.met;
+        re_exported = a.re_exported;
+        owners = b.owners;
+        last_package = b.last_package;
+        out = b.out;
+      }
 
       met : IsMet owner nv (map want_of b.out.items) (serialize url) m
       met = (here, adds.whole)
 
   -- a text is resolved first
   pub first_named : (a b c : Asking) (key : Text) (m kept : Option AskedModule) (target : Option Parts) → target ≡ resolved traced key →
-      Finds owner nv traced target a b m → c.met ≡ b.met → c.out ≡ b.out → c.last_package ≡ b.last_package →
+      Finds owner nv traced target a b m → c.met ≡ b.met → c.out ≡ b.out → c.last_package ≡ b.last_package → c.re_exported ≡ b.re_exported →
       tree.UpdatesBy (λ x y. slice_cmp nat_cmp x.now y.now) (λ k. slice_cmp nat_cmp key k.now) b.named c.named (Some kept) →
       IsSameFound m kept → Finds owner nv traced (resolved traced key) a c m
-  first_named a b c key m kept target is f met out last updates same =
+  first_named a b c key m kept target is f met out last again updates same =
       let names = subst (λ (o : Option Parts). IsNamed owner nv (map want_of b.out.items) o m) is f.named in
       record {
-        asking = named_put b c key kept met out last updates
+        asking = named_put b c key kept met out last again updates
             (same_named owner nv (map want_of b.out.items) (resolved traced key) m kept same names) f.asking;
         named = subst (λ o. IsNamed owner nv (map want_of o.items) (resolved traced key) m) (sym out) names;
         adds = subst (λ o. Adds (told m) (map want_of a.out.items) (map want_of o.items)) (sym out) f.adds;
@@ -298,7 +329,8 @@ module _ (owner : Text → Option Nv) (nv : Nv) (traced : TracedModule) where
   nowhere_asked g (Some url) a b f = absurd (none_some f.named.0 f.named.1)
 
   module _ (url : Parts) (m : AskedModule) (w : Wanted) (a b c : Asking) (f : Finds owner nv traced (Some url) a b (Some m))
-      (named : c.named ≡ b.named) (met : c.met ≡ b.met) (last : c.last_package ≡ b.last_package) where
+      (named : c.named ≡ b.named) (met : c.met ≡ b.met) (again : c.re_exported ≡ b.re_exported)
+      (last : c.last_package ≡ b.last_package) where
     abbrev named_here : IsModuleAt owner nv (serialize url) m
     named_here = subst (IsModuleAt owner nv (serialize url)) (sym (some_is m f.named.0 f.named.1)) f.named.2.0
 
@@ -307,7 +339,7 @@ module _ (owner : Text → Option Nv) (nv : Nv) (traced : TracedModule) where
     names_asked names is =
         let adds = adds_all names (map want_of b.out.items) (map want_of c.out.items) is in
         record {
-          asking = asking_more b c named met (last_more (map want_of b.out.items) (map want_of c.out.items) (last_of b) (last_of c)
+          asking = asking_more b c named met again (last_more (map want_of b.out.items) (map want_of c.out.items) (last_of b) (last_of c)
               (ap (option_map (λ p. nv_of p.value)) last) (adds_kept names (map want_of b.out.items) (map want_of c.out.items) adds)
               f.asking.last) names adds f.asking;
           adds = adds_both (package_of m.owner) names (map want_of a.out.items) (map want_of b.out.items) (map want_of c.out.items)
@@ -332,7 +364,8 @@ module _ (owner : Text → Option Nv) (nv : Nv) (traced : TracedModule) where
         }
 
   module _ (target : Option Parts) (m : AskedModule) (w : Wanted) (a b c : Asking) (f : Finds owner nv traced target a b (Some m))
-      (named : c.named ≡ b.named) (met : c.met ≡ b.met) (last : c.last_package ≡ b.last_package) where
+      (named : c.named ≡ b.named) (met : c.met ≡ b.met) (again : c.re_exported ≡ b.re_exported)
+      (last : c.last_package ≡ b.last_package) where
     pub file_there : map want_of c.out.items ≡ map want_of b.out.items ++ names_of_file m.owner (serialize m.specifier.value) w →
         Asks owner nv traced (each_of (λ url. file_at nv (serialize url) w (owner (serialize url))) target) a c
     file_there is = go target f
@@ -340,7 +373,7 @@ module _ (owner : Text → Option Nv) (nv : Nv) (traced : TracedModule) where
         go : (o : Option Parts) → Finds owner nv traced o a b (Some m) →
             Asks owner nv traced (each_of (λ url. file_at nv (serialize url) w (owner (serialize url))) o) a c
         go None g = absurd (none_some m (sym g.named))
-        go (Some url) g = file_pushed url m w a b c g named met last is
+        go (Some url) g = file_pushed url m w a b c g named met again last is
 
     pub behind_there : map want_of c.out.items ≡ map want_of b.out.items ++ names_behind m.owner (serialize m.specifier.value) w →
         Asks owner nv traced (each_of (λ url. behind nv (serialize url) w (owner (serialize url))) target) a c
@@ -349,7 +382,41 @@ module _ (owner : Text → Option Nv) (nv : Nv) (traced : TracedModule) where
         go : (o : Option Parts) → Finds owner nv traced o a b (Some m) →
             Asks owner nv traced (each_of (λ url. behind nv (serialize url) w (owner (serialize url))) o) a c
         go None g = absurd (none_some m (sym g.named))
-        go (Some url) g = behind_pushed url m w a b c g named met last is
+        go (Some url) g = behind_pushed url m w a b c g named met again last is
+
+  -- re-exports of all by one text
+
+  pub met_again : (a : Asking) (text : Text) → is_re_exported text a.re_exported ≡ true → IsAsking owner nv traced a →
+      Asks owner nv traced (again_wants owner nv traced text) a a
+  met_again a text here is = record {
+    asking = is;
+    adds = adds_none (again_wants owner nv traced text) (map want_of a.out.items) (is.again text here);
+  }
+
+  pub asked_again : (a b c : Asking) (text : Text) → c.named ≡ b.named → c.met ≡ b.met → c.last_package ≡ b.last_package →
+      c.out ≡ b.out → ((q : Bor (List ℕ)) → contains_by (λ k. slice_cmp nat_cmp q.now k.now) c.re_exported
+      ≡ cond (is_eq (slice_cmp nat_cmp text q.now)) true (contains_by (λ k. slice_cmp nat_cmp q.now k.now) b.re_exported)) →
+      Asks owner nv traced (again_wants owner nv traced text) a b → Asks owner nv traced (again_wants owner nv traced text) a c
+  asked_again a b c text named met last out updates f = record {
+    asking = record {
+      last = last_same b c out last f.asking;
+      named = λ t. subst (λ o. IfKept (IsNamed owner nv (map want_of o.items) (resolved traced t)) (kept_at t c.named)) (sym out)
+          (subst (λ kept. IfKept (IsNamed owner nv (map want_of b.out.items) (resolved traced t)) (kept_at t kept)) (sym named)
+          (f.asking.named t));
+      met = λ t. subst (λ o. IfKept (IsMet owner nv (map want_of o.items) t) (kept_at t c.met)) (sym out)
+          (subst (λ kept. IfKept (IsMet owner nv (map want_of b.out.items) t) (kept_at t kept)) (sym met) (f.asking.met t));
+      again = λ t here w i. subst (λ o. Contains (map want_of o.items) w) (sym out)
+          (by t w i (is_eq (slice_cmp nat_cmp text t)) refl
+          (sym (updates (record { ref_ptr = (0, 0); now = t })) ∙ here));
+    };
+    adds = subst (λ o. Adds (again_wants owner nv traced text) (map want_of a.out.items) (map want_of o.items)) (sym out) f.adds;
+  }
+    where
+      by : (t : Text) (w : Want) → Contains (again_wants owner nv traced t) w → (e : Bool) → is_eq (slice_cmp nat_cmp text t) ≡ e →
+          cond e true (is_re_exported t b.re_exported) ≡ true → Contains (map want_of b.out.items) w
+      by t w i true ties there = f.adds.whole w
+          (subst (λ (u : Text). Contains (again_wants owner nv traced u) w) (sym (same_text text t ties)) i)
+      by t w i false ties there = f.asking.again t there w i
 
   -- all that is asked
   pub outer_asked : {X Y : Type 0} (f : X → List Want) (g : Y → List Want) (xs us : List X) (ys vs : List Y) (a b c : Asking) →

@@ -6,20 +6,23 @@ use Rattle.std.specs.Borrow.{Bor}
 use Rattle.std.specs.Option.{option_and_then}
 use Rattle.std.specs.BTreeMap as tree
 use Rattle.std.specs.BTreeMap.{BTreeMap}
+use Rattle.std.specs.BTreeSet.{BTreeSet, contains_by}
 use Rattle.std.specs.Cmp.Lexicographic.{slice_cmp}
 use Rattle.std.specs.Ordering.{nat_cmp}
 use Rattle.std.specs.declared.alloc.Global.{Global}
 use Rattle.url.specs.Parts.{Parts, serialize}
 use Rattle.fast_check_packages.specs.Package.{Nv, nv_of}
+use Rattle.fast_check_names.specs.Imports.{names_but_default}
 use Rattle.fast_check_graph.specs.Resolutions.{text_resolved}
+use Rattle.fast_check_demands.specs.Rules.{each_of}
 use Rattle.fast_check_demands.specs.Yields.{Adds}
-use Rattle.fast_check_worklists.specs.Demands.{Text, Wanted, same_nv, Want, to_package, to_module}
+use Rattle.fast_check_worklists.specs.Demands.{Text, Wanted, same_nv, asked_by, Want, to_package, to_module}
 use Rattle.fast_check_worklists.specs.State.{want_of}
 use Rattle.fast_check_sources.specs.declared.asked.Owner.{Owner}
 use Rattle.fast_check_sources.specs.declared.asked.Owner.TheVariants.{Nobody, Own, Another}
 use Rattle.fast_check_sources.specs.declared.asked.AskedModule.{AskedModule}
 use Rattle.fast_check_sources.specs.declared.wants.Asking.{Asking}
-use Rattle.fast_check_sources.specs.Wants.{resolved}
+use Rattle.fast_check_sources.specs.Wants.{resolved, behind}
 use Rattle.fast_check_traces.specs.declared.modules.TracedModule.{TracedModule}
 
 -- the package that a module belongs to, as the one that asks sees it
@@ -102,12 +105,24 @@ kept_at text kept = tree.get_by (λ k. slice_cmp nat_cmp text k.now) kept
 unfoldable pub IsResolving : TracedModule → Option (BTreeMap (String Global) Parts) → Type 0
 IsResolving traced resolutions = (text : Text) → option_and_then (text_resolved text) resolutions ≡ resolved traced text
 
--- each text that was kept stands by the module that it names in this module, and each URL by the module there
+-- what a re-export of all of this text asks for
+abbrev pub again_wants : (Text → Option Nv) → Nv → TracedModule → Text → List Want
+again_wants owner nv traced text =
+    each_of (λ url. behind nv (serialize url) (asked_by names_but_default) (owner (serialize url))) (resolved traced text)
+
+-- one of this text was met
+abbrev pub is_re_exported : Text → BTreeSet (Bor (List ℕ)) → Bool
+is_re_exported text texts = contains_by (λ k. slice_cmp nat_cmp text k.now) texts
+
+-- each text that was kept stands by the module that it names in this module, and each URL by the module there; what the
+-- re-exports that were met ask for is asked for
 pub record IsAsking (owner : Text → Option Nv) (nv : Nv) (traced : TracedModule) (a : Asking) : Type 0 where
   pub named : (text : Text) → IfKept (IsNamed owner nv (map want_of a.out.items) (resolved traced text))
       (kept_at text a.named)
   pub met : (text : Text) → IfKept (IsMet owner nv (map want_of a.out.items) text) (kept_at text a.met)
   pub last : IsLastTold (map want_of a.out.items) (option_map (λ p. nv_of p.value) a.last_package)
+  pub again : (text : Text) → is_re_exported text a.re_exported ≡ true → (w : Want) →
+      Contains (again_wants owner nv traced text) w → Contains (map want_of a.out.items) w
 
 -- the package of what was found
 abbrev pub told : Option AskedModule → List Want

@@ -25,7 +25,7 @@ use fast_check_packages::{JsrUrlProvider, PackageNv};
 use fast_check_traces::{ModuleWant, ModuleWants, TracedModule};
 use fast_check_worklists::OuterWant;
 use std::alloc::{AllocError, Global};
-use std::collections::BTreeMap;
+use std::collections::{BTreeMap, BTreeSet};
 use std::rc::Rc;
 use url::Url;
 
@@ -37,12 +37,13 @@ pub struct Asker<'a> {
     pub traced: TracedModule<'a>,
 }
 
-/// What was asked so far: the module that each text names, if it names one, the module at each URL, and all that is asked for. The package of
-/// a module is asked for where the module is met first, unless it was the last one that was asked for.
+/// What was asked so far: the module that each text names, if it names one, the module at each URL, the texts of the re-exports of all that were met, and
+/// all that is asked for. The package of a module is asked for where the module is met first, unless it was the last one that was asked for.
 #[derive(Drop)]
 struct Asking<'a> {
     named: BTreeMap<&'a str, Option<AskedModule>>,
     met: BTreeMap<&'a str, AskedModule>,
+    re_exported: BTreeSet<&'a str>,
     owners: LastOwners,
     last_package: Option<Rc<PackageNv>>,
     out: Vec<OuterWant>,
@@ -206,8 +207,8 @@ fn push_file<'a>(
     }
 }
 
-/// Adds what a re-export of all asks of the module that its text names.
-fn push_again<'a>(
+/// Adds what a re-export of all asks of the module that its text names. No re-export of this text was met before.
+fn push_first<'a>(
     alloc: Global,
     asker: Asker<'_>,
     provider: &dyn JsrUrlProvider,
@@ -229,6 +230,30 @@ fn push_again<'a>(
             push_names_behind(alloc, &target, demand, &mut asking.out)
         }
     }
+}
+
+/// Adds what a re-export of all asks of the module that its text names: nothing more, where another one of this text was met.
+fn push_again<'a>(
+    alloc: Global,
+    asker: Asker<'_>,
+    provider: &dyn JsrUrlProvider,
+    resolutions: Option<&'a BTreeMap<String, Url>>,
+    text: &'a str,
+    asking: &mut Asking<'a>,
+) -> Result<(), AllocError>
+    requires resolving { IsResolving asker.traced (option_copied resolutions) }
+    requires asking { let k = known asker.sources (url_of provider.now) (nv_at provider.now) in
+        IsAsking k.owner (nv_of asker.package.now) asker.traced asking.old }
+    ensures { let k = known asker.entry.sources (url_of provider.now) (nv_at provider.now) in
+        let nv = nv_of asker.entry.package.now in
+        OnOk result (Asks k.owner nv asker.entry.traced (left_wants k nv asker.entry.traced (re_exported text.now)) asking.old asking.new) }
+{
+    if asking.re_exported.contains(text) {
+        return Ok(());
+    }
+    push_first(alloc, asker, provider, resolutions, text, asking)?;
+    asking.re_exported.insert(text)?;
+    Ok(())
 }
 
 /// Adds what a name that another module answers asks of that.
@@ -329,6 +354,7 @@ fn nothing_asked<'a>(alloc: Global) -> Asking<'a>
     Asking {
         named: BTreeMap::new(alloc),
         met: BTreeMap::new(alloc),
+        re_exported: BTreeSet::new(alloc),
         owners: LastOwners::new(),
         last_package: None,
         out: Vec::new(alloc),

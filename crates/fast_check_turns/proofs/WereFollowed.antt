@@ -1,5 +1,5 @@
 -- What is kept of searches was followed, from turn to turn.
-use Rattle.std.proofs.Common.{◌≡◌, ◌∙◌, sym, ap, refl, subst, ℕ, Bool, true, false, cond, List, [], ◌∷◌, ◌++◌, Option, Some, None, ◌⊎◌, ⊎_elim}
+use Rattle.std.proofs.Common.{◌≡◌, ◌∙◌, sym, ap, refl, subst, Bool, true, false, cond, List, [], ◌∷◌, ◌++◌, Option, Some, None, ◌⊎◌, ⊎_elim}
 use Rattle.std.proofs.Common.{inl, inr}
 use Rattle.std.specs.List.{list_any, Contains}
 use Rattle.std.specs.BTreeMap.{BTreeMap, get, is_at}
@@ -9,14 +9,12 @@ use Rattle.std.specs.Cmp.Lexicographic.{slice_cmp}
 use Rattle.std.proofs.lemmas.Bool.{false≢true, or_cases}
 use Rattle.std.proofs.lemmas.List.Folds.{list_any-append}
 use Rattle.std.proofs.lemmas.List.Elements.{Contains-append_left, Contains-push}
-use Rattle.std.proofs.lemmas.Map.Lookups.{CmpEqualImpliesEq, exact_unsigned, exact_bytes, exact_pairs}
+use Rattle.std.proofs.lemmas.Map.Lookups.{exact_bytes, exact_pairs}
 use Rattle.std.proofs.lemmas.Map.Views.{tells_apart}
-use Rattle.semver.specs.Order.{pre_cmp, build_cmp}
-use Rattle.semver.specs.OrderLaws.{pre-anti, build-anti}
 use Rattle.url.specs.Parts.{serialize}
 use Rattle.fast_check_syntax.specs.declared.source.SourceRange.{SourceRange}
 use Rattle.fast_check_symbols.specs.Tables.{Tables}
-use Rattle.fast_check_packages.specs.Package.{VersionParts, Nv, nv_of, version_cmp, nv_cmp}
+use Rattle.fast_check_packages.specs.Package.{Nv, nv_of, nv_cmp}
 use Rattle.fast_check_demands.specs.Demands.{Demand as SymbolDemand}
 use Rattle.fast_check_demands.specs.Account.{alike}
 use Rattle.fast_check_search.specs.Searched.{IsAsked, IsKeptWith}
@@ -30,6 +28,7 @@ use Rattle.fast_check_traces.specs.Modules.{own_tables}
 use Rattle.fast_check_traces.specs.Told.{told_ranges}
 use Rattle.fast_check_sources.specs.Sources.{Known, module_at}
 use Rattle.fast_check_turns.specs.Yields.{own_text, gives}
+use Rattle.fast_check_sources.proofs.Packages.{exact_nv}
 use Rattle.fast_check_turns.specs.contracts.searches.ModuleOfPackageOrd.TheImpl as order
 use Rattle.fast_check_turns.specs.declared.searches.ModuleOfPackage.{ModuleOfPackage}
 use Rattle.fast_check_turns.specs.declared.searches.KeptSearch.{KeptSearch}
@@ -37,24 +36,6 @@ use Rattle.fast_check_turns.specs.declared.searches.KeptSearches.{KeptSearches}
 use Rattle.fast_check_turns.specs.Searches.{searched_of, told_of, IsKeptSo, IsKeptAt, IsToldAt, IsFollowedAt, IsShownAmong, AreFollowed}
 
 -- keys that tie are of one module and package
-
-abbrev Nested : Type 0
-Nested = ℕ × (ℕ × (ℕ × (List ℕ × List ℕ)))
-
-abbrev nested : VersionParts → Nested
-nested v = (v.0, (v.1, (v.2, (v.3, v.4))))
-
-abbrev version_of : Nested → VersionParts
-version_of n = (n.0, n.1.0, n.1.1.0, n.1.1.1.0, n.1.1.1.1)
-
-exact_version : CmpEqualImpliesEq version_cmp
-exact_version v w h = ap version_of
-    (exact_pairs nat_cmp _ exact_unsigned
-    (exact_pairs nat_cmp _ exact_unsigned
-    (exact_pairs nat_cmp _ exact_unsigned (exact_pairs pre_cmp build_cmp pre-anti build-anti))) (nested v) (nested w) h)
-
-exact_nv : CmpEqualImpliesEq nv_cmp
-exact_nv = exact_pairs (slice_cmp nat_cmp) version_cmp exact_bytes exact_version
 
 abbrev key_of : ModuleOfPackage → Text × Nv
 key_of m = (serialize m.specifier, nv_of m.nv)

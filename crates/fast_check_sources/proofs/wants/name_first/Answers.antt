@@ -14,4 +14,4 @@ returns g c =
     c.in_ok-kept.kept (option_copied c.resolved-target.result)
     (c.resolved-target.ensures
     ∙ resolved_in c.args.asker.traced (option_copied c.args.resolutions) c.args.text.now c.requires.resolving)
-    c.in_ok-found.ensures refl refl refl c.in_ok-insert.ensures.updates c.in_ok-kept.ensures
+    c.in_ok-found.ensures refl refl refl refl c.in_ok-insert.ensures.updates c.in_ok-kept.ensures

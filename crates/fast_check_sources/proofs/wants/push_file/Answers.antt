@@ -19,4 +19,4 @@ returns-in-Some g c =
     (λ _ is. file_there k.owner nv c.args.asker.traced target c.in-Some.target (asked_by (names_of c.args.file.names))
     c.args.asking.now c.name.new.asking _
     (subst (Finds k.owner nv c.args.asker.traced target c.args.asking.now c.name.new.asking) c.in-Some.is c.in_ok-name.ensures)
-    refl refl refl is) c.push_names_of_file.ensures
+    refl refl refl refl is) c.push_names_of_file.ensures
