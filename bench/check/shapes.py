@@ -6,7 +6,8 @@ the quickest), the bytes held a byte of the largest, and the exponent by which s
 a run takes a tenth of a second, or the input has 4 MB. An exponent above 1.2 is told, and so is a run that ends by a signal; then the status is 1.
 
 From some shapes more follows than they have bytes: as much as the product of two of their lengths. What follows are the demands of the account
-(docs/ARCHITECTURE.md), each written out with its package, the URL of its module and its names, and the items of trees that are gone through. Of these
+(docs/ARCHITECTURE.md), each written out with its package, the URL of its module and its names, the URLs that the provider answers, and the items of trees
+that are gone through. Of these
 shapes the seconds are fitted to the bytes of the input and of what follows together, and a line says so. What is known to grow with a square though no
 more follows stands in `squares.py`.
 
@@ -740,6 +741,25 @@ def path_through_files(n):
     asks = [symbol(1, part("f", *["N"] * n)), symbol(2, file_ref(url(1), "N"), name="f")]
     through = [module(url(i), [symbol(1, file_ref(url(i + 1), "N"), name="N")], [["N", 1]]) for i in range(1, n)]
     return request(module(url(0), asks, [["s1", 1]]), *through, module(url(n), [symbol(1, definition(), name="N")], [["N", 1]]))
+
+
+@shape_by(lambda n: (DEMAND + 100 * n) * n)
+def packages_of_a_long_fallback(n):
+    """Packages that are not listed, where the provider answers a long URL for each: what it answers has that URL for each of them."""
+    nvs = [f"@f/f{i}@1.0.0" for i in range(n)]
+    made = request(one_name(url(0)), pending=nvs)
+    made["graph"]["packages"] = [[nv, [[".", url(0)]]] for nv in nvs]
+    made["provider"]["fallback"] = HOST + "f" * (100 * n) + "/"
+    return made
+
+
+@shape
+def re_exports_of_a_long_url(n):
+    """Re-exports of all by one text of a module at a long URL: all of them ask for it once."""
+    long = url("b" * (100 * n))
+    made = request(module(url(0), [], [], again=["./b.ts"] * n), one_name(long))
+    made["graph"]["resolutions"] = [[url(0), "./b.ts", long]]
+    return made
 
 
 @shape_of("transform")

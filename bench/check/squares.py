@@ -149,15 +149,6 @@ def no_re_export_in_turns(n):
 # ---- one long text is copied or compared for each of many
 
 
-@known(last=1000)
-def re_exports_of_a_long_url(n):
-    """Re-exports of all of a module times the bytes of its URL, by which what was asked of it is found (fast_check_worklists, `HandledExports::add`)."""
-    long = url("b" * (100 * n))
-    made = request(module(url(0), [], [], again=["./b.ts"] * n), one_name(long))
-    made["graph"]["resolutions"] = [[url(0), "./b.ts", long]]
-    return made
-
-
 @known(first=1000, last=2000)
 def names_behind_a_long_url(n):
     """Re-exports of all of a module times the bytes of its URL, by which it is found for each where two names are asked (fast_check_traces, `leads_of`)."""
@@ -174,16 +165,6 @@ def parts_of_a_long_text(n):
     asks = definition(*([{"QualifiedId": [["f", 1], [f"x{i}"]]}, "Type_"] for i in range(n)))
     made = request(module(url(0), [symbol(1, asks), symbol(2, file_ref(long, "s1"), name="f")], [["s1", 1]]), one_name(url(1)))
     made["graph"]["resolutions"] = [[url(0), long, url(1)]]
-    return made
-
-
-@known(first=2000)
-def packages_of_a_long_fallback(n):
-    """Packages that are not listed times the bytes of the URL of such, which is copied for each (fast_check_packages, `IndexedPackages::package_url`)."""
-    nvs = [f"@f/f{i}@1.0.0" for i in range(n)]
-    made = request(one_name(url(0)), pending=nvs)
-    made["graph"]["packages"] = [[nv, [[".", url(0)]]] for nv in nvs]
-    made["provider"]["fallback"] = HOST + "f" * (100 * n) + "/"
     return made
 
 
