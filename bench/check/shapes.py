@@ -497,6 +497,13 @@ def files_asked_in_turns(n):
 
 
 @shape
+def re_exports_in_turns(n):
+    """Turns in which a name is asked for that stands behind one of many re-exports of all, in each behind the next one."""
+    others = [module(url(f"m{i}"), [symbol(1, definition(), name=f"a{i}")], [[f"a{i}", 1]]) for i in range(1, n + 1)]
+    return chain_to(n, lambda i: [f"a{i}"], module(url("m"), [], [], again=[each[0] for each in others]), *others)
+
+
+@shape
 def faults_found_in_turns(n):
     """Turns in which a name is asked for that leads to the faults of one symbol."""
     big = symbol(n + 1, definition(*([{"QualifiedId": [["N", 1], [f"x{i}"]]}, "Type_"] for i in range(n))), name="B")
@@ -634,6 +641,15 @@ def references_of_a_long_url(n):
     long = "a" * (100 * n)
     made = wants(file_texts(n), url(long), "https://b.example/", exports=[[".", f"./{long}.ts"]])
     del made["graph"]["resolutions"][1:]
+    return made
+
+
+@shape
+def names_behind_a_long_url(n):
+    """Re-exports of all of a module with a long URL, by one text, behind which two names are asked for."""
+    long = url("b" * (100 * n))
+    made = wants([url(1)] * 2, url(0), url(1), module(url(1), [], [], again=["./b.ts"] * n), one_name(long))
+    made["graph"]["resolutions"].append([url(1), "./b.ts", long])
     return made
 
 

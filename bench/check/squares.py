@@ -22,7 +22,7 @@ sys.path[:0] = [os.path.join(os.path.dirname(os.path.dirname(os.path.abspath(__f
 
 from shapes import (
     MOST_EXPONENT, alias_urls, chain_to, covered, exponent, in_three_sizes, measured, one_name, property_in_turns, qualified_in_turns, row, spent,
-    under_aliases, wants,
+    under_aliases,
 )
 from tables import (
     HOST, definition, file_ref, import_type, module, request, symbol, transform, url,
@@ -134,28 +134,12 @@ def one_property_inside_in_turns(n):
 
 
 @known(first=250, last=500)
-def re_exports_in_turns(n):
-    """Turns in which a name is asked for times the re-exports of all before the one that has it: each is resolved (fast_check_traces, `first_with`)."""
-    others = [module(url(f"m{i}"), [symbol(1, definition(), name=f"a{i}")], [[f"a{i}", 1]]) for i in range(1, n + 1)]
-    return chain_to(n, lambda i: [f"a{i}"], module(url("m"), [], [], again=[each[0] for each in others]), *others)
-
-
-@known(first=250, last=500)
 def no_re_export_in_turns(n):
-    """The same where none has the name: all re-exports are public in each turn (fast_check_traces, `push_whole`)."""
+    """Turns in which a name is asked for that no re-export of all has: all are public in each turn (fast_check_traces, `push_whole`)."""
     return chain_to(n, lambda i: [f"a{i}"], module(url("m"), [], [], again=[url(0)] * n), module(url(0), [], []))
 
 
 # ---- one long text is copied or compared for each of many
-
-
-@known(first=1000, last=2000)
-def names_behind_a_long_url(n):
-    """Re-exports of all of a module times the bytes of its URL, by which it is found for each where two names are asked (fast_check_traces, `leads_of`)."""
-    long = url("b" * (100 * n))
-    made = wants([url(1)] * 2, url(0), url(1), module(url(1), [], [], again=["./b.ts"] * n), one_name(long))
-    made["graph"]["resolutions"].append([url(1), "./b.ts", long])
-    return made
 
 
 @known(first=1000, last=1000)

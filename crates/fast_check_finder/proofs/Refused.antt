@@ -1,5 +1,5 @@
 -- Packages with a text that does not join: the search stops at one, and an answer has none.
-use Rattle.std.proofs.Common.{◌≡◌, ◌∙◌, sym, ap, refl, subst, ℕ, ◌<◌, List, [], ◌∷◌, ◌++◌, map, length, get_or, Option, Some, None, arith}
+use Rattle.std.proofs.Common.{◌≡◌, ◌∙◌, sym, ap, refl, subst, ℕ, ◌<◌, List, [], ◌∷◌, map, length, get_or, arith}
 use Rattle.std.specs.List.{Contains, flat_map}
 use Rattle.std.proofs.lemmas.List.{length-map, get_or-map}
 use Rattle.std.proofs.lemmas.List.Elements.{Contains-get_or}
@@ -16,7 +16,7 @@ use Rattle.fast_check_findings.specs.Yields.{implementing, faulty, untyped_modul
 use Rattle.fast_check_cache.specs.Cache.{item_of}
 use Rattle.fast_check_findings.specs.Findings.{faulty_module, entry_fault, placed_yield, placed_yields, yields_of}
 use Rattle.fast_check_turns.specs.entries.Entries.{Entrance, passed_over, refused, entered, DiagnosesRefused}
-use Rattle.fast_check_search.proofs.Each.{Contains_first, Each, each_nil, each_one, each_cons, each_append, each_map, each_flat}
+use Rattle.fast_check_search.proofs.Each.{Contains_first, Each, each_one, each_cons, each_append, each_map, each_flat}
 use Rattle.fast_check_worklists.specs.Demands.{Text, of_package}
 use Rattle.fast_check_worklists.specs.Account.{Account, Chained, IsYield}
 use Rattle.fast_check_turns.specs.wants.Sources.{Known}

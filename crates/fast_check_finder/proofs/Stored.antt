@@ -5,13 +5,12 @@ use Rattle.std.specs.Prelude.{nat_lt, if◌then◌else◌}
 use Rattle.std.specs.List.{Contains}
 use Rattle.std.proofs.lemmas.List.Elements.{Contains-append_left, Contains-append_right}
 use Rattle.std.proofs.lemmas.Bool.{cases_Bool, ltb-true, ltb-false}
-use Rattle.url.specs.Parts.{Parts, serialize}
+use Rattle.url.specs.Parts.{serialize}
 use Rattle.fast_check_packages.specs.Package.{Nv}
 use Rattle.fast_check_cache.specs.Cache.{ItemView}
 use Rattle.fast_check_graph.specs.declared.graph.ModuleGraph.{ModuleGraph}
 use Rattle.fast_check_cache.specs.CachedPackages.{usable, if_usable, at_key, used_item}
 use Rattle.fast_check_turns.specs.Lent.{used_of}
-use Rattle.fast_check_turns.specs.wants.Sources.{Used}
 use Rattle.fast_check_finder.specs.Reach.{dependencies_in, dependencies_below, lent_dependencies}
 use Rattle.fast_check_finder.proofs.Reach.{HasDependencies}
 

@@ -14,7 +14,7 @@ ghost use Rattle.fast_check_turns.specs.entries.Kept.{AreKept};
 ghost use Rattle.fast_check_turns.specs.wants.Sources.{known, with_used};
 ghost use Rattle.fast_check_turns.specs.Lent.{used_of};
 ghost use Rattle.fast_check_turns.specs.Rules.{world};
-ghost use Rattle.fast_check_turns.specs.Searches.{AreFollowed};
+ghost use Rattle.fast_check_turns.specs.Searches.{AreKeptOf};
 ghost use Rattle.fast_check_turns.specs.Yields.{gives};
 ghost use Rattle.fast_check_finder.specs.Refusals.{IsRefusal, IsRefusedOf, JoinAll};
 
@@ -28,8 +28,8 @@ use std::alloc::{AllocError, Global};
 
 /// What is kept from turn to turn, so that it is not worked out again.
 #[derive(Drop)]
-struct Kept {
-    searches: KeptSearches,
+struct Kept<'a> {
+    searches: KeptSearches<'a>,
     members: MemberEntries,
 }
 
@@ -73,14 +73,14 @@ fn turn<'a>(
     provider: &dyn JsrUrlProvider,
     cache: Option<&dyn FastCheckCache>,
     next: usize,
-    kept: &mut Kept,
+    kept: &mut Kept<'a>,
     progress: &mut Progress<'a>,
 ) -> Result<Option<usize>, BuildFault>
     ensures turned { let i = input.entry in
         let used = used_of cache.entry (λ c. used_item (hash_of c.now i.seed.now) (stored c.now) i.sources.graph.now) in
         let k = with_used used (known i.sources (url_of provider.now) (nv_at provider.now)) in
-        IfOk result (λ after. (done : List Followed) → AreFollowed k done kept.old.searches → AreKept k.workspace_members kept.old.members
-        → IsTurn (world k) (gives k) done (λ all. AreFollowed k all kept.new.searches) next (state_of progress.old.worklist)
+        IfOk result (λ after. (done : List Followed) → AreKeptOf k done kept.old.searches → AreKept k.workspace_members kept.old.members
+        → IsTurn (world k) (gives k) done (λ all. AreKeptOf k all kept.new.searches) next (state_of progress.old.worklist)
         (state_of progress.new.worklist) (flat_map yields_of progress.old.found.items) (flat_map yields_of progress.new.found.items) after) }
     ensures kept { let ours = members_in input.entry.sources.workspace_members.now in
         OnOk result (AreKept ours kept.old.members → AreKept ours kept.new.members) }

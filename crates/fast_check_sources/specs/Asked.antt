@@ -107,8 +107,8 @@ IsResolving traced resolutions = (text : Text) → option_and_then (text_resolve
 
 -- what a re-export of all of this text asks for
 abbrev pub again_wants : (Text → Option Nv) → Nv → TracedModule → Text → List Want
-again_wants owner nv traced text =
-    each_of (λ url. behind nv (serialize url) (asked_by names_but_default) (owner (serialize url))) (resolved traced text)
+again_wants owner nv traced text = each_of
+    (λ url. behind nv (serialize url) (asked_by names_but_default) (owner (serialize url))) (resolved traced text)
 
 -- one of this text was met
 abbrev pub is_re_exported : Text → BTreeSet (Bor (List ℕ)) → Bool

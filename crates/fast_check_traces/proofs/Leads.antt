@@ -1,9 +1,13 @@
 -- The modules that re-exports of all lead to, as they are read.
 use Rattle.std.proofs.Common.{◌≡◌, ◌∙◌, sym, ap, refl, subst, ℕ, Bool, true, false, cond, is_some, List, [], ◌∷◌, ◌++◌, Option, Some, None}
 use Rattle.std.proofs.Common.{option_map, bytes_eq, string_bytes, true≢false, ⊎_elim}
+use Rattle.std.specs.Borrow.{Bor}
+use Rattle.std.specs.BTreeSet.{contains_by}
+use Rattle.std.specs.Cmp.Lexicographic.{slice_cmp, texts_ties}
 use Rattle.std.specs.List.{Contains}
 use Rattle.std.specs.Map.{lookup}
 use Rattle.std.specs.Option.{option_or, option_and_then}
+use Rattle.std.specs.Ordering.{is_eq, nat_cmp}
 use Rattle.std.proofs.lemmas.Bool.{cases_Bool, cond-false}
 use Rattle.std.proofs.lemmas.Slice.Eq.{bytes_eq-Decides}
 use Rattle.url.specs.Parts.{Parts, serialize}
@@ -19,7 +23,7 @@ use Rattle.fast_check_traces.specs.declared.origins.Lead.{Lead}
 use Rattle.fast_check_traces.specs.declared.origins.Leads.{Leads}
 use Rattle.fast_check_traces.specs.Modules.{tables_in, led_to, answer_of}
 use Rattle.fast_check_traces.specs.Origins.{Answered, origin_at, first_origin, lead_origin, first_lead, module_answer, is_read}
-use Rattle.fast_check_traces.specs.Origins.{AreLeadsOf}
+use Rattle.fast_check_traces.specs.Origins.{AreModulesOf, text_answer, is_resolved, AreLeadsOf}
 use Rattle.fast_check_traces.proofs.Firsts.{or_none, first_some_more}
 
 no_value : {X : Type 0} (x : X) → None ≡ Some x → ⊥
@@ -88,22 +92,75 @@ module _ (m : TracedModule) where
     behind name answer e =
         first_some_more (origin_at m name) nodes x ∙ ap (λ o. option_or (first_origin m name nodes) (option_map (λ url. (x, url)) o)) e
 
+    kept : (o : Option Answered) (p : Option Parts) → (is_some p ≡ true → is_some o ≡ true) →
+        o ≡ option_or o (option_map (λ url. (x, url)) p)
+    kept None None h = refl
+    kept None (Some u) h = absurd (true≢false (sym (h refl)))
+    kept (Some a) p h = refl
+
+    some_or : (o : Option Answered) (p : Option Parts) → is_some p ≡ true → is_some (option_or o (option_map (λ url. (x, url)) p)) ≡ true
+    some_or None (Some u) h = refl
+    some_or None None h = h
+    some_or (Some a) p h = refl
+
+    stays_some : (o p : Option Answered) → is_some o ≡ true → is_some (option_or o p) ≡ true
+    stays_some None p h = absurd (true≢false (sym h))
+    stays_some (Some a) p h = refl
+
     -- a re-export of all that leads nowhere
-    pub passed_over : (leads : Leads) → led_to m x ≡ None → AreLeadsOf m nodes leads → AreLeadsOf m (nodes ++ x ∷ []) leads
+    pub passed_over : (leads : Leads) → led_to m x ≡ None → AreModulesOf m nodes leads → AreModulesOf m (nodes ++ x ∷ []) leads
     passed_over leads e h = record {
       says = λ name. h.says name ∙ (sym (or_none (first_origin m name nodes)) ∙ sym (behind name None (ap (answered name) e)));
       covers = h.covers;
     }
 
-    module _ (s : Parts) (e : led_to m x ≡ found_module m.root_symbol.now s) where
-      kept : (o : Option Answered) (p : Option Parts) → (is_some p ≡ true → is_some o ≡ true) →
-          o ≡ option_or o (option_map (λ url. (x, url)) p)
-      kept None None h = refl
-      kept None (Some u) h = absurd (true≢false (sym (h refl)))
-      kept (Some a) p h = refl
+    -- one whose text was resolved
+    pub text_read : (leads : Leads) → is_resolved (string_bytes x.specifier) leads ≡ true → AreLeadsOf m nodes leads →
+        AreLeadsOf m (nodes ++ x ∷ []) leads
+    text_read leads r h = record {
+      says = λ name.
+          kept (first_lead name leads.items.items) (answer_of m name x) (h.resolves (string_bytes x.specifier) name r)
+          ∙ (ap (λ o. option_or o (option_map (λ url. (x, url)) (answer_of m name x))) (h.says name)
+          ∙ sym (behind name (answer_of m name x) refl));
+      covers = h.covers;
+      resolves = h.resolves;
+    }
 
+    -- one whose text is resolved now
+    module _ (old new : Leads) (h : AreLeadsOf m nodes old) (g : AreModulesOf m (nodes ++ x ∷ []) new)
+        (key : List ℕ) (is : key ≡ string_bytes x.specifier)
+        (updates : (q : Bor (List ℕ)) → contains_by (λ k. slice_cmp nat_cmp q.now k.now) new.texts
+        ≡ cond (is_eq (slice_cmp nat_cmp key q.now)) true (contains_by (λ k. slice_cmp nat_cmp q.now k.now) old.texts)) where
+      grown : (name : Name) → first_lead name new.items.items
+          ≡ option_or (first_lead name old.items.items) (option_map (λ url. (x, url)) (answer_of m name x))
+      grown name =
+          g.says name
+          ∙ (behind name (answer_of m name x) refl
+          ∙ ap (λ o. option_or o (option_map (λ url. (x, url)) (answer_of m name x))) (sym (h.says name)))
+
+      by_text : (text : List ℕ) (name : Name) → is_some (text_answer m name text) ≡ true → (b : Bool) →
+          is_eq (slice_cmp nat_cmp key text) ≡ b → cond b true (is_resolved text old) ≡ true →
+          is_some (option_or (first_lead name old.items.items) (option_map (λ url. (x, url)) (answer_of m name x))) ≡ true
+      by_text text name a true e r =
+          some_or (first_lead name old.items.items) (answer_of m name x)
+          (subst (λ (t : List ℕ). is_some (text_answer m name t) ≡ true)
+          (sym (sym is ∙ (bytes_eq-Decides key text).0 (texts_ties key text ∙ e))) a)
+      by_text text name a false e r =
+          stays_some (first_lead name old.items.items) (option_map (λ url. (x, url)) (answer_of m name x))
+          (h.resolves text name r a)
+
+      pub text_read_now : AreLeadsOf m (nodes ++ x ∷ []) new
+      text_read_now = record {
+        says = g.says;
+        covers = g.covers;
+        resolves = λ text name r a.
+            subst (λ (o : Option Answered). is_some o ≡ true) (sym (grown name))
+            (by_text text name a (is_eq (slice_cmp nat_cmp key text)) refl (sym (updates (record { ref_ptr = (0, 0); now = text })) ∙ r));
+      }
+
+    module _ (s : Parts) (e : led_to m x ≡ found_module m.root_symbol.now s) where
       -- a module that was read
-      pub read_before : (leads : Leads) → is_read s leads ≡ true → AreLeadsOf m nodes leads → AreLeadsOf m (nodes ++ x ∷ []) leads
+      pub read_before : (leads : Leads) → is_read s leads ≡ true → AreModulesOf m nodes leads → AreModulesOf m (nodes ++ x ∷ []) leads
       read_before leads r h = record {
         says = λ name.
             kept (first_lead name leads.items.items) (module_answer m name s) (h.covers s name r)
@@ -112,21 +169,12 @@ module _ (m : TracedModule) where
         covers = h.covers;
       }
 
-      some_or : (o : Option Answered) (p : Option Parts) → is_some p ≡ true → is_some (option_or o (option_map (λ url. (x, url)) p)) ≡ true
-      some_or None (Some u) h = refl
-      some_or None None h = h
-      some_or (Some a) p h = refl
-
-      stays_some : (o p : Option Answered) → is_some o ≡ true → is_some (option_or o p) ≡ true
-      stays_some None p h = absurd (true≢false (sym h))
-      stays_some (Some a) p h = refl
-
       -- a module that is read now
       pub read_now : (old new : Leads) →
           ((name : Name) → first_lead name new.items.items
           ≡ option_or (first_lead name old.items.items) (option_map (λ url. (x, url)) (module_answer m name s))) →
           ((url : Parts) → is_read url new ≡ cond (bytes_eq (serialize s) (serialize url)) true (is_read url old)) →
-          AreLeadsOf m nodes old → AreLeadsOf m (nodes ++ x ∷ []) new
+          AreModulesOf m nodes old → AreModulesOf m (nodes ++ x ∷ []) new
       read_now old new more reads h = record {
         says = λ name.
             more name ∙ (ap (λ o. option_or o (option_map (λ url. (x, url)) (module_answer m name s))) (h.says name)

@@ -15,4 +15,5 @@ pub use fast_check_search::{Found, Searched};
 pub use follow::{Traced, trace};
 pub use list::{ModuleWant, ModuleWants};
 pub use modules::{TracedModule, tables_of};
+pub use origins::KeptOrigins;
 pub use told::ToldRanges;

@@ -1,20 +1,22 @@
 //! Where a name comes from behind the re-exports of all of a module.
-ghost use Rattle.std.specs.Prelude.{◌≡◌, List, [], ◌∷◌, ◌++◌, Some, None, is_some, cond, option_map, IfOk, OnOk};
+ghost use Rattle.std.specs.Prelude.{◌≡◌, List, [], ◌∷◌, ◌++◌, Option, Some, None, is_some, cond, option_map, IfOk, OnOk};
 ghost use Rattle.std.specs.Option.{option_or, option_and_then, option_copied};
 ghost use Rattle.std.specs.Str.{bytes_eq};
 ghost use Rattle.fast_check_names.specs.Names.{Name};
 ghost use Rattle.fast_check_modules.specs.symbols.declared.tables.ReExportAllNode.{ReExportAllNode};
 ghost use Rattle.fast_check_graph.specs.Root.{specifier_of, found_module, AreFoundByOwnNames};
+ghost use Rattle.fast_check_traces.specs.declared.modules.TracedModule.{TracedModule as TracedSeen};
 ghost use Rattle.fast_check_traces.specs.Modules.{own_tables as tables_at, led_to, first_with};
-ghost use Rattle.fast_check_traces.specs.Origins.{origin_of, origin_at, first_origin, lead_origin, lead_with, first_lead};
-ghost use Rattle.fast_check_traces.specs.Origins.{indexed, found_origin, AreLeadsOf, AreOriginsOf};
+ghost use Rattle.fast_check_traces.specs.Origins.{Answered, origin_of, origin_at, first_origin, lead_origin, lead_with, first_lead};
+ghost use Rattle.fast_check_traces.specs.Origins.{indexed, read_origin, found_origin, AreModulesOf, AreLeadsOf, AreReadOf, AreOriginsOf};
 
 use crate::modules::{TracedModule, answer_of, first_with, led_to, own_tables, tables_of};
 use fast_check_demands::CheckedTables;
 use fast_check_graph::AnyModuleInfo;
 use fast_check_modules::ReExportAllNode;
 use std::alloc::{AllocError, Global};
-use std::collections::BTreeMap;
+use std::collections::{BTreeMap, BTreeSet};
+use std::mem;
 use url::Url;
 
 /// Where a name comes from: the re-export of all that has it, and the module that answers it.
@@ -37,17 +39,34 @@ pub struct Leads<'a> {
     items: Vec<Lead<'a>>,
     /// The first re-export of all that leads to a module, by the module's own name.
     firsts: BTreeMap<&'a str, &'a ReExportAllNode>,
+    /// The texts that were resolved.
+    texts: BTreeSet<&'a str>,
 }
 
-/// Where names come from, by what takes the fewest steps.
+/// The modules that re-exports of all lead to, each once, with the sum of their exports.
+#[derive(Drop)]
+pub struct ListedModules<'a> {
+    leads: Vec<Lead<'a>>,
+    exports: usize,
+}
+
+/// What was read of the re-exports of all of a module: by that a name is found in the fewest steps.
 #[derive(Drop)]
 pub enum Origins<'a> {
-    /// Nothing was read: a look goes over the re-exports.
-    Unread(TracedModule<'a>),
+    /// Nothing: a look goes over the re-exports.
+    Unread,
     /// A look goes over the modules.
-    Listed(Vec<Lead<'a>>),
+    Listed(ListedModules<'a>),
     /// A look is one in this index.
     Indexed(BTreeMap<&'a str, Origin<'a>>),
+}
+
+/// Where the names of one module come from, kept from turn to turn, so that its re-exports of all are read once.
+#[derive(Drop)]
+pub struct KeptOrigins<'a> {
+    /// How many names were looked for.
+    looks: usize,
+    read: Origins<'a>,
 }
 
 fn origin_behind<'a>(
@@ -107,6 +126,7 @@ impl<'a> Leads<'a> {
         Leads {
             items: Vec::new(alloc),
             firsts: BTreeMap::new(alloc),
+            texts: BTreeSet::new(alloc),
         }
     }
 
@@ -117,9 +137,10 @@ impl<'a> Leads<'a> {
         node: &'a ReExportAllNode,
         info: &'a AnyModuleInfo,
     ) -> Result<(), AllocError>
-        ensures { OnOk result ((nodes : List ReExportAllNode) → led_to traced.entry node.now ≡ Some info.now
+        ensures modules { OnOk result ((nodes : List ReExportAllNode) → led_to traced.entry node.now ≡ Some info.now
             → found_module traced.entry.root_symbol.now (specifier_of info.now) ≡ Some info.now
-            → AreLeadsOf traced.entry nodes self.old → AreLeadsOf traced.entry (nodes ++ node.now ∷ []) self.new) }
+            → AreModulesOf traced.entry nodes self.old → AreModulesOf traced.entry (nodes ++ node.now ∷ []) self.new) }
+        ensures texts { OnOk result (self.new.texts ≡ self.old.texts) }
     {
         let name = info.specifier().as_str();
         if self.firsts.contains_key(name) {
@@ -137,13 +158,32 @@ impl<'a> Leads<'a> {
         traced: TracedModule<'a>,
         node: &'a ReExportAllNode,
     ) -> Result<(), AllocError>
-        ensures { OnOk result ((nodes : List ReExportAllNode) → AreFoundByOwnNames traced.entry.root_symbol.now
-            → AreLeadsOf traced.entry nodes self.old → AreLeadsOf traced.entry (nodes ++ node.now ∷ []) self.new) }
+        ensures modules { OnOk result ((nodes : List ReExportAllNode) → AreFoundByOwnNames traced.entry.root_symbol.now
+            → AreModulesOf traced.entry nodes self.old → AreModulesOf traced.entry (nodes ++ node.now ∷ []) self.new) }
+        ensures texts { OnOk result (self.new.texts ≡ self.old.texts) }
     {
         match led_to(traced, node) {
             None => Ok(()),
             Some(info) => self.push_module(traced, node, info),
         }
+    }
+
+    /// Reads the next re-export of all. The same text leads to the same module, so that one whose text was resolved adds nothing.
+    fn read(
+        &mut self,
+        traced: TracedModule<'a>,
+        node: &'a ReExportAllNode,
+    ) -> Result<(), AllocError>
+        ensures { OnOk result ((nodes : List ReExportAllNode) → AreFoundByOwnNames traced.entry.root_symbol.now
+            → AreLeadsOf traced.entry nodes self.old → AreLeadsOf traced.entry (nodes ++ node.now ∷ []) self.new) }
+    {
+        let text = node.specifier.as_str();
+        if self.texts.contains(text) {
+            return Ok(());
+        }
+        self.texts.insert(text)?;
+        self.push(traced, node)?;
+        Ok(())
     }
 }
 
@@ -155,7 +195,7 @@ fn leads_of<'a>(alloc: Global, traced: TracedModule<'a>) -> Result<Vec<Lead<'a>>
     traced.root_symbol.own_names_find();
     let mut leads = Leads::new(alloc, traced);
     for node in own_tables(traced).re_export_all_nodes() {
-        leads.push(traced, node)?;
+        leads.read(traced, node)?;
     }
     Ok(leads.items)
 }
@@ -207,43 +247,108 @@ fn index_of<'a>(
     Ok(names)
 }
 
-/// Whether an index of these modules takes fewer steps than looks for so many names.
-fn is_index_cheaper(names: usize, leads: &[Lead<'_>]) -> bool {
-    let looks = names.saturating_mul(leads.len());
+/// How many names these modules export in all.
+fn count_exports(leads: &[Lead<'_>]) -> usize {
     let mut exports: usize = 0;
     for lead in leads {
         exports = exports.saturating_add(lead.tables.resolved_exports().len());
     }
-    exports < looks
+    exports
 }
 
-impl<'a> Origins<'a> {
-    /// Where names come from behind the re-exports of all of a module, for looks for about so many.
-    pub fn new(
+/// Whether an index of these modules takes fewer steps than so many looks.
+fn is_index_cheaper(looks: usize, listed: &ListedModules<'_>) -> bool {
+    listed.exports < looks.saturating_mul(listed.leads.len())
+}
+
+/// Makes an index of these modules, if that takes fewer steps than so many looks.
+fn indexed_for<'a>(
+    alloc: Global,
+    looks: usize,
+    listed: ListedModules<'a>,
+) -> Result<Origins<'a>, AllocError>
+    ensures { IfOk result (λ read. (unread : Option Answered) (name : Name) → read_origin unread name read ≡ first_lead name listed.entry.leads.items) }
+{
+    if !is_index_cheaper(looks, &listed) {
+        return Ok(Origins::Listed(listed));
+    }
+    let names = index_of(alloc, listed.leads.as_slice())?;
+    Ok(Origins::Indexed(names))
+}
+
+/// Reads the re-exports of all of a module, where more than one name is looked for.
+fn read_for<'a>(
+    alloc: Global,
+    traced: TracedModule<'a>,
+    looks: usize,
+) -> Result<Origins<'a>, AllocError>
+    ensures { IfOk result (AreReadOf traced.entry) }
+{
+    if looks < 2 {
+        return Ok(Origins::Unread);
+    }
+    let leads = leads_of(alloc, traced)?;
+    let exports = count_exports(leads.as_slice());
+    let read = indexed_for(alloc, looks, ListedModules { leads, exports })?;
+    Ok(read)
+}
+
+/// What was read of a module, and what more is to be read of it for so many looks.
+fn read_more<'a>(
+    alloc: Global,
+    traced: TracedModule<'a>,
+    looks: usize,
+    read: Origins<'a>,
+) -> Result<Origins<'a>, AllocError>
+    ensures { IfOk result (λ more. AreReadOf traced.entry read.entry → AreReadOf traced.entry more) }
+{
+    match read {
+        Origins::Unread => read_for(alloc, traced, looks),
+        Origins::Listed(listed) => indexed_for(alloc, looks, listed),
+        Origins::Indexed(names) => Ok(Origins::Indexed(names)),
+    }
+}
+
+impl<'a> KeptOrigins<'a> {
+    /// Nothing was looked for.
+    pub fn new() -> KeptOrigins<'a>
+        ensures { (m : TracedSeen) → AreOriginsOf m result }
+    {
+        KeptOrigins {
+            looks: 0,
+            read: Origins::Unread,
+        }
+    }
+
+    /// How many names were looked for. Nothing that is found depends on it.
+    pub fn looks(&self) -> usize {
+        self.looks
+    }
+
+    /// Reads what so many looks more take: nothing for the first, the modules from the second on, and an index of their names once that is cheaper.
+    pub fn look_for(
+        &mut self,
         alloc: Global,
         traced: TracedModule<'a>,
         names: usize,
-    ) -> Result<Origins<'a>, AllocError>
-        ensures { IfOk result (AreOriginsOf traced.entry) }
+    ) -> Result<(), AllocError>
+        ensures { OnOk result (AreOriginsOf traced.entry self.old → AreOriginsOf traced.entry self.new) }
     {
-        if names < 2 {
-            return Ok(Origins::Unread(traced));
-        }
-        let leads = leads_of(alloc, traced)?;
-        if !is_index_cheaper(names, leads.as_slice()) {
-            return Ok(Origins::Listed(leads));
-        }
-        let index = index_of(alloc, leads.as_slice())?;
-        Ok(Origins::Indexed(index))
+        let looks = self.looks.saturating_add(names);
+        self.looks = looks;
+        let before = mem::replace(&mut self.read, Origins::Unread);
+        let read = read_more(alloc, traced, looks, before)?;
+        self.read = read;
+        Ok(())
     }
 
     /// Where a name comes from: the first re-export of all that has it, and the module that answers it.
-    pub fn find(&self, name: &str) -> Option<Origin<'a>>
-        ensures { option_map origin_of result ≡ found_origin name.now self.now }
+    pub fn find(&self, traced: TracedModule<'a>, name: &str) -> Option<Origin<'a>>
+        ensures { option_map origin_of result ≡ found_origin traced.entry self.now name.now }
     {
-        match self {
-            Origins::Unread(traced) => find_unread(*traced, name),
-            Origins::Listed(leads) => find_lead(leads.as_slice(), name),
+        match &self.read {
+            Origins::Unread => find_unread(traced, name),
+            Origins::Listed(listed) => find_lead(listed.leads.as_slice(), name),
             Origins::Indexed(names) => names.get(name).copied(),
         }
     }

@@ -4,12 +4,13 @@ ghost use Rattle.std.specs.List.{flat_map, list_any};
 ghost use Rattle.fast_check_name_demands.specs.Files.{names_of};
 ghost use Rattle.fast_check_traces.specs.Modules.{own_tables as tables_at};
 ghost use Rattle.fast_check_traces.specs.Told.{told_again};
-ghost use Rattle.fast_check_traces.specs.Wants.{re_exported, node_ranges, AreRangesThrough, answered_at, path_wants, module_wants};
-ghost use Rattle.fast_check_traces.specs.Origins.{origin_of, AreOriginsOf, first_only, name_firsts, name_shows_all, firsts, shows_all};
+ghost use Rattle.fast_check_traces.specs.Wants.{re_exported, node_ranges, AreRangesThrough, answered_at, module_wants};
+ghost use Rattle.fast_check_traces.specs.Origins.{origin_of, found_origin, AreOriginsOf, first_only, name_firsts_by, name_shows_all_by};
+ghost use Rattle.fast_check_traces.specs.Origins.{firsts_by, shows_all_by, path_wants_by, module_wants_by};
 
 use crate::list::{ModuleWant, ModuleWants};
 use crate::modules::{TracedModule, own_export, own_tables};
-use crate::origins::{Origin, Origins};
+use crate::origins::{KeptOrigins, Origin};
 use fast_check_demands::{CheckedTables, SourceRange};
 use fast_check_modules::ReExportAllNode;
 use fast_check_name_demands::NameDemand;
@@ -118,35 +119,39 @@ impl<'a> ReExports<'a> {
     }
 
     /// Adds a name, unless the module exports it itself.
-    fn push_named(
+    fn push_named<'m: 'a>(
         &mut self,
-        traced: TracedModule<'a>,
-        origins: &Origins<'a>,
+        traced: TracedModule<'m>,
+        origins: &KeptOrigins<'m>,
         first: &str,
         demand: NameDemand<'a>,
     ) -> Result<(), AllocError>
-        requires { AreOriginsOf traced origins.now }
-        ensures firsts { OnOk result (self.new.firsts.items ≡ self.old.firsts.items ++ name_firsts traced.entry first.now) }
-        ensures whole { OnOk result (self.new.is_whole ≡ (self.old.is_whole || name_shows_all traced.entry first.now)) }
-        ensures wants { OnOk result (self.new.wants ≡ self.old.wants ++ path_wants traced.entry first.now (names_of demand.entry)) }
+        ensures firsts { let found = found_origin traced.entry origins.now in
+            OnOk result (self.new.firsts.items ≡ self.old.firsts.items ++ name_firsts_by traced.entry found first.now) }
+        ensures whole { let found = found_origin traced.entry origins.now in
+            OnOk result (self.new.is_whole ≡ (self.old.is_whole || name_shows_all_by traced.entry found first.now)) }
+        ensures wants { let found = found_origin traced.entry origins.now in
+            OnOk result (self.new.wants ≡ self.old.wants ++ path_wants_by traced.entry found first.now (names_of demand.entry)) }
     {
         match own_export(own_tables(traced), first) {
             Some(_) => Ok(()),
-            None => self.push_origin(origins.find(first), demand),
+            None => self.push_origin(origins.find(traced, first), demand),
         }
     }
 
     /// Adds a demand.
-    fn push(
+    fn push<'m: 'a>(
         &mut self,
-        traced: TracedModule<'a>,
-        origins: &Origins<'a>,
+        traced: TracedModule<'m>,
+        origins: &KeptOrigins<'m>,
         demand: NameDemand<'a>,
     ) -> Result<(), AllocError>
-        requires { AreOriginsOf traced origins.now }
-        ensures firsts { OnOk result (self.new.firsts.items ≡ self.old.firsts.items ++ firsts traced.entry (names_of demand.entry)) }
-        ensures whole { OnOk result (self.new.is_whole ≡ (self.old.is_whole || shows_all traced.entry (names_of demand.entry))) }
-        ensures wants { OnOk result (self.new.wants ≡ self.old.wants ++ module_wants traced.entry (names_of demand.entry)) }
+        ensures firsts { let found = found_origin traced.entry origins.now in
+            OnOk result (self.new.firsts.items ≡ self.old.firsts.items ++ firsts_by traced.entry found (names_of demand.entry)) }
+        ensures whole { let found = found_origin traced.entry origins.now in
+            OnOk result (self.new.is_whole ≡ (self.old.is_whole || shows_all_by traced.entry found (names_of demand.entry))) }
+        ensures wants { let found = found_origin traced.entry origins.now in
+            OnOk result (self.new.wants ≡ self.old.wants ++ module_wants_by traced.entry found (names_of demand.entry)) }
     {
         match demand {
             NameDemand::AllButDefault | NameDemand::All => {
@@ -159,50 +164,51 @@ impl<'a> ReExports<'a> {
     }
 }
 
-fn gather<'a>(
+fn gather<'a, 'm: 'a>(
     alloc: Global,
-    traced: TracedModule<'a>,
+    traced: TracedModule<'m>,
+    origins: &KeptOrigins<'m>,
     demands: &[NameDemand<'a>],
 ) -> Result<ReExports<'a>, AllocError>
-    ensures firsts { IfOk result (λ out. out.firsts.items ≡ flat_map (λ d. firsts traced.entry (names_of d)) demands.now) }
-    ensures whole { IfOk result (λ out. out.is_whole ≡ list_any (λ d. shows_all traced.entry (names_of d)) demands.now) }
-    ensures wants { IfOk result (λ out. out.wants ≡ flat_map (λ d. module_wants traced.entry (names_of d)) demands.now) }
+    ensures firsts { let found = found_origin traced.entry origins.now in
+        IfOk result (λ out. out.firsts.items ≡ flat_map (λ d. firsts_by traced.entry found (names_of d)) demands.now) }
+    ensures whole { let found = found_origin traced.entry origins.now in
+        IfOk result (λ out. out.is_whole ≡ list_any (λ d. shows_all_by traced.entry found (names_of d)) demands.now) }
+    ensures wants { let found = found_origin traced.entry origins.now in
+        IfOk result (λ out. out.wants ≡ flat_map (λ d. module_wants_by traced.entry found (names_of d)) demands.now) }
 {
-    let names = names_behind(own_tables(traced), demands);
-    let origins = Origins::new(alloc, traced, names)?;
     let mut out = ReExports {
         firsts: Vec::new(alloc),
         is_whole: false,
         wants: ModuleWants::new(alloc),
     };
     for demand in demands {
-        out.push(traced, &origins, *demand)?;
+        out.push(traced, origins, *demand)?;
     }
     Ok(out)
 }
 
-/// The ranges of the re-exports of all that the demands of a module make public, and what the demands ask of other modules by what it exports again.
-/// Where all are public they are listed unless they were told, and are told then.
-pub fn re_exports_of<'a>(
+/// The ranges of the re-exports of all that the demands of a module make public, and what the demands ask of other modules by what it exports again. Where
+/// all are public they are listed unless they were told, and are told then. Where names come from is kept.
+pub fn re_exports_of<'a, 'm: 'a>(
     alloc: Global,
-    traced: TracedModule<'a>,
+    traced: TracedModule<'m>,
     told: &mut bool,
+    origins: &mut KeptOrigins<'m>,
     demands: &[NameDemand<'a>],
 ) -> Result<(Vec<SourceRange>, ModuleWants<'a>), AllocError>
-    ensures ranges { IfOk result (λ r. AreRangesThrough traced.entry (map names_of demands.now) (told_again (tables_at traced.entry) told.old)
-        (told_again (tables_at traced.entry) told.new) r.0.items) }
-    ensures wants { IfOk result (λ r. r.1 ≡ flat_map (λ d. module_wants traced.entry (names_of d)) demands.now) }
+    ensures ranges { IfOk result (λ r. AreOriginsOf traced.entry origins.old → AreRangesThrough traced.entry (map names_of demands.now)
+        (told_again (tables_at traced.entry) told.old) (told_again (tables_at traced.entry) told.new) r.0.items) }
+    ensures wants { IfOk result (λ r. AreOriginsOf traced.entry origins.old → r.1 ≡ flat_map (λ d. module_wants traced.entry (names_of d)) demands.now) }
+    ensures origins { OnOk result (AreOriginsOf traced.entry origins.old → AreOriginsOf traced.entry origins.new) }
 {
+    let tables = own_tables(traced);
+    origins.look_for(alloc, traced, names_behind(tables, demands))?;
     let ReExports {
         firsts: mut ranges,
         is_whole,
         wants,
-    } = gather(alloc, traced, demands)?;
-    push_whole(
-        own_tables(traced).re_export_all_nodes(),
-        is_whole,
-        told,
-        &mut ranges,
-    )?;
+    } = gather(alloc, traced, &*origins, demands)?;
+    push_whole(tables.re_export_all_nodes(), is_whole, told, &mut ranges)?;
     Ok((ranges, wants))
 }

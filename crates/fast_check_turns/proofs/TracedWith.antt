@@ -1,5 +1,5 @@
 -- A module that was followed, from what the search of it answers.
-use Rattle.std.proofs.Common.{◌≡◌, ◌∙◌, sym, ap, subst, List, [], ◌++◌, map}
+use Rattle.std.proofs.Common.{◌≡◌, ◌∙◌, sym, subst, List, [], ◌++◌, map}
 use Rattle.std.specs.List.{flat_map}
 use Rattle.fast_check_syntax.specs.declared.source.SourceRange.{SourceRange}
 use Rattle.fast_check_packages.specs.Package.{Nv}

@@ -1,22 +1,25 @@
 -- Inner: no contract of a public call cites what stands here.
--- What the searches of modules came to, that it was followed, and that what was told of them was given.
-use Rattle.std.specs.Prelude.{◌≡◌, List, [], Option, Some, None}
+-- What the searches of modules came to, that it was followed, that what was told of them was given, and that where
+-- names come from is kept of the right modules.
+use Rattle.std.specs.Prelude.{◌≡◌, ⊤, List, [], Option, Some, None}
 use Rattle.std.specs.List.{Contains}
 use Rattle.std.specs.BTreeMap.{get}
 use Rattle.url.specs.Parts.{serialize}
 use Rattle.fast_check_syntax.specs.declared.source.SourceRange.{SourceRange}
 use Rattle.fast_check_packages.specs.Package.{Nv, nv_of}
 use Rattle.fast_check_symbols.specs.Tables.{Tables}
+use Rattle.fast_check_graph.specs.declared.root_symbol.AnyModuleInfo.{AnyModuleInfo}
 use Rattle.fast_check_demands.specs.Demands.{Demand as SymbolDemand}
 use Rattle.fast_check_search.specs.Searched.{IsAsked}
 use Rattle.fast_check_traces.specs.declared.modules.TracedModule.{TracedModule}
 use Rattle.fast_check_traces.specs.Modules.{own_tables}
+use Rattle.fast_check_traces.specs.Origins.{AreOriginsOf}
 use Rattle.fast_check_traces.specs.Told.{told_ranges}
 use Rattle.fast_check_entries.specs.findings.Yields.{public}
 use Rattle.fast_check_worklists.specs.Demands.{Text}
 use Rattle.fast_check_worklists.specs.Account.{Followed}
 use Rattle.fast_check_worklists.specs.State.{IsGivenAmong}
-use Rattle.fast_check_sources.specs.Sources.{Known, module_at}
+use Rattle.fast_check_sources.specs.Sources.{Known, info_at, traced_as, module_at}
 use Rattle.fast_check_turns.specs.Yields.{own_text, gives}
 use Rattle.fast_check_turns.specs.contracts.searches.ModuleOfPackageOrd.TheImpl as order
 use Rattle.fast_check_turns.specs.declared.searches.ModuleOfPackage.{ModuleOfPackage}
@@ -59,3 +62,19 @@ pub record AreFollowed (k : Known) (done : List Followed) (s : KeptSearches) : T
   pub searched : (nv : Nv) (t : Text) (d : SymbolDemand) → IsKeptAt s nv t d → IsFollowedAt done nv t d
   pub told : (nv : Nv) (t : Text) (m : TracedModule) → module_at k t ≡ Some m → (r : SourceRange) →
       IsToldAt s nv t (own_tables m) r → IsShownAmong k done nv m r
+
+-- where the names of the module come from, where that is kept
+abbrev pub AreOriginsAt : TracedModule → Option KeptSearch → Type 0
+AreOriginsAt m None = ⊤
+AreOriginsAt m (Some kept) = AreOriginsOf m kept.origins
+
+-- of each module that is kept is kept where its own names come from
+pub record AreOriginsKept (k : Known) (s : KeptSearches) : Type 0 where
+  pub says : (m : ModuleOfPackage) (info : AnyModuleInfo) →
+      info_at k.graph k.root_symbol (serialize m.specifier) ≡ Some info →
+      AreOriginsAt (traced_as k info) (get order.cmp-value.it s.searches m)
+
+-- what is kept was followed and given, and is of the right modules
+pub record AreKeptOf (k : Known) (done : List Followed) (s : KeptSearches) : Type 0 where
+  pub followed : AreFollowed k done s
+  pub origins : AreOriginsKept k s

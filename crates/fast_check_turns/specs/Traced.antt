@@ -27,8 +27,8 @@ use Rattle.fast_check_sources.specs.Sources.{Known}
 use Rattle.fast_check_sources.specs.Wants.{file_wants, left_wants}
 use Rattle.fast_check_turns.specs.Yields.{source_in, placed_all}
 
--- demands of symbols that go on from those of earlier searches, what these ask of files, what names of the module ask of
--- others, and what is found, but for ranges that were told before
+-- demands of symbols that go on from those of earlier searches, what these ask of files, what names of the module ask
+-- of others, and what is found, but for ranges that were told before
 pub record IsTraced (k : Known) (nv : Nv) (m : TracedModule) (names : List NameDemand)
     (before after : List SymbolDemand) (was_told is_told : ToldRanges) (wants : List Want) (found : FoundModule) :
     Type 0 where

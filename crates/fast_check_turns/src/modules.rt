@@ -11,8 +11,9 @@ ghost use Rattle.fast_check_worklists.specs.Account.{Followed};
 ghost use Rattle.fast_check_worklists.specs.State.{want_of, state_of, trace_of, IsFollowed};
 ghost use Rattle.fast_check_entries.specs.findings.Findings.{module_yields, yields_of};
 ghost use Rattle.fast_check_sources.specs.Sources.{Used, known, with_used, info_at, traced_as};
+ghost use Rattle.fast_check_traces.specs.Origins.{AreOriginsOf};
 ghost use Rattle.fast_check_turns.specs.Rules.{world};
-ghost use Rattle.fast_check_turns.specs.Searches.{AreFollowed};
+ghost use Rattle.fast_check_turns.specs.Searches.{AreKeptOf};
 ghost use Rattle.fast_check_turns.specs.Traced.{IsTracedFor};
 ghost use Rattle.fast_check_turns.specs.Yields.{dependencies, untyped_yields, gives};
 
@@ -24,7 +25,7 @@ use fast_check_graph::{AnyModuleInfo, ModuleGraph};
 use fast_check_name_demands::{HeldDemands, hold, name_demands};
 use fast_check_packages::{JsrUrlProvider, PackageNv};
 use fast_check_sources::{Asker, Sources, info_of, is_untyped};
-use fast_check_traces::{Searched, ToldRanges, TracedModule};
+use fast_check_traces::{KeptOrigins, Searched, ToldRanges, TracedModule, tables_of};
 use fast_check_worklists::{OuterWant, PendingTrace};
 use std::alloc::{AllocError, Global};
 
@@ -48,34 +49,51 @@ fn followed_module<'a>(
     }))
 }
 
+/// What is asked of a module: the module and the package, and the names, which are held while their single demands are lent.
+#[derive(Drop)]
+struct AskedNames {
+    followed: ModuleOfPackage,
+    held: HeldDemands,
+}
+
 /// Follows names of a module with tables, for a package, from what earlier searches of it came to: what it wants of others, and what is found of it and was
-/// not told before, with how many demands were faulty. The names are held while their single demands are lent.
-fn follow_in<'a>(
+/// not told before, with how many demands were faulty.
+fn follow_in<'a, 'm: 'a>(
     alloc: Global,
-    sources: Sources<'a>,
+    sources: Sources<'m>,
     provider: &dyn JsrUrlProvider,
-    info: &'a AnyModuleInfo,
-    package: &PackageNv,
+    info: &'m AnyModuleInfo,
+    asked: &'a AskedNames,
     before: Searched,
     told: &mut ToldRanges,
-    held: &'a HeldDemands,
+    origins: &mut KeptOrigins<'m>,
 ) -> Result<(Searched, Vec<OuterWant>, FoundModule, usize), AllocError>
-    ensures { let without = known sources.entry (url_of provider.now) (nv_at provider.now) in
-        IfOk result (λ r. (used : Used) (exports : ImportedExports) → Holds exports held.now → let k = with_used used without in
-        IsTracedFor k (nv_of «package».now) (traced_as k info.now) exports before r.0 told.old told.new (map want_of r.1.items) r.2) }
+    ensures traced { let without = known sources.entry (url_of provider.now) (nv_at provider.now) in
+        IfOk result (λ r. (used : Used) (exports : ImportedExports) → Holds exports asked.now.held → let k = with_used used without in
+        AreOriginsOf (traced_as k info.now) origins.old
+        → IsTracedFor k (nv_of asked.now.followed.nv) (traced_as k info.now) exports before r.0 told.old told.new (map want_of r.1.items) r.2) }
+    ensures origins { let without = known sources.entry (url_of provider.now) (nv_at provider.now) in
+        OnOk result ((used : Used) → let k = with_used used without in
+        AreOriginsOf (traced_as k info.now) origins.old → AreOriginsOf (traced_as k info.now) origins.new) }
 {
     let module = TracedModule {
         graph: sources.graph,
         root_symbol: sources.root_symbol,
         info,
     };
-    let demands = name_demands(alloc, held)?;
-    let (searched, traced) =
-        fast_check_traces::trace(alloc, module, before, told, demands.as_slice())?;
+    let demands = name_demands(alloc, &asked.held)?;
+    let (searched, traced) = fast_check_traces::trace(
+        alloc,
+        module,
+        before,
+        told,
+        origins,
+        demands.as_slice(),
+    )?;
     let faulty = traced.found.faults.len();
     let asker = Asker {
         sources,
-        package,
+        package: &asked.followed.nv,
         traced: module,
     };
     let (outer, found) = found_of(alloc, asker, provider, traced)?;
@@ -106,19 +124,30 @@ fn leave_out(
     push_finding(found, Finding::Untyped(module))
 }
 
-/// Where a search came to less than so many demands, wants, ranges and faulty demands, it is as cheap to repeat as to keep.
+/// Where a search came to less than so many demands, wants, ranges and faulty demands, and a name that is looked for goes over fewer re-exports of all, it is
+/// as cheap to repeat as to keep.
 const MUCH: usize = 16;
+
+/// How many re-exports of all a look for one more name goes over, where names were looked for behind them. Nothing that is found depends on it.
+fn re_exports_behind(info: &AnyModuleInfo, origins: &KeptOrigins<'_>) -> usize {
+    if origins.looks() == 0 {
+        return 0;
+    }
+    tables_of(info).re_export_all_nodes().len()
+}
 
 /// Whether the searches of a module came to much: the last one, or one before it, which was kept. Nothing that is found depends on it.
 fn is_much(
     was_kept: bool,
-    searched: &Searched,
+    info: &AnyModuleInfo,
+    kept: &KeptSearch<'_>,
     outer: &[OuterWant],
     found: &FoundModule,
     faulty: usize,
 ) -> bool {
     was_kept
-        || searched.len() >= MUCH
+        || re_exports_behind(info, &kept.origins) >= MUCH
+        || kept.searched.len() >= MUCH
         || outer.len() >= MUCH
         || found.ranges.len() >= MUCH
         || faulty >= MUCH
@@ -127,17 +156,17 @@ fn is_much(
 /// Follows names of a module with tables: asks for what follows from them, adds what is found, and keeps what the search came to.
 fn follow_at<'a>(
     alloc: Global,
-    sources: Sources<'_>,
+    sources: Sources<'a>,
     provider: &dyn JsrUrlProvider,
     info: &'a AnyModuleInfo,
     trace: PendingTrace,
-    searches: &mut KeptSearches,
+    searches: &mut KeptSearches<'a>,
     progress: &mut Progress<'a>,
 ) -> Result<(), AllocError>
     ensures { let without = known sources.entry (url_of provider.now) (nv_at provider.now) in
-        OnOk result ((used : Used) (earlier : List Followed) → let k = with_used used without in AreFollowed k earlier searches.old
+        OnOk result ((used : Used) (earlier : List Followed) → let k = with_used used without in AreKeptOf k earlier searches.old
         → info_at k.graph k.root_symbol (serialize trace.specifier) ≡ Some info.now
-        → IsFollowed (world k) (gives k) earlier (λ done. AreFollowed k done searches.new) (trace_of trace)
+        → IsFollowed (world k) (gives k) earlier (λ done. AreKeptOf k done searches.new) (trace_of trace)
         (state_of progress.old.worklist) (state_of progress.new.worklist)
         (flat_map yields_of progress.old.found.items) (flat_map yields_of progress.new.found.items)) }
 {
@@ -152,23 +181,30 @@ fn follow_at<'a>(
         nv: package_nv,
     };
     let was_kept = searches.has(&followed);
-    let taken = searches.take(alloc, &followed);
     let KeptSearch {
         searched: before,
         mut told,
-    } = taken;
+        mut origins,
+    } = searches.take(alloc, &followed);
+    let asked = AskedNames { followed, held };
     let (searched, outer, found, faulty) = follow_in(
         alloc,
         sources,
         provider,
         info,
-        &followed.nv,
+        &asked,
         before,
         &mut told,
-        &held,
+        &mut origins,
     )?;
-    let is_much = is_much(was_kept, &searched, outer.as_slice(), &found, faulty);
-    searches.keep(&followed, KeptSearch { searched, told }, is_much)?;
+    let AskedNames { followed, .. } = asked;
+    let kept = KeptSearch {
+        searched,
+        told,
+        origins,
+    };
+    let is_much = is_much(was_kept, info, &kept, outer.as_slice(), &found, faulty);
+    searches.keep(&followed, kept, is_much)?;
     let finding = followed_module(alloc, followed.nv, info, outer.as_slice(), found)?;
     push_finding(&mut progress.found, finding)?;
     progress.worklist.ask_all(alloc, outer)?;
@@ -182,12 +218,12 @@ pub fn follow<'a>(
     sources: Sources<'a>,
     provider: &dyn JsrUrlProvider,
     trace: PendingTrace,
-    searches: &mut KeptSearches,
+    searches: &mut KeptSearches<'a>,
     progress: &mut Progress<'a>,
 ) -> Result<(), AllocError>
     ensures { let without = known sources.entry (url_of provider.now) (nv_at provider.now) in
-        OnOk result ((used : Used) (earlier : List Followed) → let k = with_used used without in AreFollowed k earlier searches.old
-        → IsFollowed (world k) (gives k) earlier (λ done. AreFollowed k done searches.new) (trace_of trace)
+        OnOk result ((used : Used) (earlier : List Followed) → let k = with_used used without in AreKeptOf k earlier searches.old
+        → IsFollowed (world k) (gives k) earlier (λ done. AreKeptOf k done searches.new) (trace_of trace)
         (state_of progress.old.worklist) (state_of progress.new.worklist)
         (flat_map yields_of progress.old.found.items) (flat_map yields_of progress.new.found.items)) }
 {

@@ -1,6 +1,6 @@
-//! What the searches of modules came to, and what was told of these, kept from turn to turn.
+//! What the searches of modules came to, what was told of these, and where their names come from, kept from turn to turn.
 
-ghost use Rattle.std.specs.Prelude.{◌≡◌, [], IfOk, OnOk, ◌⊎◌};
+ghost use Rattle.std.specs.Prelude.{◌≡◌, [], Some, IfOk, OnOk, ◌⊎◌};
 ghost use Rattle.std.specs.List.{Contains};
 ghost use Rattle.url.specs.Parts.{serialize};
 ghost use Rattle.fast_check_syntax.specs.declared.source.SourceRange.{SourceRange};
@@ -8,13 +8,16 @@ ghost use Rattle.fast_check_packages.specs.Package.{Nv, nv_of};
 ghost use Rattle.fast_check_symbols.specs.Tables.{Tables};
 ghost use Rattle.fast_check_demands.specs.Demands.{Demand};
 ghost use Rattle.fast_check_search.specs.Searched.{IsAsked};
+ghost use Rattle.fast_check_graph.specs.declared.root_symbol.AnyModuleInfo.{AnyModuleInfo};
+ghost use Rattle.fast_check_traces.specs.declared.modules.TracedModule.{TracedModule};
+ghost use Rattle.fast_check_traces.specs.Origins.{AreOriginsOf};
 ghost use Rattle.fast_check_traces.specs.Told.{told_ranges};
 ghost use Rattle.fast_check_worklists.specs.Demands.{Text};
-ghost use Rattle.fast_check_sources.specs.Sources.{Known};
-ghost use Rattle.fast_check_turns.specs.Searches.{IsKeptAt, IsToldAt, AreFollowed};
+ghost use Rattle.fast_check_sources.specs.Sources.{Known, info_at, traced_as};
+ghost use Rattle.fast_check_turns.specs.Searches.{IsKeptAt, IsToldAt, AreOriginsKept, AreKeptOf};
 
 use fast_check_packages::PackageNv;
-use fast_check_traces::{Searched, ToldRanges};
+use fast_check_traces::{KeptOrigins, Searched, ToldRanges};
 use fast_check_worklists::copy_of;
 use std::alloc::{AllocError, Global};
 use std::collections::BTreeMap;
@@ -40,36 +43,39 @@ impl ModuleOfPackage {
     }
 }
 
-/// What the searches of a module came to, and what was told of it.
+/// What the searches of a module came to, what was told of it, and what was read of where its names come from.
 #[derive(Drop)]
-pub struct KeptSearch {
+pub struct KeptSearch<'a> {
     pub searched: Searched,
     pub told: ToldRanges,
+    pub origins: KeptOrigins<'a>,
 }
 
-impl KeptSearch {
-    /// Nothing was searched, and nothing told.
-    fn new(alloc: Global) -> KeptSearch
+impl<'a> KeptSearch<'a> {
+    /// Nothing was searched.
+    fn new(alloc: Global) -> KeptSearch<'a>
         ensures searched { result.searched ≡ [] }
         ensures told { (tables : Tables) → told_ranges tables result.told ≡ [] }
+        ensures origins { (m : TracedModule) → AreOriginsOf m result.origins }
     {
         KeptSearch {
             searched: Searched::new(alloc),
             told: ToldRanges::new(alloc),
+            origins: KeptOrigins::new(),
         }
     }
 }
 
 /// What the searches of modules came to, where that is much.
 #[derive(Drop)]
-pub struct KeptSearches {
-    searches: BTreeMap<ModuleOfPackage, KeptSearch>,
+pub struct KeptSearches<'a> {
+    searches: BTreeMap<ModuleOfPackage, KeptSearch<'a>>,
 }
 
-impl KeptSearches {
+impl<'a> KeptSearches<'a> {
     /// Nothing was searched.
-    pub fn new(alloc: Global) -> KeptSearches
-        ensures { (k : Known) → AreFollowed k [] result }
+    pub fn new(alloc: Global) -> KeptSearches<'a>
+        ensures { (k : Known) → AreKeptOf k [] result }
     {
         KeptSearches {
             searches: BTreeMap::new(alloc),
@@ -82,14 +88,16 @@ impl KeptSearches {
     }
 
     /// Takes what is kept of a module: nothing, where it was not searched or came to little.
-    pub fn take(&mut self, alloc: Global, followed: &ModuleOfPackage) -> KeptSearch
-        ensures taken { (d : Demand) → IsAsked result.searched d
-            → IsKeptAt self.old (nv_of followed.now.nv) (serialize followed.now.specifier) d }
+    pub fn take(&mut self, alloc: Global, followed: &ModuleOfPackage) -> KeptSearch<'a>
+        ensures taken { (d : Demand) → IsAsked result.searched d → IsKeptAt self.old (nv_of followed.now.nv) (serialize followed.now.specifier) d }
         ensures left { (nv : Nv) (t : Text) (d : Demand) → IsKeptAt self.new nv t d → IsKeptAt self.old nv t d }
         ensures told { (tables : Tables) (r : SourceRange) → Contains (told_ranges tables result.told) r
             → IsToldAt self.old (nv_of followed.now.nv) (serialize followed.now.specifier) tables r }
         ensures left_told { (nv : Nv) (t : Text) (tables : Tables) (r : SourceRange) → IsToldAt self.new nv t tables r
             → IsToldAt self.old nv t tables r }
+        ensures origins { (k : Known) (info : AnyModuleInfo) → info_at k.graph k.root_symbol (serialize followed.now.specifier) ≡ Some info
+            → AreOriginsKept k self.old → AreOriginsOf (traced_as k info) result.origins }
+        ensures origins_left { (k : Known) → AreOriginsKept k self.old → AreOriginsKept k self.new }
     {
         let nothing = KeptSearch::new(alloc);
         match self.searches.get_mut(followed) {
@@ -102,24 +110,27 @@ impl KeptSearches {
     pub fn keep(
         &mut self,
         followed: &ModuleOfPackage,
-        search: KeptSearch,
+        kept: KeptSearch<'a>,
         is_much: bool,
     ) -> Result<(), AllocError>
         ensures searched { OnOk result ((nv : Nv) (t : Text) (d : Demand) → IsKeptAt self.new nv t d → IsKeptAt self.old nv t d
-            ⊎ ((nv_of followed.now.nv ≡ nv) × (serialize followed.now.specifier ≡ t) × IsAsked search.searched d)) }
+            ⊎ ((nv_of followed.now.nv ≡ nv) × (serialize followed.now.specifier ≡ t) × IsAsked kept.entry.searched d)) }
         ensures told { OnOk result ((nv : Nv) (t : Text) (tables : Tables) (r : SourceRange) → IsToldAt self.new nv t tables r
             → IsToldAt self.old nv t tables r
-            ⊎ ((nv_of followed.now.nv ≡ nv) × (serialize followed.now.specifier ≡ t) × Contains (told_ranges tables search.told) r)) }
+            ⊎ ((nv_of followed.now.nv ≡ nv) × (serialize followed.now.specifier ≡ t) × Contains (told_ranges tables kept.entry.told) r)) }
+        ensures origins { OnOk result ((k : Known) → ((info : AnyModuleInfo)
+            → info_at k.graph k.root_symbol (serialize followed.now.specifier) ≡ Some info → AreOriginsOf (traced_as k info) kept.entry.origins)
+            → AreOriginsKept k self.old → AreOriginsKept k self.new) }
     {
         if !is_much {
             return Ok(());
         }
-        if let Some(kept) = self.searches.get_mut(followed) {
-            *kept = search;
+        if let Some(before) = self.searches.get_mut(followed) {
+            *before = kept;
             return Ok(());
         }
         let copy = followed.copied()?;
-        self.searches.insert(copy, search)?;
+        self.searches.insert(copy, kept)?;
         Ok(())
     }
 }

@@ -8,7 +8,7 @@ use Rattle.fast_check_cache.specs.CachedPackages.{used_item}
 use Rattle.fast_check_turns.specs.Lent.{used_of}
 use Rattle.fast_check_turns.specs.wants.Sources.{known, with_used}
 use Rattle.fast_check_turns.specs.Rules.{world}
-use Rattle.fast_check_turns.specs.Searches.{AreFollowed}
+use Rattle.fast_check_turns.specs.Searches.{AreKeptOf}
 use Rattle.fast_check_turns.specs.Yields.{gives}
 use Rattle.fast_check_findings.specs.Findings.{yields_of}
 use Rattle.fast_check_finder.specs.Reach.{lent_dependencies, reach}
@@ -51,7 +51,7 @@ turns-smaller g c =
     (later (world k) (gives k) k.owner (orderly k) rs (reach k ds rs) (universe k ds rs has) i.way.0 c.turns.next
     (state_of c.turns.progress.worklist) (state_of c.turn.new.progress.worklist)
     (flat_map yields_of c.turns.progress.found.items) (flat_map yields_of c.turn.new.progress.found.items) i.way.1 i.bounded
-    (λ all. AreFollowed k all c.turn.new.kept.searches) c.in-Some.after (rw c.in-Some.is at c.in_ok-after.ensures.turned i.way.0 i.way.2 i.members)).falls
+    (λ all. AreKeptOf k all c.turn.new.kept.searches) c.in-Some.after (rw c.in-Some.is at c.in_ok-after.ensures.turned i.way.0 i.way.2 i.members)).falls
 
 pub turns-preserved : goal.turns-preserved
 turns-preserved g c =
@@ -68,7 +68,7 @@ turns-preserved g c =
     (state_of c.turns.progress.worklist)
     (state_of c.turn.new.progress.worklist) (flat_map yields_of c.turns.progress.found.items)
     (flat_map yields_of c.turn.new.progress.found.items) i.way.1 i.bounded
-    (λ all. AreFollowed k all c.turn.new.kept.searches) c.in-Some.after (rw c.in-Some.is at c.in_ok-after.ensures.turned i.way.0 i.way.2 i.members) in
+    (λ all. AreKeptOf k all c.turn.new.kept.searches) c.in-Some.after (rw c.in-Some.is at c.in_ok-after.ensures.turned i.way.0 i.way.2 i.members) in
     record { way = (l.traces, l.next_way, l.holds); bounded = l.still; members = c.in_ok-after.ensures.kept i.members }
 
 pub returns-clause-found : goal.returns-clause-found

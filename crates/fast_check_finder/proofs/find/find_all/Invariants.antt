@@ -11,7 +11,7 @@ use Rattle.fast_check_turns.specs.entries.Kept.{AreKept}
 use Rattle.fast_check_turns.specs.Lent.{used_of}
 use Rattle.fast_check_turns.specs.wants.Sources.{known, with_used}
 use Rattle.fast_check_turns.specs.Rules.{world}
-use Rattle.fast_check_turns.specs.Searches.{AreFollowed}
+use Rattle.fast_check_turns.specs.Searches.{AreKeptOf}
 use Rattle.fast_check_turns.specs.Yields.{gives}
 use Rattle.fast_check_findings.specs.Findings.{yields_of}
 use Rattle.fast_check_finder.specs.Reach.{lent_dependencies, reach}
@@ -27,7 +27,7 @@ invariant-turns g l =
       way : (done : List Followed)
           × IsOnTheWay (world k) (gives k) k.owner (map nv_of l.roots) done l.next (state_of l.progress.worklist)
           (flat_map yields_of l.progress.found.items)
-          × AreFollowed k done l.kept.searches;
+          × AreKeptOf k done l.kept.searches;
       bounded : IsBounded (state_of l.progress.worklist);
       members : AreKept (members_in l.input.sources.workspace_members.now) l.kept.members;
     }

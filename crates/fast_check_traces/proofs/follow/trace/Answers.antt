@@ -36,5 +36,6 @@ pub returns-clause-own_implementations : goal.returns-clause-own_implementations
 returns-clause-own_implementations c = rw c.own_tables-tables.ensures at c.in_ok-searched.ensures.own_implementations
 
 pub returns-clause-own_re_exports : goal.returns-clause-own_re_exports
-returns-clause-own_re_exports c = own_re_exports c.args.traced (map names_of c.args.demands.now)
-    _ _ c.in_ok-re_export_ranges.re_export_ranges.items c.in_ok-re_export_ranges.ensures.ranges
+returns-clause-own_re_exports c = λ are.
+    own_re_exports c.args.traced (map names_of c.args.demands.now) _ _ c.in_ok-re_export_ranges.re_export_ranges.items
+    (c.in_ok-re_export_ranges.ensures.ranges are)

@@ -5,7 +5,7 @@ use Rattle.std.proofs.lemmas.List.Elements.{Contains-append_left}
 use Rattle.fast_check_entries.specs.findings.Findings.{yields_of}
 use Rattle.fast_check_worklists.specs.State.{state_of, trace_of}
 use Rattle.fast_check_sources.specs.Sources.{known, with_used}
-use Rattle.fast_check_turns.specs.Searches.{AreFollowed}
+use Rattle.fast_check_turns.specs.Searches.{AreKeptOf}
 use Rattle.fast_check_turns.proofs.WereFollowed.{followed_more}
 use Rattle.fast_check_turns.proofs.Turns.{followed_nowhere}
 use Rattle.fast_check_turns.proofs.modules.follow.Goals as goal
@@ -18,9 +18,12 @@ returns-in_ok-leave_out-in-None g c used earlier are =
     followed_nowhere k x (state_of c.args.progress.now.worklist) (state_of c.args.progress.now.worklist)
     (flat_map yields_of c.args.progress.now.found.items) (flat_map yields_of c.leave_out.new.found.items)
     (sym c.info_of.ensures ∙ ap option_copied c.in-None.is) refl c.in_ok-leave_out-in-None.ensures earlier
-    (λ done. AreFollowed k done c.args.searches.now)
-    (followed_more k earlier (earlier ++ record { trace = x; symbols = [] } ∷ []) c.args.searches.now
-    (λ y i. Contains-append_left earlier (record { trace = x; symbols = [] } ∷ []) y i) are)
+    (λ done. AreKeptOf k done c.args.searches.now)
+    (record {
+      followed = followed_more k earlier (earlier ++ record { trace = x; symbols = [] } ∷ []) c.args.searches.now
+          (λ y i. Contains-append_left earlier (record { trace = x; symbols = [] } ∷ []) y i) are.followed;
+      origins = are.origins;
+    })
 
 pub returns-in_ok-follow_at-in-Some : goal.returns-in_ok-follow_at-in-Some
 returns-in_ok-follow_at-in-Some g c used earlier are =

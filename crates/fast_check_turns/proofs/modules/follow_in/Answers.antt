@@ -9,17 +9,17 @@ use Rattle.fast_check_turns.proofs.TracedWith.{traced_with}
 use Rattle.fast_check_turns.proofs.modules.follow_in.Goals as goal
 
 -- the module is lent anew, so what was traced of it is said again
-pub returns : goal.returns
-returns g c used exports holds =
+pub returns-clause-traced : goal.returns-clause-traced
+returns-clause-traced g c used exports holds are =
     let m = goal.JsrUrlProvider-dyn g c.args.provider.now in
     let k = known c.args.sources (m.url_of c.args.provider.now.1) (m.nv_at c.args.provider.now.1) in
     let found = c.in_ok-searched.traced in
     let e = c.in_ok-outer.ensures in
-    let again = c.in_ok-searched.ensures.re_exports in
-    let t = traced_with k (nv_of c.args.package.now) (traced_as k c.args.info.now) c.as_slice.result.now c.args.before
+    let again = c.in_ok-searched.ensures.re_exports (record { says = are.says }) in
+    let t = traced_with k (nv_of c.args.asked.now.followed.nv) (traced_as k c.args.info.now) c.as_slice.result.now c.args.before
     c.in_ok-searched.searched c.args.told.now c.trace.new.told (map want_of c.in_ok-outer.outer.items) found.found found.re_export_ranges.items
     found.wants c.in_ok-outer.found c.in_ok-searched.ensures.continued (record { sound = again.sound; complete = again.complete; told = again.told })
-    c.in_ok-searched.ensures.wants
+    (c.in_ok-searched.ensures.wants (record { says = are.says }))
     e.wants e.ranges e.implementations e.faults in
     record {
       names = map names_of c.as_slice.result.now;
@@ -44,3 +44,6 @@ returns g c used exports holds =
         faults_are = t.faults_are;
       };
     }
+
+pub returns-clause-origins : goal.returns-clause-origins
+returns-clause-origins g c used are = record { says = (c.in_ok-searched.ensures.origins (record { says = are.says })).says }
