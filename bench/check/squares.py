@@ -133,7 +133,7 @@ def one_property_inside_in_turns(n):
     return property_in_turns(n, lambda i: [i, 4 * n - i], [[2 * n, 2 * n + 1]] * n)
 
 
-@known(first=250, last=500)
+@known(first=1000, last=1000)
 def no_re_export_in_turns(n):
     """Turns in which a name is asked for that no re-export of all has: all are public in each turn (fast_check_traces, `push_whole`)."""
     return chain_to(n, lambda i: [f"a{i}"], module(url("m"), [], [], again=[url(0)] * n), module(url(0), [], []))
