@@ -147,7 +147,7 @@ CASES = [
     ("hostile_declarations_asked_in_turns", shapes.declarations_asked_in_turns(50), [*IN_TURNS, tables.url("m")]),
     ("hostile_one_property_in_turns", shapes.one_property_in_turns(50), [*IN_TURNS, tables.url("m")]),
     ("hostile_re_exports_in_turns", shapes.re_exports_in_turns(50), sorted([*IN_TURNS, tables.url("m"), *(tables.url(f"m{i}") for i in range(1, 51))])),
-    ("hostile_no_re_export_in_turns", squares.no_re_export_in_turns(50), [*IN_TURNS, tables.url("m")]),
+    ("hostile_no_re_export_in_turns", shapes.no_re_export_in_turns(50), [*IN_TURNS, tables.url("m")]),
     ("hostile_urls_beside_bases", shapes.urls_beside_bases(50), ONE),
     ("hostile_entry_points_of_a_long_package", shapes.entry_points_of_a_long_package(50), ONE),
     ("hostile_long_name", *a_long_name(100_000)),

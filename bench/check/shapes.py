@@ -504,6 +504,12 @@ def re_exports_in_turns(n):
 
 
 @shape
+def no_re_export_in_turns(n):
+    """Turns in which a name is asked for that no re-export of all has: all are public in each."""
+    return chain_to(n, lambda i: [f"a{i}"], module(url("m"), [], [], again=[url(0)] * n), module(url(0), [], []))
+
+
+@shape
 def faults_found_in_turns(n):
     """Turns in which a name is asked for that leads to the faults of one symbol."""
     big = symbol(n + 1, definition(*([{"QualifiedId": [["N", 1], [f"x{i}"]]}, "Type_"] for i in range(n))), name="B")

@@ -21,7 +21,7 @@ sys.dont_write_bytecode = True
 sys.path[:0] = [os.path.join(os.path.dirname(os.path.dirname(os.path.abspath(__file__))), folder) for folder in ("rules", "cases", "check", "time")]
 
 from shapes import (
-    MOST_EXPONENT, alias_urls, chain_to, covered, exponent, in_three_sizes, measured, one_name, property_in_turns, qualified_in_turns, row, spent,
+    MOST_EXPONENT, alias_urls, covered, exponent, in_three_sizes, measured, one_name, property_in_turns, qualified_in_turns, row, spent,
     under_aliases,
 )
 from tables import (
@@ -126,17 +126,11 @@ def qualified_alias_in_turns(n):
     return qualified_in_turns(n, symbol(2, definition()))
 
 
-@known(first=500, last=1000)
+@known(first=4000, last=4000)
 def one_property_inside_in_turns(n):
     """Turns in which a function is asked for, each inside of the one before, times the declarations inside of all of them of one symbol that each exports:
     they are gone through in each (fast_check_demands, `push_public`)."""
     return property_in_turns(n, lambda i: [i, 4 * n - i], [[2 * n, 2 * n + 1]] * n)
-
-
-@known(first=1000, last=1000)
-def no_re_export_in_turns(n):
-    """Turns in which a name is asked for that no re-export of all has: all are public in each turn (fast_check_traces, `push_whole`)."""
-    return chain_to(n, lambda i: [f"a{i}"], module(url("m"), [], [], again=[url(0)] * n), module(url(0), [], []))
 
 
 # ---- one long text is copied or compared for each of many
