@@ -13,8 +13,10 @@ more follows stands in `squares.py`.
 
 Usage: bench/check/shapes.py PROGRAM [SHAPE ..]
 """
+import functools
 import json
 import math
+import multiprocessing
 import os
 import subprocess
 import sys
@@ -800,13 +802,20 @@ def run(program, path, command="build"):
     return child.returncode, usage.ru_utime + usage.ru_stime, usage.ru_maxrss * 1024
 
 
+@functools.cache
+def runner():
+    """A process that holds little. What a process starts is said to have held at least what it held itself, and here that is whole inputs."""
+    return multiprocessing.get_context("spawn").Pool(1)
+
+
 def spent(program, made, command="build", runs=RUNS):
     """The bytes of an input, and the status, the processor seconds and the bytes held of the quickest of so many runs on it: what else the machine does
     makes a run slower, and none quicker."""
     with tempfile.NamedTemporaryFile("w", suffix=".json") as file:
         json.dump(made, file, separators=(",", ":"))
         file.flush()
-        return os.path.getsize(file.name), *min((run(program, file.name, command) for _ in range(runs)), key=lambda ran: ran[1])
+        ran = (runner().apply(run, (program, file.name, command)) for _ in range(runs))
+        return os.path.getsize(file.name), *min(ran, key=lambda each: each[1])
 
 
 def exponent(points):
