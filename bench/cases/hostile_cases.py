@@ -125,6 +125,7 @@ CASES = [
     ("hostile_qualified_name_without_names", a_qualified_name_without_names(), TWO),
     ("hostile_paths_covered", shapes.paths_covered_of_many_lengths(50), TWO),
     ("hostile_names_covered_before_others", squares.names_covered_before_others(50), TWO),
+    ("hostile_more_names_covered_before_others", squares.names_covered_before_others(300), TWO),
     # found and told once, though many declarations, names or paths lead to it
     ("hostile_path_of_two_askers", shapes.path_of_two_askers(50), ONE),
     ("hostile_parts_of_many_declarations", shapes.parts_of_many_declarations(50), ONE),

@@ -157,6 +157,10 @@ def sources():
     yield one("the_last_resolution_counts", export_all("./a"), 'export * from "./a.ts";', resolved={"./a": there},
               graph=to([here, "./a", "file:///p/b.ts"], [here, "./a", there]))
     yield one("a_source_in_a_graph_without_resolutions", export_all("./a"), 'export * from "./a";', graph={})
+    far = f"file:///{'p' * 1000}"
+    yield Case("sources_by_one_text_at_a_long_url", [export_all("./a"), export("a", src="./a"), export_all("./b"), export_all("./b")],
+               'export * from "./a.ts"; export { a } from "./a.ts"; export * from "./b"; export * from "./b";',
+               more={"specifier": f"{far}/mod.ts", "resolved": {"./a": f"{far}/a.ts"}})
     every = [import_("./b", "b"), const("x", ONE), export("a", src="./a"), export("x"), import_("./c", "C", "d", is_type=True), import_("./e"),
              export_all("@x/y")]
     yield Case("sources_in_their_order", every,
