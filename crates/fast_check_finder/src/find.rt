@@ -55,12 +55,12 @@ fn enter_next(
     ensures refused { let i = input.entry in
         let used = used_of cache.entry (λ c. used_item (hash_of c.now i.seed.now) (stored c.now) i.sources.graph.now) in
         let k = with_used used (known i.sources (url_of provider.now) (nv_at provider.now)) in
-        IfErr result (IsRefusedOf k (map nv_of progress.old.worklist.packages.keys)) }
+        IfErr result (IsRefusedOf k (map nv_of progress.old.worklist.packages)) }
 {
     if next >= progress.worklist.packages.len() {
         return Ok(None);
     }
-    let nv = copy_of(&progress.worklist.packages[next])?;
+    let nv = copy_of(progress.worklist.packages.at(next))?;
     enter(alloc, input, provider, cache, &nv, members, progress)?;
     Ok(Some(next + 1))
 }
@@ -87,7 +87,7 @@ fn turn<'a>(
     ensures refused { let i = input.entry in
         let used = used_of cache.entry (λ c. used_item (hash_of c.now i.seed.now) (stored c.now) i.sources.graph.now) in
         let k = with_used used (known i.sources (url_of provider.now) (nv_at provider.now)) in
-        IfErr result (IsRefusedOf k (map nv_of progress.old.worklist.packages.keys)) }
+        IfErr result (IsRefusedOf k (map nv_of progress.old.worklist.packages)) }
 {
     match progress.worklist.waiting.pop() {
         None => {

@@ -1,13 +1,19 @@
 -- Steps in turn, and small facts of what they name.
 use Rattle.std.proofs.Common.{◌≡◌, ◌∙◌, sym, ap, refl, subst, Bool, true, false, cond, ◌||◌, List, [], ◌∷◌, ◌++◌, Option, Some, None, map}
 use Rattle.std.specs.List.{list_any}
+use Rattle.std.specs.BTreeSet.{BTreeSet, contains, Updates}
+use Rattle.std.specs.Cmp.{eq_by_cmp_equiv}
+use Rattle.std.proofs.lemmas.List.Folds.{list_any-append}
 use Rattle.url.specs.Parts.{Parts}
 use Rattle.fast_check_packages.specs.declared.package.PackageNv.{PackageNv}
 use Rattle.fast_check_packages.specs.Package.{Nv, nv_of}
+use Rattle.fast_check_packages.specs.PackageOrder.{nv_total}
+use Rattle.fast_check_packages.specs.Packages.{package_cmp}
 use Rattle.fast_check_worklists.specs.declared.worklist.OuterWant.{OuterWant}
 use Rattle.fast_check_worklists.specs.Demands.{same_nv}
 use Rattle.fast_check_names.specs.declared.lattice.imported_exports.ImportedExports.{ImportedExports}
 use Rattle.fast_check_worklists.specs.Traces.{Handles, Waits}
+use Rattle.fast_check_worklists.specs.Places.{HasPackages}
 use Rattle.fast_check_worklists.specs.State.{State, AddsPackage, WaitsFor, AsksModuleFor, AsksOne, AsksAll}
 
 pub asks_more : (outer : List OuterWant) (s : OuterWant) (a b c : State) → AsksAll outer a b → AsksOne s b c → AsksAll (outer ++ s ∷ []) a c
@@ -22,32 +28,35 @@ pub map_last : {X Y : Type 0} (g : X → Y) (xs : List X) (x : X) → map g (xs 
 map_last g [] x = refl
 map_last {X} {Y} g (y ∷ ys) x = ap (λ (zs : List Y). g y ∷ zs) (map_last g ys x)
 
-any_alike : {X : Type 0} (f g : X → Bool) → ((x : X) → f x ≡ g x) → (xs : List X) → list_any f xs ≡ list_any g xs
-any_alike f g h [] = refl
-any_alike f g h (x ∷ xs) = ap (λ (b : Bool). b || list_any f xs) (h x) ∙ ap (λ (b : Bool). g x || b) (any_alike f g h xs)
+-- a new package goes last
+pub adds_new : (nv copy : PackageNv) (xs new : List PackageNv) → nv_of copy ≡ nv_of nv → list_any (same_nv (nv_of nv)) (map nv_of xs) ≡ false →
+    new ≡ xs ++ copy ∷ [] → AddsPackage (nv_of nv) (map nv_of xs) (map nv_of new)
+adds_new nv copy xs new same absent is =
+    ap (map nv_of) is
+    ∙ (map_last nv_of xs copy
+    ∙ (ap (λ (p : Nv). map nv_of xs ++ p ∷ []) same
+    ∙ sym (ap (λ (b : Bool). cond b (map nv_of xs) (map nv_of xs ++ nv_of nv ∷ [])) absent)))
 
--- a package that is inserted into a set stands there once, where the set's test goes by name and version
-pub inserted : (eq : PackageNv → PackageNv → Bool) → ((a b : PackageNv) → eq a b ≡ same_nv (nv_of a) (nv_of b)) →
-    (nv : PackageNv) (xs new : List PackageNv) →
-    new ≡ cond (list_any (eq nv) xs) xs (xs ++ nv ∷ []) → AddsPackage (nv_of nv) (map nv_of xs) (map nv_of new)
-inserted eq ties nv xs new is = ap (map nv_of) is ∙ go (list_any (eq nv) xs) ∙
-    ap (λ (b : Bool). cond b (map nv_of xs) (map nv_of xs ++ nv_of nv ∷ []))
-    (any_alike (eq nv) (λ seen. same_nv (nv_of nv) (nv_of seen)) (ties nv) xs ∙ sym (any_map (same_nv (nv_of nv)) nv_of xs))
-  where
-    go : (b : Bool) → map nv_of (cond b xs (xs ++ nv ∷ [])) ≡ cond b (map nv_of xs) (map nv_of xs ++ nv_of nv ∷ [])
-    go true = refl
-    go false = map_last nv_of xs nv
+either_way : (b l : Bool) → cond b true l ≡ (l || (b || false))
+either_way true true = refl
+either_way true false = refl
+either_way false true = refl
+either_way false false = refl
 
--- the same for a package that is told by its name and version
-pub inserted_as : (eq : PackageNv → PackageNv → Bool) → ((a b : PackageNv) → eq a b ≡ same_nv (nv_of a) (nv_of b)) →
-    (nv copy : PackageNv) (xs new : List PackageNv) → nv_of copy ≡ nv_of nv →
-    new ≡ cond (list_any (eq copy) xs) xs (xs ++ copy ∷ []) → AddsPackage (nv_of nv) (map nv_of xs) (map nv_of new)
-inserted_as eq ties nv copy xs new same is =
-    subst (λ (p : Nv). AddsPackage p (map nv_of xs) (map nv_of new)) same (inserted eq ties copy xs new is)
-
-pub stands_there : (eq : PackageNv → PackageNv → Bool) → ((a b : PackageNv) → eq a b ≡ same_nv (nv_of a) (nv_of b)) →
-    (nv : PackageNv) (xs : List PackageNv) → list_any (eq nv) xs ≡ true → AddsPackage (nv_of nv) (map nv_of xs) (map nv_of xs)
-stands_there eq ties nv xs there = inserted eq ties nv xs xs (sym (ap (λ (b : Bool). cond b xs (xs ++ nv ∷ [])) there))
+-- and the set has it too
+pub package_more : (nv copy key : PackageNv) (xs : List PackageNv) (old new : BTreeSet PackageNv) → nv_of copy ≡ nv_of nv → nv_of key ≡ nv_of nv →
+    Updates package_cmp old new key true → HasPackages xs old → HasPackages (xs ++ copy ∷ []) new
+package_more nv copy key xs old new same alike u h = record {
+  says = λ asked.
+      let p = nv_of asked in
+      u.0 asked
+      ∙ (ap (λ (b : Bool). cond b true (contains package_cmp old asked))
+      (ap (λ (q : Nv). same_nv q p) (alike ∙ sym same) ∙ (eq_by_cmp_equiv nv_total).symm (nv_of copy) p)
+      ∙ (ap (λ (l : Bool). cond (same_nv p (nv_of copy)) true l) (h.says asked)
+      ∙ (either_way (same_nv p (nv_of copy)) (list_any (same_nv p) (map nv_of xs))
+      ∙ (sym (list_any-append (same_nv p) (map nv_of xs) (nv_of copy ∷ []))
+      ∙ ap (list_any (same_nv p)) (sym (map_last nv_of xs copy))))));
+}
 
 module _ (nv : PackageNv) (url : Parts) (x : ImportedExports) (a b : State) (answer : Option ImportedExports)
     (packages : b.packages ≡ a.packages) (handles : Handles a.handled url x answer b.handled) where

@@ -1,6 +1,7 @@
 pub mod Traced
 pub mod Asks
 pub mod Maps
+pub mod Placed
 pub mod Asking
 pub mod Taken
 pub mod Waiting

@@ -4,3 +4,4 @@ pub mod Account
 pub mod State
 pub mod Turn
 pub mod Measure
+pub mod Places

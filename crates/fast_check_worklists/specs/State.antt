@@ -28,7 +28,7 @@ pub record State : Type 0 where
   pub packages : List Nv
 
 abbrev pub state_of : Worklist → State
-state_of a = record { handled = handled a.handled; waiting = pending a.waiting; packages = map nv_of a.packages.keys }
+state_of a = record { handled = handled a.handled; waiting = pending a.waiting; packages = map nv_of a.packages }
 
 abbrev pub trace_of : PendingTrace → Trace
 trace_of t = record { nv = nv_of t.package_nv; specifier = serialize t.specifier; exports = t.exports_to_trace }

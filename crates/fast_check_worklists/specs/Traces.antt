@@ -16,11 +16,11 @@ is_module url k = bytes_eq (serialize url) (serialize k)
 
 -- the modules with what was demanded of each
 abbrev pub handled : HandledExports → List (Parts × ImportedExports)
-handled h = h.modules.entries
+handled h = h
 
 -- the modules with the package that asked first and what is demanded of each
 abbrev pub pending : PendingTraces → List (Parts × (PackageNv × ImportedExports))
-pending t = t.traces.entries
+pending t = t
 
 -- the entry of a trace
 abbrev pub entry_of : PendingTrace → Parts × (PackageNv × ImportedExports)

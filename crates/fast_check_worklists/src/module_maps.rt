@@ -1,19 +1,64 @@
 //! The modules that were followed, and those that wait to be, as the finder of public ranges of deno_graph keeps them.
 
-ghost use Rattle.std.specs.Prelude.{◌≡◌, ◌++◌, [], ◌<◌, ◌↔◌, length, IfOk, OnOk, OnErr, IsSome, option_map, option_to_list};
+ghost use Rattle.std.specs.Prelude.{◌≡◌, ◌∷◌, ◌++◌, [], ◌<◌, ◌↔◌, length, IfOk, OnOk, OnErr, IsSome, option_map, option_to_list};
+ghost use Rattle.std.specs.BTreeMap.{get};
 ghost use Rattle.fast_check_packages.specs.Package.{nv_of};
 ghost use Rattle.fast_check_worklists.specs.Traces.{handled, pending, entry_of, Handles, Waits};
+ghost use Rattle.fast_check_worklists.specs.Places.{module_cmp, HasPlaces};
 
 use fast_check_names::ImportedExports;
 use fast_check_packages::PackageNv;
-use indexmap::IndexMap;
 use std::alloc::{AllocError, Global};
+use std::collections::BTreeMap;
+use std::marker::Model;
 use url::Url;
+
+/// Puts the entry of a new module last.
+fn push_entry<X: Drop>(
+    entries: &mut Vec<(Url, X)>,
+    places: &mut BTreeMap<Url, usize>,
+    specifier: Url,
+    value: X,
+) -> Result<(), AllocError>
+    requires placed { HasPlaces entries.old.items places.old }
+    requires new { get module_cmp places.old specifier ≡ None }
+    ensures pushed { OnOk result (entries.new.items ≡ entries.old.items ++ (specifier, value) ∷ []) }
+    ensures placed { HasPlaces entries.new.items places.new }
+    ensures err { OnErr result (entries.new.items ≡ entries.old.items) }
+{
+    let key = specifier.clone()?;
+    // With this room the push is not refused, so nothing fails once the places have the module.
+    entries.reserve(1)?;
+    places.insert(key, entries.len())?;
+    entries.push((specifier, value))?;
+    Ok(())
+}
 
 /// What was demanded so far of each module.
 #[derive(Drop)]
 pub struct HandledExports {
-    modules: IndexMap<Url, ImportedExports>,
+    /// In the order in which the modules came.
+    modules: Vec<(Url, ImportedExports)>,
+    /// The places of the modules.
+    places: BTreeMap<Url, usize>,
+}
+
+impl Model for HandledExports {
+    ghost use Rattle.std.specs.Prelude.{List};
+    ghost use Rattle.std.specs.Coded.{codes};
+    ghost use Rattle.url.specs.Parts.{Parts};
+    ghost use Rattle.fast_check_names.specs.contracts.lattice.imported_exports.ImportedExports as exports;
+    ghost use Rattle.fast_check_names.specs.declared.lattice.imported_exports.ImportedExports.{ImportedExports};
+
+    ghost Value = { List (Parts × ImportedExports) };
+
+    ghost coded = { Prim.hlevel (codes, exports.the_row.coded) };
+
+    ghost use Rattle.fast_check_worklists.specs.Places.{HasPlaces};
+
+    ghost view = { λ handled. handled.modules.items };
+
+    ghost invariant = { λ handled. HasPlaces handled.modules.items handled.places };
 }
 
 impl HandledExports {
@@ -22,7 +67,8 @@ impl HandledExports {
         ensures { handled result ≡ [] }
     {
         HandledExports {
-            modules: IndexMap::new(alloc),
+            modules: Vec::new(alloc),
+            places: BTreeMap::new(alloc),
         }
     }
 
@@ -37,11 +83,16 @@ impl HandledExports {
         ensures added { IfOk result (λ answer. Handles (handled self.old) dep_specifier.now traced_exports answer (handled self.new)) }
         ensures err { OnErr result (handled self.new ≡ handled self.old) }
     {
-        if let Some(handled_exports) = self.modules.get_mut(dep_specifier) {
-            return handled_exports.add(alloc, traced_exports);
+        if let Some(place) = self.places.get(dep_specifier).copied() {
+            return self.modules[place].1.add(alloc, traced_exports);
         }
         let copy = traced_exports.clone()?;
-        self.modules.insert(dep_specifier.clone()?, copy)?;
+        push_entry(
+            &mut self.modules,
+            &mut self.places,
+            dep_specifier.clone()?,
+            copy,
+        )?;
         Ok(Some(traced_exports))
     }
 }
@@ -58,7 +109,28 @@ pub struct PendingTrace {
 /// The modules that wait to be followed, in the order in which they came.
 #[derive(Drop)]
 pub struct PendingTraces {
-    traces: IndexMap<Url, (PackageNv, ImportedExports)>,
+    traces: Vec<(Url, (PackageNv, ImportedExports))>,
+    /// The places of the modules.
+    places: BTreeMap<Url, usize>,
+}
+
+impl Model for PendingTraces {
+    ghost use Rattle.std.specs.Prelude.{List};
+    ghost use Rattle.std.specs.Coded.{codes};
+    ghost use Rattle.url.specs.Parts.{Parts};
+    ghost use Rattle.fast_check_names.specs.contracts.lattice.imported_exports.ImportedExports as exports;
+    ghost use Rattle.fast_check_packages.specs.declared.package.PackageNv.{PackageNv};
+    ghost use Rattle.fast_check_names.specs.declared.lattice.imported_exports.ImportedExports.{ImportedExports};
+
+    ghost Value = { List (Parts × (PackageNv × ImportedExports)) };
+
+    ghost coded = { Prim.hlevel (codes, exports.the_row.coded) };
+
+    ghost use Rattle.fast_check_worklists.specs.Places.{HasPlaces};
+
+    ghost view = { λ pending. pending.traces.items };
+
+    ghost invariant = { λ pending. HasPlaces pending.traces.items pending.places };
 }
 
 impl PendingTraces {
@@ -67,7 +139,8 @@ impl PendingTraces {
         ensures { pending result ≡ [] }
     {
         PendingTraces {
-            traces: IndexMap::new(alloc),
+            traces: Vec::new(alloc),
+            places: BTreeMap::new(alloc),
         }
     }
 
@@ -82,13 +155,16 @@ impl PendingTraces {
         ensures added { OnOk result (Waits (pending self.old) package_nv dep_specifier exports_to_trace (pending self.new)) }
         ensures err { OnErr result (pending self.new ≡ pending self.old) }
     {
-        if let Some(trace) = self.traces.get_mut(&dep_specifier) {
-            let _ = trace.1.add(alloc, exports_to_trace)?;
+        if let Some(place) = self.places.get(&dep_specifier).copied() {
+            let _ = self.traces[place].1.1.add(alloc, exports_to_trace)?;
             return Ok(());
         }
-        self.traces
-            .insert(dep_specifier, (package_nv, exports_to_trace))?;
-        Ok(())
+        push_entry(
+            &mut self.traces,
+            &mut self.places,
+            dep_specifier,
+            (package_nv, exports_to_trace),
+        )
     }
 
     /// The same for a package and a module that others share, which are copied only where the module does not wait yet.
@@ -103,14 +179,17 @@ impl PendingTraces {
             × Waits (pending self.old) copy dep_specifier.now exports_to_trace (pending self.new)) }
         ensures err { OnErr result (pending self.new ≡ pending self.old) }
     {
-        if let Some(waiting) = self.traces.get_mut(dep_specifier) {
-            let _ = waiting.1.add(alloc, exports_to_trace)?;
+        if let Some(waiting) = self.places.get(dep_specifier).copied() {
+            let _ = self.traces[waiting].1.1.add(alloc, exports_to_trace)?;
             return Ok(());
         }
         let copy = package_nv.clone()?;
-        self.traces
-            .insert(dep_specifier.clone()?, (copy, exports_to_trace))?;
-        Ok(())
+        push_entry(
+            &mut self.traces,
+            &mut self.places,
+            dep_specifier.clone()?,
+            (copy, exports_to_trace),
+        )
     }
 
     /// Takes the module that came last.
@@ -119,6 +198,7 @@ impl PendingTraces {
         ensures found { IsSome result ↔ (0 < length (pending self.old)) }
     {
         let (specifier, (package_nv, exports_to_trace)) = self.traces.pop()?;
+        let _ = self.places.remove(&specifier);
         Some(PendingTrace {
             package_nv,
             specifier,

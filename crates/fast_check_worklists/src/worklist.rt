@@ -5,10 +5,10 @@ ghost use Rattle.fast_check_worklists.specs.Demands.{same_nv};
 ghost use Rattle.fast_check_worklists.specs.State.{state_of, AsksModuleFor, AsksPackage, AsksOne, AsksAll};
 ghost use Rattle.fast_check_worklists.specs.Turn.{IsBegun};
 
+use crate::asked_packages::AskedPackages;
 use crate::module_maps::{HandledExports, PendingTraces};
 use fast_check_names::ImportedExports;
 use fast_check_packages::PackageNv;
-use indexmap::IndexSet;
 use std::alloc::{AllocError, Global};
 use std::cmp::Ordering;
 use std::rc::Rc;
@@ -28,7 +28,7 @@ pub enum OuterWant {
 pub struct Worklist {
     pub handled: HandledExports,
     pub waiting: PendingTraces,
-    pub packages: IndexSet<PackageNv>,
+    pub packages: AskedPackages,
 }
 
 impl Worklist {
@@ -36,10 +36,7 @@ impl Worklist {
     fn ask_package(&mut self, nv: &PackageNv) -> Result<(), AllocError>
         ensures { OnOk result (AsksPackage nv.now (state_of self.old) (state_of self.new)) }
     {
-        if !self.packages.contains(nv) {
-            self.packages.insert(copy_of(nv)?)?;
-        }
-        Ok(())
+        self.packages.add(nv)
     }
 
     /// Asks for names of a module. Only what is new waits.
@@ -101,7 +98,7 @@ pub fn begin(alloc: Global, roots: &[PackageNv]) -> Result<Worklist, AllocError>
     let mut worklist = Worklist {
         handled: HandledExports::default(alloc),
         waiting: PendingTraces::default(alloc),
-        packages: IndexSet::new(alloc),
+        packages: AskedPackages::new(alloc),
     };
     for nv in roots {
         worklist.ask_package(nv)?;

@@ -1,6 +1,5 @@
 use Rattle.std.proofs.Common.{◌∙◌, sym, ap, refl, map, arith}
 use Rattle.std.proofs.lemmas.List.{length-map, get_or-map}
-use Rattle.std.proofs.lemmas.Option.{get_or_from_slice_get}
 use Rattle.fast_check_packages.specs.Package.{nv_of}
 use Rattle.fast_check_worklists.specs.Turn.{waiting_trace}
 use Rattle.fast_check_cache.specs.CachedPackages.{used_item}
@@ -17,12 +16,11 @@ returns-clause-turned g c mine =
     record {
       package_nv = nv_of c.in_ok-nv.nv;
       empty = ap (map waiting_trace) c.requires;
-      left = omega (arith, length-map c.args.progress.now.worklist.packages.keys nv_of, c.if-next-len.false, c.len.ensures);
-      here = get_or-map nv_of c.args.progress.now.worklist.packages.keys c.args.next c.index.result.now (nv_of c.in_ok-nv.nv)
+      left = omega (arith, length-map c.args.progress.now.worklist.packages nv_of, c.if-next-len.false, c.len.ensures);
+      here = get_or-map nv_of c.args.progress.now.worklist.packages c.args.next c.at.result.now (nv_of c.in_ok-nv.nv)
           (omega (arith, c.if-next-len.false, c.len.ensures)) ∙
           (ap nv_of
-          (get_or_from_slice_get c.args.progress.now.worklist.packages.keys c.args.next c.index.result.now c.index.result.now
-          c.index.ensures)
+          (sym c.at.ensures)
           ∙ sym c.in_ok-nv.ensures);
       entered = c.in_ok-enter.ensures.entered mine;
       next_is = refl;
@@ -36,8 +34,7 @@ returns-in_err-enter-clause-refused g c =
     let k = with_used used (known c.args.input.sources (m.url_of c.args.provider.now.1) (m.nv_at c.args.provider.now.1)) in
     let f = c.in_err-enter.field-0.0 in
     passed_on c.from_residual-in_err-enter.result f
-    (IsRefusedOf k (map nv_of c.args.progress.now.worklist.packages.keys)) c.from_residual-in_err-enter.ensures.1
-    (refused_of k c.args.progress.now.worklist.packages.keys c.args.next c.index.result.now (nv_of c.in_ok-nv.nv)
+    (IsRefusedOf k (map nv_of c.args.progress.now.worklist.packages)) c.from_residual-in_err-enter.ensures.1
+    (refused_of k c.args.progress.now.worklist.packages c.args.next c.at.result.now (nv_of c.in_ok-nv.nv)
     (omega (arith, c.if-next-len.false, c.len.ensures))
-    (sym (get_or_from_slice_get c.args.progress.now.worklist.packages.keys c.args.next c.index.result.now c.index.result.now
-    c.index.ensures)) c.in_ok-nv.ensures f c.in_err-enter.ensures.refused)
+    c.at.ensures c.in_ok-nv.ensures f c.in_err-enter.ensures.refused)

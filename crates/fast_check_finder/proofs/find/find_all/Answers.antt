@@ -99,4 +99,4 @@ returns-in_err-after-clause-refused g c =
     let f = c.in_err-after.field-0.0 in
     passed_on c.from_residual-in_err-after.result f (IsRefusal k rs) c.from_residual-in_err-after.ensures.1
     (refusal k rs
-    (map nv_of c.turns.progress.worklist.packages.keys) c.turns.invariant.way.1.kept.packages f c.in_err-after.ensures.refused)
+    (map nv_of c.turns.progress.worklist.packages) c.turns.invariant.way.1.kept.packages f c.in_err-after.ensures.refused)

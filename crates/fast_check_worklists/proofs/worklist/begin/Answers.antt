@@ -10,4 +10,4 @@ loop-nv-preserved c = begun_more c.args.roots.now c.loop-nv.nv-index c.nv-item.r
     (ap nv_of c.nv-item.is) c.loop-nv.invariant c.in_ok-ask_package.ensures
 
 pub loop-nv-init : goal.loop-nv-init
-loop-nv-init c = begun_none _ c.default.ensures c.default-2.ensures (ap (map nv_of) c.new.ensures.empty)
+loop-nv-init c = begun_none _ c.default.ensures c.default-2.ensures (ap (map nv_of) c.new.ensures)

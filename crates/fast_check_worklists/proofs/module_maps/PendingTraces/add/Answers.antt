@@ -1,29 +1,44 @@
-use Rattle.std.proofs.Common.{ap, refl, Some, ◌∙◌}
-use Rattle.fast_check_names.proofs.Writes.{on_err}
-use Rattle.fast_check_worklists.proofs.Traced.{inserted_last, kept, waits_new, waits_held}
+use Rattle.fast_check_names.proofs.Writes.{on_ok_from}
+use Rattle.fast_check_worklists.proofs.Placed.{inside, held, unheld, written, same_places}
+use Rattle.fast_check_worklists.proofs.Traced.{waits_new, waits_held}
 use Rattle.fast_check_worklists.proofs.module_maps.PendingTraces.add.Goals as goal
 
-pub returns-in_err-add-clause-err : goal.returns-in_err-add-clause-err
-returns-in_err-add-clause-err c =
-    on_err c.from_residual.result
-    (kept c.args.dep_specifier c.args.self.now.traces.entries (c.get_mut.follows.lender (c.in-Some.trace.now.0, c.add.new.self)).entries
-    (c.in-Some.trace.now.0, c.add.new.self)
-    (c.get_mut.follows.holds (c.in-Some.trace.now.0, c.add.new.self)).0
-    (ap (λ x. Some (c.in-Some.trace.now.0, x)) c.in_err-add.ensures.err ∙ c.in-Some.ensures.value))
+pub index_mut-requires : goal.index_mut-requires
+index_mut-requires c =
+    rw c.self.inside.traces.ok.0 (inside c.args.dep_specifier c.self.inside.traces.items c.self.inside.places _ _
+    c.self.invariant c.get.ensures.value c.copied.ensures c.in-Some.place c.in-Some.is)
+
+pub invariant_of-self : goal.invariant_of-self
+invariant_of-self c =
+    same_places c.args.dep_specifier c.self.inside.traces.items c.self.inside.places _ _
+    c.self.invariant c.get.ensures.value c.copied.ensures c.in-Some.place c.index_mut.result.now (c.index_mut.result.now.1.0, c.add.new.self)
+    c.in-Some.is c.index_mut.ensures.value
+
+pub invariant_of-self-in-Some : goal.invariant_of-self-in-Some
+invariant_of-self-in-Some c =
+    same_places c.args.dep_specifier c.self.inside.traces.items c.self.inside.places _ _
+    c.self.invariant c.get.ensures.value c.copied.ensures c.in-Some.place c.index_mut.result.now (c.index_mut.result.now.1.0, c.add.new.self)
+    c.in-Some.is c.index_mut.ensures.value
 
 pub returns-in-Some-clause-added : goal.returns-in-Some-clause-added
 returns-in-Some-clause-added c =
-    waits_held c.args.self.now.traces.entries
-    (c.get_mut.follows.lender
-    (c.in-Some.trace.now.0, c.add.new.self)).entries c.args.package_nv c.args.dep_specifier c.args.exports_to_trace
-    c.add.new.self c.in_ok-add.field-0 c.in-Some.trace.now
-    c.in-Some.ensures.value c.in_ok-add.ensures.added (c.get_mut.follows.holds (c.in-Some.trace.now.0, c.add.new.self)).0
+    let url = c.args.dep_specifier in
+    let es = c.self.inside.traces.items in
+    let x = c.index_mut.result.now in
+    rw (← c.self.view_is)
+    (waits_held es _ c.args.package_nv url c.args.exports_to_trace c.add.new.self c.in_ok-add.field-0 x.1
+    (held url es c.self.inside.places _ _ c.self.invariant c.get.ensures.value c.copied.ensures c.in-Some.place x c.in-Some.is
+    c.index_mut.ensures.value)
+    c.in_ok-add.ensures.added
+    (written url es c.self.inside.places _ _ c.self.invariant c.get.ensures.value c.copied.ensures c.in-Some.place x
+    (x.1.0, c.add.new.self) c.in-Some.is c.index_mut.ensures.value))
 
 pub returns-clause-added : goal.returns-clause-added
 returns-clause-added c =
-    waits_new c.args.self.now.traces.entries c.insert.new.self.entries c.args.package_nv c.args.dep_specifier c.args.exports_to_trace
-    c.in_default.ensures.value
-    (inserted_last c.args.self.now.traces c.get_mut.follows.lender-at-none c.insert.new.self c.args.dep_specifier c.args.dep_specifier (
-      c.args.package_nv,
-      c.args.exports_to_trace,
-    ) c.get_mut.follows.holds-at-none refl c.in_default.ensures.value c.in_ok-insert.ensures.entries)
+    on_ok_from c.push_entry.result
+    (λ is. rw (← c.self.view_is)
+    (waits_new c.self.inside.traces.items c.push_entry.new.entries.items c.args.package_nv c.args.dep_specifier c.args.exports_to_trace
+    (unheld c.args.dep_specifier c.self.inside.traces.items c.self.inside.places _ _ c.self.invariant c.get.ensures.value c.copied.ensures
+    c.in_default.not-Some)
+    is))
+    c.push_entry.ensures.pushed

@@ -1,36 +1,49 @@
-use Rattle.std.proofs.Common.{ap, refl, Some, ◌∙◌, rules}
-use Rattle.fast_check_names.proofs.Writes.{on_err}
-use Rattle.fast_check_worklists.proofs.Traced.{inserted_last, kept, waits_new, waits_held}
+use Rattle.std.proofs.Common.{◌∙◌, ap, refl, [], ◌∷◌, ◌++◌, rules}
+use Rattle.url.specs.Parts.{Parts}
+use Rattle.fast_check_names.proofs.Writes.{on_ok_from}
+use Rattle.fast_check_worklists.proofs.Placed.{inside, held, unheld, written, same_places}
+use Rattle.fast_check_worklists.proofs.Traced.{waits_new, waits_held}
 use Rattle.fast_check_worklists.proofs.module_maps.PendingTraces.add_copies.Goals as goal
 
-pub returns-in_err-add-clause-err : goal.returns-in_err-add-clause-err
-returns-in_err-add-clause-err c =
-    on_err c.from_residual.result
-    (kept c.args.dep_specifier.now c.args.self.now.traces.entries (c.get_mut.follows.lender (c.in-Some.waiting.now.0, c.add.new.self)).entries
-    (c.in-Some.waiting.now.0, c.add.new.self)
-    (c.get_mut.follows.holds (c.in-Some.waiting.now.0, c.add.new.self)).0
-    (ap (λ x. Some (c.in-Some.waiting.now.0, x)) c.in_err-add.ensures.err ∙ c.in-Some.ensures.value))
+pub index_mut-requires : goal.index_mut-requires
+index_mut-requires c =
+    rw c.self.inside.traces.ok.0 (inside c.args.dep_specifier.now c.self.inside.traces.items c.self.inside.places _ _
+    c.self.invariant c.get.ensures.value c.copied.ensures c.in-Some.waiting c.in-Some.is)
+
+pub invariant_of-self-in-Some : goal.invariant_of-self-in-Some
+invariant_of-self-in-Some c =
+    same_places c.args.dep_specifier.now c.self.inside.traces.items c.self.inside.places _ _
+    c.self.invariant c.get.ensures.value c.copied.ensures c.in-Some.waiting c.index_mut.result.now (c.index_mut.result.now.1.0, c.add.new.self)
+    c.in-Some.is c.index_mut.ensures.value
 
 pub returns-in-Some-clause-added : goal.returns-in-Some-clause-added
-returns-in-Some-clause-added c = (
-  c.args.package_nv.now,
-  refl,
-  waits_held c.args.self.now.traces.entries
-      (c.get_mut.follows.lender
-      (c.in-Some.waiting.now.0, c.add.new.self)).entries c.args.package_nv.now c.args.dep_specifier.now c.args.exports_to_trace
-      c.add.new.self c.in_ok-add.field-0 c.in-Some.waiting.now
-      c.in-Some.ensures.value c.in_ok-add.ensures.added (c.get_mut.follows.holds (c.in-Some.waiting.now.0, c.add.new.self)).0,
-)
+returns-in-Some-clause-added c =
+    let url = c.args.dep_specifier.now in
+    let es = c.self.inside.traces.items in
+    let x = c.index_mut.result.now in (
+      c.args.package_nv.now,
+      refl,
+      rw (← c.self.view_is)
+          (waits_held es _ c.args.package_nv.now url c.args.exports_to_trace c.add.new.self c.in_ok-add.field-0 x.1
+          (held url es c.self.inside.places _ _ c.self.invariant c.get.ensures.value c.copied.ensures c.in-Some.waiting x c.in-Some.is
+          c.index_mut.ensures.value)
+          c.in_ok-add.ensures.added
+          (written url es c.self.inside.places _ _ c.self.invariant c.get.ensures.value c.copied.ensures c.in-Some.waiting x
+          (x.1.0, c.add.new.self) c.in-Some.is c.index_mut.ensures.value)),
+    )
 
 pub returns-clause-added : goal.returns-clause-added
-returns-clause-added c = (
-  c.in_ok-copy.copy,
-  search rules,
-  waits_new c.args.self.now.traces.entries c.insert.new.self.entries c.in_ok-copy.copy c.args.dep_specifier.now c.args.exports_to_trace
-      c.in_default.ensures.value
-      (inserted_last c.args.self.now.traces c.get_mut.follows.lender-at-none c.insert.new.self c.args.dep_specifier.now
-      c.in_ok-clone.field-0 (
-        c.in_ok-copy.copy,
-        c.args.exports_to_trace,
-      ) c.get_mut.follows.holds-at-none c.in_ok-clone.ensures.cases c.in_default.ensures.value c.in_ok-insert.ensures.entries),
-)
+returns-clause-added c =
+    let url = c.args.dep_specifier.now in
+    let es = c.self.inside.traces.items in
+    let nv = c.in_ok-copy.copy in
+    on_ok_from c.push_entry.result
+    (λ is. (
+      nv,
+      search rules,
+      rw (← c.self.view_is)
+          (waits_new es c.push_entry.new.entries.items nv url c.args.exports_to_trace
+          (unheld url es c.self.inside.places _ _ c.self.invariant c.get.ensures.value c.copied.ensures c.in_default.not-Some)
+          (is ∙ ap (λ (u : Parts). es ++ (u, (nv, c.args.exports_to_trace)) ∷ []) c.in_ok-clone.ensures.cases)),
+    ))
+    c.push_entry.ensures.pushed

@@ -10,7 +10,7 @@ returns-in_ok-add_copies c = asks_some c.args.nv.now c.args.specifier.now c.args
     (record {
       handled = handled c.add.new.self;
       waiting = pending c.add_copies.new.self;
-      packages = map nv_of c.args.self.now.packages.keys;
+      packages = map nv_of c.args.self.now.packages;
     })
     c.in_ok-new.field-0 refl c.in_ok-new.ensures.added c.in-Some.new c.in-Some.is c.in_ok-add_copies.ensures.added
 
@@ -19,6 +19,6 @@ returns-in_default c = asks_none c.args.nv.now c.args.specifier.now c.args.expor
     (record {
       handled = handled c.add.new.self;
       waiting = pending c.args.self.now.waiting;
-      packages = map nv_of c.args.self.now.packages.keys;
+      packages = map nv_of c.args.self.now.packages;
     })
     c.in_ok-new.field-0 refl c.in_ok-new.ensures.added c.in_default.is refl
