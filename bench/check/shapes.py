@@ -752,6 +752,12 @@ def qualified_in_turns(n, *symbols):
     return chain_to(n, lambda i: ["s1", f"x{i}"], module(url("m"), [symbol(1, part("s2", *(f"y{i}" for i in range(n)))), *symbols], [["s1", 1]]))
 
 
+@shape
+def qualified_alias_in_turns(n):
+    """Such turns, where each of the names of the alias's own path is asked for in the first two."""
+    return qualified_in_turns(n, symbol(2, definition()))
+
+
 @shape_by(lambda n: 2 * DEMAND * (n // 8) ** 2)
 def parts_through_aliases_in_turns(n):
     """Such turns, and a chain of aliases below: each path that is asked goes through all of them, and each of the names of that path does, once."""

@@ -21,8 +21,7 @@ sys.dont_write_bytecode = True
 sys.path[:0] = [os.path.join(os.path.dirname(os.path.dirname(os.path.abspath(__file__))), folder) for folder in ("rules", "cases", "check", "time")]
 
 from shapes import (
-    MOST_EXPONENT, alias_urls, covered, exponent, in_three_sizes, measured, one_name, property_in_turns, qualified_in_turns, row, spent,
-    under_aliases,
+    MOST_EXPONENT, alias_urls, covered, exponent, in_three_sizes, measured, one_name, property_in_turns, row, spent, under_aliases,
 )
 from tables import (
     HOST, definition, file_ref, import_type, module, request, symbol, transform, url,
@@ -117,13 +116,6 @@ def aliases_of_import_types(n):
 
 
 # ---- what is gone through anew in each turn in which more is asked of a module
-
-
-@known(last=500)
-def qualified_alias_in_turns(n):
-    """Turns in which a path is asked of an alias that is one of a path itself, times the names of that: nothing is kept of searches that come to little but
-    demands of names (fast_check_turns, `is_much`)."""
-    return qualified_in_turns(n, symbol(2, definition()))
 
 
 @known(first=4000, last=4000)

@@ -18,6 +18,8 @@ use Rattle.fast_check_name_demands.specs.demands.Account.{root, step, alike, ref
 use Rattle.fast_check_name_demands.specs.Files.{files}
 use Rattle.fast_check_demands.proofs.Adds.{adds_all, adds_kept, adds_both}
 use Rattle.fast_check_search.specs.declared.found.Found.{Found}
+use Rattle.fast_check_search.specs.declared.parts.AskedParts.{AskedParts}
+use Rattle.fast_check_search.specs.Parts.{ArePartsCovered}
 use Rattle.fast_check_search.specs.SymbolWorklist.{Grows, CoversEach}
 use Rattle.fast_check_search.specs.Found.{IsUntold, IsFound, Gains, IsFoundSoFar, IsOnTheWay}
 use Rattle.fast_check_search.specs.Searched.{IsContinued}
@@ -162,25 +164,25 @@ untold t account listed noted was_told is_told found y h = record {
     is_found : (r : SourceRange) → Contains (listed ++ h.more) r → Contains found r
     is_found r c = subst (λ (xs : List SourceRange). Contains xs r) (sym h.is) c
 
-module _ (t : Tables) (roots before : List Demand) where
+module _ (t : Tables) (roots before : List Demand) (parts : AskedParts) where
   -- after the first demands were asked for
   pub begun : (asked : List Demand) (public : List SourceRange) (found : Found) → Grows roots [] asked →
-      CoversEach roots (before ++ asked) → IsFoundSoFar t [] public found → IsOnTheWay t roots before asked 0 public found
+      CoversEach roots (before ++ asked) → IsFoundSoFar t [] public found → IsOnTheWay t roots before parts asked 0 public found
   begun asked public found g h f = record {
     reached = omega arith;
     chained = λ d u. root (g.parts d (subst (λ (x : List Demand). Contains x d) g.is u));
     has_roots = h;
-    closed = λ d e u v. absurd (Contains_none d u);
+    closed = λ _ d e u v. absurd (Contains_none d u);
     found = f;
   }
 
   module _ (asked after : List Demand) (next : ℕ) (d : Demand) (noted noting : NotedSymbols) (old new : Found)
-      (w : IsOnTheWay t roots before asked next (public_ranges t noted old.ranges.items) old)
+      (w : IsOnTheWay t roots before parts asked next (public_ranges t noted old.ranges.items) old)
       (lt : next < length asked)
       (here : get_or asked next d ≡ d) where
     -- after the demand d, at next, was followed
-    pub turned : Grows (names t d) asked after → CoversEach (names t d) (before ++ after) → Gains t d noted noting old new →
-        IsOnTheWay t roots before after (next + 1) (public_ranges t noting new.ranges.items) new
+    pub turned : Grows (names t d) asked after → (ArePartsCovered t parts before → CoversEach (names t d) (before ++ after)) →
+        Gains t d noted noting old new → IsOnTheWay t roots before parts after (next + 1) (public_ranges t noting new.ranges.items) new
     turned g h j =
         let front : take (next + 1) after ≡ take next asked ++ d ∷ [] =
         ap (λ x. take (next + 1) x) g.is ∙ (take-append-le (next + 1) asked g.more (omega (arith, lt)) ∙
@@ -191,9 +193,9 @@ module _ (t : Tables) (roots before : List Demand) where
               (λ v. step (w.chained d (next, lt, here)) (g.parts e v))
               (Contains-append_cases asked g.more e (subst (λ (x : List Demand). Contains x e) g.is u));
           has_roots = λ e r. grows_covers (names t d) before asked after e g (w.has_roots e r);
-          closed = λ e f u v. ⊎_elim
-              (λ early. grows_covers (names t d) before asked after f g (w.closed e f early v))
-              (λ same. h f (subst (λ (x : Demand). Contains (names t x) f) (sym same) v))
+          closed = λ are e f u v. ⊎_elim
+              (λ early. grows_covers (names t d) before asked after f g (w.closed are e f early v))
+              (λ same. h are f (subst (λ (x : Demand). Contains (names t x) f) (sym same) v))
               (Contains-push_cases (take next asked) d e (subst (λ (x : List Demand). Contains x e) front u));
           found = subst (λ (x : List Demand). IsFoundSoFar t x (public_ranges t noting new.ranges.items) new) (sym front)
               (found_more t (take next asked) d noted noting old new w.found j);
@@ -201,18 +203,18 @@ module _ (t : Tables) (roots before : List Demand) where
 
   -- at the end
   pub ended : (asked : List Demand) (next : ℕ) (noted was_told is_told : List SourceRange) (so_far found : Found) → length asked ≤ next →
-      IsOnTheWay t roots before asked next (so_far.ranges.items ++ noted) so_far →
+      IsOnTheWay t roots before parts asked next (so_far.ranges.items ++ noted) so_far →
       Tells noted was_told is_told so_far.ranges.items found.ranges.items → found.implementations ≡ so_far.implementations →
       found.faults ≡ so_far.faults → found.files ≡ so_far.files →
-      IsContinued t roots before asked × IsFound t asked was_told is_told found
+      (ArePartsCovered t parts before → IsContinued t roots before asked) × IsFound t asked was_told is_told found
   ended asked next noted was_told is_told so_far found le w told e f g =
       let all : take next asked ≡ asked = take_all next asked le in
       let way = subst (λ (x : List Demand). IsFoundSoFar t x (so_far.ranges.items ++ noted) so_far) all w.found in (
-        record {
+        λ are. record {
           chained = w.chained;
           has_roots = w.has_roots;
           closed =
-              λ d e u v. w.closed d e (subst (λ (x : List Demand). Contains x d) (sym all) u) v;
+              λ d e u v. w.closed are d e (subst (λ (x : List Demand). Contains x d) (sym all) u) v;
         },
         record {
           public = untold t asked so_far.ranges.items noted was_told is_told found.ranges.items way.public told;

@@ -12,6 +12,7 @@ use Rattle.fast_check_name_demands.specs.demands.Demands.{Demand}
 use Rattle.fast_check_name_demands.specs.demands.Account.{alike}
 use Rattle.fast_check_search.specs.contracts.nameless.NamelessDemandOrd.TheImpl as order
 use Rattle.fast_check_search.specs.declared.nameless.NamelessDemand.{NamelessDemand}
+use Rattle.fast_check_search.specs.Named.{of_name, AreNamesAsked}
 use Rattle.fast_check_search.specs.Nameless.{nameless_of, without_names}
 use Rattle.fast_check_search.specs.Searched.{IsAsked, IsNameless, IsKeptWith}
 use Rattle.fast_check_search.proofs.Closure.{any_more}
@@ -60,6 +61,16 @@ pub kept_next : (before demands : List Demand) (i : ℕ) (d : Demand) (middle af
 kept_next before demands i d middle after lt here g h = subst (λ (ds : List Demand). IsKeptWith before ds after)
     (sym (take_more demands i d lt ∙ ap (λ x. take i demands ++ x ∷ []) here))
     (kept_more before (take i demands) d middle after g h)
+
+-- those of one name
+pub names_next : (demands : List Demand) (i : ℕ) (d : Demand) (middle after : List Demand) → i < length demands →
+    get_or demands i d ≡ d → IsKeptWith middle (d ∷ []) after → AreNamesAsked (take i demands) middle → AreNamesAsked (d ∷ []) after →
+    AreNamesAsked (take (i + 1) demands) after
+names_next demands i d middle after lt here kept early late =
+    subst (λ (ds : List Demand). AreNamesAsked ds after) (sym (take_more demands i d lt ∙ ap (λ x. take i demands ++ x ∷ []) here))
+    (λ n k h. ⊎_elim (λ l. kept.kept (of_name n k) (early n k l)) (late n k)
+    (or_cases (list_any (alike (of_name n k)) (take i demands)) (list_any (alike (of_name n k)) (d ∷ []))
+    (sym (list_any-append (alike (of_name n k)) (take i demands) (d ∷ [])) ∙ h)))
 
 -- all of them
 pub kept_all : (before demands : List Demand) (i : ℕ) (after : List Demand) → length demands ≤ i →

@@ -9,7 +9,7 @@ use Rattle.std.specs.Map.{lookup}
 use Rattle.std.specs.Ordering.{is_eq, nat_cmp, ordering_then}
 use Rattle.std.specs.Str.{bytes_eq}
 use Rattle.std.specs.declared.alloc.Global.{Global}
-use Rattle.std.proofs.lemmas.Bool.{false≢true, and_parts, cases_Bool}
+use Rattle.std.proofs.lemmas.Bool.{false≢true, and_parts, cases_Bool, or_cases}
 use Rattle.std.proofs.lemmas.List.Folds.{list_any-append}
 use Rattle.std.proofs.lemmas.Map.Text.{btree_map_updates_text}
 use Rattle.fast_check_names.specs.Names.{Name}
@@ -28,7 +28,7 @@ use Rattle.fast_check_search.proofs.Compared.{extents_compare}
 use Rattle.fast_check_search.proofs.Each.{Contains_only}
 use Rattle.fast_check_search.proofs.KeptWith.{asked_more, asked_behind, asked_one}
 use Rattle.fast_check_search.proofs.Numbering.{then_equal, and_same, numbers_compare}
-use Rattle.fast_check_search.proofs.Same.{alike_laws}
+use Rattle.fast_check_search.proofs.Same.{alike_itself, alike_laws}
 use Rattle.fast_check_search.proofs.Wants.{one_text}
 use Rattle.fast_check_search.proofs.WithoutNames.{found_nameless, no_names_found}
 
@@ -115,6 +115,19 @@ others_alike d m l = go d.asked
     go (by_path (n ∷ o ∷ p) x) e =
         ap (λ b. (d.symbol.0 == l.symbol.0) && ((b && same_extent x l.extent) && (d.referrer.0 == l.referrer.0))) (and_none (bytes_eq n m)) ∙
         and_none (d.symbol.0 == l.symbol.0)
+
+-- what asks for the same is asked for by the same demands
+pub asked_alike : (demands : List Demand) (d e : Demand) → IsAsked (d ∷ []) e → IsAsked demands d → IsAsked demands e
+asked_alike demands d e one h =
+    let same = ⊎_elim (λ t. t) (λ f. absurd (false≢true f)) (or_cases (alike e d) false one) in
+    let x = of_any (alike d) demands h in
+    in_any (alike e) demands x.0 x.1 (alike_laws.congr e d x.0 same ∙ x.2)
+
+pub no_name_asked : (d : Demand) → one_name_of d ≡ None → (n : Name) (k : NamedDemand) → IsAsked (d ∷ []) (of_name n k) → ⊥
+no_name_asked d none n k one =
+    let e = of_name n k in
+    let same = ⊎_elim (λ t. t) (λ f. absurd (false≢true f)) (or_cases (alike e d) false one) in
+    false≢true (sym (others_alike d n k none) ∙ (alike_laws.symm d e ∙ same))
 
 -- what is kept
 
@@ -229,7 +242,7 @@ module _ (old new : Kept) (n : Name) (k : NamedDemand) (before after : sorted.BT
           (subst (λ (p : Name). has_key (keys_at old p) l ≡ true) (sym ((bytes_decides n o).0 s)) e)
       by false s e = e
 
-  pub kept_one_name : IsKeptWith (of_names old) (one ∷ []) (of_names new)
+  kept_one_name : IsKeptWith (of_names old) (one ∷ []) (of_names new)
   kept_one_name = record {
     met = λ d h. met d (one_name_of d) refl h;
     kept = λ d h. keeps d (one_name_of d) refl h;
@@ -246,6 +259,17 @@ module _ (old new : Kept) (n : Name) (k : NamedDemand) (before after : sorted.BT
       keeps d None e h = absurd (false≢true (sym (no_name_found old d e) ∙ h))
       keeps d (Some p) e h = subst (λ (x : Demand). IsAsked (of_names new) x) (stands d p e)
           (kept_name p.0 p.1 (subst (λ (x : Demand). IsAsked (of_names old) x) (sym (stands d p e)) h))
+
+  itself : is_key k k ≡ true
+  itself = sym (one_alike n n k k refl) ∙ alike_itself one
+
+  has_one : IsAsked (of_names new) one
+  has_one = found_named new n k ∙ (now_has n k ∙
+      (ap (λ b. cond b (cond (is_key k k) true (has_key (keys_at old n) k)) (has_key (keys_at old n) k)) ((bytes_decides n n).1 refl) ∙
+      ap (λ b. cond b true (has_key (keys_at old n) k)) itself))
+
+  pub one_name_kept : IsKeptWith (of_names old) (one ∷ []) (of_names new) × IsAsked (of_names new) one
+  one_name_kept = (kept_one_name, has_one)
 
 pub no_names : (m : Kept) → m.entries ≡ [] → of_names m ≡ []
 no_names m e = ap (λ es. flat_map (λ f. map (of_name (string_bytes f.0)) (keys_at m (string_bytes f.0))) es) e
@@ -265,7 +289,7 @@ or_none : (a b : Bool) → b ≡ false → a ≡ (a || b)
 or_none true b h = refl
 or_none false b h = sym h
 
-no_name : (d : Demand) (k : NamelessDemand) → nameless_of d ≡ Some k → one_name_of d ≡ None
+pub no_name : (d : Demand) (k : NamelessDemand) → nameless_of d ≡ Some k → one_name_of d ≡ None
 no_name d k = go d.asked
   where
     none_some : {X : Type 0} (a : X) → None ≡ Some a → ⊥

@@ -12,6 +12,8 @@ use Rattle.fast_check_name_demands.specs.demands.Noted.{public_ranges}
 use Rattle.fast_check_name_demands.specs.demands.declared.noted.NotedSymbols.{NotedSymbols}
 use Rattle.fast_check_name_demands.specs.Files.{files}
 use Rattle.fast_check_search.specs.declared.found.Found.{Found}
+use Rattle.fast_check_search.specs.declared.parts.AskedParts.{AskedParts}
+use Rattle.fast_check_search.specs.Parts.{ArePartsCovered}
 
 -- What is found is of what these demands make public, and each range that they make public is found, or was told before
 -- this search. What is told afterwards was told before or is found: so each range that is told was found by this search
@@ -50,11 +52,12 @@ pub record IsFoundSoFar (t : Tables) (account : List Demand) (these : List Sourc
   pub outside : IsYield (files t) account found.files
 
 -- all demands are chained, the first ones are covered, by those of earlier searches too, and what follows from those
--- before the next is covered and found
-pub record IsOnTheWay (t : Tables) (roots before asked : List Demand) (next : ℕ) (these : List SourceRange)
-    (so_far : Found) : Type 0 where
+-- before the next is covered, where these own parts were, and found
+pub record IsOnTheWay (t : Tables) (roots before : List Demand) (parts : AskedParts) (asked : List Demand) (next : ℕ)
+    (these : List SourceRange) (so_far : Found) : Type 0 where
   pub reached : next ≤ length asked
   pub chained : (d : Demand) → Contains asked d → Chained t roots d
   pub has_roots : (d : Demand) → Contains roots d → IsCovered (before ++ asked) d
-  pub closed : (d e : Demand) → Contains (take next asked) d → Contains (names t d) e → IsCovered (before ++ asked) e
+  pub closed : ArePartsCovered t parts before → (d e : Demand) → Contains (take next asked) d → Contains (names t d) e →
+      IsCovered (before ++ asked) e
   pub found : IsFoundSoFar t (take next asked) these so_far

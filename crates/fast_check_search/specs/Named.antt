@@ -10,6 +10,7 @@ use Rattle.fast_check_symbols.specs.declared.symbol_id.SymbolId.{SymbolId}
 use Rattle.fast_check_name_demands.specs.demands.Demands.{Demand, Asked, by_reference, as_child, by_path}
 use Rattle.fast_check_search.specs.declared.named.NamedDemand.{NamedDemand}
 use Rattle.fast_check_search.specs.declared.named.OneName.{OneName}
+use Rattle.fast_check_search.specs.Searched.{IsAsked}
 
 abbrev pub seen : OneName → Name × NamedDemand
 seen o = (string_bytes o.name.now, o.demand)
@@ -29,6 +30,10 @@ one_name_of d = one_name_ask d.asked d.symbol d.referrer
 -- the demand that they stand for
 abbrev pub of_name : Name → NamedDemand → Demand
 of_name n k = record { symbol = k.symbol; asked = by_path (n ∷ []) k.extent; referrer = k.referrer }
+
+-- what these demands ask for by one name, those ask for too
+abbrev pub AreNamesAsked : List Demand → List Demand → Type 0
+AreNamesAsked these those = (n : Name) (k : NamedDemand) → IsAsked these (of_name n k) → IsAsked those (of_name n k)
 
 abbrev pub keys_in : Option (BTreeSet NamedDemand) → List NamedDemand
 keys_in None = []

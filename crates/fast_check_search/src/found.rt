@@ -14,7 +14,7 @@ ghost use Rattle.fast_check_search.specs.Wanted.{AreWanted};
 
 use crate::done::NumberedDemand;
 use crate::numbers::{NumberedPath, PathNumbers};
-use crate::parts::{PathAsker, ask_parts};
+use crate::parts::{AskedParts, ask_parts};
 use crate::searched::Searched;
 use crate::wanted::{DoneWant, add_files};
 use crate::worklist::{SymbolWorklist, asked_path};
@@ -99,17 +99,18 @@ fn ask_named<'a>(
     tables: &'a CheckedTables,
     before: &Searched,
     demand: NumberedDemand<'a>,
-    met: &mut BTreeSet<PathAsker>,
+    parts: &mut AskedParts,
     work: &mut SymbolWorklist<'a>,
 ) -> Result<(), AllocError>
     requires kept { IsKept work.old }
     requires number { IsNumbered work.old.paths (demanded demand) demand.path }
-    requires met { ArePartsCovered tables.now met.old (before.now ++ asked work.old) }
     ensures kept { OnOk result (IsKept work.new) }
     ensures numbers { OnOk result (Keeps work.old.paths work.new.paths) }
-    ensures met { OnOk result (ArePartsCovered tables.now met.new (before.now ++ asked work.new)) }
     ensures grown { OnOk result (Grows (names tables.now (demanded demand.entry)) (asked work.old) (asked work.new)) }
-    ensures covered { OnOk result (CoversEach (names tables.now (demanded demand.entry)) (before.now ++ asked work.new)) }
+    ensures parts { OnOk result (ArePartsCovered tables.now parts.old (before.now ++ asked work.old)
+        → ArePartsCovered tables.now parts.new (before.now ++ asked work.new)) }
+    ensures covered { OnOk result (ArePartsCovered tables.now parts.old (before.now ++ asked work.old)
+        → CoversEach (names tables.now (demanded demand.entry)) (before.now ++ asked work.new)) }
 {
     let NumberedDemand { demand, path } = demand;
     let named = demands_of(alloc, tables, demand)?;
@@ -118,22 +119,25 @@ fn ask_named<'a>(
         number: path,
     };
     work.ask_all(before, path, named.as_slice())?;
-    ask_parts(alloc, tables, before, demand, met, work)?;
+    ask_parts(alloc, tables, before, demand, parts, work)?;
     Ok(())
 }
 
 /// All that follows from these demands within a module, and did not follow from those of earlier searches of it: what it makes public, what is wrong
 /// with it, and what it asks of other files. Declarations that are public by where they stand are not found again where they were told, and are told
-/// then. Beside it, what the next search goes on from.
+/// then. Own parts of aliases are not asked for again where what earlier searches kept has to cover them. Beside it, what the next search goes on from.
 pub fn search<'a>(
     alloc: Global,
     tables: &'a CheckedTables,
     before: Searched,
     told: &mut NotedSymbols,
+    parts: &mut AskedParts,
     roots: &[SymbolDemand<'a>],
 ) -> Result<(Searched, Found<'a>), AllocError>
-    ensures continued { IfOk result (λ r. (more : List Demand) × IsContinued tables.now (map demand_of roots.now) before more ×
-        IsFound tables.now more (noted_ranges tables.now told.old) (noted_ranges tables.now told.new) r.1 × IsKeptWith before more r.0) }
+    ensures continued { IfOk result (λ r. (more : List Demand)
+        × (ArePartsCovered tables.now parts.old before → IsContinued tables.now (map demand_of roots.now) before more)
+        × IsFound tables.now more (noted_ranges tables.now told.old) (noted_ranges tables.now told.new) r.1 × IsKeptWith before more r.0) }
+    ensures parts { IfOk result (λ r. ArePartsCovered tables.now parts.old before → ArePartsCovered tables.now parts.new r.0) }
 
     // What is found is of the tables' own ranges, so a module of these tables admits it.
     ensures own_ranges { IfOk result (λ r. AreTableRanges tables.now r.1.ranges.items) }
@@ -144,7 +148,6 @@ pub fn search<'a>(
     let mut found = Found::new(alloc);
     let mut noted = NotedSymbols::new(alloc);
     let mut wanted = BTreeSet::new(alloc);
-    let mut met = BTreeSet::new(alloc);
     let mut next = 0;
     while next < work.len() {
         let demand = work.at(next);
@@ -156,12 +159,13 @@ pub fn search<'a>(
             &mut noted,
             &mut wanted,
         )?;
-        ask_named(alloc, tables, &before, demand, &mut met, &mut work)?;
+        ask_named(alloc, tables, &before, demand, parts, &mut work)?;
         next += 1;
     }
     noted.push_untold(tables, told, &mut found.ranges)?;
     let demands = work.into_demands();
     let mut searched = before;
-    searched.keep_all(alloc, demands.as_slice())?;
+    let keeps_names = searched.keep_all(alloc, demands.as_slice())?;
+    parts.keep_if(alloc, keeps_names);
     Ok((searched, found))
 }

@@ -12,4 +12,5 @@ mod wanted;
 mod worklist;
 
 pub use found::{Found, search};
+pub use parts::AskedParts;
 pub use searched::Searched;

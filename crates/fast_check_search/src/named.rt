@@ -4,7 +4,7 @@ ghost use Rattle.std.specs.List.{list_any};
 ghost use Rattle.fast_check_name_demands.specs.demands.Account.{alike};
 ghost use Rattle.fast_check_name_demands.specs.demands.Demands.{demand_of};
 ghost use Rattle.fast_check_search.specs.Named.{one_name_of, seen, demand_seen, of_names};
-ghost use Rattle.fast_check_search.specs.Searched.{IsKeptWith};
+ghost use Rattle.fast_check_search.specs.Searched.{IsAsked, IsKeptWith};
 
 use fast_check_name_demands::demands::{Ask, Extent, SymbolDemand, SymbolId};
 use std::alloc::{AllocError, Global};
@@ -75,7 +75,8 @@ impl NamedDemands {
 
     /// Adds a demand.
     pub fn keep(&mut self, alloc: Global, one: OneName<'_>) -> Result<(), AllocError>
-        ensures { OnOk result (IsKeptWith (of_names self.old.names) (demand_seen (seen one.entry) ∷ []) (of_names self.new.names)) }
+        ensures kept { OnOk result (IsKeptWith (of_names self.old.names) (demand_seen (seen one.entry) ∷ []) (of_names self.new.names)) }
+        ensures asked { OnOk result (IsAsked (of_names self.new.names) (demand_seen (seen one.entry))) }
     {
         if let Some(demands) = self.names.get_mut(one.name) {
             demands.insert(one.demand)?;

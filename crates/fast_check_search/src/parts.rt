@@ -1,6 +1,7 @@
 //! The own parts of aliases, which are asked for once for all paths that one symbol asks of another.
-ghost use Rattle.std.specs.Prelude.{◌++◌, OnOk};
-ghost use Rattle.fast_check_name_demands.specs.demands.Demands.{asked_of};
+ghost use Rattle.std.specs.Prelude.{List, ◌++◌, IsTrue, OnOk};
+ghost use Rattle.fast_check_symbols.specs.Tables.{Tables};
+ghost use Rattle.fast_check_name_demands.specs.demands.Demands.{Demand, asked_of};
 ghost use Rattle.fast_check_name_demands.specs.demands.Parts.{own_parts, parts_beside};
 ghost use Rattle.fast_check_search.specs.Numbers.{Keeps};
 ghost use Rattle.fast_check_search.specs.Parts.{ArePartsCovered};
@@ -20,32 +21,60 @@ pub struct PathAsker {
     pub referrer: SymbolId,
 }
 
-/// Asks for the own parts of a symbol's aliases, unless they were asked for in this search.
+/// Of which symbols, and for whom, the own parts of aliases were asked for.
+#[derive(Drop)]
+pub struct AskedParts {
+    askers: BTreeSet<PathAsker>,
+}
+
+impl AskedParts {
+    /// Of none.
+    pub fn new(alloc: Global) -> AskedParts
+        ensures { (t : Tables) (account : List Demand) → ArePartsCovered t result account }
+    {
+        AskedParts {
+            askers: BTreeSet::new(alloc),
+        }
+    }
+
+    /// Forgets all of them, unless the parts are kept.
+    pub fn keep_if(&mut self, alloc: Global, are_kept: bool)
+        ensures { (t : Tables) (account : List Demand) → (IsTrue are_kept → ArePartsCovered t self.old account) → ArePartsCovered t self.new account }
+    {
+        if are_kept {
+            return;
+        }
+        *self = AskedParts::new(alloc);
+    }
+}
+
+/// Asks for the own parts of a symbol's aliases, unless they were asked for before.
 fn ask_own_parts<'a>(
     alloc: Global,
     tables: &'a CheckedTables,
     before: &Searched,
     asker: PathAsker,
-    met: &mut BTreeSet<PathAsker>,
+    parts: &mut AskedParts,
     work: &mut SymbolWorklist<'a>,
 ) -> Result<(), AllocError>
-    requires kept { IsKept work.old }
-    requires met { ArePartsCovered tables.now met.old (before.now ++ asked work.old) }
+    requires { IsKept work.old }
     ensures kept { OnOk result (IsKept work.new) }
     ensures numbers { OnOk result (Keeps work.old.paths work.new.paths) }
-    ensures met { OnOk result (ArePartsCovered tables.now met.new (before.now ++ asked work.new)) }
     ensures grown { OnOk result (Grows (own_parts tables.now asker.symbol asker.referrer) (asked work.old) (asked work.new)) }
-    ensures covered { OnOk result (CoversEach (own_parts tables.now asker.symbol asker.referrer) (before.now ++ asked work.new)) }
+    ensures parts { OnOk result (ArePartsCovered tables.now parts.old (before.now ++ asked work.old)
+        → ArePartsCovered tables.now parts.new (before.now ++ asked work.new)) }
+    ensures covered { OnOk result (ArePartsCovered tables.now parts.old (before.now ++ asked work.old)
+        → CoversEach (own_parts tables.now asker.symbol asker.referrer) (before.now ++ asked work.new)) }
 {
-    if met.contains(&asker) {
+    if parts.askers.contains(&asker) {
         return Ok(());
     }
-    let parts = own_parts_of(alloc, tables, asker.symbol, asker.referrer)?;
-    if parts.as_slice().is_empty() {
+    let own = own_parts_of(alloc, tables, asker.symbol, asker.referrer)?;
+    if own.as_slice().is_empty() {
         return Ok(());
     }
-    work.ask_all(before, NumberedPath::none(), parts.as_slice())?;
-    met.insert(asker)?;
+    work.ask_all(before, NumberedPath::none(), own.as_slice())?;
+    parts.askers.insert(asker)?;
     Ok(())
 }
 
@@ -55,18 +84,18 @@ pub fn ask_parts<'a>(
     tables: &'a CheckedTables,
     before: &Searched,
     demand: SymbolDemand<'a>,
-    met: &mut BTreeSet<PathAsker>,
+    parts: &mut AskedParts,
     work: &mut SymbolWorklist<'a>,
 ) -> Result<(), AllocError>
-    requires kept { IsKept work.old }
-    requires met { ArePartsCovered tables.now met.old (before.now ++ asked work.old) }
+    requires { IsKept work.old }
     ensures kept { OnOk result (IsKept work.new) }
     ensures numbers { OnOk result (Keeps work.old.paths work.new.paths) }
-    ensures met { OnOk result (ArePartsCovered tables.now met.new (before.now ++ asked work.new)) }
     ensures grown { OnOk result (Grows (parts_beside tables.now demand.entry.symbol demand.entry.referrer (asked_of demand.entry.ask))
         (asked work.old) (asked work.new)) }
-    ensures covered { OnOk result (CoversEach (parts_beside tables.now demand.entry.symbol demand.entry.referrer (asked_of demand.entry.ask))
-        (before.now ++ asked work.new)) }
+    ensures parts { OnOk result (ArePartsCovered tables.now parts.old (before.now ++ asked work.old)
+        → ArePartsCovered tables.now parts.new (before.now ++ asked work.new)) }
+    ensures covered { OnOk result (ArePartsCovered tables.now parts.old (before.now ++ asked work.old)
+        → CoversEach (parts_beside tables.now demand.entry.symbol demand.entry.referrer (asked_of demand.entry.ask)) (before.now ++ asked work.new)) }
 {
     let SymbolDemand {
         symbol,
@@ -77,7 +106,7 @@ pub fn ask_parts<'a>(
         Ask::Reference(_) | Ask::Child(_) => Ok(()),
         Ask::Path(_, _) => {
             let asker = PathAsker { symbol, referrer };
-            ask_own_parts(alloc, tables, before, asker, met, work)
+            ask_own_parts(alloc, tables, before, asker, parts, work)
         }
     }
 }

@@ -1,8 +1,9 @@
 //! What a search came to, from which a later one goes on.
-ghost use Rattle.std.specs.Prelude.{◌≡◌, [], ◌∷◌, None, map, OnOk};
+ghost use Rattle.std.specs.Prelude.{◌≡◌, [], ◌∷◌, None, map, IsTrue, IfOk, OnOk};
 ghost use Rattle.std.specs.List.{list_any};
 ghost use Rattle.fast_check_name_demands.specs.demands.Demands.{demand_of};
 ghost use Rattle.fast_check_name_demands.specs.demands.Account.{alike};
+ghost use Rattle.fast_check_search.specs.Named.{AreNamesAsked};
 ghost use Rattle.fast_check_search.specs.Nameless.{nameless_of};
 ghost use Rattle.fast_check_search.specs.Searched.{IsKeptWith};
 ghost use Rattle.fast_check_search.specs.SymbolWorklist.{demanded};
@@ -71,12 +72,23 @@ impl Searched {
         }
     }
 
-    /// Keeps a demand of one name, where this is not the first search.
-    fn keep_named(&mut self, alloc: Global, demand: SymbolDemand<'_>) -> Result<(), AllocError>
+    /// Whether demands of one name are kept: not those of the first search. Nothing that is found depends on it.
+    fn keeps_names(&self) -> bool {
+        self.was_searched
+    }
+
+    /// Keeps a demand of one name, where such are kept.
+    fn keep_named(
+        &mut self,
+        alloc: Global,
+        demand: SymbolDemand<'_>,
+        keeps_names: bool,
+    ) -> Result<(), AllocError>
         requires { nameless_of (demand_of demand) ≡ None }
-        ensures { OnOk result (IsKeptWith self.old (demand_of demand.entry ∷ []) self.new) }
+        ensures kept { OnOk result (IsKeptWith self.old (demand_of demand.entry ∷ []) self.new) }
+        ensures names { OnOk result (IsTrue keeps_names → AreNamesAsked (demand_of demand.entry ∷ []) self.new) }
     {
-        if !self.was_searched {
+        if !keeps_names {
             return Ok(());
         }
         if let Some(one) = one_name_of(demand) {
@@ -85,30 +97,38 @@ impl Searched {
         Ok(())
     }
 
-    /// Keeps a demand, unless it asks for more than one name.
-    fn keep(&mut self, alloc: Global, demand: SymbolDemand<'_>) -> Result<(), AllocError>
-        ensures { OnOk result (IsKeptWith self.old (demand_of demand.entry ∷ []) self.new) }
+    /// Keeps a demand, unless it asks for more than one name. One of one name is kept where such are.
+    fn keep(
+        &mut self,
+        alloc: Global,
+        demand: SymbolDemand<'_>,
+        keeps_names: bool,
+    ) -> Result<(), AllocError>
+        ensures kept { OnOk result (IsKeptWith self.old (demand_of demand.entry ∷ []) self.new) }
+        ensures names { OnOk result (IsTrue keeps_names → AreNamesAsked (demand_of demand.entry ∷ []) self.new) }
     {
         if let Some(key) = nameless_of(demand) {
             self.demands.insert(key)?;
             return Ok(());
         }
-        self.keep_named(alloc, demand)
+        self.keep_named(alloc, demand, keeps_names)
     }
 
-    /// Keeps those of these demands that ask for no names, and those of one name where this is not the first search.
+    /// Keeps those of these demands that ask for no names, and those of one name where this is not the first search. Answers whether it kept the latter.
     pub fn keep_all(
         &mut self,
         alloc: Global,
         demands: &[NumberedDemand<'_>],
-    ) -> Result<(), AllocError>
-        ensures { OnOk result (IsKeptWith self.old (map demanded demands.now) self.new) }
+    ) -> Result<bool, AllocError>
+        ensures kept { OnOk result (IsKeptWith self.old (map demanded demands.now) self.new) }
+        ensures names { IfOk result (λ keeps. IsTrue keeps → AreNamesAsked (map demanded demands.now) self.new) }
     {
+        let keeps_names = self.keeps_names();
         for each in demands {
-            self.keep(alloc, each.demand)?;
+            self.keep(alloc, each.demand, keeps_names)?;
         }
         self.was_searched = true;
         self.met = demands.len();
-        Ok(())
+        Ok(keeps_names)
     }
 }

@@ -8,7 +8,7 @@ ghost use Rattle.fast_check_name_demands.specs.Files.{names_of};
 ghost use Rattle.fast_check_traces.specs.Modules.{own_tables as tables_at};
 ghost use Rattle.fast_check_demands.specs.Noted.{noted_ranges};
 ghost use Rattle.fast_check_traces.specs.Roots.{roots};
-ghost use Rattle.fast_check_traces.specs.Told.{told_again};
+ghost use Rattle.fast_check_traces.specs.Told.{told_again, ArePartsOf};
 ghost use Rattle.fast_check_traces.specs.Wants.{AreRangesThrough, module_wants};
 ghost use Rattle.fast_check_traces.specs.Origins.{AreOriginsOf};
 
@@ -36,7 +36,8 @@ pub struct Traced<'a> {
 
 /// Follows a module: what these demands of it make public, what is wrong with it, and what it asks of other modules. What follows from the demands of
 /// symbols that earlier calls came to is not told again, nor are ranges that are told already: those that are told now are noted. Beside it, what the next
-/// call goes on from. What is kept of where names come from has to be of this module, and is of it again.
+/// call goes on from. What is kept of where names come from has to be of this module, and is of it again; and what earlier calls came to has to cover the
+/// parts that they asked for, as what is handed on does.
 pub fn trace<'a, 'm: 'a>(
     alloc: Global,
     traced: TracedModule<'m>,
@@ -46,9 +47,11 @@ pub fn trace<'a, 'm: 'a>(
     demands: &[NameDemand<'a>],
 ) -> Result<(Searched, Traced<'a>), AllocError>
     ensures continued { IfOk result (λ r. (more : List Demand)
-        × IsContinued (tables_at traced.entry) (flat_map (λ d. roots (tables_at traced.entry) (names_of d)) demands.now) before more
+        × (ArePartsOf traced.entry told.old before
+        → IsContinued (tables_at traced.entry) (flat_map (λ d. roots (tables_at traced.entry) (names_of d)) demands.now) before more)
         × IsFound (tables_at traced.entry) more (noted_ranges (tables_at traced.entry) told.old.symbols)
         (noted_ranges (tables_at traced.entry) told.new.symbols) r.1.found × IsKeptWith before more r.0) }
+    ensures parts { IfOk result (λ r. ArePartsOf traced.entry told.old before → ArePartsOf traced.entry told.new r.0) }
     ensures re_exports { IfOk result (λ r. AreOriginsOf traced.entry origins.old → AreRangesThrough traced.entry (map names_of demands.now)
         (told_again (tables_at traced.entry) told.old.re_exports) (told_again (tables_at traced.entry) told.new.re_exports) r.1.re_export_ranges.items) }
     ensures wants { IfOk result (λ r. AreOriginsOf traced.entry origins.old
@@ -63,7 +66,14 @@ pub fn trace<'a, 'm: 'a>(
 {
     let tables = own_tables(traced);
     let roots = roots_of(alloc, tables, demands)?;
-    let (searched, found) = search(alloc, tables, before, &mut told.symbols, roots.as_slice())?;
+    let (searched, found) = search(
+        alloc,
+        tables,
+        before,
+        &mut told.symbols,
+        &mut told.parts,
+        roots.as_slice(),
+    )?;
     let told = &mut told.re_exports;
     let (re_export_ranges, wants) = re_exports_of(alloc, traced, told, origins, demands)?;
     Ok((

@@ -26,8 +26,6 @@ use Rattle.fast_check_worklists.specs.State.{IsGivenAmong}
 use Rattle.fast_check_entries.specs.findings.Yields.{Yield, public}
 use Rattle.fast_check_traces.specs.declared.modules.TracedModule.{TracedModule}
 use Rattle.fast_check_traces.specs.Modules.{own_tables}
-use Rattle.fast_check_traces.specs.declared.origins.KeptOrigins.{KeptOrigins}
-use Rattle.fast_check_traces.specs.Origins.{AreOriginsOf}
 use Rattle.fast_check_traces.specs.Told.{told_ranges}
 use Rattle.fast_check_sources.specs.Sources.{Known, info_at, traced_as, module_at}
 use Rattle.fast_check_sources.proofs.Packages.{exact_nv}
@@ -37,7 +35,7 @@ use Rattle.fast_check_turns.specs.declared.searches.ModuleOfPackage.{ModuleOfPac
 use Rattle.fast_check_turns.specs.declared.searches.KeptSearch.{KeptSearch}
 use Rattle.fast_check_turns.specs.declared.searches.KeptSearches.{KeptSearches}
 use Rattle.fast_check_turns.specs.Searches.{searched_of, told_of, IsKeptSo, IsKeptAt, IsToldAt, IsFollowedAt, IsShownAmong, AreFollowed}
-use Rattle.fast_check_turns.specs.Searches.{AreOriginsAt, AreOriginsKept}
+use Rattle.fast_check_turns.specs.Searches.{IsKeptFor, AreKeptFor}
 
 -- keys that tie are of one module and package
 
@@ -95,25 +93,25 @@ module _ (P : Option KeptSearch → Type 0) where
       (λ r. inr (sym same_package ∙ r.0, sym same_specifier ∙ r.1, r.2))
       (put_kept mid new q kept changes nv t h)
 
--- where names come from
+-- for which modules
 
-pub none_origins : (k : Known) (s : KeptSearches) → s.searches.entries ≡ [] → AreOriginsKept k s
-none_origins k s none = record {
+pub none_for : (k : Known) (s : KeptSearches) → s.searches.entries ≡ [] → AreKeptFor k s
+none_for k s none = record {
   says = λ m info e.
       subst (λ (es : List (ModuleOfPackage × KeptSearch)).
-      AreOriginsAt (traced_as k info) (lookup (is_at (order.cmp-value.it m)) es)) (sym none) tt;
+      IsKeptFor (traced_as k info) (lookup (is_at (order.cmp-value.it m)) es)) (sym none) tt;
 }
 
-pub found_origins : (k : Known) (s : KeptSearches) (m : ModuleOfPackage) (kept : KeptSearch) →
-    Some kept ≡ get order.cmp-value.it s.searches m → AreOriginsKept k s →
-    (info : AnyModuleInfo) → info_at k.graph k.root_symbol (serialize m.specifier) ≡ Some info → AreOriginsOf (traced_as k info) kept.origins
-found_origins k s m kept found are info e =
-    subst (λ (o : Option KeptSearch). AreOriginsAt (traced_as k info) o) (sym found) (are.says m info e)
+pub found_for : (k : Known) (s : KeptSearches) (m : ModuleOfPackage) (kept : KeptSearch) →
+    Some kept ≡ get order.cmp-value.it s.searches m → AreKeptFor k s →
+    (info : AnyModuleInfo) → info_at k.graph k.root_symbol (serialize m.specifier) ≡ Some info → IsKeptFor (traced_as k info) (Some kept)
+found_for k s m kept found are info e =
+    subst (λ (o : Option KeptSearch). IsKeptFor (traced_as k info) o) (sym found) (are.says m info e)
 
-pub same_origins : (k : Known) (old new : KeptSearches) → new.searches ≡ old.searches → AreOriginsKept k old → AreOriginsKept k new
-same_origins k old new same are = record {
+pub same_for : (k : Known) (old new : KeptSearches) → new.searches ≡ old.searches → AreKeptFor k old → AreKeptFor k new
+same_for k old new same are = record {
   says = λ m info e.
-      subst (λ (ms : BTreeMap ModuleOfPackage KeptSearch). AreOriginsAt (traced_as k info) (get order.cmp-value.it ms m)) (sym same)
+      subst (λ (ms : BTreeMap ModuleOfPackage KeptSearch). IsKeptFor (traced_as k info) (get order.cmp-value.it ms m)) (sym same)
       (are.says m info e);
 }
 
@@ -121,28 +119,28 @@ some_same : {X : Type 0} (x y : X) → Some x ≡ Some y → x ≡ y
 some_same x y e = cc
 
 -- a specifier has one module
-pub origins_here : (k : Known) (t : Text) (here : AnyModuleInfo) (origins : KeptOrigins) → info_at k.graph k.root_symbol t ≡ Some here →
-    AreOriginsOf (traced_as k here) origins → (info : AnyModuleInfo) → info_at k.graph k.root_symbol t ≡ Some info →
-    AreOriginsOf (traced_as k info) origins
-origins_here k t here origins e are info f =
-    subst (λ (i : AnyModuleInfo). AreOriginsOf (traced_as k i) origins) (some_same here info (sym e ∙ f)) are
+pub kept_here : (k : Known) (t : Text) (here : AnyModuleInfo) (kept : KeptSearch) → info_at k.graph k.root_symbol t ≡ Some here →
+    IsKeptFor (traced_as k here) (Some kept) → (info : AnyModuleInfo) → info_at k.graph k.root_symbol t ≡ Some info →
+    IsKeptFor (traced_as k info) (Some kept)
+kept_here k t here kept e are info f =
+    subst (λ (i : AnyModuleInfo). IsKeptFor (traced_as k i) (Some kept)) (some_same here info (sym e ∙ f)) are
 
 -- after another search is kept at a key
 module _ (old new : KeptSearches) (key : ModuleOfPackage) (kept : KeptSearch)
     (changes : (q : ModuleOfPackage) → get order.cmp-value.it new.searches q
     ≡ cond (is_at (order.cmp-value.it key) q) (Some kept) (get order.cmp-value.it old.searches q)) where
-  pub put_origins : (k : Known) →
-      ((info : AnyModuleInfo) → info_at k.graph k.root_symbol (serialize key.specifier) ≡ Some info → AreOriginsOf (traced_as k info) kept.origins) →
-      AreOriginsKept k old → AreOriginsKept k new
-  put_origins k mine are = record {
+  pub put_for : (k : Known) →
+      ((info : AnyModuleInfo) → info_at k.graph k.root_symbol (serialize key.specifier) ≡ Some info → IsKeptFor (traced_as k info) (Some kept)) →
+      AreKeptFor k old → AreKeptFor k new
+  put_for k mine are = record {
     says = λ m info e.
-        subst (λ (o : Option KeptSearch). AreOriginsAt (traced_as k info) o) (sym (changes m))
+        subst (λ (o : Option KeptSearch). IsKeptFor (traced_as k info) o) (sym (changes m))
         (by_key m info e (is_at (order.cmp-value.it key) m) refl);
   }
     where
       by_key : (m : ModuleOfPackage) (info : AnyModuleInfo) → info_at k.graph k.root_symbol (serialize m.specifier) ≡ Some info →
           (same : Bool) → is_at (order.cmp-value.it key) m ≡ same →
-          AreOriginsAt (traced_as k info) (cond same (Some kept) (get order.cmp-value.it old.searches m))
+          IsKeptFor (traced_as k info) (cond same (Some kept) (get order.cmp-value.it old.searches m))
       by_key m info e true s =
           mine info (subst (λ (t : Text). info_at k.graph k.root_symbol t ≡ Some info)
           (sym (ap (λ (x : Text × Nv). x.0) (same_keys key m s))) e)
@@ -153,13 +151,13 @@ module _ (old mid new : KeptSearches) (key of : ModuleOfPackage) (same_package :
     (same_specifier : serialize key.specifier ≡ serialize of.specifier) (same : mid.searches ≡ old.searches) (kept : KeptSearch)
     (changes : (q : ModuleOfPackage) → get order.cmp-value.it new.searches q
     ≡ cond (is_at (order.cmp-value.it key) q) (Some kept) (get order.cmp-value.it mid.searches q)) where
-  pub origins_copied : (k : Known) →
-      ((info : AnyModuleInfo) → info_at k.graph k.root_symbol (serialize of.specifier) ≡ Some info → AreOriginsOf (traced_as k info) kept.origins) →
-      AreOriginsKept k old → AreOriginsKept k new
-  origins_copied k mine are =
-      put_origins mid new key kept changes k
+  pub copied_for : (k : Known) →
+      ((info : AnyModuleInfo) → info_at k.graph k.root_symbol (serialize of.specifier) ≡ Some info → IsKeptFor (traced_as k info) (Some kept)) →
+      AreKeptFor k old → AreKeptFor k new
+  copied_for k mine are =
+      put_for mid new key kept changes k
       (λ info e. mine info (subst (λ (t : Text). info_at k.graph k.root_symbol t ≡ Some info) same_specifier e))
-      (same_origins k old mid same are)
+      (same_for k old mid same are)
 
 -- what was followed, and what was given
 

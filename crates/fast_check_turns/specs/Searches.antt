@@ -1,6 +1,6 @@
 -- Inner: no contract of a public call cites what stands here.
--- What the searches of modules came to, that it was followed, that what was told of them was given, and that where
--- names come from is kept of the right modules.
+-- What the searches of modules came to, that it was followed, that what was told of them was given, and that it is
+-- kept for the right modules.
 use Rattle.std.specs.Prelude.{◌≡◌, ⊤, List, [], Option, Some, None}
 use Rattle.std.specs.List.{Contains}
 use Rattle.std.specs.BTreeMap.{get}
@@ -14,7 +14,7 @@ use Rattle.fast_check_search.specs.Searched.{IsAsked}
 use Rattle.fast_check_traces.specs.declared.modules.TracedModule.{TracedModule}
 use Rattle.fast_check_traces.specs.Modules.{own_tables}
 use Rattle.fast_check_traces.specs.Origins.{AreOriginsOf}
-use Rattle.fast_check_traces.specs.Told.{told_ranges}
+use Rattle.fast_check_traces.specs.Told.{told_ranges, ArePartsOf}
 use Rattle.fast_check_entries.specs.findings.Yields.{public}
 use Rattle.fast_check_worklists.specs.Demands.{Text}
 use Rattle.fast_check_worklists.specs.Account.{Followed}
@@ -63,18 +63,18 @@ pub record AreFollowed (k : Known) (done : List Followed) (s : KeptSearches) : T
   pub told : (nv : Nv) (t : Text) (m : TracedModule) → module_at k t ≡ Some m → (r : SourceRange) →
       IsToldAt s nv t (own_tables m) r → IsShownAmong k done nv m r
 
--- where the names of the module come from, where that is kept
-abbrev pub AreOriginsAt : TracedModule → Option KeptSearch → Type 0
-AreOriginsAt m None = ⊤
-AreOriginsAt m (Some kept) = AreOriginsOf m kept.origins
+-- where names come from is kept of this module, and its own parts that were asked for are covered by what is kept
+abbrev pub IsKeptFor : TracedModule → Option KeptSearch → Type 0
+IsKeptFor m None = ⊤
+IsKeptFor m (Some kept) = AreOriginsOf m kept.origins × ArePartsOf m kept.told kept.searched
 
--- of each module that is kept is kept where its own names come from
-pub record AreOriginsKept (k : Known) (s : KeptSearches) : Type 0 where
+-- what is kept of each module is kept for it
+pub record AreKeptFor (k : Known) (s : KeptSearches) : Type 0 where
   pub says : (m : ModuleOfPackage) (info : AnyModuleInfo) →
       info_at k.graph k.root_symbol (serialize m.specifier) ≡ Some info →
-      AreOriginsAt (traced_as k info) (get order.cmp-value.it s.searches m)
+      IsKeptFor (traced_as k info) (get order.cmp-value.it s.searches m)
 
--- what is kept was followed and given, and is of the right modules
+-- what is kept was followed and given, and is kept for the right modules
 pub record AreKeptOf (k : Known) (done : List Followed) (s : KeptSearches) : Type 0 where
   pub followed : AreFollowed k done s
-  pub origins : AreOriginsKept k s
+  pub rightly : AreKeptFor k s

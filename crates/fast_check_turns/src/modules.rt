@@ -11,9 +11,8 @@ ghost use Rattle.fast_check_worklists.specs.Account.{Followed};
 ghost use Rattle.fast_check_worklists.specs.State.{want_of, state_of, trace_of, IsFollowed};
 ghost use Rattle.fast_check_entries.specs.findings.Findings.{module_yields, yields_of};
 ghost use Rattle.fast_check_sources.specs.Sources.{Used, known, with_used, info_at, traced_as};
-ghost use Rattle.fast_check_traces.specs.Origins.{AreOriginsOf};
 ghost use Rattle.fast_check_turns.specs.Rules.{world};
-ghost use Rattle.fast_check_turns.specs.Searches.{AreKeptOf};
+ghost use Rattle.fast_check_turns.specs.Searches.{IsKeptFor, AreKeptOf};
 ghost use Rattle.fast_check_turns.specs.Traced.{IsTracedFor};
 ghost use Rattle.fast_check_turns.specs.Yields.{dependencies, untyped_yields, gives};
 
@@ -25,7 +24,7 @@ use fast_check_graph::{AnyModuleInfo, ModuleGraph};
 use fast_check_name_demands::{HeldDemands, hold, name_demands};
 use fast_check_packages::{JsrUrlProvider, PackageNv};
 use fast_check_sources::{Asker, Sources, info_of, is_untyped};
-use fast_check_traces::{KeptOrigins, Searched, ToldRanges, TracedModule, tables_of};
+use fast_check_traces::{KeptOrigins, TracedModule, tables_of};
 use fast_check_worklists::{OuterWant, PendingTrace};
 use std::alloc::{AllocError, Global};
 
@@ -56,26 +55,30 @@ struct AskedNames {
     held: HeldDemands,
 }
 
-/// Follows names of a module with tables, for a package, from what earlier searches of it came to: what it wants of others, and what is found of it and was
-/// not told before, with how many demands were faulty.
+/// Follows names of a module with tables, for a package, from what earlier searches of it came to: what is to be kept now, what it wants of others, and what
+/// is found of it and was not told before, with how many demands were faulty.
 fn follow_in<'a, 'm: 'a>(
     alloc: Global,
     sources: Sources<'m>,
     provider: &dyn JsrUrlProvider,
     info: &'m AnyModuleInfo,
     asked: &'a AskedNames,
-    before: Searched,
-    told: &mut ToldRanges,
-    origins: &mut KeptOrigins<'m>,
-) -> Result<(Searched, Vec<OuterWant>, FoundModule, usize), AllocError>
+    kept: KeptSearch<'m>,
+) -> Result<(KeptSearch<'m>, Vec<OuterWant>, FoundModule, usize), AllocError>
     ensures traced { let without = known sources.entry (url_of provider.now) (nv_at provider.now) in
         IfOk result (λ r. (used : Used) (exports : ImportedExports) → Holds exports asked.now.held → let k = with_used used without in
-        AreOriginsOf (traced_as k info.now) origins.old
-        → IsTracedFor k (nv_of asked.now.followed.nv) (traced_as k info.now) exports before r.0 told.old told.new (map want_of r.1.items) r.2) }
-    ensures origins { let without = known sources.entry (url_of provider.now) (nv_at provider.now) in
-        OnOk result ((used : Used) → let k = with_used used without in
-        AreOriginsOf (traced_as k info.now) origins.old → AreOriginsOf (traced_as k info.now) origins.new) }
+        IsKeptFor (traced_as k info.now) (Some kept.entry)
+        → IsTracedFor k (nv_of asked.now.followed.nv) (traced_as k info.now) exports kept.entry.searched r.0.searched kept.entry.told r.0.told
+        (map want_of r.1.items) r.2) }
+    ensures rightly { let without = known sources.entry (url_of provider.now) (nv_at provider.now) in
+        IfOk result (λ r. (used : Used) → let k = with_used used without in
+        IsKeptFor (traced_as k info.now) (Some kept.entry) → IsKeptFor (traced_as k info.now) (Some r.0)) }
 {
+    let KeptSearch {
+        searched,
+        mut told,
+        mut origins,
+    } = kept;
     let module = TracedModule {
         graph: sources.graph,
         root_symbol: sources.root_symbol,
@@ -85,9 +88,9 @@ fn follow_in<'a, 'm: 'a>(
     let (searched, traced) = fast_check_traces::trace(
         alloc,
         module,
-        before,
-        told,
-        origins,
+        searched,
+        &mut told,
+        &mut origins,
         demands.as_slice(),
     )?;
     let faulty = traced.found.faults.len();
@@ -97,7 +100,12 @@ fn follow_in<'a, 'm: 'a>(
         traced: module,
     };
     let (outer, found) = found_of(alloc, asker, provider, traced)?;
-    Ok((searched, outer, found, faulty))
+    let kept = KeptSearch {
+        searched,
+        told,
+        origins,
+    };
+    Ok((kept, outer, found, faulty))
 }
 
 /// Tells a module whose types are not known, under the name by which it was asked for.
@@ -181,28 +189,10 @@ fn follow_at<'a>(
         nv: package_nv,
     };
     let was_kept = searches.has(&followed);
-    let KeptSearch {
-        searched: before,
-        mut told,
-        mut origins,
-    } = searches.take(alloc, &followed);
+    let before = searches.take(alloc, &followed);
     let asked = AskedNames { followed, held };
-    let (searched, outer, found, faulty) = follow_in(
-        alloc,
-        sources,
-        provider,
-        info,
-        &asked,
-        before,
-        &mut told,
-        &mut origins,
-    )?;
+    let (kept, outer, found, faulty) = follow_in(alloc, sources, provider, info, &asked, before)?;
     let AskedNames { followed, .. } = asked;
-    let kept = KeptSearch {
-        searched,
-        told,
-        origins,
-    };
     let is_much = is_much(was_kept, info, &kept, outer.as_slice(), &found, faulty);
     searches.keep(&followed, kept, is_much)?;
     let finding = followed_module(alloc, followed.nv, info, outer.as_slice(), found)?;

@@ -1,4 +1,4 @@
-//! What the searches of modules came to, what was told of these, and where their names come from, kept from turn to turn.
+//! What the searches of modules came to, what was told and asked of these, and where their names come from, kept from turn to turn.
 
 ghost use Rattle.std.specs.Prelude.{◌≡◌, [], Some, IfOk, OnOk, ◌⊎◌};
 ghost use Rattle.std.specs.List.{Contains};
@@ -10,11 +10,10 @@ ghost use Rattle.fast_check_demands.specs.Demands.{Demand};
 ghost use Rattle.fast_check_search.specs.Searched.{IsAsked};
 ghost use Rattle.fast_check_graph.specs.declared.root_symbol.AnyModuleInfo.{AnyModuleInfo};
 ghost use Rattle.fast_check_traces.specs.declared.modules.TracedModule.{TracedModule};
-ghost use Rattle.fast_check_traces.specs.Origins.{AreOriginsOf};
 ghost use Rattle.fast_check_traces.specs.Told.{told_ranges};
 ghost use Rattle.fast_check_worklists.specs.Demands.{Text};
 ghost use Rattle.fast_check_sources.specs.Sources.{Known, info_at, traced_as};
-ghost use Rattle.fast_check_turns.specs.Searches.{IsKeptAt, IsToldAt, AreOriginsKept, AreKeptOf};
+ghost use Rattle.fast_check_turns.specs.Searches.{IsKeptAt, IsToldAt, IsKeptFor, AreKeptFor, AreKeptOf};
 
 use fast_check_packages::PackageNv;
 use fast_check_traces::{KeptOrigins, Searched, ToldRanges};
@@ -43,7 +42,7 @@ impl ModuleOfPackage {
     }
 }
 
-/// What the searches of a module came to, what was told of it, and what was read of where its names come from.
+/// What the searches of a module came to, what was told and asked of it, and what was read of where its names come from.
 #[derive(Drop)]
 pub struct KeptSearch<'a> {
     pub searched: Searched,
@@ -56,7 +55,7 @@ impl<'a> KeptSearch<'a> {
     fn new(alloc: Global) -> KeptSearch<'a>
         ensures searched { result.searched ≡ [] }
         ensures told { (tables : Tables) → told_ranges tables result.told ≡ [] }
-        ensures origins { (m : TracedModule) → AreOriginsOf m result.origins }
+        ensures rightly { (m : TracedModule) → IsKeptFor m (Some result) }
     {
         KeptSearch {
             searched: Searched::new(alloc),
@@ -95,9 +94,9 @@ impl<'a> KeptSearches<'a> {
             → IsToldAt self.old (nv_of followed.now.nv) (serialize followed.now.specifier) tables r }
         ensures left_told { (nv : Nv) (t : Text) (tables : Tables) (r : SourceRange) → IsToldAt self.new nv t tables r
             → IsToldAt self.old nv t tables r }
-        ensures origins { (k : Known) (info : AnyModuleInfo) → info_at k.graph k.root_symbol (serialize followed.now.specifier) ≡ Some info
-            → AreOriginsKept k self.old → AreOriginsOf (traced_as k info) result.origins }
-        ensures origins_left { (k : Known) → AreOriginsKept k self.old → AreOriginsKept k self.new }
+        ensures rightly { (k : Known) (info : AnyModuleInfo) → info_at k.graph k.root_symbol (serialize followed.now.specifier) ≡ Some info
+            → AreKeptFor k self.old → IsKeptFor (traced_as k info) (Some result) }
+        ensures left_rightly { (k : Known) → AreKeptFor k self.old → AreKeptFor k self.new }
     {
         let nothing = KeptSearch::new(alloc);
         match self.searches.get_mut(followed) {
@@ -118,9 +117,9 @@ impl<'a> KeptSearches<'a> {
         ensures told { OnOk result ((nv : Nv) (t : Text) (tables : Tables) (r : SourceRange) → IsToldAt self.new nv t tables r
             → IsToldAt self.old nv t tables r
             ⊎ ((nv_of followed.now.nv ≡ nv) × (serialize followed.now.specifier ≡ t) × Contains (told_ranges tables kept.entry.told) r)) }
-        ensures origins { OnOk result ((k : Known) → ((info : AnyModuleInfo)
-            → info_at k.graph k.root_symbol (serialize followed.now.specifier) ≡ Some info → AreOriginsOf (traced_as k info) kept.entry.origins)
-            → AreOriginsKept k self.old → AreOriginsKept k self.new) }
+        ensures rightly { OnOk result ((k : Known) → ((info : AnyModuleInfo)
+            → info_at k.graph k.root_symbol (serialize followed.now.specifier) ≡ Some info → IsKeptFor (traced_as k info) (Some kept.entry))
+            → AreKeptFor k self.old → AreKeptFor k self.new) }
     {
         if !is_much {
             return Ok(());

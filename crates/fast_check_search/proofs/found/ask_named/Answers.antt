@@ -21,10 +21,6 @@ ask_all-requires-clause-follow c d h =
     (follow t x d ((names_are t x d).1
     (c.in_ok-named.ensures.parts d (subst (λ (ds : List Demand). Contains ds d) (c.as_slice.ensures ∙ c.in_ok-named.ensures.is) h))))
 
-pub ask_parts-requires-clause-met : goal.ask_parts-requires-clause-met
-ask_parts-requires-clause-met c = parts_kept c.args.tables.now c.args.met.now _ c.args.before.now (asked c.args.work.now) (asked c.ask_all.new.self)
-    c.in_ok-ask_all.ensures.grown c.requires.met
-
 pub returns-clause-grown : goal.returns-clause-grown
 returns-clause-grown c =
     let t = c.args.tables.now in
@@ -36,8 +32,13 @@ returns-clause-grown c =
     c.in_ok-ask_all.ensures.grown)
     (grows_within these (names t x) _ _ (λ d h. (names_are t x d).2 h) c.in_ok-ask_parts.ensures.grown)
 
+pub returns-clause-parts : goal.returns-clause-parts
+returns-clause-parts c = λ are. c.in_ok-ask_parts.ensures.parts
+    (parts_kept c.args.tables.now c.args.parts.now _ c.args.before.now (asked c.args.work.now) (asked c.ask_all.new.self)
+    c.in_ok-ask_all.ensures.grown are)
+
 pub returns-clause-covered : goal.returns-clause-covered
-returns-clause-covered c d h =
+returns-clause-covered c = λ are d h.
     let t = c.args.tables.now in
     let x = demanded c.args.demand in
     let these = parts_beside t x.symbol x.referrer x.asked in
@@ -46,5 +47,6 @@ returns-clause-covered c d h =
     c.in_ok-ask_parts.ensures.grown
     (c.in_ok-ask_all.ensures.covered d
     (subst (λ (ds : List Demand). Contains ds d) (sym c.as_slice.ensures) (c.in_ok-named.ensures.whole d rest))))
-    (λ (own : Contains these d). c.in_ok-ask_parts.ensures.covered d own)
+    (λ (own : Contains these d). c.in_ok-ask_parts.ensures.covered
+    (parts_kept t c.args.parts.now _ c.args.before.now (asked c.args.work.now) (asked c.ask_all.new.self) c.in_ok-ask_all.ensures.grown are) d own)
     ((names_are t x d).0 h)

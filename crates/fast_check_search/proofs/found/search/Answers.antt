@@ -5,12 +5,13 @@ use Rattle.std.proofs.lemmas.Option.{get_or_from_slice_get}
 use Rattle.fast_check_name_demands.specs.demands.Demands.{Demand, demand_of}
 use Rattle.fast_check_name_demands.specs.demands.Noted.{public_ranges, noted_ranges}
 use Rattle.fast_check_name_demands.specs.demands.Yields.{fault_seen}
-use Rattle.fast_check_search.specs.contracts.parts.PathAskerOrd.TheImpl as asker_order
 use Rattle.fast_check_search.specs.contracts.wanted.DoneWantOrd.TheImpl as wanted_order
 use Rattle.fast_check_search.specs.declared.worklist.SymbolWorklist.{SymbolWorklist}
 use Rattle.fast_check_search.specs.Done.{asked_path}
 use Rattle.fast_check_search.specs.declared.found.Found.{Found}
 use Rattle.fast_check_search.specs.Found.{IsFound}
+use Rattle.fast_check_search.specs.Parts.{ArePartsCovered}
+use Rattle.fast_check_search.specs.Named.{AreNamesAsked}
 use Rattle.fast_check_search.specs.Searched.{IsContinued, IsKeptWith}
 use Rattle.fast_check_search.specs.Universe.{limit}
 use Rattle.fast_check_search.specs.SymbolWorklist.{demanded, asked}
@@ -18,7 +19,7 @@ use Rattle.fast_check_search.proofs.Closure.{begun, turned, ended, nothing_found
 use Rattle.fast_check_search.proofs.Inside.{few_asked}
 use Rattle.fast_check_search.proofs.Kept.{kept_numbered}
 use Rattle.fast_check_search.proofs.Numbering.{number_kept}
-use Rattle.fast_check_search.proofs.OwnParts.{parts_none}
+use Rattle.fast_check_search.proofs.OwnParts.{parts_beside, parts_after}
 use Rattle.fast_check_search.proofs.Own.{own_found, own_found_implementations}
 use Rattle.fast_check_search.proofs.Wants.{wanted_none, wanted_kept}
 use Rattle.fast_check_search.proofs.found.search.Goals as goal
@@ -34,15 +35,14 @@ loop-next-init c =
     let t = c.args.tables.now in
     let public = public_ranges t c.new-noted.result c.new-found.result.ranges.items in
     record {
-      way = begun t (map demand_of c.args.roots.now) c.args.before (asked c.ask_all.new.self) public c.new-found.result
+      way = begun t (map demand_of c.args.roots.now) c.args.before c.args.parts.now (asked c.ask_all.new.self) public c.new-found.result
           (rw c.new-work.ensures.demands at a.grown) a.covered
           (nothing_found t public c.new-found.result (nothing _ _ f.ranges (c.new-noted.ensures t)) f.implementations
           (ap (map fault_seen) f.faults) f.files);
       kept = a.kept;
       wanted = wanted_none c.ask_all.new.self.paths c.new-wanted.result c.new-found.result.files
           (λ k. ap (list_any (is_at (wanted_order.cmp-value.it k))) c.new-wanted.ensures.empty);
-      met = parts_none t c.new-met.result (c.args.before ++ asked c.ask_all.new.self)
-          (λ a. ap (list_any (is_at (asker_order.cmp-value.it a))) c.new-met.ensures.empty);
+      parts = parts_beside t c.args.parts.now c.args.before (asked c.ask_all.new.self);
     }
 
 pub ask_named-requires-clause-kept : goal.ask_named-requires-clause-kept
@@ -55,22 +55,21 @@ pub ask_named-requires-clause-number : goal.ask_named-requires-clause-number
 ask_named-requires-clause-number c = number_kept c.loop-next.work.paths c.add.new.paths c.in_ok-add.ensures.numbers
     (asked_path (demanded c.at-demand.result).asked) c.at-demand.result.path c.at-demand.ensures.number
 
-pub ask_named-requires-clause-met : goal.ask_named-requires-clause-met
-ask_named-requires-clause-met c = c.loop-next.invariant.met
-
 pub loop-next-preserved : goal.loop-next-preserved
 loop-next-preserved c =
     let a = c.in_ok-ask_named.ensures in
     let i = c.loop-next.invariant in
     record {
-      way = turned c.args.tables.now (map demand_of c.args.roots.now) c.args.before (asked c.loop-next.work) (asked c.ask_named.new.work) c.loop-next.next
+      way = turned c.args.tables.now (map demand_of c.args.roots.now) c.args.before c.args.parts.now
+          (asked c.loop-next.work) (asked c.ask_named.new.work) c.loop-next.next
           (demanded c.at-demand.result) c.loop-next.noted c.add.new.noted c.loop-next.found c.add.new.self
           i.way (omega (arith, c.len.ensures, c.loop-next-test.true))
-          (get_or_from_slice_get (asked c.loop-next.work) c.loop-next.next _ _ c.at-demand.ensures.demand) a.grown a.covered c.in_ok-add.ensures.gains;
+          (get_or_from_slice_get (asked c.loop-next.work) c.loop-next.next _ _ c.at-demand.ensures.demand) a.grown
+          (λ are. a.covered (i.parts are)) c.in_ok-add.ensures.gains;
       kept = a.kept;
       wanted = wanted_kept c.add.new.paths c.ask_named.new.work.paths a.numbers c.add.new.wanted c.add.new.self.files
           c.in_ok-add.ensures.wanted;
-      met = a.met;
+      parts = λ are. a.parts (i.parts are);
     }
 
 -- what was found, with what was noted
@@ -83,13 +82,18 @@ all_found c = record {
 }
 
 at_end : (c : goal.After-drop-wanted-2) →
-    IsContinued c.args.tables.now (map demand_of c.args.roots.now) c.args.before (asked c.loop-next.work) ×
+    (ArePartsCovered c.args.tables.now c.args.parts.now c.args.before →
+    IsContinued c.args.tables.now (map demand_of c.args.roots.now) c.args.before (asked c.loop-next.work)) ×
     IsFound c.args.tables.now (asked c.loop-next.work) (noted_ranges c.args.tables.now c.args.told.now)
     (noted_ranges c.args.tables.now c.push_untold.new.told) (all_found c)
-at_end c = ended c.args.tables.now (map demand_of c.args.roots.now) c.args.before (asked c.loop-next.work) c.loop-next.next
+at_end c = ended c.args.tables.now (map demand_of c.args.roots.now) c.args.before c.args.parts.now (asked c.loop-next.work) c.loop-next.next
     (noted_ranges c.args.tables.now c.loop-next.noted) (noted_ranges c.args.tables.now c.args.told.now)
     (noted_ranges c.args.tables.now c.push_untold.new.told) c.loop-next.found (all_found c)
     (omega (arith, c.len.ensures, c.loop-next-test.false)) c.loop-next.invariant.way c.in_ok-push_untold.ensures refl refl refl
+
+kept_all : (c : goal.After-drop-wanted-2) → IsKeptWith c.args.before (asked c.loop-next.work) c.keep_all.new.self
+kept_all c = subst (λ (ds : List Demand). IsKeptWith c.args.before ds c.keep_all.new.self)
+    (ap (map demanded) c.as_slice.ensures.value ∙ c.into_demands-demands.ensures) c.in_ok-keeps_names.ensures.kept
 
 pub returns-clause-continued : goal.returns-clause-continued
 returns-clause-continued c =
@@ -97,9 +101,15 @@ returns-clause-continued c =
       asked c.loop-next.work,
       e.0,
       e.1,
-      subst (λ (ds : List Demand). IsKeptWith c.args.before ds c.keep_all.new.self)
-          (ap (map demanded) c.as_slice.ensures.value ∙ c.into_demands-demands.ensures) c.in_ok-keep_all.ensures,
+      kept_all c,
     )
+
+pub returns-clause-parts : goal.returns-clause-parts
+returns-clause-parts c = λ are. c.keep_if.ensures c.args.tables.now c.keep_all.new.self (λ keeps.
+    parts_after c.args.tables.now c.loop-next.parts c.args.before (asked c.loop-next.work) c.keep_all.new.self (kept_all c)
+    (subst (λ (ds : List Demand). AreNamesAsked ds c.keep_all.new.self)
+    (ap (map demanded) c.as_slice.ensures.value ∙ c.into_demands-demands.ensures) (c.in_ok-keeps_names.ensures.names keeps))
+    (c.loop-next.invariant.parts are))
 
 pub returns-clause-own_ranges : goal.returns-clause-own_ranges
 returns-clause-own_ranges c = own_found c.args.tables.now (asked c.loop-next.work) (noted_ranges c.args.tables.now c.args.told.now)

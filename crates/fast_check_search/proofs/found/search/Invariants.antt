@@ -10,11 +10,11 @@ use Rattle.fast_check_search.proofs.found.search.Given as goal
 
 abbrev pub invariant-loop-next : goal.invariant-loop-next
 invariant-loop-next l = record {
-  way : IsOnTheWay l.tables (map demand_of l.roots) l.fn.before (asked l.work) l.next
+  way : IsOnTheWay l.tables (map demand_of l.roots) l.fn.before l.initial.parts (asked l.work) l.next
       (public_ranges l.tables l.noted l.found.ranges.items) l.found;
   kept : IsKept l.work;
   wanted : AreWanted l.work.paths l.wanted l.found.files;
-  met : ArePartsCovered l.tables l.met (l.fn.before ++ asked l.work);
+  parts : ArePartsCovered l.tables l.initial.parts l.fn.before → ArePartsCovered l.tables l.parts (l.fn.before ++ asked l.work);
 }
 
 abbrev pub decreases-loop-next : goal.decreases-loop-next

@@ -13,31 +13,38 @@ use Rattle.fast_check_search.proofs.parts.ask_own_parts.Goals as goal
 pub returns-then-contains-clause-grown : goal.returns-then-contains-clause-grown
 returns-then-contains-clause-grown c = grows_none (own_parts c.args.tables.now c.args.asker.symbol c.args.asker.referrer) (asked c.args.work.now)
 
+pub returns-then-contains-clause-parts : goal.returns-then-contains-clause-parts
+returns-then-contains-clause-parts c = λ are. are
+
 pub returns-then-contains-clause-covered : goal.returns-then-contains-clause-covered
-returns-then-contains-clause-covered c = c.requires.met c.args.asker (sym c.contains.ensures ∙ c.if-contains.true)
+returns-then-contains-clause-covered c = λ are. are c.args.asker (sym c.contains.ensures ∙ c.if-contains.true)
 
 pub returns-then-is_empty-clause-grown : goal.returns-then-is_empty-clause-grown
 returns-then-is_empty-clause-grown c = grows_none (own_parts c.args.tables.now c.args.asker.symbol c.args.asker.referrer) (asked c.args.work.now)
 
+pub returns-then-is_empty-clause-parts : goal.returns-then-is_empty-clause-parts
+returns-then-is_empty-clause-parts c = λ are. are
+
 pub returns-then-is_empty-clause-covered : goal.returns-then-is_empty-clause-covered
-returns-then-is_empty-clause-covered c d h =
+returns-then-is_empty-clause-covered c = λ _ d h.
     let none : length c.as_slice.result.now ≡ 0 = eqb-true (length c.as_slice.result.now) 0 (sym c.is_empty.ensures ∙ c.if-is_empty.true) in
-    absurd (omega (arith, (c.in_ok-parts.ensures.whole d h).1, ap length c.as_slice.ensures, length-map c.as_slice.result.now demand_of, none))
+    absurd (omega (arith, (c.in_ok-own.ensures.whole d h).1, ap length c.as_slice.ensures, length-map c.as_slice.result.now demand_of, none))
 
 pub ask_all-requires-clause-follow : goal.ask_all-requires-clause-follow
 ask_all-requires-clause-follow c d h = inl (ap path_of c.none.ensures.names)
 
-pub returns-clause-met : goal.returns-clause-met
-returns-clause-met c = parts_more c.args.tables.now c.args.met.now c.insert.new.self c.args.asker (c.args.before.now ++ asked c.ask_all.new.self)
-    (parts_kept c.args.tables.now c.args.met.now _ c.args.before.now (asked c.args.work.now) (asked c.ask_all.new.self)
-    c.in_ok-ask_all.ensures.grown c.requires.met)
-    (λ d h. c.in_ok-ask_all.ensures.covered d (subst (λ (ds : List Demand). Contains ds d) (sym c.as_slice-2.ensures) (c.in_ok-parts.ensures.whole d h)))
+pub returns-clause-grown : goal.returns-clause-grown
+returns-clause-grown c = grows_within _ _ _ _ (λ d h. c.in_ok-own.ensures.parts d
+    (subst (λ (ds : List Demand). Contains ds d) (c.as_slice-2.ensures ∙ c.in_ok-own.ensures.is) h)) c.in_ok-ask_all.ensures.grown
+
+pub returns-clause-parts : goal.returns-clause-parts
+returns-clause-parts c = λ are.
+    parts_more c.args.tables.now c.args.parts.now (record { askers = c.insert.new.self }) c.args.asker (c.args.before.now ++ asked c.ask_all.new.self)
+    (parts_kept c.args.tables.now c.args.parts.now _ c.args.before.now (asked c.args.work.now) (asked c.ask_all.new.self)
+    c.in_ok-ask_all.ensures.grown are)
+    (λ d h. c.in_ok-ask_all.ensures.covered d (subst (λ (ds : List Demand). Contains ds d) (sym c.as_slice-2.ensures) (c.in_ok-own.ensures.whole d h)))
     c.in_ok-insert.ensures.updates
 
-pub returns-clause-grown : goal.returns-clause-grown
-returns-clause-grown c = grows_within _ _ _ _ (λ d h. c.in_ok-parts.ensures.parts d
-    (subst (λ (ds : List Demand). Contains ds d) (c.as_slice-2.ensures ∙ c.in_ok-parts.ensures.is) h)) c.in_ok-ask_all.ensures.grown
-
 pub returns-clause-covered : goal.returns-clause-covered
-returns-clause-covered c d h = c.in_ok-ask_all.ensures.covered d
-    (subst (λ (ds : List Demand). Contains ds d) (sym c.as_slice-2.ensures) (c.in_ok-parts.ensures.whole d h))
+returns-clause-covered c = λ _ d h. c.in_ok-ask_all.ensures.covered d
+    (subst (λ (ds : List Demand). Contains ds d) (sym c.as_slice-2.ensures) (c.in_ok-own.ensures.whole d h))

@@ -22,7 +22,7 @@ returns-in_ok-leave_out-in-None g c used earlier are =
     (record {
       followed = followed_more k earlier (earlier ++ record { trace = x; symbols = [] } ∷ []) c.args.searches.now
           (λ y i. Contains-append_left earlier (record { trace = x; symbols = [] } ∷ []) y i) are.followed;
-      origins = are.origins;
+      rightly = are.rightly;
     })
 
 pub returns-in_ok-follow_at-in-Some : goal.returns-in_ok-follow_at-in-Some

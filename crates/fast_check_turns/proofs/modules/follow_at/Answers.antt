@@ -7,7 +7,7 @@ use Rattle.fast_check_traces.specs.Modules.{own_tables}
 use Rattle.fast_check_worklists.specs.State.{state_of, trace_of}
 use Rattle.fast_check_sources.specs.Sources.{known, with_used, traced_as, module_at}
 use Rattle.fast_check_turns.specs.Searches.{AreKeptOf}
-use Rattle.fast_check_turns.proofs.WereFollowed.{still_followed, origins_here}
+use Rattle.fast_check_turns.proofs.WereFollowed.{still_followed, kept_here}
 use Rattle.fast_check_turns.proofs.Turns.{followed_one}
 use Rattle.fast_check_turns.proofs.modules.follow_at.Goals as goal
 
@@ -18,23 +18,21 @@ returns g c used earlier are here =
     let x = trace_of c.args.trace in
     let n = traced_as k c.args.info.now in
     let there : module_at k x.specifier ≡ Some n = ap (option_map (traced_as k)) here in
-    let s = c.in_ok-searched in
+    let s = c.in_ok-kept in
     let t = c.take-before in
     let old = flat_map yields_of c.args.progress.now.found.items in
-    let origins = t.ensures.origins k c.args.info.now here are.origins in
-    followed_one k x c.args.info.now here t.result.searched s.searched t.result.told c.follow_in.new.told s.outer.items s.found
-    (s.ensures.traced used c.args.trace.exports_to_trace c.in_ok-held.ensures origins)
+    let rightly = t.ensures.rightly k c.args.info.now here are.rightly in
+    followed_one k x c.args.info.now here t.result.searched s.kept.searched t.result.told s.kept.told s.outer.items s.found
+    (s.ensures.traced used c.args.trace.exports_to_trace c.in_ok-held.ensures rightly)
     earlier (λ d h. are.followed.searched x.nv x.specifier d (t.ensures.taken d h))
     (λ r h. are.followed.told x.nv x.specifier n there r (t.ensures.told (own_tables n) r h)) (λ done. AreKeptOf k done c.keep.new.self)
     (λ more kept shown. record {
-      followed = still_followed k earlier (record { trace = x; symbols = more }) n there t.result.searched
-          (record { searched = s.searched; told = c.follow_in.new.told; origins = c.follow_in.new.origins }) c.args.searches.now t.new.self
+      followed = still_followed k earlier (record { trace = x; symbols = more }) n there t.result.searched s.kept c.args.searches.now t.new.self
           c.keep.new.self are.followed t.ensures.taken t.ensures.left t.ensures.left_told c.in_ok-keep.ensures.searched c.in_ok-keep.ensures.told
           kept shown;
-      origins = c.in_ok-keep.ensures.origins k
-          (origins_here k (serialize c.args.trace.specifier) c.args.info.now c.follow_in.new.origins here
-          (s.ensures.origins used origins))
-          (t.ensures.origins_left k are.origins);
+      rightly = c.in_ok-keep.ensures.rightly k
+          (kept_here k (serialize c.args.trace.specifier) c.args.info.now s.kept here (s.ensures.rightly used rightly))
+          (t.ensures.left_rightly k are.rightly);
     })
     (state_of c.args.progress.now.worklist) (state_of c.ask_all.new.self) c.in_ok-ask_all.ensures old
     (flat_map yields_of c.push_finding.new.found.items)

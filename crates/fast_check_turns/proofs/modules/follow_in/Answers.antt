@@ -15,11 +15,13 @@ returns-clause-traced g c used exports holds are =
     let k = known c.args.sources (m.url_of c.args.provider.now.1) (m.nv_at c.args.provider.now.1) in
     let found = c.in_ok-searched.traced in
     let e = c.in_ok-outer.ensures in
-    let again = c.in_ok-searched.ensures.re_exports (record { says = are.says }) in
-    let t = traced_with k (nv_of c.args.asked.now.followed.nv) (traced_as k c.args.info.now) c.as_slice.result.now c.args.before
-    c.in_ok-searched.searched c.args.told.now c.trace.new.told (map want_of c.in_ok-outer.outer.items) found.found found.re_export_ranges.items
-    found.wants c.in_ok-outer.found c.in_ok-searched.ensures.continued (record { sound = again.sound; complete = again.complete; told = again.told })
-    (c.in_ok-searched.ensures.wants (record { says = are.says }))
+    let says = c.in_ok-searched.ensures.continued in
+    let again = c.in_ok-searched.ensures.re_exports (record { says = are.0.says }) in
+    let t = traced_with k (nv_of c.args.asked.now.followed.nv) (traced_as k c.args.info.now) c.as_slice.result.now c.args.kept.searched
+    c.in_ok-searched.searched c.args.kept.told c.trace.new.told (map want_of c.in_ok-outer.outer.items) found.found found.re_export_ranges.items
+    found.wants c.in_ok-outer.found (says.0, says.1 are.1, says.2, says.3)
+    (record { sound = again.sound; complete = again.complete; told = again.told })
+    (c.in_ok-searched.ensures.wants (record { says = are.0.says }))
     e.wants e.ranges e.implementations e.faults in
     record {
       names = map names_of c.as_slice.result.now;
@@ -45,5 +47,8 @@ returns-clause-traced g c used exports holds are =
       };
     }
 
-pub returns-clause-origins : goal.returns-clause-origins
-returns-clause-origins g c used are = record { says = (c.in_ok-searched.ensures.origins (record { says = are.says })).says }
+pub returns-clause-rightly : goal.returns-clause-rightly
+returns-clause-rightly g c used are = (
+  record { says = (c.in_ok-searched.ensures.origins (record { says = are.0.says })).says },
+  c.in_ok-searched.ensures.parts are.1,
+)

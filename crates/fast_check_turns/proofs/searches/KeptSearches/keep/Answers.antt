@@ -3,7 +3,7 @@ use Rattle.std.specs.List.{Contains}
 use Rattle.fast_check_search.specs.Searched.{IsAsked}
 use Rattle.fast_check_turns.specs.declared.searches.KeptSearch.{KeptSearch}
 use Rattle.fast_check_turns.specs.Searches.{searched_of, told_of}
-use Rattle.fast_check_turns.proofs.WereFollowed.{put_kept, put_copied, put_origins, origins_copied}
+use Rattle.fast_check_turns.proofs.WereFollowed.{put_kept, put_copied, put_for, copied_for}
 use Rattle.fast_check_turns.proofs.searches.KeptSearches.keep.Goals as goal
 
 pub returns-then-not-is_much-clause-searched : goal.returns-then-not-is_much-clause-searched
@@ -38,16 +38,16 @@ returns-clause-told c nv t tables r =
     c.in_ok-copy.copy c.args.followed.now c.in_ok-copy.ensures.nv c.in_ok-copy.ensures.specifier
     c.get_mut.follows.holds-at-none c.args.kept c.in_ok-insert.ensures.updates.0 nv t
 
-pub returns-then-not-is_much-clause-origins : goal.returns-then-not-is_much-clause-origins
-returns-then-not-is_much-clause-origins c = λ k mine are. are
+pub returns-then-not-is_much-clause-rightly : goal.returns-then-not-is_much-clause-rightly
+returns-then-not-is_much-clause-rightly c = λ k mine are. are
 
-pub returns-in-Some-clause-origins : goal.returns-in-Some-clause-origins
-returns-in-Some-clause-origins c =
-    put_origins c.args.self.now (record { searches = c.get_mut.follows.lender c.args.kept }) c.args.followed.now c.args.kept
+pub returns-in-Some-clause-rightly : goal.returns-in-Some-clause-rightly
+returns-in-Some-clause-rightly c =
+    put_for c.args.self.now (record { searches = c.get_mut.follows.lender c.args.kept }) c.args.followed.now c.args.kept
     ((c.get_mut.follows.holds c.args.kept).3 (subst (λ (o : Option KeptSearch). IsSome o) c.in-Some.ensures.value refl)).0
 
-pub returns-clause-origins : goal.returns-clause-origins
-returns-clause-origins c =
-    origins_copied c.args.self.now (record { searches = c.get_mut.follows.lender-at-none }) (record { searches = c.insert.new.self })
+pub returns-clause-rightly : goal.returns-clause-rightly
+returns-clause-rightly c =
+    copied_for c.args.self.now (record { searches = c.get_mut.follows.lender-at-none }) (record { searches = c.insert.new.self })
     c.in_ok-copy.copy c.args.followed.now c.in_ok-copy.ensures.nv c.in_ok-copy.ensures.specifier
     c.get_mut.follows.holds-at-none c.args.kept c.in_ok-insert.ensures.updates.0

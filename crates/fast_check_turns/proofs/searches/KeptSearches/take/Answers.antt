@@ -1,4 +1,4 @@
-use Rattle.std.proofs.Common.{◌∙◌, sym, ap, refl, subst, List, Option, IsSome}
+use Rattle.std.proofs.Common.{◌∙◌, sym, ap, refl, subst, List, Option, Some, IsSome}
 use Rattle.std.specs.BTreeMap.{BTreeMap}
 use Rattle.std.specs.List.{Contains}
 use Rattle.std.proofs.lemmas.Bool.{false≢true}
@@ -6,13 +6,12 @@ use Rattle.fast_check_syntax.specs.declared.source.SourceRange.{SourceRange}
 use Rattle.fast_check_demands.specs.Demands.{Demand as SymbolDemand}
 use Rattle.fast_check_search.specs.Searched.{IsAsked}
 use Rattle.fast_check_search.proofs.Each.{Contains_none}
-use Rattle.fast_check_traces.specs.Origins.{AreOriginsOf}
 use Rattle.fast_check_traces.specs.Told.{told_ranges}
 use Rattle.fast_check_sources.specs.Sources.{traced_as}
 use Rattle.fast_check_turns.specs.declared.searches.ModuleOfPackage.{ModuleOfPackage}
 use Rattle.fast_check_turns.specs.declared.searches.KeptSearch.{KeptSearch}
-use Rattle.fast_check_turns.specs.Searches.{searched_of, told_of, IsKeptAt, IsToldAt}
-use Rattle.fast_check_turns.proofs.WereFollowed.{found_kept, left_kept, found_origins, same_origins, put_origins}
+use Rattle.fast_check_turns.specs.Searches.{searched_of, told_of, IsKeptAt, IsToldAt, IsKeptFor}
+use Rattle.fast_check_turns.proofs.WereFollowed.{found_kept, left_kept, found_for, same_for, put_for}
 use Rattle.fast_check_turns.proofs.searches.KeptSearches.take.Goals as goal
 
 pub returns-in-None-clause-taken : goal.returns-in-None-clause-taken
@@ -57,23 +56,23 @@ returns-in-Some-clause-left_told c nv t tables r =
     (λ h. Contains_none r (subst (λ (rs : List SourceRange). Contains rs r)
     (ap (λ (s : KeptSearch). told_ranges tables s.told) c.replace.ensures.after ∙ c.new-nothing.ensures.told tables) h)) nv t
 
-pub returns-in-None-clause-origins : goal.returns-in-None-clause-origins
-returns-in-None-clause-origins c = λ k info _ _. c.new-nothing.ensures.origins (traced_as k info)
+pub returns-in-None-clause-rightly : goal.returns-in-None-clause-rightly
+returns-in-None-clause-rightly c = λ k info _ _. c.new-nothing.ensures.rightly (traced_as k info)
 
-pub returns-in-Some-clause-origins : goal.returns-in-Some-clause-origins
-returns-in-Some-clause-origins c = λ k info e are.
-    subst (λ (kept : KeptSearch). AreOriginsOf (traced_as k info) kept.origins) (sym c.replace.ensures.value)
-    (found_origins k c.args.self.now c.args.followed.now c.in-Some.kept.now c.in-Some.ensures.value are info e)
+pub returns-in-Some-clause-rightly : goal.returns-in-Some-clause-rightly
+returns-in-Some-clause-rightly c = λ k info e are.
+    subst (λ (kept : KeptSearch). IsKeptFor (traced_as k info) (Some kept)) (sym c.replace.ensures.value)
+    (found_for k c.args.self.now c.args.followed.now c.in-Some.kept.now c.in-Some.ensures.value are info e)
 
-pub returns-in-None-clause-origins_left : goal.returns-in-None-clause-origins_left
-returns-in-None-clause-origins_left c = λ k are.
-    same_origins k c.args.self.now (record { searches = c.get_mut.follows.lender-at-none }) c.get_mut.follows.holds-at-none are
+pub returns-in-None-clause-left_rightly : goal.returns-in-None-clause-left_rightly
+returns-in-None-clause-left_rightly c = λ k are.
+    same_for k c.args.self.now (record { searches = c.get_mut.follows.lender-at-none }) c.get_mut.follows.holds-at-none are
 
-pub returns-in-Some-clause-origins_left : goal.returns-in-Some-clause-origins_left
-returns-in-Some-clause-origins_left c = λ k are.
-    put_origins c.args.self.now (record { searches = c.get_mut.follows.lender c.replace.new.dest }) c.args.followed.now c.replace.new.dest
+pub returns-in-Some-clause-left_rightly : goal.returns-in-Some-clause-left_rightly
+returns-in-Some-clause-left_rightly c = λ k are.
+    put_for c.args.self.now (record { searches = c.get_mut.follows.lender c.replace.new.dest }) c.args.followed.now c.replace.new.dest
     ((c.get_mut.follows.holds c.replace.new.dest).3 (subst (λ (o : Option KeptSearch). IsSome o) c.in-Some.ensures.value refl)).0
     k
-    (λ info _. subst (λ (kept : KeptSearch). AreOriginsOf (traced_as k info) kept.origins) (sym c.replace.ensures.after)
-    (c.new-nothing.ensures.origins (traced_as k info)))
+    (λ info _. subst (λ (kept : KeptSearch). IsKeptFor (traced_as k info) (Some kept)) (sym c.replace.ensures.after)
+    (c.new-nothing.ensures.rightly (traced_as k info)))
     are
