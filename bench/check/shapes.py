@@ -7,27 +7,22 @@ a run takes a tenth of a second, or the input has 4 MB. An exponent above 1.2 is
 
 From some shapes more follows than they have bytes: as much as the product of two of their lengths. What follows are the demands of the account
 (docs/ARCHITECTURE.md), each written out with its package, the URL of its module and its names, the URLs that the provider answers, and the items of trees
-that are gone through. Of these
-shapes the seconds are fitted to the bytes of the input and of what follows together, and a line says so. What is known to grow with a square though no
-more follows stands in `squares.py`.
+that are gone through. Of these shapes the seconds are fitted to the bytes of the input and of what follows together, and a line says so. What is known to
+grow with a square though no more follows stands in `squares.py`.
 
 Usage: bench/check/shapes.py PROGRAM [SHAPE ..]
 """
-import functools
-import json
 import math
-import multiprocessing
-import os
-import subprocess
 import sys
-import tempfile
 
+from growth import MOST_EXPONENT, exponent, in_three_sizes, measured, row, spent
+from one_hash import NAME_LETTERS, URL_LETTERS, colliding
 from tables import (
-    FEW, HOST, NO_TEXT, ONE, RANGES, assigned, decl, definition, exported_const, file_ref, import_type, imported, module, part, request, single, span,
-    symbol, target, transform, tree_module, url,
+    FEW, HOST, NO_TEXT, ONE, RANGES, assigned, by_name, chain_to, decl, definition, exported_const, exports_of, file_ref, import_type, imported, module,
+    names_that_ask, namespace_of_items, part, request, single, span, symbol, target, transform, tree_module, url,
 )
 
-FIRST, LEAST_SECONDS, MOST_BYTES, MOST_EXPONENT, RUNS = 500, 0.1, 4_000_000, 1.2, 3
+FIRST, LEAST_SECONDS = 500, 0.1
 
 SHAPES = {}
 # Of the shapes from which more follows than they have bytes: about how many bytes that are, for each number.
@@ -403,35 +398,6 @@ def packages_within_each_other(n):
     return made
 
 
-def chain_to(n, asked, of, *more):
-    """A chain of n modules, each of which asks the next one for its only name and the module `of` for the path that `asked` gives; and these modules more."""
-
-    def at(i):
-        deps = ([import_type(url(i + 1), "s1")] if i < n else []) + [import_type(of[0], *asked(i))]
-        return module(url(i), [symbol(1, definition(*deps))], [["s1", 1]])
-
-    return request(*map(at, range(1, n + 1)), of, *more, exports=[[".", "./1.ts"]])
-
-
-def by_name(name):
-    return [{"Id": [name, 1]}, "Type_"]
-
-
-def exports_of(letter, n):
-    return [[f"{letter}{i}", i] for i in range(1, n + 1)]
-
-
-def names_that_ask(asked, n, *symbols):
-    """A module of n names, each of which asks for the symbol of this name, and of these symbols."""
-    return module(url("m"), [*(symbol(i, definition(by_name(asked)), name=f"a{i}") for i in range(1, n + 1)), *symbols], exports_of("a", n))
-
-
-def namespace_of_items(n):
-    """A namespace N of n items, behind n other symbols."""
-    items = [symbol(n + 1 + i, definition(), parent=n + 1, name=f"x{i}") for i in range(1, n + 1)]
-    return [symbol(n + 1, definition(is_ts_namespace=True), name="N", exports=[[f"x{i}", n + 1 + i] for i in range(1, n + 1)]), *items]
-
-
 @shape
 def names_asked_in_turns(n):
     """Turns in which a name of one module is asked for, each of which leads to the items of a namespace."""
@@ -800,57 +766,21 @@ def imports_in_a_long_url(n):
     return transform(body, map(span, range(1, n + 1)), specifier=own, graph={"resolutions": [[own, "./a.ts", other]]})
 
 
-def run(program, path, command="build"):
-    """The status, the processor seconds and the bytes held of a run."""
-    child = subprocess.Popen(["timeout", "120", program, command, path], stdout=subprocess.DEVNULL, stderr=subprocess.DEVNULL)
-    _, status, usage = os.wait4(child.pid, 0)
-    child.returncode = os.waitstatus_to_exitcode(status)
-    return child.returncode, usage.ru_utime + usage.ru_stime, usage.ru_maxrss * 1024
+# ---- texts of one hash
 
 
-@functools.cache
-def runner():
-    """A process that holds little. What a process starts is said to have held at least what it held itself, and here that is whole inputs."""
-    return multiprocessing.get_context("spawn").Pool(1)
+@shape
+def modules_of_one_hash(n):
+    """Modules that are asked for, times those that were asked for before, if they were told apart by the hash of their URLs, which is one."""
+    made = request(module(url(0), [symbol(1, definition(*(import_type(f"{i}", "s") for i in range(n))))], [["s1", 1]]))
+    made["graph"]["resolutions"] = [[url(0), f"{i}", each] for i, each in enumerate(colliding(n, URL_LETTERS, HOST + "0/"))]
+    return made
 
 
-def spent(program, made, command="build", runs=RUNS):
-    """The bytes of an input, and the status, the processor seconds and the bytes held of the quickest of so many runs on it: what else the machine does
-    makes a run slower, and none quicker."""
-    with tempfile.NamedTemporaryFile("w", suffix=".json") as file:
-        json.dump(made, file, separators=(",", ":"))
-        file.flush()
-        ran = (runner().apply(run, (program, file.name, command)) for _ in range(runs))
-        return os.path.getsize(file.name), *min(ran, key=lambda each: each[1])
-
-
-def exponent(points):
-    """The slope of a line through the logarithms of the points."""
-    xs, ys = [math.log(x) for x, _ in points], [math.log(max(y, 0.001)) for _, y in points]
-    x, y = sum(xs) / len(xs), sum(ys) / len(ys)
-    return sum((a - x) * (b - y) for a, b in zip(xs, ys)) / sum((a - x) ** 2 for a in xs)
-
-
-def in_three_sizes(spent_at, first, least_seconds, last=math.inf):
-    """The number of the first size, and what is spent at it, at twice and at four times that. It is the first that is given, and is doubled until a run
-    takes so many seconds, the input has 4 MB, or the number is the last."""
-    n = first
-    ran = spent_at(n)
-    while ran[2] < least_seconds and ran[0] < MOST_BYTES and ran[1] < 3 and n < last:
-        n *= 2
-        ran = spent_at(n)
-    return n, [ran, spent_at(2 * n), spent_at(4 * n)]
-
-
-HEADER = f"{'shape':32} {'largest':>8} {'MB':>8} {'status':>6} {'seconds':>8} {'twice':>8} {'4 times':>8} {'held':>8} {'exponent':>8}"
-
-
-def row(name, largest, runs, grows, said):
-    """The line of a shape, under HEADER."""
-    size, _, _, held = runs[-1]
-    statuses = "/".join(str(each) for each in sorted({status for _, status, _, _ in runs}))
-    seconds = " ".join(f"{each:8.2f}" for _, _, each, _ in runs)
-    return f"{name:32} {largest:8} {size / 1e6:8.2f} {statuses:>6} {seconds} {held / size:8.0f} {grows:8.2f}{said}"
+@shape
+def packages_of_one_hash(n):
+    """Packages that are asked for, times those that were asked for before, if they were told apart by their hash, which is one."""
+    return request(module(url(0), [], []), pending=[each + "@1.0.0" for each in colliding(n, NAME_LETTERS)])
 
 
 def measure(program, name):
@@ -861,20 +791,6 @@ def measure(program, name):
     is_good = grows <= MOST_EXPONENT and all(status in (0, 1, 2) for _, status, _, _ in runs)
     print(row(name, 4 * n, runs, grows, "  too much" if not is_good else "  by what follows" if name in FOLLOWS else ""), flush=True)
     return is_good
-
-
-def measured(words, usage, names, measure, counted, missed):
-    """Measures the shapes that the words name behind a program, or all. Prints how many there are and how many are not as they should be. Answers a status."""
-    if not words or any(word not in names for word in words[1:]):
-        print(usage + "\nShapes: " + " ".join(names))
-        return 2
-    if not os.access(words[0], os.X_OK):
-        print(f"no program: {words[0]}", file=sys.stderr)
-        return 2
-    print(HEADER)
-    good = [measure(os.path.abspath(words[0]), name) for name in words[1:] or names]
-    print(f"{counted}={len(good)} {missed}={good.count(False)}")
-    return 0 if all(good) else 1
 
 
 if __name__ == "__main__":

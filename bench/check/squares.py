@@ -11,8 +11,6 @@ input is told as `no answer`. For both the status is 1.
 
 Usage: bench/check/squares.py PROGRAM [SHAPE ..]
 """
-import functools
-import itertools
 import math
 import os
 import sys
@@ -20,14 +18,14 @@ import sys
 sys.dont_write_bytecode = True
 sys.path[:0] = [os.path.join(os.path.dirname(os.path.dirname(os.path.abspath(__file__))), folder) for folder in ("rules", "cases", "check", "time")]
 
-from shapes import (
-    MOST_EXPONENT, alias_urls, covered, exponent, in_three_sizes, measured, one_name, property_in_turns, row, spent, under_aliases,
-)
-from tables import (
-    HOST, definition, file_ref, import_type, module, request, symbol, transform, url,
-)
+from growth import MOST_EXPONENT, exponent, in_three_sizes, measured, row, spent
+from one_hash import colliding
+from shapes import alias_urls, covered, one_name, property_in_turns, under_aliases
+from tables import definition, file_ref, import_type, module, request, symbol, transform, url
 
 FIRST, LEAST_SECONDS, RUNS = 125, 0.04, 2
+# Letters of texts that are neither names nor URLs.
+TEXT_LETTERS = "".join(chr(code) for code in range(33, 127) if chr(code) not in '"\\')
 # Each known shape by its name: how it is made, its command, the first number that is tried, and the last that is the first of three sizes.
 KNOWN = {}
 
@@ -41,56 +39,6 @@ def known(command="build", first=FIRST, last=math.inf):
 
 
 # ---- texts of one hash
-
-# The hash of the kit's tables has no secret, so such texts can be made. It takes a text in blocks of 16 bytes: of two numbers of 8 bytes, the first is mixed
-# with the state and the second with the multiplier, and the halves of their product are the next state. Where the first number is the state itself, the
-# product is 0, whatever the second is.
-MASK, MULTIPLIER, INITIAL = 2 ** 64 - 1, 0x9E37_79B9_7F4A_7C15, 0x243F_6A88_85A3_08D3
-NAME_LETTERS = "abcdefghijklmnopqrstuvwxyzABCDEFGHIJKLMNOPQRSTUVWXYZ0123456789_$"
-URL_LETTERS = NAME_LETTERS + "-.~!&'()*+,;=:@"
-TEXT_LETTERS = "".join(chr(code) for code in range(33, 127) if chr(code) not in '"\\')
-
-
-def next_state(state, block):
-    first, second = (int.from_bytes(half, "little") for half in (block[:8], block[8:]))
-    product = (first ^ state) * (second ^ MULTIPLIER)
-    return (product & MASK) ^ (product >> 64)
-
-
-@functools.cache
-def colliding_front(letters, before):
-    """A text that begins so, behind which 8 letters more make one hash, whichever they are: its last 8 bytes are the state behind those in front of them."""
-    head, allowed = before.encode(), set(letters.encode())
-    whole = len(head) // 16 * 16
-    state = (INITIAL + whole + 32) & MASK
-    for at in range(0, whole, 16):
-        state = next_state(state, head[at:at + 16])
-    for more in itertools.product(letters, repeat=16 - (len(head) - whole)):
-        block = head[whole:] + "".join(more).encode()
-        behind = next_state(state, block).to_bytes(8, "little")
-        if allowed.issuperset(behind):
-            return (head[:whole] + block + behind).decode()
-    raise ValueError(f"no text of these letters that begins with {before!r} leaves a state of them")
-
-
-def colliding(n, letters, before=""):
-    """n texts of one length and one hash, of these letters behind the same beginning."""
-    front = colliding_front(letters, before)
-    return [front + "".join(last) for last in itertools.islice(itertools.product(letters, repeat=8), n)]
-
-
-@known()
-def modules_of_one_hash(n):
-    """Modules that are asked for times those that were: their URLs have one hash (fast_check_worklists, `HandledExports::add` and `PendingTraces::add`)."""
-    made = request(module(url(0), [symbol(1, definition(*(import_type(f"{i}", "s") for i in range(n))))], [["s1", 1]]))
-    made["graph"]["resolutions"] = [[url(0), f"{i}", each] for i, each in enumerate(colliding(n, URL_LETTERS, HOST + "0/"))]
-    return made
-
-
-@known()
-def packages_of_one_hash(n):
-    """Packages that are asked for times those that were: they have one hash (fast_check_worklists, `Worklist::ask_package`)."""
-    return request(module(url(0), [], []), pending=[each + "@1.0.0" for each in colliding(n, NAME_LETTERS)])
 
 
 @known("transform")

@@ -118,3 +118,32 @@ def transform(body, ranges, symbols=(), ids=(), specifier="file:///p/mod.ts", gr
 
 # A declaration in few bytes.
 FEW = {"kind": {"Definition": None}}
+
+
+def chain_to(n, asked, of, *more):
+    """A chain of n modules, each of which asks the next one for its only name and the module `of` for the path that `asked` gives; and these modules more."""
+
+    def at(i):
+        deps = ([import_type(url(i + 1), "s1")] if i < n else []) + [import_type(of[0], *asked(i))]
+        return module(url(i), [symbol(1, definition(*deps))], [["s1", 1]])
+
+    return request(*map(at, range(1, n + 1)), of, *more, exports=[[".", "./1.ts"]])
+
+
+def by_name(name):
+    return [{"Id": [name, 1]}, "Type_"]
+
+
+def exports_of(letter, n):
+    return [[f"{letter}{i}", i] for i in range(1, n + 1)]
+
+
+def names_that_ask(asked, n, *symbols):
+    """A module of n names, each of which asks for the symbol of this name, and of these symbols."""
+    return module(url("m"), [*(symbol(i, definition(by_name(asked)), name=f"a{i}") for i in range(1, n + 1)), *symbols], exports_of("a", n))
+
+
+def namespace_of_items(n):
+    """A namespace N of n items, behind n other symbols."""
+    items = [symbol(n + 1 + i, definition(), parent=n + 1, name=f"x{i}") for i in range(1, n + 1)]
+    return [symbol(n + 1, definition(is_ts_namespace=True), name="N", exports=[[f"x{i}", n + 1 + i] for i in range(1, n + 1)]), *items]
