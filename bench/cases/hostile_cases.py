@@ -149,6 +149,11 @@ CASES = [
     ("hostile_one_property_in_turns", shapes.one_property_in_turns(50), [*IN_TURNS, tables.url("m")]),
     ("hostile_re_exports_in_turns", shapes.re_exports_in_turns(50), sorted([*IN_TURNS, tables.url("m"), *(tables.url(f"m{i}") for i in range(1, 51))])),
     ("hostile_no_re_export_in_turns", shapes.no_re_export_in_turns(50), [*IN_TURNS, tables.url("m")]),
+    ("hostile_qualified_alias_in_turns", shapes.qualified_alias_in_turns(50), [*IN_TURNS, tables.url("m")]),
+    ("hostile_parts_through_aliases_in_turns", shapes.parts_through_aliases_in_turns(80), [*sorted(tables.url(place) for place in range(1, 11)), tables.url("m")]),
+    # told apart by what they are, though they have one hash
+    ("hostile_modules_of_one_hash", shapes.modules_of_one_hash(300), ONE),
+    ("hostile_packages_of_one_hash", shapes.packages_of_one_hash(300), []),
     ("hostile_urls_beside_bases", shapes.urls_beside_bases(50), ONE),
     ("hostile_entry_points_of_a_long_package", shapes.entry_points_of_a_long_package(50), ONE),
     ("hostile_long_name", *a_long_name(100_000)),
