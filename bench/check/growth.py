@@ -53,7 +53,7 @@ def in_three_sizes(spent_at, first, least_seconds, last=math.inf):
     return n, [ran, spent_at(2 * n), spent_at(4 * n)]
 
 
-HEADER = f"{'shape':32} {'largest':>8} {'MB':>8} {'status':>6} {'seconds':>8} {'twice':>8} {'4 times':>8} {'held':>8} {'exponent':>8}"
+HEADER = f"{'shape':40} {'largest':>8} {'MB':>8} {'status':>6} {'seconds':>8} {'twice':>8} {'4 times':>8} {'held':>8} {'exponent':>8}"
 
 
 def row(name, largest, runs, grows, said):
@@ -61,7 +61,7 @@ def row(name, largest, runs, grows, said):
     size, _, _, held = runs[-1]
     statuses = "/".join(str(each) for each in sorted({status for _, status, _, _ in runs}))
     seconds = " ".join(f"{each:8.2f}" for _, _, each, _ in runs)
-    return f"{name:32} {largest:8} {size / 1e6:8.2f} {statuses:>6} {seconds} {held / size:8.0f} {grows:8.2f}{said}"
+    return f"{name:40} {largest:8} {size / 1e6:8.2f} {statuses:>6} {seconds} {held / size:8.0f} {grows:8.2f}{said}"
 
 
 def measured(words, usage, names, measure, counted, missed):
