@@ -7,7 +7,6 @@ ghost use Rattle.fast_check_packages.specs.MembersIn.{members_in};
 ghost use Rattle.fast_check_entries.specs.Entries.{base_or, entrance_by, entered, entrance_of, entrance_seen, DiagnosesRefused};
 ghost use Rattle.fast_check_entries.specs.Kept.{AreKept};
 
-use crate::exports::base_of;
 use crate::joined::join_exports;
 use crate::members::MemberEntries;
 use fast_check_graph::ModuleGraph;
@@ -31,8 +30,13 @@ fn graph_entries(
     ensures refused { let base = base_or (url_of provider.now (nv_of nv.now)) (option_copied member.entry) in
         IfErr result (DiagnosesRefused (nv_of nv.now) (entrance_by base (Some exports.now.entries))) }
 {
-    let base = base_of(provider, member, nv)?;
-    join_exports(alloc, nv, &base, exports)
+    match member {
+        None => {
+            let base = provider.package_url(nv)?;
+            join_exports(alloc, nv, &base, exports)
+        }
+        Some(member) => join_exports(alloc, nv, &member.base, exports),
+    }
 }
 
 /// The entry points of a package: what its export texts are joined to, in order and each once. None where neither the graph nor a member

@@ -2,7 +2,6 @@
 #![tactic(auto)]
 
 mod entered;
-mod exports;
 mod faults;
 mod joined;
 mod members;

@@ -13,6 +13,7 @@ ghost use Rattle.fast_check_search.specs.SymbolWorklist.{demanded, asked, IsKept
 ghost use Rattle.fast_check_search.specs.Wanted.{AreWanted};
 
 use crate::done::NumberedDemand;
+use crate::effort::effort_of;
 use crate::numbers::{NumberedPath, PathNumbers};
 use crate::parts::{AskedParts, ask_parts};
 use crate::searched::Searched;
@@ -164,8 +165,9 @@ pub fn search<'a>(
     }
     noted.push_untold(tables, told, &mut found.ranges)?;
     let demands = work.into_demands();
+    let met = demands.as_slice();
     let mut searched = before;
-    let keeps_names = searched.keep_all(alloc, demands.as_slice())?;
+    let keeps_names = searched.keep_all(alloc, met, effort_of(tables, met))?;
     parts.keep_if(alloc, keeps_names);
     Ok((searched, found))
 }

@@ -2,6 +2,7 @@
 #![tactic(auto)]
 
 mod done;
+mod effort;
 mod found;
 mod named;
 mod nameless;

@@ -24,8 +24,8 @@ pub struct Searched {
     named: NamedDemands,
     /// Whether a search came to this, so that the next one is not the first.
     was_searched: bool,
-    /// How many demands the last search met.
-    met: usize,
+    /// How much the last search went over.
+    effort: usize,
 }
 
 impl Model for Searched {
@@ -48,15 +48,15 @@ impl Searched {
             demands: BTreeSet::new(alloc),
             named: NamedDemands::new(alloc),
             was_searched: false,
-            met: 0,
+            effort: 0,
         }
     }
 
-    /// How much searches came to: what is kept, demands without names and different names of the others, or the demands that the last search met, where
-    /// those are more. Nothing that is found depends on it.
+    /// How much searches came to: what is kept, demands without names and different names of the others, or what the last search went over, where that is
+    /// more. Nothing that is found depends on it.
     pub fn len(&self) -> usize {
         let kept = self.demands.len().saturating_add(self.named.count());
-        kept.max(self.met)
+        kept.max(self.effort)
     }
 
     /// Whether a demand that asks for the same is kept.
@@ -115,10 +115,12 @@ impl Searched {
     }
 
     /// Keeps those of these demands that ask for no names, and those of one name where this is not the first search. Answers whether it kept the latter.
+    /// So much was gone over for them.
     pub fn keep_all(
         &mut self,
         alloc: Global,
         demands: &[NumberedDemand<'_>],
+        effort: usize,
     ) -> Result<bool, AllocError>
         ensures kept { OnOk result (IsKeptWith self.old (map demanded demands.now) self.new) }
         ensures names { IfOk result (λ keeps. IsTrue keeps → AreNamesAsked (map demanded demands.now) self.new) }
@@ -128,7 +130,7 @@ impl Searched {
             self.keep(alloc, each.demand, keeps_names)?;
         }
         self.was_searched = true;
-        self.met = demands.len();
+        self.effort = effort;
         Ok(keeps_names)
     }
 }

@@ -93,7 +93,7 @@ at_end c = ended c.args.tables.now (map demand_of c.args.roots.now) c.args.befor
 
 kept_all : (c : goal.After-drop-wanted-2) → IsKeptWith c.args.before (asked c.loop-next.work) c.keep_all.new.self
 kept_all c = subst (λ (ds : List Demand). IsKeptWith c.args.before ds c.keep_all.new.self)
-    (ap (map demanded) c.as_slice.ensures.value ∙ c.into_demands-demands.ensures) c.in_ok-keeps_names.ensures.kept
+    (ap (map demanded) c.as_slice-met.ensures.value ∙ c.into_demands-demands.ensures) c.in_ok-keeps_names.ensures.kept
 
 pub returns-clause-continued : goal.returns-clause-continued
 returns-clause-continued c =
@@ -108,7 +108,7 @@ pub returns-clause-parts : goal.returns-clause-parts
 returns-clause-parts c = λ are. c.keep_if.ensures c.args.tables.now c.keep_all.new.self (λ keeps.
     parts_after c.args.tables.now c.loop-next.parts c.args.before (asked c.loop-next.work) c.keep_all.new.self (kept_all c)
     (subst (λ (ds : List Demand). AreNamesAsked ds c.keep_all.new.self)
-    (ap (map demanded) c.as_slice.ensures.value ∙ c.into_demands-demands.ensures) (c.in_ok-keeps_names.ensures.names keeps))
+    (ap (map demanded) c.as_slice-met.ensures.value ∙ c.into_demands-demands.ensures) (c.in_ok-keeps_names.ensures.names keeps))
     (c.loop-next.invariant.parts are))
 
 pub returns-clause-own_ranges : goal.returns-clause-own_ranges
