@@ -1,6 +1,7 @@
 """Runs of `fast-check build` on hostile tables, in the shapes that `bench/check/shapes.py` and `squares.py` measure and in some of its own: rings, long
 paths, names that come twice, and modules that lead back to themselves. The trees are empty, so that each module with something public is answered by an
 empty skeleton: what is shown is that the call ends, which modules are answered, and which fault of the tables is told."""
+import in_turns
 import shapes
 import squares
 import tables
@@ -141,16 +142,16 @@ CASES = [
     ("hostile_names_of_many_re_exports", shapes.names_of_many_re_exports(50), sorted(tables.url(place) for place in range(52))),
     ("hostile_names_that_no_re_export_has", shapes.names_that_no_re_export_has(50), TWO),
     # followed in many turns, of which the later ones go on from what the earlier ones came to
-    ("hostile_names_of_two_modules_in_turns", shapes.names_of_two_modules_in_turns(50), sorted(tables.url(place) for place in range(3))),
-    ("hostile_names_asked_in_turns", shapes.names_asked_in_turns(50), [*IN_TURNS, tables.url("m")]),
-    ("hostile_chain_asked_from_its_end", shapes.chain_asked_from_its_end(50), [*IN_TURNS, tables.url("m")]),
-    ("hostile_files_asked_in_turns", shapes.files_asked_in_turns(50), sorted([*IN_TURNS, tables.url(51), tables.url("m")])),
-    ("hostile_declarations_asked_in_turns", shapes.declarations_asked_in_turns(50), [*IN_TURNS, tables.url("m")]),
-    ("hostile_one_property_in_turns", shapes.one_property_in_turns(50), [*IN_TURNS, tables.url("m")]),
-    ("hostile_re_exports_in_turns", shapes.re_exports_in_turns(50), sorted([*IN_TURNS, tables.url("m"), *(tables.url(f"m{i}") for i in range(1, 51))])),
-    ("hostile_no_re_export_in_turns", shapes.no_re_export_in_turns(50), [*IN_TURNS, tables.url("m")]),
-    ("hostile_qualified_alias_in_turns", shapes.qualified_alias_in_turns(50), [*IN_TURNS, tables.url("m")]),
-    ("hostile_parts_through_aliases_in_turns", shapes.parts_through_aliases_in_turns(80), [*sorted(tables.url(place) for place in range(1, 11)), tables.url("m")]),
+    ("hostile_names_of_two_modules_in_turns", in_turns.names_of_two_modules_in_turns(50), sorted(tables.url(place) for place in range(3))),
+    ("hostile_names_asked_in_turns", in_turns.names_asked_in_turns(50), [*IN_TURNS, tables.url("m")]),
+    ("hostile_chain_asked_from_its_end", in_turns.chain_asked_from_its_end(50), [*IN_TURNS, tables.url("m")]),
+    ("hostile_files_asked_in_turns", in_turns.files_asked_in_turns(50), sorted([*IN_TURNS, tables.url(51), tables.url("m")])),
+    ("hostile_declarations_asked_in_turns", in_turns.declarations_asked_in_turns(50), [*IN_TURNS, tables.url("m")]),
+    ("hostile_one_property_in_turns", in_turns.one_property_in_turns(50), [*IN_TURNS, tables.url("m")]),
+    ("hostile_re_exports_in_turns", in_turns.re_exports_in_turns(50), sorted([*IN_TURNS, tables.url("m"), *(tables.url(f"m{i}") for i in range(1, 51))])),
+    ("hostile_no_re_export_in_turns", in_turns.no_re_export_in_turns(50), [*IN_TURNS, tables.url("m")]),
+    ("hostile_qualified_alias_in_turns", in_turns.qualified_alias_in_turns(50), [*IN_TURNS, tables.url("m")]),
+    ("hostile_parts_through_aliases_in_turns", in_turns.parts_through_aliases_in_turns(80), [*sorted(tables.url(place) for place in range(1, 11)), tables.url("m")]),
     # told apart by what they are, though they have one hash
     ("hostile_modules_of_one_hash", shapes.modules_of_one_hash(300), ONE),
     ("hostile_packages_of_one_hash", shapes.packages_of_one_hash(300), []),

@@ -15,47 +15,17 @@ Usage: bench/check/shapes.py PROGRAM [SHAPE ..]
 import math
 import sys
 
+# (notes its shapes)
+import in_turns
 from growth import MOST_EXPONENT, exponent, in_three_sizes, measured, row, spent
 from one_hash import NAME_LETTERS, URL_LETTERS, colliding
+from shape import COMMANDS, DEMAND, FOLLOWS, ITEM, NAME, SHAPES, shape, shape_by, shape_of
 from tables import (
-    FEW, HOST, NO_TEXT, ONE, RANGES, assigned, by_name, chain_to, decl, definition, exported_const, exports_of, file_ref, import_type, imported, module,
-    names_that_ask, namespace_of_items, part, request, single, span, symbol, target, transform, tree_module, url,
+    FEW, HOST, NO_TEXT, ONE, RANGES, assigned, decl, definition, exported_const, exports_of, file_ref, import_type, imported, module, part, request,
+    single, span, symbol, target, transform, tree_module, url,
 )
 
 FIRST, LEAST_SECONDS = 500, 0.1
-
-SHAPES = {}
-# Of the shapes from which more follows than they have bytes: about how many bytes that are, for each number.
-FOLLOWS = {}
-# The bytes of a demand whose texts are short, of a name of its path, and of an item of a tree.
-DEMAND, NAME, ITEM = 60, 10, 250
-# Of those that are for another command than `build`.
-COMMANDS = {}
-
-
-def shape(made):
-    SHAPES[made.__name__] = made
-    return made
-
-
-def shape_of(command):
-    """A shape for this command."""
-
-    def noted(made):
-        COMMANDS[made.__name__] = command
-        return shape(made)
-
-    return noted
-
-
-def shape_by(follows):
-    """A shape from which so many bytes follow."""
-
-    def noted(made):
-        FOLLOWS[made.__name__] = follows
-        return shape(made)
-
-    return noted
 
 
 @shape
@@ -334,6 +304,15 @@ def versions_of_a_member(n):
 
 
 @shape
+def versions_of_a_member_with_a_long_base(n):
+    """Versions of a member with a long base, of each of which the graph has no export."""
+    nvs = [f"@w/w@0.0.{i}" for i in range(n)]
+    made = request(module(url(0), [], []), workspace_members=[{"name": "@w/w", "base": "file:///" + "w" * (50 * n) + "/"}], pending=nvs)
+    made["graph"]["packages"] += [[nv, []] for nv in nvs]
+    return made
+
+
+@shape
 def names_of_a_module(n):
     asks = [symbol(i, file_ref(url(1), f"s{i}")) for i in range(1, n + 1)]
     gives = [symbol(i, definition()) for i in range(1, n + 1)]
@@ -396,92 +375,6 @@ def packages_within_each_other(n):
     made = request(module(url(0), [symbol(1, definition(*(import_type("./q", f"s{i}") for i in range(n))))], [["s1", 1]]), versions=bases)
     made["graph"]["resolutions"] = [[url(0), "./q", HOST + "q/" * depth + "m.ts"]]
     return made
-
-
-@shape
-def names_asked_in_turns(n):
-    """Turns in which a name of one module is asked for, each of which leads to the items of a namespace."""
-    return chain_to(n, lambda i: [f"a{i}"], names_that_ask("N", n, *namespace_of_items(n)))
-
-
-@shape
-def declarations_asked_in_turns(n):
-    """Turns in which a part of a symbol is asked for, all of whose declarations are public by each."""
-    parts = [symbol(1 + i, definition(), parent=1, name=f"x{i}") for i in range(1, n + 1)]
-    whole = symbol(1, *[FEW] * (3 * n), exports=[[f"x{i}", 1 + i] for i in range(1, n + 1)])
-    return chain_to(n, lambda i: ["s1", f"x{i}"], module(url("m"), [whole, *parts], [["s1", 1]]))
-
-
-def property_in_turns(n, at, ranges):
-    """Turns in which a function is asked for, each of which exports one symbol. The functions and its declarations stand at these ranges."""
-    functions = [symbol(i, {**definition(is_function=True), "range": at(i)}, name=f"a{i}", exports=[["x", n + 1]]) for i in range(1, n + 1)]
-    exported = symbol(n + 1, *(decl({"Definition": {}}, range=each) for each in ranges), parent=1, name="x")
-    return chain_to(n, lambda i: [f"a{i}"], module(url("m"), [*functions, exported], exports_of("a", n)))
-
-
-@shape
-def one_property_in_turns(n):
-    """Such functions at one range, outside of which the symbol is declared as often."""
-    return property_in_turns(n, lambda i: [1, 9], [[20, 29]] * n)
-
-
-@shape
-def one_property_apart_in_turns(n):
-    """Such functions, in each of which it is declared once."""
-    return property_in_turns(n, lambda i: [10 * i, 10 * i + 9], [[10 * i + 1, 10 * i + 2] for i in range(1, n + 1)])
-
-
-def two_in_turns(n, first, second, symbols=(), *deps):
-    """Two modules at these URLs that ask each other for a name in turn, n times. The second has these symbols too, and each of its names these dependencies."""
-    asks = [symbol(i, definition(import_type("second", f"a{i}")), name=f"b{i}") for i in range(1, n + 1)]
-    gives = [symbol(i, definition(*deps, *([import_type("first", f"b{i + 1}")] if i < n else [])), name=f"a{i}") for i in range(1, n + 1)]
-    entry = module(url(2), [symbol(1, definition(import_type("first", "b1")))], [["s1", 1]])
-    both = module(first, asks, exports_of("b", n), resolved_exports=[]), module(second, [*gives, *symbols], exports_of("a", n), resolved_exports=[])
-    made = request(entry, *both, exports=[[".", "./2.ts"]])
-    made["graph"]["resolutions"] = [[url(2), "first", first], [first, "second", second], [second, "first", first]]
-    return made
-
-
-@shape
-def names_of_two_modules_in_turns(n):
-    """Two modules that ask each other for a name in turn, of which the names of one lead to the items of a namespace."""
-    return two_in_turns(n, url(0), url(1), namespace_of_items(n), by_name("N"))
-
-
-@shape
-def chain_asked_from_its_end(n):
-    """Turns in which a name is asked for that leads to all that were asked for before."""
-    links = [symbol(i, definition(by_name(f"a{i + 1}")), name=f"a{i}") for i in range(1, n + 1)]
-    return chain_to(n, lambda i: [f"a{n + 1 - i}"], module(url("m"), links, exports_of("a", n)))
-
-
-@shape
-def files_asked_in_turns(n):
-    """Turns in which a name is asked for that leads to the import types of one symbol."""
-    big = symbol(n + 1, definition(*(import_type("o:o", f"x{i}") for i in range(n))), name="B")
-    made = chain_to(n, lambda i: [f"a{i}"], names_that_ask("B", n, big), module(url(n + 1), [symbol(1, definition())], [["s1", 1]]))
-    made["graph"]["resolutions"].append([url("m"), "o:o", url(n + 1)])
-    return made
-
-
-@shape
-def re_exports_in_turns(n):
-    """Turns in which a name is asked for that stands behind one of many re-exports of all, in each behind the next one."""
-    others = [module(url(f"m{i}"), [symbol(1, definition(), name=f"a{i}")], [[f"a{i}", 1]]) for i in range(1, n + 1)]
-    return chain_to(n, lambda i: [f"a{i}"], module(url("m"), [], [], again=[each[0] for each in others]), *others)
-
-
-@shape
-def no_re_export_in_turns(n):
-    """Turns in which a name is asked for that no re-export of all has: all are public in each."""
-    return chain_to(n, lambda i: [f"a{i}"], module(url("m"), [], [], again=[url(0)] * n), module(url(0), [], []))
-
-
-@shape
-def faults_found_in_turns(n):
-    """Turns in which a name is asked for that leads to the faults of one symbol."""
-    big = symbol(n + 1, definition(*([{"QualifiedId": [["N", 1], [f"x{i}"]]}, "Type_"] for i in range(n))), name="B")
-    return chain_to(n, lambda i: [f"a{i}"], names_that_ask("B", n, big, symbol(n + 2, definition(is_ts_namespace=True), name="N")))
 
 
 @shape_of("transform")
@@ -682,12 +575,6 @@ def references_to_a_long_url(n):
     return wants(["./b.ts"] * n, url(0), long, one_name(long))
 
 
-@shape_by(lambda n: 600 * n * n)
-def turns_of_a_long_url(n):
-    """Turns in which two modules ask each other for a name, one of which has a long URL: each of the demands of a turn there has that URL."""
-    return two_in_turns(n, url(0), url("m" * (200 * n)))
-
-
 @shape_by(lambda n: 200 * n * n)
 def parts_of_a_long_import(n):
     """Parts that are asked of an import with a long name: each is asked of the other module as a path that begins with that name."""
@@ -711,24 +598,6 @@ def levels_of_qualified_aliases(n):
     levels = math.isqrt(n)
     aliases = [symbol(i, part(f"s{i + 1}", *(f"y{i}_{j}" for j in range(levels)))) for i in range(2, levels + 2)]
     return single([symbol(1, part("s2", "x")), *aliases, symbol(levels + 2, definition())], [["s1", 1]])
-
-
-def qualified_in_turns(n, *symbols):
-    """Turns in which a path is asked of an alias that is one of a path itself, of n names below the second of these symbols."""
-    return chain_to(n, lambda i: ["s1", f"x{i}"], module(url("m"), [symbol(1, part("s2", *(f"y{i}" for i in range(n)))), *symbols], [["s1", 1]]))
-
-
-@shape
-def qualified_alias_in_turns(n):
-    """Such turns, where each of the names of the alias's own path is asked for in the first two."""
-    return qualified_in_turns(n, symbol(2, definition()))
-
-
-@shape_by(lambda n: 2 * DEMAND * (n // 8) ** 2)
-def parts_through_aliases_in_turns(n):
-    """Such turns, and a chain of aliases below: each path that is asked goes through all of them, and each of the names of that path does, once."""
-    turns = n // 8
-    return qualified_in_turns(turns, *(symbol(i, target(f"s{i + 1}")) for i in range(2, turns + 2)), symbol(turns + 2, definition()))
 
 
 @shape_by(lambda n: NAME * n * n // 2)

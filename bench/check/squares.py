@@ -19,11 +19,11 @@ sys.dont_write_bytecode = True
 sys.path[:0] = [os.path.join(os.path.dirname(os.path.dirname(os.path.abspath(__file__))), folder) for folder in ("rules", "cases", "check", "time")]
 
 from growth import MOST_EXPONENT, exponent, in_three_sizes, measured, row, spent
+from in_turns import property_in_turns, two_in_turns
 from one_hash import colliding
-from shapes import alias_urls, covered, one_name, packages_of_an_alias, paths_below, property_in_turns, two_in_turns, under_aliases
+from shapes import alias_urls, covered, one_name, packages_of_an_alias, paths_below, under_aliases
 from tables import (
-    FEW, HOST, by_name, chain_to, decl, definition, exports_of, file_ref, import_type, module, names_that_ask, part, request, single, symbol, target,
-    transform, url,
+    HOST, by_name, chain_to, decl, definition, exports_of, file_ref, import_type, module, part, request, single, symbol, target, transform, url,
 )
 
 FIRST, LEAST_SECONDS, RUNS = 125, 0.04, 2
@@ -121,49 +121,6 @@ def comments_for_many_packages(n):
     source["program"]["Module"]["body"] = []
     source["comments"] = {"leading": [[i, [{"kind": "Line", "text": ""}]] for i in range(1, 2 * n + 1)]}
     return made
-
-
-# ---- turns: what is not kept, since a search seems to come to little
-
-
-def asked_by_each(n, *decls):
-    """Turns in which a name of a module is asked for, each of which asks for one symbol with these declarations."""
-    return chain_to(n, lambda i: [f"a{i}"], names_that_ask("B", n, symbol(n + 1, *decls, name="B")))
-
-
-@known()
-def unbound_names_in_turns(n):
-    """Turns times the names that a symbol mentions and nothing binds: few demands follow, so the search is not kept (fast_check_turns, `is_much`;
-    fast_check_symbol_demands, `push_deps`)."""
-    return asked_by_each(n, definition(*(by_name(f"u{i}") for i in range(4 * n))))
-
-
-@known()
-def one_name_again_in_turns(n):
-    """The same of one name that it mentions as often: its own."""
-    return asked_by_each(n, definition(*[by_name("B")] * (4 * n)))
-
-
-@known(first=500)
-def hidden_declarations_in_turns(n):
-    """Turns times the declarations of a symbol that bind nothing (fast_check_turns, `is_much`; fast_check_demands, `push_bound` and `property_decls`;
-    fast_check_symbol_demands, `push_decls`)."""
-    return asked_by_each(n, *[FEW] * (16 * n))
-
-
-@known()
-def files_that_lead_nowhere_in_turns(n):
-    """Turns times the import types of a symbol whose text resolves to nothing: nothing is asked, so the search is not kept (fast_check_turns, `is_much`,
-    does not count `files`)."""
-    made = asked_by_each(n, definition(*(import_type("./no.ts", f"x{i}") for i in range(2 * n))))
-    made["graph"]["resolutions"] = [each for each in made["graph"]["resolutions"] if each[1] != "./no.ts"]
-    return made
-
-
-@known()
-def one_import_type_again_in_turns(n):
-    """The same of one import type that stands there as often, and is asked for once."""
-    return asked_by_each(n, definition(*[import_type(HOST + "q/m.ts", "x")] * (2 * n)))
 
 
 # ---- turns: paths of more than one name, which are not kept
@@ -364,15 +321,6 @@ def export_texts_of_one_url_at_a_long_base(n):
     base = HOST + "a" * (25 * n) + "/"
     made = request(one_name(base + "0.ts"), exports=[[f"{i}", f"./{i}/../0.ts"] for i in range(n)])
     made["provider"]["packages"] = [["@p/p0@1.0.0", base]]
-    return made
-
-
-@known(first=1000)
-def versions_of_a_member_with_a_long_base(n):
-    """Versions of a member without version, of each of which the graph has no export, times the bytes of its base (fast_check_entries, `base_of`)."""
-    nvs = [f"@w/w@0.0.{i}" for i in range(n)]
-    made = request(module(url(0), [], []), workspace_members=[{"name": "@w/w", "base": "file:///" + "w" * (50 * n) + "/"}], pending=nvs)
-    made["graph"]["packages"] += [[nv, []] for nv in nvs]
     return made
 
 
