@@ -2,6 +2,7 @@
 paths, names that come twice, and modules that lead back to themselves. The trees are empty, so that each module with something public is answered by an
 empty skeleton: what is shown is that the call ends, which modules are answered, and which fault of the tables is told."""
 import in_turns
+import long_texts
 import shapes
 import squares
 import tables
@@ -141,6 +142,20 @@ CASES = [
     # a name behind re-exports of all, and one that none of them has: then what they lead to is asked for nothing
     ("hostile_names_of_many_re_exports", shapes.names_of_many_re_exports(50), sorted(tables.url(place) for place in range(52))),
     ("hostile_names_that_no_re_export_has", shapes.names_that_no_re_export_has(50), TWO),
+    # what was asked for covers what is asked for behind it
+    ("hostile_path_that_leaves_at_each_name", long_texts.path_that_leaves_at_each_name(50), TWO),
+    ("hostile_path_that_leaves_below_a_name", long_texts.path_that_leaves_below_a_name(50), TWO),
+    # asked for once, whoever asks, by whatever names and texts
+    ("hostile_askers_of_many_references", long_texts.askers_of_many_references(20), TWO),
+    ("hostile_askers_of_a_long_import", long_texts.askers_of_a_long_import(20), TWO),
+    ("hostile_paths_of_unbound_targets", shapes.paths_of_unbound_targets(20), ONE),
+    ("hostile_paths_of_one_target_by_many_names", shapes.paths_of_one_target_by_many_names(20), ONE),
+    ("hostile_parts_of_an_alias_of_a_long_name", shapes.parts_of_an_alias_of_a_long_name(20), ONE),
+    ("hostile_files_of_two_long_packages", long_texts.files_of_two_long_packages(20), ONE),
+    ("hostile_modules_that_depend_on_a_long_package", long_texts.modules_that_depend_on_a_long_package(20), sorted(tables.url(place) for place in range(20))),
+    ("hostile_re_exports_in_a_long_url", long_texts.re_exports_in_a_long_url(20), [tables.url(0), tables.url("a" * 1200)]),
+    ("hostile_re_exports_of_an_alias_of_a_long_url", long_texts.re_exports_of_an_alias_of_a_long_url(20), TWO),
+    ("hostile_one_name_behind_a_long_url", long_texts.one_name_behind_a_long_url(20), TWO),
     # followed in many turns, of which the later ones go on from what the earlier ones came to
     ("hostile_names_of_two_modules_in_turns", in_turns.names_of_two_modules_in_turns(50), sorted(tables.url(place) for place in range(3))),
     ("hostile_names_asked_in_turns", in_turns.names_asked_in_turns(50), [*IN_TURNS, tables.url("m")]),

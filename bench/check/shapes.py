@@ -6,23 +6,24 @@ the quickest), the bytes held a byte of the largest, and the exponent by which s
 a run takes a tenth of a second, or the input has 4 MB. An exponent above 1.2 is told, and so is a run that ends by a signal; then the status is 1.
 
 From some shapes more follows than they have bytes: as much as the product of two of their lengths. What follows are the demands of the account
-(docs/ARCHITECTURE.md), each written out with its package, the URL of its module and its names, the URLs that the provider answers, and the items of trees
-that are gone through. Of these shapes the seconds are fitted to the bytes of the input and of what follows together, and a line says so. What is known to
-grow with a square though no more follows stands in `squares.py`.
+(docs/ARCHITECTURE.md), each written out with its package, the URL of its module and its names; the URLs and names that the provider answers; the URLs to
+which export texts join; and the items and comments of trees that are gone through. Of these shapes the seconds are fitted to the bytes of the input and
+of what follows together, and a line says so. What is known to grow with a square though no more follows stands in `squares.py`.
 
 Usage: bench/check/shapes.py PROGRAM [SHAPE ..]
 """
 import math
 import sys
 
-# (notes its shapes)
+# (these note their shapes)
 import in_turns
+import long_texts
 from growth import MOST_EXPONENT, exponent, in_three_sizes, measured, row, spent
 from one_hash import NAME_LETTERS, URL_LETTERS, colliding
 from shape import COMMANDS, DEMAND, FOLLOWS, ITEM, NAME, SHAPES, shape, shape_by, shape_of
 from tables import (
-    FEW, HOST, NO_TEXT, ONE, RANGES, assigned, decl, definition, exported_const, exports_of, file_ref, import_type, imported, module, part, request,
-    single, span, symbol, target, transform, tree_module, url,
+    FEW, HOST, NO_TEXT, ONE, RANGES, assigned, decl, definition, exported_const, exports_of, file_ref, import_type, imported, module, one_name, part,
+    request, single, span, symbol, target, transform, tree_module, url,
 )
 
 FIRST, LEAST_SECONDS = 500, 0.1
@@ -153,6 +154,29 @@ def paths_below(n, *decls):
 def paths_of_many_targets(n):
     """Paths that are asked of a symbol of as many declarations, which are all aliases of one symbol."""
     return paths_below(n, *[target("s3")] * n)
+
+
+@shape
+def paths_of_unbound_targets(n):
+    """Paths that are asked of a symbol, and its aliases of names that nothing binds."""
+    return paths_below(n, *(target(f"u{i}") for i in range(n)))
+
+
+@shape
+def paths_of_one_target_by_many_names(n):
+    """Paths that are asked of a symbol, and its aliases of one symbol under different names."""
+    asks = definition(*([{"QualifiedId": [["s2", 1], [f"x{i}"]]}, "Type_"] for i in range(n)))
+    ids = [[["s1", 1], 1], [["s2", 1], 2], *([[f"u{i}", 1], 3] for i in range(n))]
+    return single([symbol(1, asks), symbol(2, *(target(f"u{i}") for i in range(n))), symbol(3, definition())], [["s1", 1]], ids=ids)
+
+
+@shape
+def parts_of_an_alias_of_a_long_name(n):
+    """Parts that are asked of an alias of a symbol with a long name."""
+    long = "N" * (100 * n)
+    asks = definition(*([{"QualifiedId": [["s2", 1], [f"x{i}"]]}, "Type_"] for i in range(n)))
+    ids = [[["s1", 1], 1], [["s2", 1], 2], [[long, 1], 3]]
+    return single([symbol(1, asks), symbol(2, target(long)), symbol(3, definition())], [["s1", 1]], ids=ids)
 
 
 @shape
@@ -491,9 +515,6 @@ def file_texts(n):
     return [f"./{i}.ts" for i in range(n)]
 
 
-def one_name(at):
-    return module(at, [symbol(1, definition())], [["s1", 1]])
-
 
 @shape
 def wants_of_a_long_member(n):
@@ -559,6 +580,16 @@ def packages_of_an_alias(n):
     made["modules"] = [[of, {"Esm": tree_module([exported_const(i, f"x{i}", ONE) for i in range(1, n + 1)], specifier=of)}]]
     made["graph"] = {"modules": [[each, {"Js": {"media_type": "TypeScript"}}] for each in [of, *names]],
                      "packages": [[f"@p/p{i}@1.0.0", [[".", each]]] for i, each in enumerate(names)]}
+    return made
+
+
+@shape_by(lambda n: 2 * ITEM * n * n)
+def comments_for_many_packages(n):
+    """Such packages, and the comments of the module: each package has them gone through, though none of them stays."""
+    made = packages_of_an_alias(n)
+    source = made["modules"][0][1]["Esm"]["source"]
+    source["program"]["Module"]["body"] = []
+    source["comments"] = {"leading": [[i, [{"kind": "Line", "text": ""}]] for i in range(1, 2 * n + 1)]}
     return made
 
 

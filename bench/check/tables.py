@@ -68,6 +68,10 @@ def url(place, package=0):
     return f"{HOST}{package}/{place}.ts"
 
 
+def one_name(at):
+    return module(at, [symbol(1, definition())], [["s1", 1]])
+
+
 def single(symbols, exports, **more):
     return request(module(url(0), symbols, exports, **more))
 

@@ -23,6 +23,7 @@ use Rattle.fast_check_symbol_demands.specs.Demands.{Demand}
 use Rattle.fast_check_symbol_demands.specs.Rules.{each_of, bound, qualified, first_names}
 use Rattle.fast_check_symbol_demands.specs.Decls.{has_alias}
 use Rattle.fast_check_demands.specs.Parts.{whole_parts, kind_parts, passed_on, path_rest}
+use Rattle.fast_check_demands.specs.Targets.{kind_targets}
 use Rattle.fast_check_demands.specs.Yields.{Adds}
 use Rattle.fast_check_demands.proofs.Elements.{in_flat, of_flat}
 
@@ -74,6 +75,15 @@ module _ {Y : Type 0} (f : SymbolDeclKind → List Y) (g : Alias → List Y) (by
         (Contains-append_right old (flat_map (at f decls) places) y (complete y c));
   }
 
+  -- what is added of the places is all that the aliases give
+  pub adds_places : (old new : List Y) → Adds (flat_map (at f decls) places) old new → Adds (flat_map (λ d. f d.kind) decls) old new
+  adds_places old new a = record {
+    more = a.more;
+    is = a.is;
+    parts = λ y c. sound y (a.parts y c);
+    whole = λ y c. a.whole y (complete y c);
+  }
+
 -- demands of a path below an alias
 
 module _ (t : Tables) (d : Demand) (path : Path) (extent : Extent) where
@@ -99,6 +109,22 @@ module _ (t : Tables) (d : Demand) (path : Path) (extent : Extent) where
   without_alias s o is h = ap (each_of (first_names t d path extent)) is
       ∙ (ap (λ b. cond b (flat_map (λ x. passed_on t d path extent x.kind) s.decls.items) (first_names t d path extent s)) (sym h)
       ∙ ap (each_of (path_rest t d path extent)) (sym is))
+
+-- symbols to which aliases are bound
+
+module _ (t : Tables) where
+  abbrev pub targets_below : Alias → List SymbolId
+  targets_below (symbol id) = option_to_list (bound t id)
+  targets_below (part id parts) = option_to_list (bound t id)
+  targets_below (file text) = []
+  targets_below (export text name) = []
+
+  pub targeted : (k : SymbolDeclKind) → kind_targets t k ≡ each_of targets_below (alias_of k)
+  targeted (Target id) = refl
+  targeted (QualifiedTarget id parts) = refl
+  targeted (FileRef specifier Star) = refl
+  targeted (FileRef specifier (Named name)) = refl
+  targeted (Definition _) = refl
 
 -- own parts of aliases
 

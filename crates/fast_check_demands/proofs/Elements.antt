@@ -21,6 +21,9 @@ cases y xs x c = ⊎_elim
     (λ there. inr there)
     (Contains-append_cases (y ∷ []) xs x c)
 
+pub only : {X : Type 0} (x y : X) → Contains (x ∷ []) y → x ≡ y
+only x y c = ⊎_elim (λ is. is) (λ there. absurd (no_element y there)) (cases x [] y c)
+
 pub in_map : {X Y : Type 0} (f : X → Y) (xs : List X) (x : X) → Contains xs x → Contains (map f xs) (f x)
 in_map f xs x (k, below, is) = (k, omega (arith, below, length-map xs f), get_or-map f xs k x (f x) below ∙ ap f is)
 

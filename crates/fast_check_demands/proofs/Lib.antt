@@ -8,4 +8,6 @@ mod OneMore
 mod Outside
 pub mod Yielded
 pub mod Aliased
+mod Kept
+mod Passed
 pub mod OwnParts

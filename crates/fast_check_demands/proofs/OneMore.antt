@@ -23,7 +23,7 @@ make n = record { 0 = n }
 total : IsTotalOrder order.cmp-value.it
 total = on_total (λ (x : SymbolId). x.0) nat_cmp_total
 
-exact : CmpEqualImpliesEq order.cmp-value.it
+pub exact : CmpEqualImpliesEq order.cmp-value.it
 exact x y e = ap make (exact_unsigned x.0 y.0 e)
 
 -- a declaration is noted where what is noted of its symbol makes it public

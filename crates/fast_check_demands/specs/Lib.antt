@@ -5,5 +5,6 @@ pub use Rattle.fast_check_symbol_demands.specs.Decls
 pub use Rattle.fast_check_symbol_demands.specs.Rules
 pub mod Yields
 pub mod Parts
+pub mod Targets
 pub mod Noted
 pub mod Account

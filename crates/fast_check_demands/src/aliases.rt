@@ -10,9 +10,10 @@ ghost use Rattle.fast_check_demands.specs.Parts.{passed_on, path_rest};
 ghost use Rattle.fast_check_demands.specs.Yields.{Adds};
 
 use crate::names::is_prototype;
+use crate::targets::{AliasTargets, are_light};
 use fast_check_symbol_demands::symbols::{CheckedTables, SymbolDeclKind, SymbolDecls, SymbolId};
 use fast_check_symbol_demands::{Demands, Extent, SymbolDemand, bound, push_path, push_references};
-use std::alloc::AllocError;
+use std::alloc::{AllocError, Global};
 
 fn push_path_at<'a>(
     demand: SymbolDemand<'_>,
@@ -217,20 +218,27 @@ fn push_first<'a>(
 
 /// Pushes what a path below the symbol of a demand demands, without the own parts of aliases.
 pub fn push_path_demands<'a>(
+    alloc: Global,
     tables: &'a CheckedTables,
+    targets: &mut AliasTargets<'a>,
     demand: SymbolDemand<'_>,
     names: &'a [String],
     extent: Extent,
     out: &mut Demands<'a>,
 ) -> Result<(), AllocError>
-    ensures { OnOk result (Adds (each_of (λ s. path_rest tables.now (demand_of demand.entry) (path_of names.now) extent s)
+    requires { targets.old ≡ tables.now }
+    ensures tables { targets.new ≡ targets.old }
+    ensures names { OnOk result (Adds (each_of (λ s. path_rest tables.now (demand_of demand.entry) (path_of names.now) extent s)
         (symbol_of demand.entry.symbol tables.now.symbols)) out.old out.new) }
 {
     let Some(symbol) = tables.symbol(demand.symbol) else {
         return Ok(());
     };
     if symbol.decls.has_alias() {
-        push_aliases(tables, demand, names, extent, &symbol.decls, out)
+        if are_light(&symbol.decls) {
+            return push_aliases(tables, demand, names, extent, &symbol.decls, out);
+        }
+        targets.push_passed(alloc, demand, names, extent, out)
     } else {
         push_first(tables, demand, names, extent, out)
     }

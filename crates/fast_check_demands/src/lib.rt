@@ -8,6 +8,7 @@ mod names;
 mod noted;
 mod parts;
 mod public;
+mod targets;
 
 pub use fast_check_symbol_demands as symbol_demands;
 pub use fast_check_symbol_demands::symbols::{CheckedTables, SymbolId};
@@ -18,3 +19,4 @@ pub use follow::demands_of;
 pub use noted::NotedSymbols;
 pub use parts::own_parts_of;
 pub use public::{push_implementations, push_ranges};
+pub use targets::{AliasTargets, has_light_aliases};

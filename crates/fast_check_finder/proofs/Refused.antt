@@ -57,7 +57,7 @@ finding_joins (Followed f) =
     (each_map Joins (implementing p t) f.found.implementations.items (λ r c. tt))
     (each_append Joins (placed_yields p t (map placed_in f.found.faults.items)) _
     (each_map Joins (placed_yield p t) (map placed_in f.found.faults.items) (λ x c. tt))
-    (each_map Joins (λ q. dependency p (nv_of q)) f.dependencies.items (λ q c. tt)))))
+    (each_map Joins (λ q. dependency p (nv_of q.value)) f.dependencies.items (λ q c. tt)))))
 finding_joins (Untyped u) = faulty_joins (nv_of u.package) (serialize u.specifier) untyped_module
 finding_joins (Kept k) = each_one Joins (kept (nv_of k.package) k.entry_points.keys (item_of k.item)) tt
 

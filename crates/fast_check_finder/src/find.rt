@@ -21,7 +21,7 @@ ghost use Rattle.fast_check_finder.specs.Refusals.{IsRefusal, IsRefusedOf, JoinA
 use fast_check_cache::FastCheckCache;
 use fast_check_packages::{BuildFault, JsrUrlProvider, PackageNv};
 use fast_check_turns::{
-    FinderInput, Finding, KeptSearches, MemberEntries, Progress, enter, follow,
+    FinderInput, Finding, KeptSearches, MemberEntries, MetPackages, Progress, enter, follow,
 };
 use fast_check_worklists::{begin, copy_of};
 use std::alloc::{AllocError, Global};
@@ -143,7 +143,11 @@ pub fn find_all<'a>(
 {
     let worklist = begin(alloc, roots)?;
     let found = Vec::new(alloc);
-    let mut progress = Progress { worklist, found };
+    let mut progress = Progress {
+        worklist,
+        found,
+        owners: MetPackages::new(alloc),
+    };
     let searches = KeptSearches::new(alloc);
     let members = MemberEntries::new(alloc);
     let mut kept = Kept { searches, members };

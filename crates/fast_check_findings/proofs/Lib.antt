@@ -4,3 +4,4 @@ pub mod Compared
 pub mod Kept
 pub mod Distinct
 pub mod Told
+pub mod Alike

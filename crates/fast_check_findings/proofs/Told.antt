@@ -64,7 +64,7 @@ then_equal Less b = refl
 then_equal Equal b = refl
 then_equal Greater b = refl
 
-then_parts : (a b : Ordering) → is_eq (ordering_then a b) ≡ true → (is_eq a ≡ true) × (is_eq b ≡ true)
+pub then_parts : (a b : Ordering) → is_eq (ordering_then a b) ≡ true → (is_eq a ≡ true) × (is_eq b ≡ true)
 then_parts a b h = and_parts (is_eq a) (is_eq b) (sym (then_equal a b) ∙ h)
 
 one_kind : (a b : DemandFaultKind) → is_eq (kind_order.cmp-value.it a b) ≡ true → a ≡ b
@@ -81,11 +81,13 @@ one_kind TooComplex TooComplex h = refl
 numbers_compare : (a b : ℕ) → is_eq (nat_cmp a b) ≡ (a == b)
 numbers_compare a b = search rules
 
-one_id : (a b : SymbolId) → is_eq (id_order.cmp-value.it a b) ≡ true → a ≡ b
-one_id a b h =
-    let f : ℕ → SymbolId = λ i. record { 0 = i } in ap f (eqb-true a.0 b.0 (sym (numbers_compare a.0 b.0) ∙ h))
+pub one_number : (a b : ℕ) → is_eq (nat_cmp a b) ≡ true → a ≡ b
+one_number a b h = eqb-true a b (sym (numbers_compare a b) ∙ h)
 
-one_text : (a b : List ℕ) → is_eq (slice_cmp nat_cmp a b) ≡ true → a ≡ b
+pub one_id : (a b : SymbolId) → is_eq (id_order.cmp-value.it a b) ≡ true → a ≡ b
+one_id a b h = let f : ℕ → SymbolId = λ i. record { 0 = i } in ap f (one_number a.0 b.0 h)
+
+pub one_text : (a b : List ℕ) → is_eq (slice_cmp nat_cmp a b) ≡ true → a ≡ b
 one_text a b h = (bytes_decides a b).0 (sym (is_eq-slice_cmp a b) ∙ h)
 
 one_path : (xs ys : List (String Global)) → is_eq (slice_cmp string_cmp xs ys) ≡ true → path_of xs ≡ path_of ys

@@ -24,7 +24,7 @@ use Rattle.fast_check_demands.specs.declared.fault.DemandFaultKind.TheVariants.{
 use Rattle.fast_check_demands.specs.declared.fault.SymbolFault.{SymbolFault}
 use Rattle.fast_check_demands.specs.Yields.{Fault, fault_seen}
 use Rattle.fast_check_findings.specs.declared.demand_fault.DemandFault.{DemandFault}
-use Rattle.fast_check_findings.specs.declared.demand_fault.FaultyModule.{FaultyModule}
+use Rattle.fast_check_findings.specs.declared.faulty_module.FaultyModule.{FaultyModule}
 
 -- of which kind, in which module and source text, at which place in it, the name that was asked for, and who asked
 pub record PlacedFault : Type 0 where

@@ -51,7 +51,7 @@ module_yields nv t found depends =
 
 abbrev pub followed_yields : FollowedModule → List Yield
 followed_yields f = module_yields (nv_of f.package) (serialize f.specifier.now) f.found
-    (map (λ p. dependency (nv_of f.package) (nv_of p)) f.dependencies.items)
+    (map (λ p. dependency (nv_of f.package) (nv_of p.value)) f.dependencies.items)
 
 -- a package whose item is used
 abbrev pub kept_yields : KeptPackage → List Yield

@@ -1,4 +1,5 @@
 pub mod Faults
+pub mod Namesakes
 pub mod Told
 pub mod Diagnostics
 pub mod Yields

@@ -2,29 +2,19 @@
 
 ghost use Rattle.std.specs.Prelude.{◌≡◌, ◌++◌, [], map, IfOk, OnOk, string_bytes};
 ghost use Rattle.std.specs.List.{flat_map};
-ghost use Rattle.std.specs.Option.{option_copied};
-ghost use Rattle.std.specs.Rc.{rc_str_bytes};
 ghost use Rattle.fast_check_names.specs.Names.{path_of};
-ghost use Rattle.fast_check_symbols.specs.Symbols.{symbol_of};
 ghost use Rattle.fast_check_demands.specs.Yields.{Adds};
-ghost use Rattle.fast_check_findings.specs.Faults.{placed_in, name_of, full_name, below, first_range, first_of, source_of, placed_seen};
+ghost use Rattle.fast_check_findings.specs.Faults.{placed_in, full_name, below, source_of, placed_seen};
+ghost use Rattle.fast_check_findings.specs.Namesakes.{AreNamesakes};
 ghost use Rattle.fast_check_findings.specs.Told.{told_at, tells, AreMet, AreTold};
 
-use fast_check_demands::{CheckedTables, DemandFaultKind, SourceRange, SymbolFault, SymbolId};
-use fast_check_symbols::Symbol;
+use crate::faulty_module::{FaultyModule, name_of, range_of};
+use crate::namesakes::Namesakes;
+use fast_check_demands::{DemandFaultKind, SourceRange, SymbolFault, SymbolId};
 use std::alloc::{AllocError, Global};
 use std::collections::BTreeSet;
 use std::rc::RcStr;
 use url::Url;
-
-/// A module, by what its faults have of it.
-#[derive(Clone, Copy)]
-pub struct FaultyModule<'a> {
-    pub specifier: &'a Url,
-    /// The source text.
-    pub text: &'a RcStr,
-    pub tables: &'a CheckedTables,
-}
 
 /// What a fault tells beside its module, lent. Those of one symbol stand together, so that its name is compared with no other.
 #[derive(Clone, Copy, PartialEq, Eq, PartialOrd, Ord)]
@@ -50,21 +40,6 @@ pub struct DemandFault {
     pub specifier: Url,
 }
 
-/// The name that a symbol is known by.
-fn name_of(symbol: Option<&Symbol>) -> &str
-    ensures { result.now ≡ name_of (option_copied symbol.entry) }
-{
-    match symbol {
-        Some(
-            Symbol {
-                qualified_name: Some(name),
-                ..
-            },
-        ) => name.as_str(),
-        _ => "<unknown>",
-    }
-}
-
 fn push_below(names: &[String], out: &mut String) -> Result<(), AllocError>
     ensures { OnOk result (string_bytes out.new ≡ string_bytes out.old ++ below (path_of names.now)) }
 {
@@ -81,21 +56,6 @@ fn full_name(alloc: Global, name: &str, names: &[String]) -> Result<String, Allo
     let mut full = String::from_str(alloc, name)?;
     push_below(names, &mut full)?;
     Ok(full)
-}
-
-/// The range of the first declaration of a symbol.
-fn first_range(symbol: &Symbol) -> Option<SourceRange>
-    ensures { result ≡ first_of symbol.now.decls.items }
-{
-    let decl = symbol.decls.as_slice().first()?;
-    Some(decl.range)
-}
-
-fn range_of(tables: &CheckedTables, id: SymbolId) -> Option<SourceRange>
-    ensures { result ≡ first_range (symbol_of id tables.now.symbols) }
-{
-    let symbol = tables.symbol(id)?;
-    first_range(symbol)
 }
 
 fn told_of<'a>(faulty: FaultyModule<'a>, fault: SymbolFault<'a>) -> ToldFault<'a>
@@ -196,6 +156,43 @@ fn push_once<'a>(
     Ok(())
 }
 
+/// A fault that tells the same as this one, of the first symbol that was met of those that are told as its own.
+fn of_first<'a>(
+    faulty: FaultyModule<'a>,
+    fault: SymbolFault<'a>,
+    namesakes: &mut Namesakes<'a>,
+) -> Result<SymbolFault<'a>, AllocError>
+    requires { AreNamesakes (source_of faulty) namesakes.old }
+    ensures namesakes { OnOk result (AreNamesakes (source_of faulty.entry) namesakes.new) }
+    ensures fault { IfOk result (λ first. placed_seen (source_of faulty.entry) first ≡ placed_seen (source_of faulty.entry) fault.entry) }
+{
+    let symbol = namesakes.first(faulty, fault.symbol)?;
+    Ok(SymbolFault { symbol, ..fault })
+}
+
+/// Adds a fault at its place, unless one that tells the same was added. Where one symbol asks namesakes, no name is compared but theirs and those below.
+fn push_as_first<'a>(
+    alloc: Global,
+    faulty: FaultyModule<'a>,
+    fault: SymbolFault<'a>,
+    namesakes: &mut Namesakes<'a>,
+    met: &mut BTreeSet<SymbolFault<'a>>,
+    told: &mut BTreeSet<ToldFault<'a>>,
+    out: &mut Vec<(DemandFault, RcStr)>,
+) -> Result<(), AllocError>
+    requires namesakes { AreNamesakes (source_of faulty) namesakes.old }
+    requires met { AreMet (source_of faulty) met.old (map placed_in out.old.items) }
+    requires told { AreTold (source_of faulty) told.old (map placed_in out.old.items) }
+    ensures namesakes { OnOk result (AreNamesakes (source_of faulty.entry) namesakes.new) }
+    ensures met { OnOk result (AreMet (source_of faulty.entry) met.new (map placed_in out.new.items)) }
+    ensures told { OnOk result (AreTold (source_of faulty.entry) told.new (map placed_in out.new.items)) }
+    ensures faults { OnOk result (Adds (placed_seen (source_of faulty.entry) fault.entry) (map placed_in out.old.items) (map placed_in out.new.items)) }
+{
+    let first = of_first(faulty, fault, namesakes)?;
+    push_once(alloc, faulty, first, met, told, out)?;
+    Ok(())
+}
+
 /// These faults of a module at their places, with the source text, as a set: in whatever order and number. A fault stands at the first declaration
 /// of its symbol, and one whose symbol has none is left out. `AllocError` where memory is wanting.
 pub fn faults_in(
@@ -206,10 +203,19 @@ pub fn faults_in(
     ensures { IfOk result (λ out. Adds (flat_map (placed_seen (source_of faulty.entry)) faults.now) [] (map placed_in out.items)) }
 {
     let mut out = Vec::new(alloc);
+    let mut namesakes = Namesakes::new(alloc);
     let mut met = BTreeSet::new(alloc);
     let mut told = BTreeSet::new(alloc);
     for fault in faults {
-        push_once(alloc, faulty, *fault, &mut met, &mut told, &mut out)?;
+        push_as_first(
+            alloc,
+            faulty,
+            *fault,
+            &mut namesakes,
+            &mut met,
+            &mut told,
+            &mut out,
+        )?;
     }
     Ok(out)
 }

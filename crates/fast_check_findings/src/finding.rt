@@ -8,7 +8,7 @@ use fast_check_packages::PackageNv;
 use fast_check_syntax::SourceRange;
 use std::alloc::{AllocError, Global};
 use std::collections::BTreeSet;
-use std::rc::RcStr;
+use std::rc::{Rc, RcStr};
 use url::Url;
 
 /// What is wrong with an entry point of a package.
@@ -79,8 +79,8 @@ pub struct FollowedModule<'a> {
     /// The module's own name, which is lent: it may be long, and a module may be followed in many turns.
     pub specifier: &'a Url,
     pub found: FoundModule,
-    /// The packages that the module asks for.
-    pub dependencies: Vec<PackageNv>,
+    /// The packages that the module asks for. Their names may be long, and others share them.
+    pub dependencies: Vec<Rc<PackageNv>>,
 }
 
 /// A module that was asked for, for a package, and whose types are not known.

@@ -3,11 +3,14 @@
 
 mod demand_fault;
 mod diagnostics;
+mod faulty_module;
 mod finding;
+mod namesakes;
 
-pub use demand_fault::{DemandFault, FaultyModule, faults_in};
+pub use demand_fault::{DemandFault, faults_in};
 pub use diagnostics::diagnostics_of;
 pub use fast_check_packages::PackageNv;
+pub use faulty_module::FaultyModule;
 pub use finding::{
     EnteredPackage, EntryFault, Finding, FollowedModule, FoundModule, KeptPackage, UntypedModule,
 };

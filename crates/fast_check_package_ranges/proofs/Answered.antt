@@ -81,12 +81,12 @@ own_followed nv f =
     let publics = map (public n t) f.found.ranges.items in
     let others = map (implementing n t) f.found.implementations.items in
     let faults = placed_yields n t (map placed_in f.found.faults.items) in
-    let asked = map (λ p. dependency n (nv_of p)) f.dependencies.items in
+    let asked = map (λ p. dependency n (nv_of p.value)) f.dependencies.items in
     own_both nv n (recorded n t ∷ []) (publics ++ (others ++ (faults ++ asked))) (own_one nv (recorded n t))
     (own_both nv n publics (others ++ (faults ++ asked)) (own_map nv n (public n t) (λ r. refl) f.found.ranges.items)
     (own_both nv n others (faults ++ asked) (own_map nv n (implementing n t) (λ r. refl) f.found.implementations.items)
     (own_both nv n faults asked (own_map nv n (placed_yield n t) (λ x. refl) (map placed_in f.found.faults.items))
-    (own_map nv n (λ p. dependency n (nv_of p)) (λ p. refl) f.dependencies.items))))
+    (own_map nv n (λ p. dependency n (nv_of p.value)) (λ p. refl) f.dependencies.items))))
 
 own_finding : (nv : Nv) (f : Finding) → Owned nv (package_found f) (followed_in f)
 own_finding nv (Entered e) = own_entered nv e

@@ -2,6 +2,8 @@
 use Rattle.std.proofs.Common.{◌≡◌, ◌∙◌, refl, sym, ap, ℕ, Bool, true, false, ◌&&◌, ◌||◌, List, [], ◌∷◌, ◌++◌, map}
 use Rattle.std.specs.List.{list_any, flat_map}
 use Rattle.std.specs.Str.{bytes_eq}
+use Rattle.std.specs.declared.alloc.Global.{Global}
+use Rattle.std.specs.declared.rc.Rc.{Rc}
 use Rattle.std.proofs.lemmas.List.Folds.{list_any-append}
 use Rattle.url.specs.Parts.{Parts, serialize}
 use Rattle.fast_check_syntax.specs.declared.source.SourceRange.{SourceRange}
@@ -27,7 +29,7 @@ use Rattle.fast_check_package_ranges.specs.Questions.{whether_dependency, whethe
 use Rattle.fast_check_package_ranges.specs.Questions.{implementation_says, asks_known, asks_entry_point, asks_dependency, asks_module}
 use Rattle.fast_check_package_ranges.specs.Questions.{yield_says}
 use Rattle.fast_check_findings.specs.Diagnostics.{any_fault, passes}
-use Rattle.fast_check_package_ranges.specs.Parts.{is_text, is_package, module_says, found_module_says, found_says, finding_says}
+use Rattle.fast_check_package_ranges.specs.Parts.{is_text, is_shared, module_says, found_module_says, found_says, finding_says}
 use Rattle.fast_check_findings.proofs.Bools.{or_none, and_or}
 use Rattle.fast_check_findings.proofs.Lists.{any_map, any_flat, any_alike, any_false, any_none}
 
@@ -70,7 +72,7 @@ entered_found e found p d h whether_known = refl
 entered_found e found p d h (whether_entry_point t) = ap (list_any (is_text t)) p ∙ sym (entered_says e (whether_entry_point t) ∙
     (ap (λ b. list_any (is_text t) e.entry_points.items || b) (any_false e.faults.items) ∙
     or_none (list_any (is_text t) e.entry_points.items)))
-entered_found e found p d h (whether_dependency nv) = ap (list_any (is_package nv)) d ∙ sym (entered_says e (whether_dependency nv) ∙
+entered_found e found p d h (whether_dependency nv) = ap (list_any (is_shared nv)) d ∙ sym (entered_says e (whether_dependency nv) ∙
     (ap (λ b. b || faults_say (whether_dependency nv) e.faults.items) (any_false e.entry_points.items) ∙ any_false e.faults.items))
 entered_found e found p d h (whether_refused t) = sym (entered_says e (whether_refused t) ∙
     (ap (λ b. b || faults_say (whether_refused t) e.faults.items) (any_false e.entry_points.items) ∙ any_false e.faults.items))
@@ -78,12 +80,12 @@ entered_found e found p d h (about t m) = h t m ∙ sym (entered_says e (about t
     ap (λ b. b || faults_say (about t m) e.faults.items) (any_false e.entry_points.items))
 
 -- what is found of one module
-pub record IsOne (found : FoundPackage) (specifier : Parts) (parts : JoinedModule) (dependencies : List PackageNv) : Type 0 where
+pub record IsOne (found : FoundPackage) (specifier : Parts) (parts : JoinedModule) (dependencies : List (Rc PackageNv Global)) : Type 0 where
   pub entry_points : found.entry_points.items ≡ []
   pub modules : found.modules.items ≡ (specifier, parts) ∷ []
   pub dependencies_are : found.dependencies.items ≡ dependencies
 
-one_about : (found : FoundPackage) (specifier : Parts) (parts : JoinedModule) (dependencies : List PackageNv) →
+one_about : (found : FoundPackage) (specifier : Parts) (parts : JoinedModule) (dependencies : List (Rc PackageNv Global)) →
     IsOne found specifier parts dependencies →
     (t : List ℕ) (m : ModuleQuestion) → found_says found (about t m) ≡ (bytes_eq t (serialize specifier) && module_says parts m)
 one_about found specifier parts dependencies h t m = ap (list_any (found_module_says t m)) h.modules ∙
@@ -94,7 +96,7 @@ pub untyped_found : (u : UntypedModule) (found : FoundPackage) (parts : JoinedMo
     (q : Question) → found_says found q ≡ finding_says (Untyped u) q
 untyped_found u found parts h p whether_known = refl
 untyped_found u found parts h p (whether_entry_point t) = ap (list_any (is_text t)) h.entry_points
-untyped_found u found parts h p (whether_dependency nv) = ap (list_any (is_package nv)) h.dependencies_are
+untyped_found u found parts h p (whether_dependency nv) = ap (list_any (is_shared nv)) h.dependencies_are
 untyped_found u found parts h p (whether_refused t) = refl
 untyped_found u found parts h p (about t m) = one_about found u.specifier parts [] h t m ∙
     (ap (λ b. bytes_eq t (serialize u.specifier) && b) (p m) ∙ sym
@@ -108,11 +110,11 @@ four : (a a' b b' c c' d d' : Bool) → a ≡ a' → b ≡ b' → c ≡ c' → d
 four a a' b b' c c' d d' e f g h = cc
 
 -- what a module that was followed says, piece by piece
-abbrev pieces : List ℕ → Question → List SourceRange → List SourceRange → List PlacedFault → List PackageNv → Bool
+abbrev pieces : List ℕ → Question → List SourceRange → List SourceRange → List PlacedFault → List (Rc PackageNv Global) → Bool
 pieces t q ranges implementations ds dependencies = asks_module t is_recorded q
     || (list_any (λ r. asks_module t (range_says r) q) ranges
     || (list_any (λ r. asks_module t (implementation_says r) q) implementations
-    || (list_any (placed_says t q) ds || list_any (λ p. asks_dependency (nv_of p) q) dependencies)))
+    || (list_any (placed_says t q) ds || list_any (λ p. asks_dependency (nv_of p.value) q) dependencies)))
 
 followed_pieces : (f : FollowedModule) (q : Question) → list_any (says q) (followed_yields f)
     ≡ pieces (serialize f.specifier.now) q f.found.ranges.items f.found.implementations.items
@@ -123,7 +125,7 @@ followed_pieces f q =
     let publics = map (public nv t) f.found.ranges.items in
     let others = map (implementing nv t) f.found.implementations.items in
     let faults = placed_yields nv t (map placed_in f.found.faults.items) in
-    let asked = map (λ p. dependency nv (nv_of p)) f.dependencies.items in
+    let asked = map (λ p. dependency nv (nv_of p.value)) f.dependencies.items in
     ap (λ b. asks_module t is_recorded q || b)
     (list_any-append (says q) publics (others ++ (faults ++ asked)) ∙
     (ap (λ b. list_any (says q) publics || b) (list_any-append (says q) others (faults ++ asked) ∙
@@ -132,16 +134,17 @@ followed_pieces f q =
     (any_map (says q) (public nv t) f.found.ranges.items)
     (any_map (says q) (implementing nv t) f.found.implementations.items)
     (any_map (says q) (placed_yield nv t) (map placed_in f.found.faults.items))
-    (any_map (says q) (λ p. dependency nv (nv_of p)) f.dependencies.items)))
+    (any_map (says q) (λ p. dependency nv (nv_of p.value)) f.dependencies.items)))
 
 -- none of these pieces is asked for
-none_of : (t : List ℕ) (q : Question) (ranges implementations : List SourceRange) (ds : List PlacedFault) (dependencies : List PackageNv) →
+none_of : (t : List ℕ) (q : Question) (ranges implementations : List SourceRange) (ds : List PlacedFault)
+    (dependencies : List (Rc PackageNv Global)) →
     ((s : ModuleQuestion → Bool) → asks_module t s q ≡ false) →
-    pieces t q ranges implementations ds dependencies ≡ list_any (λ p. asks_dependency (nv_of p) q) dependencies
+    pieces t q ranges implementations ds dependencies ≡ list_any (λ p. asks_dependency (nv_of p.value) q) dependencies
 none_of t q ranges implementations ds dependencies h =
     ap (λ b. b ||
     (list_any (λ r. asks_module t (range_says r) q) ranges || (list_any (λ r. asks_module t (implementation_says r) q) implementations
-    || (list_any (placed_says t q) ds || list_any (λ p. asks_dependency (nv_of p) q) dependencies)))) (h is_recorded) ∙
+    || (list_any (placed_says t q) ds || list_any (λ p. asks_dependency (nv_of p.value) q) dependencies)))) (h is_recorded) ∙
     four _ false _ false _ false _ _
     (any_none (λ r. asks_module t (range_says r) q) (λ r. h (range_says r)) ranges)
     (any_none (λ r. asks_module t (implementation_says r) q) (λ r. h (implementation_says r)) implementations)
@@ -149,10 +152,10 @@ none_of t q ranges implementations ds dependencies h =
     refl
 
 -- the pieces that speak of the module itself
-abbrev here : ModuleQuestion → List SourceRange → List SourceRange → List PlacedFault → List PackageNv → Bool
+abbrev here : ModuleQuestion → List SourceRange → List SourceRange → List PlacedFault → List (Rc PackageNv Global) → Bool
 here m ranges implementations ds dependencies = is_recorded m
     || (list_any (λ r. range_says r m) ranges || (list_any (λ r. implementation_says r m) implementations
-    || (list_any (λ r. fault_says (of_demand r) m) ds || list_any (λ (p : PackageNv). false) dependencies)))
+    || (list_any (λ r. fault_says (of_demand r) m) ds || list_any (λ (p : Rc PackageNv Global). false) dependencies)))
 
 pub record IsFollowed (f : FollowedModule) (parts : JoinedModule) : Type 0 where
   pub found : parts.found ≡ f.found
@@ -160,15 +163,15 @@ pub record IsFollowed (f : FollowedModule) (parts : JoinedModule) : Type 0 where
   pub untyped_entry : parts.is_untyped_entry ≡ false
   pub untyped : parts.is_untyped ≡ false
 
-all_false : (rs is : List SourceRange) (ds : List PlacedFault) (ps : List PackageNv) →
+all_false : (rs is : List SourceRange) (ds : List PlacedFault) (ps : List (Rc PackageNv Global)) →
     (list_any (λ (r : SourceRange). false) rs || (list_any (λ (r : SourceRange). false) is
-    || (list_any (λ (r : PlacedFault). false) ds || list_any (λ (p : PackageNv). false) ps))) ≡ false
+    || (list_any (λ (r : PlacedFault). false) ds || list_any (λ (p : Rc PackageNv Global). false) ps))) ≡ false
 all_false rs is ds ps = four _ false _ false _ false _ false (any_false rs) (any_false is) (any_false ds) (any_false ps)
 
 -- its faults, among the pieces
 faults_here : (f : FollowedModule) (test : PlacedFault → Bool) → list_any (passes test) f.found.faults.items
     ≡ (list_any (λ (r : SourceRange). false) f.found.ranges.items || (list_any (λ (r : SourceRange). false) f.found.implementations.items
-    || (list_any test (map placed_in f.found.faults.items) || list_any (λ (p : PackageNv). false) f.dependencies.items)))
+    || (list_any test (map placed_in f.found.faults.items) || list_any (λ (p : Rc PackageNv Global). false) f.dependencies.items)))
 faults_here f test = sym (four _ false _ false _ (list_any (passes test) f.found.faults.items) _ false (any_false f.found.ranges.items)
     (any_false f.found.implementations.items) (any_map test placed_in f.found.faults.items) (any_false f.dependencies.items) ∙
     or_none (list_any (passes test) f.found.faults.items))
@@ -201,9 +204,9 @@ parts_here f parts h whether_otherwise_faulty =
 
 -- the pieces about a module are those of the module itself, if it is the one
 pieces_about : (b : Bool) (m : ModuleQuestion) (ranges implementations : List SourceRange) (ds : List PlacedFault)
-    (dependencies : List PackageNv) →
+    (dependencies : List (Rc PackageNv Global)) →
     ((b && is_recorded m) || (list_any (λ r. b && range_says r m) ranges || (list_any (λ r. b && implementation_says r m) implementations
-    || (list_any (λ r. b && fault_says (of_demand r) m) ds || list_any (λ (p : PackageNv). false) dependencies))))
+    || (list_any (λ r. b && fault_says (of_demand r) m) ds || list_any (λ (p : Rc PackageNv Global). false) dependencies))))
     ≡ (b && here m ranges implementations ds dependencies)
 pieces_about true m ranges implementations ds dependencies = refl
 pieces_about false m ranges implementations ds dependencies = all_false ranges implementations ds dependencies
@@ -217,7 +220,7 @@ followed_found f found parts h p (whether_entry_point t) = ap (list_any (is_text
     (none_of (serialize f.specifier.now) (whether_entry_point t) f.found.ranges.items f.found.implementations.items
     (map placed_in f.found.faults.items)
     f.dependencies.items (λ s. refl) ∙ any_false f.dependencies.items))
-followed_found f found parts h p (whether_dependency nv) = ap (list_any (is_package nv)) h.dependencies_are ∙
+followed_found f found parts h p (whether_dependency nv) = ap (list_any (is_shared nv)) h.dependencies_are ∙
     sym (followed_pieces f (whether_dependency nv) ∙
     none_of (serialize f.specifier.now) (whether_dependency nv) f.found.ranges.items f.found.implementations.items
     (map placed_in f.found.faults.items)

@@ -96,11 +96,11 @@ not_followed nv f =
     let publics = map (public n t) f.found.ranges.items in
     let others = map (implementing n t) f.found.implementations.items in
     let faults = placed_yields n t (map placed_in f.found.faults.items) in
-    let asked = map (λ p. dependency n (nv_of p)) f.dependencies.items in
+    let asked = map (λ p. dependency n (nv_of p.value)) f.dependencies.items in
     not_both nv publics (others ++ (faults ++ asked)) (not_map nv (public n t) (λ r. refl) f.found.ranges.items)
     (not_both nv others (faults ++ asked) (not_map nv (implementing n t) (λ r. refl) f.found.implementations.items)
     (not_both nv faults asked (not_map nv (placed_yield n t) (λ x. refl) (map placed_in f.found.faults.items))
-    (not_map nv (λ p. dependency n (nv_of p)) (λ p. refl) f.dependencies.items)))
+    (not_map nv (λ p. dependency n (nv_of p.value)) (λ p. refl) f.dependencies.items)))
 
 -- an item is used by the yields exactly where it is among the findings of items
 same_one : (nv : Nv) (f : Finding) → list_any (is_of nv) (kept_in f) ≡ list_any (keeps nv) (yields_of f)

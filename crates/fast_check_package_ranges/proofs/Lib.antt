@@ -1,5 +1,6 @@
 pub mod Maps
 pub mod Sets
+pub mod Dependencies
 pub mod Converted
 pub mod Collected
 pub mod Joined

@@ -20,7 +20,7 @@ use Rattle.fast_check_package_ranges.specs.declared.parts.JoinedModule.{JoinedMo
 use Rattle.fast_check_package_ranges.specs.declared.parts.JoinedPackage.{JoinedPackage}
 use Rattle.fast_check_package_ranges.specs.Questions.{ModuleQuestion, whether_untyped, whether_faulty}
 use Rattle.fast_check_package_ranges.specs.Questions.{whether_otherwise_faulty, IsTextlessAbout}
-use Rattle.fast_check_package_ranges.specs.Parts.{is_text, is_package, module_says, lookup_text}
+use Rattle.fast_check_package_ranges.specs.Parts.{is_text, is_package, is_shared, module_says, lookup_text}
 use Rattle.fast_check_package_ranges.specs.Answers.{diagnoses_untyped, diagnoses_otherwise, diagnose_alike}
 use Rattle.fast_check_package_ranges.specs.Answers.{module_answer, IsKeptAnswer}
 
@@ -59,7 +59,7 @@ pub record IsPackageAnswer (parts : JoinedPackage) (p : PackagePublicRanges) : T
   pub entry_points : (t : Text) → list_any (is_text t) p.entrypoints.keys ≡ list_any
       (is_text t) parts.entry_points.items
   pub dependencies : (nv : Nv) → list_any (is_package nv) p.dependencies.keys ≡ list_any
-      (is_package nv) parts.dependencies.items
+      (is_shared nv) parts.dependencies.items
   pub modules : (t : Text) → AreModuleAnswers t (lookup_text t parts.modules.entries)
       (lookup_text t p.module_ranges.entries)
   pub uncached : p.cache_items.items ≡ []

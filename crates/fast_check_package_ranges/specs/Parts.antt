@@ -3,6 +3,8 @@ use Rattle.std.specs.Prelude.{Bool, true, false, ◌&&◌, ◌||◌, List, [], �
 use Rattle.std.specs.List.{list_any}
 use Rattle.std.specs.Map.{lookup}
 use Rattle.std.specs.Str.{bytes_eq}
+use Rattle.std.specs.declared.alloc.Global.{Global}
+use Rattle.std.specs.declared.rc.Rc.{Rc}
 use Rattle.url.specs.Parts.{Parts, serialize}
 use Rattle.fast_check_packages.specs.Package.{Nv, nv_of}
 use Rattle.fast_check_packages.specs.declared.package.PackageNv.{PackageNv}
@@ -30,6 +32,10 @@ is_text t url = bytes_eq t (serialize url)
 abbrev pub is_package : Nv → PackageNv → Bool
 is_package nv p = same_nv nv (nv_of p)
 
+-- one that others share
+abbrev pub is_shared : Nv → Rc PackageNv Global → Bool
+is_shared nv p = is_package nv p.value
+
 abbrev pub module_says : JoinedModule → ModuleQuestion → Bool
 module_says m whether_recorded = true
 module_says m (whether_public r) = list_any (same_range r) m.found.ranges.items
@@ -53,7 +59,7 @@ modules_say modules t q = where_found (λ m. module_says m q) (lookup_text t mod
 abbrev pub package_says : JoinedPackage → Question → Bool
 package_says p whether_known = true
 package_says p (whether_entry_point t) = list_any (is_text t) p.entry_points.items
-package_says p (whether_dependency nv) = list_any (is_package nv) p.dependencies.items
+package_says p (whether_dependency nv) = list_any (is_shared nv) p.dependencies.items
 package_says p (whether_refused t) = false
 package_says p (about t q) = modules_say p.modules.entries t q
 
@@ -67,7 +73,7 @@ found_module_says t q found = is_text t found.0 && module_says found.1 q
 abbrev pub found_says : FoundPackage → Question → Bool
 found_says f whether_known = true
 found_says f (whether_entry_point t) = list_any (is_text t) f.entry_points.items
-found_says f (whether_dependency nv) = list_any (is_package nv) f.dependencies.items
+found_says f (whether_dependency nv) = list_any (is_shared nv) f.dependencies.items
 found_says f (whether_refused t) = false
 found_says f (about t q) = list_any (found_module_says t q) f.modules.items
 

@@ -18,6 +18,7 @@ use fast_check_findings::{
 };
 use std::alloc::{AllocError, Global};
 use std::collections::BTreeMap;
+use std::rc::Rc;
 use url::Url;
 
 fn untyped_parts(alloc: Global) -> JoinedModule
@@ -124,7 +125,7 @@ fn one_module(
     alloc: Global,
     specifier: Url,
     parts: JoinedModule,
-    dependencies: Vec<PackageNv>,
+    dependencies: Vec<Rc<PackageNv>>,
 ) -> Result<FoundPackage, AllocError>
     ensures entry_points { IfOk result (λ found. found.entry_points.items ≡ []) }
     ensures modules { IfOk result (λ found. found.modules.items ≡ (specifier, parts) ∷ []) }

@@ -12,6 +12,7 @@ use fast_check_findings::FoundModule;
 use fast_check_packages::PackageNv;
 use std::alloc::{AllocError, Global};
 use std::collections::BTreeMap;
+use std::rc::Rc;
 use url::Url;
 
 /// What was found of a module.
@@ -59,7 +60,7 @@ pub struct JoinedPackage {
     pub entry_points: Vec<Url>,
     pub modules: BTreeMap<Url, JoinedModule>,
     /// The packages that it depends on, perhaps more than once.
-    pub dependencies: Vec<PackageNv>,
+    pub dependencies: Vec<Rc<PackageNv>>,
 }
 
 /// What was found of a package in a turn.
@@ -67,7 +68,7 @@ pub struct JoinedPackage {
 pub struct FoundPackage {
     pub entry_points: Vec<Url>,
     pub modules: Vec<(Url, JoinedModule)>,
-    pub dependencies: Vec<PackageNv>,
+    pub dependencies: Vec<Rc<PackageNv>>,
 }
 
 impl FoundPackage {

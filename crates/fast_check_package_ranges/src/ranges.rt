@@ -9,7 +9,7 @@ ghost use Rattle.fast_check_diagnostics.specs.declared.diagnostics.FastCheckDiag
 ghost use Rattle.fast_check_worklists.specs.Demands.{Text};
 ghost use Rattle.fast_check_findings.specs.Findings.{yields_of};
 ghost use Rattle.fast_check_findings.specs.Diagnostics.{any_fault, passes};
-ghost use Rattle.fast_check_package_ranges.specs.Parts.{is_text, is_package, lookup_text, lookup_package};
+ghost use Rattle.fast_check_package_ranges.specs.Parts.{is_text, is_package, is_shared, lookup_text, lookup_package};
 ghost use Rattle.fast_check_package_ranges.specs.Answers.{AreAnswers};
 ghost use Rattle.fast_check_package_ranges.specs.Made.{diagnosed_if, whole_diagnostics, IsModuleAnswer, AreModuleAnswers, IsPackageAnswer, ArePackageAnswers};
 
@@ -19,9 +19,10 @@ use crate::parts::{JoinedModule, JoinedPackage, either};
 use fast_check_cache::PackagePublicRanges;
 use fast_check_diagnostics::{FastCheckDiagnostic, ModulePublicRanges};
 use fast_check_findings::{DemandFault, Finding, FoundModule, PackageNv, diagnostics_of};
+use fast_check_worklists::copy_of;
 use std::alloc::{AllocError, Global};
 use std::collections::{BTreeMap, BTreeSet};
-use std::rc::RcStr;
+use std::rc::{Rc, RcStr};
 use url::Url;
 
 fn push_missing(
@@ -163,13 +164,33 @@ fn entry_point_set(alloc: Global, urls: Vec<Url>) -> Result<BTreeSet<Url>, Alloc
     urls.into_iter().collect(alloc)
 }
 
+/// Adds a package, which is copied if it is not there.
+fn add_dependency(
+    dependencies: &mut BTreeSet<PackageNv>,
+    dependency: &PackageNv,
+) -> Result<(), AllocError>
+    ensures { OnOk result ((nv : Nv) → list_any (is_package nv) dependencies.new.keys
+        ≡ (list_any (is_package nv) dependencies.old.keys || is_package nv dependency.now)) }
+{
+    if dependencies.contains(dependency) {
+        return Ok(());
+    }
+    let copy = copy_of(dependency)?;
+    dependencies.insert(copy)?;
+    Ok(())
+}
+
 fn dependency_set(
     alloc: Global,
-    packages: Vec<PackageNv>,
+    packages: Vec<Rc<PackageNv>>,
 ) -> Result<BTreeSet<PackageNv>, AllocError>
-    ensures { IfOk result (λ set. (nv : Nv) → list_any (is_package nv) set.keys ≡ list_any (is_package nv) packages.items) }
+    ensures { IfOk result (λ made. (nv : Nv) → list_any (is_package nv) made.keys ≡ list_any (is_shared nv) packages.items) }
 {
-    packages.into_iter().collect(alloc)
+    let mut dependencies = BTreeSet::new(alloc);
+    for dependency in packages {
+        add_dependency(&mut dependencies, &dependency)?;
+    }
+    Ok(dependencies)
 }
 
 fn ranges_of(alloc: Global, parts: JoinedPackage) -> Result<PackagePublicRanges, AllocError>

@@ -8,6 +8,7 @@ pub mod Rests
 pub mod FileRests
 pub mod Wants
 pub mod OwnParts
+pub mod SymbolPaths
 pub mod Compared
 pub mod Kept
 pub mod Own

@@ -24,13 +24,13 @@ use Rattle.fast_check_search.specs.Numbers.{number_of, IsNumbering, Keeps}
 use Rattle.fast_check_search.specs.Wanted.{rest_path, key_names, want_key, IsRestNumbered, IsWanted, AreWanted}
 use Rattle.fast_check_search.proofs.Numbering.{then_equal, numbers_compare, number_kept, number_once, keeps_itself}
 
-then_parts : (a b : Ordering) → is_eq (ordering_then a b) ≡ true → (is_eq a ≡ true) × (is_eq b ≡ true)
+pub then_parts : (a b : Ordering) → is_eq (ordering_then a b) ≡ true → (is_eq a ≡ true) × (is_eq b ≡ true)
 then_parts a b h = and_parts (is_eq a) (is_eq b) (sym (then_equal a b) ∙ h)
 
 pub one_text : (a b : List ℕ) → is_eq (slice_cmp nat_cmp a b) ≡ true → a ≡ b
 one_text a b h = (bytes_decides a b).0 (sym (is_eq-slice_cmp a b) ∙ h)
 
-one_extent : (a b : Extent) → is_eq (extent_order.cmp-value.it a b) ≡ true → a ≡ b
+pub one_extent : (a b : Extent) → is_eq (extent_order.cmp-value.it a b) ≡ true → a ≡ b
 one_extent Touched Touched h = refl
 one_extent Touched Whole h = absurd (false≢true h)
 one_extent Whole Touched h = absurd (false≢true h)

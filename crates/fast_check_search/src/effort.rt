@@ -4,7 +4,8 @@ use crate::done::NumberedDemand;
 use fast_check_name_demands::demands::{CheckedTables, SymbolId};
 use fast_check_symbols::{SymbolDecl, SymbolDeclKind};
 
-/// From so much on it is not counted further: so the count takes few steps, however many demands lead to one symbol.
+/// From so much on it is not counted further: so the count takes few steps, however many demands lead to one symbol. At least the `MUCH` of
+/// fast_check_turns, from which on a search is kept.
 const COUNTED: usize = 64;
 
 /// How many references a declaration has.

@@ -10,22 +10,21 @@ ghost use Rattle.fast_check_search.specs.Done.{IsNumbered};
 ghost use Rattle.fast_check_search.specs.Numbers.{IsNumbering, Keeps};
 ghost use Rattle.fast_check_search.specs.Parts.{ArePartsCovered};
 ghost use Rattle.fast_check_search.specs.SymbolWorklist.{demanded, asked, IsKept, Grows, CoversEach};
-ghost use Rattle.fast_check_search.specs.Wanted.{AreWanted};
+ghost use Rattle.fast_check_search.specs.Wanted.{AreFilesWanted};
 
 use crate::done::NumberedDemand;
 use crate::effort::effort_of;
 use crate::numbers::{NumberedPath, PathNumbers};
 use crate::parts::{AskedParts, ask_parts};
 use crate::searched::Searched;
-use crate::wanted::{DoneWant, add_files};
+use crate::wanted::{WantedFiles, add_files};
 use crate::worklist::{SymbolWorklist, asked_path};
 use fast_check_name_demands::FileWants;
 use fast_check_name_demands::demands::{
-    CheckedTables, NotedSymbols, SourceRange, SymbolDemand, SymbolFault, demands_of, fault_of,
-    push_implementations, push_ranges,
+    AliasTargets, CheckedTables, NotedSymbols, SourceRange, SymbolDemand, SymbolFault, demands_of,
+    fault_of, push_implementations, push_ranges,
 };
 use std::alloc::{AllocError, Global};
-use std::collections::BTreeSet;
 
 /// What the demands of a module make public, what is wrong with them, and what they ask of other files. Each but the last may stand here more than once.
 #[derive(Drop)]
@@ -77,14 +76,14 @@ impl<'a> Found<'a> {
         demand: NumberedDemand<'a>,
         paths: &mut PathNumbers<'a>,
         noted: &mut NotedSymbols,
-        wanted: &mut BTreeSet<DoneWant<'a>>,
+        wanted: &mut WantedFiles<'a>,
     ) -> Result<(), AllocError>
         requires numbering { IsNumbering paths.old }
         requires number { IsNumbered paths.old (demanded demand) demand.path }
-        requires wanted { AreWanted paths.old wanted.old self.old.files }
+        requires wanted { AreFilesWanted tables.now paths.old wanted.old self.old.files }
         ensures numbering { OnOk result (IsNumbering paths.new) }
         ensures numbers { OnOk result (Keeps paths.old paths.new) }
-        ensures wanted { OnOk result (AreWanted paths.new wanted.new self.new.files) }
+        ensures wanted { OnOk result (AreFilesWanted tables.now paths.new wanted.new self.new.files) }
         ensures gains { OnOk result (Gains tables.now (demanded demand.entry) noted.old noted.new self.old self.new) }
     {
         push_ranges(tables, demand.demand, noted, &mut self.ranges)?;
@@ -101,10 +100,13 @@ fn ask_named<'a>(
     before: &Searched,
     demand: NumberedDemand<'a>,
     parts: &mut AskedParts,
+    targets: &mut AliasTargets<'a>,
     work: &mut SymbolWorklist<'a>,
 ) -> Result<(), AllocError>
+    requires tables { targets.old ≡ tables.now }
     requires kept { IsKept work.old }
     requires number { IsNumbered work.old.paths (demanded demand) demand.path }
+    ensures tables { targets.new ≡ targets.old }
     ensures kept { OnOk result (IsKept work.new) }
     ensures numbers { OnOk result (Keeps work.old.paths work.new.paths) }
     ensures grown { OnOk result (Grows (names tables.now (demanded demand.entry)) (asked work.old) (asked work.new)) }
@@ -114,7 +116,7 @@ fn ask_named<'a>(
         → CoversEach (names tables.now (demanded demand.entry)) (before.now ++ asked work.new)) }
 {
     let NumberedDemand { demand, path } = demand;
-    let named = demands_of(alloc, tables, demand)?;
+    let named = demands_of(alloc, targets, demand)?;
     let path = NumberedPath {
         names: asked_path(demand.ask),
         number: path,
@@ -148,7 +150,8 @@ pub fn search<'a>(
     work.ask_all(&before, NumberedPath::none(), roots)?;
     let mut found = Found::new(alloc);
     let mut noted = NotedSymbols::new(alloc);
-    let mut wanted = BTreeSet::new(alloc);
+    let mut wanted = WantedFiles::new(alloc);
+    let mut targets = AliasTargets::new(alloc, tables);
     let mut next = 0;
     while next < work.len() {
         let demand = work.at(next);
@@ -160,7 +163,15 @@ pub fn search<'a>(
             &mut noted,
             &mut wanted,
         )?;
-        ask_named(alloc, tables, &before, demand, parts, &mut work)?;
+        ask_named(
+            alloc,
+            tables,
+            &before,
+            demand,
+            parts,
+            &mut targets,
+            &mut work,
+        )?;
         next += 1;
     }
     noted.push_untold(tables, told, &mut found.ranges)?;

@@ -4,13 +4,15 @@ ghost use Rattle.fast_check_symbols.specs.Tables.{Tables};
 ghost use Rattle.fast_check_name_demands.specs.demands.Demands.{Demand, asked_of};
 ghost use Rattle.fast_check_name_demands.specs.demands.Parts.{own_parts, parts_beside};
 ghost use Rattle.fast_check_search.specs.Numbers.{Keeps};
-ghost use Rattle.fast_check_search.specs.Parts.{ArePartsCovered};
+ghost use Rattle.fast_check_search.specs.Parts.{HasNoParts, ArePartsCovered};
 ghost use Rattle.fast_check_search.specs.SymbolWorklist.{asked, IsKept, Grows, CoversEach};
 
 use crate::numbers::NumberedPath;
 use crate::searched::Searched;
 use crate::worklist::SymbolWorklist;
-use fast_check_name_demands::demands::{Ask, CheckedTables, SymbolDemand, SymbolId, own_parts_of};
+use fast_check_name_demands::demands::{
+    Ask, CheckedTables, SymbolDemand, SymbolId, has_light_aliases, own_parts_of,
+};
 use std::alloc::{AllocError, Global};
 use std::collections::BTreeSet;
 
@@ -25,6 +27,8 @@ pub struct PathAsker {
 #[derive(Drop)]
 pub struct AskedParts {
     askers: BTreeSet<PathAsker>,
+    /// Symbols with many aliases, or with some of long names, none of which has own parts.
+    without: BTreeSet<SymbolId>,
 }
 
 impl AskedParts {
@@ -34,6 +38,7 @@ impl AskedParts {
     {
         AskedParts {
             askers: BTreeSet::new(alloc),
+            without: BTreeSet::new(alloc),
         }
     }
 
@@ -45,6 +50,18 @@ impl AskedParts {
             return;
         }
         *self = AskedParts::new(alloc);
+    }
+
+    /// Notes that no alias of a symbol has own parts, where these are many or have long names.
+    fn note_without(&mut self, tables: &CheckedTables, symbol: SymbolId) -> Result<(), AllocError>
+        requires { HasNoParts tables.now symbol }
+        ensures { OnOk result ((account : List Demand) → ArePartsCovered tables.now self.old account → ArePartsCovered tables.now self.new account) }
+    {
+        if has_light_aliases(tables, symbol) {
+            return Ok(());
+        }
+        self.without.insert(symbol)?;
+        Ok(())
     }
 }
 
@@ -69,8 +86,12 @@ fn ask_own_parts<'a>(
     if parts.askers.contains(&asker) {
         return Ok(());
     }
+    if parts.without.contains(&asker.symbol) {
+        return Ok(());
+    }
     let own = own_parts_of(alloc, tables, asker.symbol, asker.referrer)?;
     if own.as_slice().is_empty() {
+        parts.note_without(tables, asker.symbol)?;
         return Ok(());
     }
     work.ask_all(before, NumberedPath::none(), own.as_slice())?;

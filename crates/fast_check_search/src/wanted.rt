@@ -1,20 +1,23 @@
 //! What is asked of other files, each thing once.
-ghost use Rattle.std.specs.Prelude.{◌≡◌, [], ◌∷◌, map, Some, OnOk};
+ghost use Rattle.std.specs.Prelude.{◌≡◌, List, [], ◌∷◌, map, Some, OnOk};
 ghost use Rattle.std.specs.List.{Contains};
 ghost use Rattle.fast_check_names.specs.Names.{path_of};
+ghost use Rattle.fast_check_symbols.specs.Tables.{Tables};
 ghost use Rattle.fast_check_name_demands.specs.demands.Demands.{demand_of};
 ghost use Rattle.fast_check_name_demands.specs.declared.want.FileWant.{FileWant};
-ghost use Rattle.fast_check_name_demands.specs.Files.{file_demand_of, files};
+ghost use Rattle.fast_check_name_demands.specs.Files.{FileDemand, file_demand_of, files};
 ghost use Rattle.fast_check_search.specs.Done.{IsNumbered};
 ghost use Rattle.fast_check_name_demands.specs.demands.Yields.{Adds};
+ghost use Rattle.fast_check_search.specs.declared.numbers.PathNumbers.{PathNumbers};
 ghost use Rattle.fast_check_search.specs.Numbers.{number_of, IsNumbering, Keeps, Follows};
 ghost use Rattle.fast_check_search.specs.SymbolWorklist.{demanded};
-ghost use Rattle.fast_check_search.specs.Wanted.{rest_path, want_key, AreWanted};
+ghost use Rattle.fast_check_search.specs.Wanted.{rest_path, want_key, symbol_path, AreWanted, AreFilesWanted};
 
+use crate::aliases::may_ask_files;
 use crate::done::NumberedDemand;
 use crate::numbers::{NumberedPath, PathNumbers};
 use crate::worklist::asked_path;
-use fast_check_name_demands::demands::{CheckedTables, Extent};
+use fast_check_name_demands::demands::{Ask, CheckedTables, Extent, SymbolId};
 use fast_check_name_demands::{FileWant, FileWants, NameDemand, push_files};
 use std::alloc::{AllocError, Global};
 use std::collections::BTreeSet;
@@ -34,6 +37,35 @@ pub enum DoneNames<'a> {
 pub struct DoneWant<'a> {
     pub names: DoneNames<'a>,
     pub specifier: &'a str,
+}
+
+/// A path that is asked of a symbol, by its number. Who asks for it plays no part in what it asks of files.
+#[derive(Clone, Copy, PartialEq, Eq, PartialOrd, Ord)]
+pub struct SymbolPath {
+    pub symbol: SymbolId,
+    pub path: u32,
+    pub extent: Extent,
+}
+
+/// What was asked of other files.
+#[derive(Drop)]
+pub struct WantedFiles<'a> {
+    /// Each thing that was asked.
+    wants: BTreeSet<DoneWant<'a>>,
+    /// Paths all of whose wants are among these.
+    paths: BTreeSet<SymbolPath>,
+}
+
+impl<'a> WantedFiles<'a> {
+    /// Nothing.
+    pub fn new(alloc: Global) -> WantedFiles<'a>
+        ensures { (t : Tables) (w : PathNumbers) (found : List FileDemand) → AreFilesWanted t w result found }
+    {
+        WantedFiles {
+            wants: BTreeSet::new(alloc),
+            paths: BTreeSet::new(alloc),
+        }
+    }
 }
 
 /// The names behind the first one of a path; none where no path is asked for.
@@ -110,8 +142,8 @@ fn add_wants<'a>(
     Ok(())
 }
 
-/// Adds what a demand asks of other files: each thing once, however many demands ask for it.
-pub fn add_files<'a>(
+/// Adds each thing that a demand asks of other files, unless it was added before.
+fn add_each<'a>(
     alloc: Global,
     tables: &'a CheckedTables,
     demand: NumberedDemand<'a>,
@@ -135,4 +167,75 @@ pub fn add_files<'a>(
         number: path,
     };
     add_wants(path, wants.as_slice(), paths, wanted, out)
+}
+
+/// The path that a demand asks of a symbol. None where it asks for the symbol itself.
+fn symbol_path(demand: NumberedDemand<'_>) -> Option<SymbolPath>
+    ensures { result ≡ symbol_path demand.entry }
+{
+    let NumberedDemand { demand, path } = demand;
+    match demand.ask {
+        Ask::Reference(_) | Ask::Child(_) => None,
+        Ask::Path(_, extent) => Some(SymbolPath {
+            symbol: demand.symbol,
+            path,
+            extent,
+        }),
+    }
+}
+
+/// Adds what a demand asks of other files by a path, unless that was added for another demand of the same path.
+fn add_once<'a>(
+    alloc: Global,
+    tables: &'a CheckedTables,
+    demand: NumberedDemand<'a>,
+    key: SymbolPath,
+    paths: &mut PathNumbers<'a>,
+    wanted: &mut WantedFiles<'a>,
+    out: &mut FileWants<'a>,
+) -> Result<(), AllocError>
+    requires numbering { IsNumbering paths.old }
+    requires number { IsNumbered paths.old (demanded demand) demand.path }
+    requires key { symbol_path demand ≡ Some key }
+    requires wanted { AreFilesWanted tables.now paths.old wanted.old out.old }
+    ensures numbering { OnOk result (IsNumbering paths.new) }
+    ensures kept { OnOk result (Keeps paths.old paths.new) }
+    ensures wanted { OnOk result (AreFilesWanted tables.now paths.new wanted.new out.new) }
+    ensures files { OnOk result (Adds (files tables.now (demanded demand.entry)) out.old out.new) }
+{
+    if wanted.paths.contains(&key) {
+        return Ok(());
+    }
+    add_each(alloc, tables, demand, paths, &mut wanted.wants, out)?;
+    if !may_ask_files(tables, key.symbol) {
+        return Ok(());
+    }
+    wanted.paths.insert(key)?;
+    Ok(())
+}
+
+/// Adds what a demand asks of other files: each thing once, and what a path asks is worked out once, whoever asks for it.
+pub fn add_files<'a>(
+    alloc: Global,
+    tables: &'a CheckedTables,
+    demand: NumberedDemand<'a>,
+    paths: &mut PathNumbers<'a>,
+    wanted: &mut WantedFiles<'a>,
+    out: &mut FileWants<'a>,
+) -> Result<(), AllocError>
+    requires numbering { IsNumbering paths.old }
+    requires number { IsNumbered paths.old (demanded demand) demand.path }
+    requires wanted { AreFilesWanted tables.now paths.old wanted.old out.old }
+    ensures numbering { OnOk result (IsNumbering paths.new) }
+    ensures kept { OnOk result (Keeps paths.old paths.new) }
+    ensures wanted { OnOk result (AreFilesWanted tables.now paths.new wanted.new out.new) }
+    ensures files { OnOk result (Adds (files tables.now (demanded demand.entry)) out.old out.new) }
+{
+    match symbol_path(demand) {
+        None => {
+            add_each(alloc, tables, demand, paths, &mut wanted.wants, out)?;
+            Ok(())
+        }
+        Some(key) => add_once(alloc, tables, demand, key, paths, wanted, out),
+    }
 }

@@ -1,5 +1,5 @@
-mod ExportsAsked
 pub mod Packages
 mod Asking
+mod Ordered
 mod Kept
 mod Meetings

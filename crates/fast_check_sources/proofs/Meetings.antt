@@ -2,6 +2,7 @@
 use Rattle.std.proofs.Common.{◌≡◌, ◌∙◌, sym, ap, refl, subst, ℕ, List, [], ◌∷◌, ◌++◌, map, Option, Some, None, option_map}
 use Rattle.std.proofs.Common.{Bool, true, false, true≢false, cond, ⊎_elim, String, arith, ◌+◌, ◌<◌, length, take, get_or}
 use Rattle.std.specs.List.{Contains, flat_map, list_any}
+use Rattle.std.specs.List.Sorted.{IsPermutation}
 use Rattle.std.proofs.lemmas.List.{take_more, map_push, flat_map_more}
 use Rattle.std.specs.Option.{option_and_then}
 use Rattle.std.specs.declared.alloc.Global.{Global}
@@ -36,6 +37,7 @@ use Rattle.fast_check_sources.specs.Asked.{is_last, IsLastTold, IsResolving}
 use Rattle.fast_check_sources.specs.Asked.{IsSameOwner, IsSameModule, IsSameFound, IfKept, kept_at, IsAsking, Finds, Asks}
 use Rattle.fast_check_sources.specs.Asked.{again_wants, is_re_exported}
 use Rattle.fast_check_sources.proofs.Asking.{file_asked, behind_asked, adds_turned}
+use Rattle.fast_check_sources.proofs.Ordered.{adds_ordered}
 use Rattle.fast_check_sources.proofs.Packages.{same_is}
 use Rattle.fast_check_sources.proofs.Kept.{kept_put, kept_none, kept_more, kept_here}
 
@@ -420,10 +422,10 @@ module _ (owner : Text → Option Nv) (nv : Nv) (traced : TracedModule) where
 
   -- all that is asked
   pub outer_asked : {X Y : Type 0} (f : X → List Want) (g : Y → List Want) (xs us : List X) (ys vs : List Y) (a b c : Asking) →
-      a.out.items ≡ [] → us ≡ xs → vs ≡ ys → Asks owner nv traced (flat_map f us) a b → Asks owner nv traced (flat_map g vs) b c →
+      a.out.items ≡ [] → IsPermutation xs us → vs ≡ ys → Asks owner nv traced (flat_map f us) a b → Asks owner nv traced (flat_map g vs) b c →
       Adds (flat_map f xs ++ flat_map g ys) [] (map want_of c.out.items)
   outer_asked {X} {Y} f g xs us ys vs a b c none first second files wants =
-      subst (λ (zs : List X). Adds (flat_map f zs ++ flat_map g ys) [] (map want_of c.out.items)) first
+      adds_ordered f xs us (flat_map g ys) [] (map want_of c.out.items) first
       (subst (λ (zs : List Y). Adds (flat_map f us ++ flat_map g zs) [] (map want_of c.out.items)) second
       (subst (λ zs. Adds (flat_map f us ++ flat_map g vs) (map want_of zs) (map want_of c.out.items)) none
       (asks_both (flat_map f us) (flat_map g vs) a b c files wants).adds))

@@ -1,4 +1,4 @@
 pub mod Sources
-pub mod Exports
+pub mod Lengths
 pub mod Wants
 pub mod Asked

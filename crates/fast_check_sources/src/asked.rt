@@ -12,7 +12,7 @@ ghost use Rattle.fast_check_demands.specs.Yields.{Adds};
 ghost use Rattle.fast_check_sources.specs.Asked.{IsOwner, IsSameOwner, IsModuleAt, IsSameModule, package_of, names_of_file, names_behind};
 ghost use Rattle.fast_check_sources.specs.Asked.{is_last, IsLastTold};
 
-use crate::exports::exports_to_ask;
+use crate::owners::{MetPackages, shared};
 use crate::sources::owner_of;
 use fast_check_name_demands::NameDemand;
 use fast_check_packages::{IndexedMembers, JsrUrlProvider, PackageNv};
@@ -35,23 +35,6 @@ pub enum Owner {
 pub struct AskedModule {
     pub specifier: Rc<Url>,
     pub owner: Owner,
-}
-
-/// The packages that modules belonged to last: where the next one belongs to the same, it shares the name.
-#[derive(Drop)]
-pub struct LastOwners {
-    own: Option<Rc<PackageNv>>,
-    another: Option<Rc<PackageNv>>,
-}
-
-impl LastOwners {
-    /// None so far.
-    pub fn new() -> LastOwners {
-        LastOwners {
-            own: None,
-            another: None,
-        }
-    }
 }
 
 impl Owner {
@@ -88,37 +71,12 @@ fn is_last(last: &Option<Rc<PackageNv>>, nv: &PackageNv) -> bool
     }
 }
 
-/// The same name once more.
-fn shared(nv: &Rc<PackageNv>) -> Result<Rc<PackageNv>, AllocError>
-    ensures { IfOk result (λ shared. nv_of shared.value ≡ nv_of nv.now.value) }
-{
-    nv.clone()
-}
-
-/// A package, as it is held already if it is the last one.
-fn held(
-    alloc: Global,
-    nv: PackageNv,
-    last: &mut Option<Rc<PackageNv>>,
-) -> Result<Rc<PackageNv>, AllocError>
-    ensures { IfOk result (λ held. nv_of held.value ≡ nv_of nv) }
-{
-    if let Some(last) = last {
-        if is_same_package(last, &nv) {
-            return Ok(shared(last)?);
-        }
-    }
-    let held = Rc::new(alloc, nv)?;
-    *last = Some(held.clone()?);
-    Ok(held)
-}
-
 /// A package as another one sees it.
 fn owner_seen(
     alloc: Global,
     nv: &PackageNv,
     owner: Option<PackageNv>,
-    last: &mut LastOwners,
+    owners: &mut MetPackages,
 ) -> Result<Owner, AllocError>
     ensures { IfOk result (λ seen. IsOwner (nv_of nv.now) (option_map nv_of owner) seen) }
 {
@@ -126,9 +84,9 @@ fn owner_seen(
         return Ok(Owner::Nobody);
     };
     if is_same_package(nv, &owner) {
-        return Ok(Owner::Own(held(alloc, owner, &mut last.own)?));
+        return Ok(Owner::Own(owners.held(alloc, owner)?));
     }
-    Ok(Owner::Another(held(alloc, owner, &mut last.another)?))
+    Ok(Owner::Another(owners.held(alloc, owner)?))
 }
 
 /// The module under a specifier, as a package asks for it.
@@ -138,13 +96,13 @@ pub fn module_at(
     members: &IndexedMembers<'_>,
     provider: &dyn JsrUrlProvider,
     specifier: &Url,
-    last: &mut LastOwners,
+    owners: &mut MetPackages,
 ) -> Result<AskedModule, AllocError>
     ensures { IfOk result (λ found. IsModuleAt (owner_by (members_in members.now) (nv_at provider.now)) (nv_of nv.now)
         (serialize specifier.now) found) }
 {
     let owner = owner_of(alloc, members, provider, specifier)?;
-    let owner = owner_seen(alloc, nv, owner, last)?;
+    let owner = owner_seen(alloc, nv, owner, owners)?;
     let specifier = Rc::new(alloc, specifier.clone()?)?;
     Ok(AskedModule { specifier, owner })
 }
@@ -179,11 +137,10 @@ pub fn push_package(
 }
 
 /// Adds names of a file, if it is one of the package that asks.
-pub fn push_names_of_file(
-    alloc: Global,
+pub fn push_names_of_file<'a>(
     target: &AskedModule,
-    demand: NameDemand<'_>,
-    out: &mut Vec<OuterWant>,
+    demand: NameDemand<'a>,
+    out: &mut Vec<OuterWant<'a>>,
 ) -> Result<(), AllocError>
     ensures { OnOk result (map want_of out.new.items ≡ map want_of out.old.items
         ++ names_of_file target.now.owner (serialize target.now.specifier.value) (asked_by (names_of demand.entry))) }
@@ -191,17 +148,15 @@ pub fn push_names_of_file(
     let Owner::Own(nv) = &target.owner else {
         return Ok(());
     };
-    let exports = exports_to_ask(alloc, demand)?;
-    out.push(OuterWant::Module(nv.clone()?, target.specifier.clone()?, exports))?;
+    out.push(OuterWant::Module(nv.clone()?, target.specifier.clone()?, demand))?;
     Ok(())
 }
 
 /// Adds names of a module behind a re-export of all, if it belongs to a package.
-pub fn push_names_behind(
-    alloc: Global,
+pub fn push_names_behind<'a>(
     target: &AskedModule,
-    demand: NameDemand<'_>,
-    out: &mut Vec<OuterWant>,
+    demand: NameDemand<'a>,
+    out: &mut Vec<OuterWant<'a>>,
 ) -> Result<(), AllocError>
     ensures { OnOk result (map want_of out.new.items ≡ map want_of out.old.items
         ++ names_behind target.now.owner (serialize target.now.specifier.value) (asked_by (names_of demand.entry))) }
@@ -209,8 +164,7 @@ pub fn push_names_behind(
     match &target.owner {
         Owner::Nobody => Ok(()),
         Owner::Own(nv) | Owner::Another(nv) => {
-            let exports = exports_to_ask(alloc, demand)?;
-            out.push(OuterWant::Module(nv.clone()?, target.specifier.clone()?, exports))?;
+            out.push(OuterWant::Module(nv.clone()?, target.specifier.clone()?, demand))?;
             Ok(())
         }
     }

@@ -2,9 +2,11 @@
 #![tactic(auto)]
 
 mod asked;
-mod exports;
+mod order;
+mod owners;
 mod sources;
 mod wants;
 
+pub use owners::MetPackages;
 pub use sources::{Sources, info_of, is_untyped};
 pub use wants::{Asker, outer_wants};

@@ -16,9 +16,9 @@ ghost use Rattle.fast_check_sources.specs.Sources.{known};
 ghost use Rattle.fast_check_sources.specs.Wants.{resolved, file_wants, left_wants};
 ghost use Rattle.fast_check_sources.specs.Asked.{kept_at, IsSameFound, IsResolving, IsAsking, Finds, Asks};
 
-use crate::asked::{
-    AskedModule, LastOwners, module_at, push_names_behind, push_names_of_file, push_package,
-};
+use crate::asked::{AskedModule, module_at, push_names_behind, push_names_of_file, push_package};
+use crate::order::shortest_first;
+use crate::owners::MetPackages;
 use crate::sources::Sources;
 use fast_check_name_demands::{FileWant, FileWants, NameDemand};
 use fast_check_packages::{JsrUrlProvider, PackageNv};
@@ -26,6 +26,7 @@ use fast_check_traces::{ModuleWant, ModuleWants, TracedModule};
 use fast_check_worklists::OuterWant;
 use std::alloc::{AllocError, Global};
 use std::collections::{BTreeMap, BTreeSet};
+use std::mem;
 use std::rc::Rc;
 use url::Url;
 
@@ -44,9 +45,9 @@ struct Asking<'a> {
     named: BTreeMap<&'a str, Option<AskedModule>>,
     met: BTreeMap<&'a str, AskedModule>,
     re_exported: BTreeSet<&'a str>,
-    owners: LastOwners,
+    owners: MetPackages,
     last_package: Option<Rc<PackageNv>>,
-    out: Vec<OuterWant>,
+    out: Vec<OuterWant<'a>>,
 }
 
 /// What the texts in a module resolve to.
@@ -203,7 +204,7 @@ fn push_file<'a>(
 {
     match name(alloc, asker, provider, resolutions, file.specifier, asking)? {
         None => Ok(()),
-        Some(target) => push_names_of_file(alloc, &target, file.names, &mut asking.out),
+        Some(target) => push_names_of_file(&target, file.names, &mut asking.out),
     }
 }
 
@@ -227,7 +228,7 @@ fn push_first<'a>(
         None => Ok(()),
         Some(target) => {
             let demand = NameDemand::AllButDefault;
-            push_names_behind(alloc, &target, demand, &mut asking.out)
+            push_names_behind(&target, demand, &mut asking.out)
         }
     }
 }
@@ -262,7 +263,7 @@ fn push_answered<'a>(
     asker: Asker<'_>,
     provider: &dyn JsrUrlProvider,
     target: &'a Url,
-    demand: NameDemand<'_>,
+    demand: NameDemand<'a>,
     asking: &mut Asking<'a>,
 ) -> Result<(), AllocError>
     requires { let k = known asker.sources (url_of provider.now) (nv_at provider.now) in
@@ -273,7 +274,7 @@ fn push_answered<'a>(
         (left_wants k nv asker.entry.traced (name_answered target.now (names_of demand.entry))) asking.old asking.new) }
 {
     let found = meet(alloc, asker, provider, target, asking)?;
-    push_names_behind(alloc, &found, demand, &mut asking.out)
+    push_names_behind(&found, demand, &mut asking.out)
 }
 
 /// Adds what is asked of another module by what the module exports again.
@@ -346,8 +347,8 @@ fn push_wants<'a>(
     Ok(())
 }
 
-/// Nothing was asked.
-fn nothing_asked<'a>(alloc: Global) -> Asking<'a>
+/// Nothing was asked, where these packages were met before.
+fn nothing_asked<'a>(alloc: Global, owners: MetPackages) -> Asking<'a>
     ensures none { result.out.items ≡ [] }
     ensures asking { (owner : Text → Option Nv) (nv : Nv) (traced : TracedSeen) → IsAsking owner nv traced result }
 {
@@ -355,20 +356,22 @@ fn nothing_asked<'a>(alloc: Global) -> Asking<'a>
         named: BTreeMap::new(alloc),
         met: BTreeMap::new(alloc),
         re_exported: BTreeSet::new(alloc),
-        owners: LastOwners::new(),
+        owners,
         last_package: None,
         out: Vec::new(alloc),
     }
 }
 
-/// What a module asks of other modules and of packages: by what its symbols ask of files, and by what it exports again.
-pub fn outer_wants(
+/// What a module asks of other modules and of packages: by what its symbols ask of files, and by what it exports again. What files are asked for comes
+/// with the shortest paths first. The packages that it asks for or asks of are met, and what is asked shares the names of those that were met before.
+pub fn outer_wants<'a>(
     alloc: Global,
-    asker: Asker<'_>,
+    asker: Asker<'a>,
     provider: &dyn JsrUrlProvider,
-    files: &FileWants<'_>,
-    wants: &ModuleWants<'_>,
-) -> Result<Vec<OuterWant>, AllocError>
+    files: &FileWants<'a>,
+    wants: &ModuleWants<'a>,
+    owners: &mut MetPackages,
+) -> Result<Vec<OuterWant<'a>>, AllocError>
     ensures { let k = known asker.entry.sources (url_of provider.now) (nv_at provider.now) in
         let nv = nv_of asker.entry.package.now in
         IfOk result (λ out. Adds
@@ -376,10 +379,13 @@ pub fn outer_wants(
         [] (map want_of out.items)) }
 {
     let resolutions = resolutions_in(asker.traced);
-    let mut asking = nothing_asked(alloc);
+    let before = mem::replace(owners, MetPackages::new(alloc));
+    let mut asking = nothing_asked(alloc, before);
+    let files = shortest_first(alloc, files.as_slice())?;
     let files = files.as_slice();
     push_files(alloc, asker, provider, resolutions, files, &mut asking)?;
     let wants = wants.as_slice();
     push_wants(alloc, asker, provider, resolutions, wants, &mut asking)?;
+    *owners = asking.owners;
     Ok(asking.out)
 }

@@ -21,7 +21,7 @@ use Rattle.fast_check_names.specs.Names.{Name}
 use Rattle.fast_check_names.specs.Imports.{NameDemand, names_but_default, each_name, subset_at, whole_at}
 use Rattle.fast_check_modules.specs.symbols.declared.tables.ReExportAllNode.{ReExportAllNode}
 use Rattle.fast_check_modules.specs.symbols.Tables.{resolved_export, answered_names}
-use Rattle.fast_check_graph.specs.Graph.{resolved_to}
+use Rattle.fast_check_graph.specs.Graph.{resolutions_of, resolved_to}
 use Rattle.fast_check_graph.specs.Root.{specifier_of, found_module}
 use Rattle.fast_check_traces.specs.declared.modules.TracedModule.{TracedModule}
 use Rattle.fast_check_traces.specs.declared.origins.Origin.{Origin}
@@ -93,6 +93,10 @@ pub record AreReadOf (m : TracedModule) (read : Origins) : Type 0 where
 pub record AreOriginsOf (m : TracedModule) (kept : KeptOrigins) : Type 0 where
   pub says : (name : Name) → found_origin m kept name ≡ own_origin m name
 
+-- what the texts in the module that is followed resolve to
+abbrev pub own_resolutions : TracedModule → Option (BTreeMap (String Global) Parts)
+own_resolutions m = resolutions_of m.graph.now (specifier_of m.info.now)
+
 -- the answer of the module of a name
 abbrev pub module_answer : TracedModule → Name → Parts → Option Parts
 module_answer m name url = option_and_then (λ other. resolved_export (tables_in other) name)
@@ -108,6 +112,18 @@ pub record AreModulesOf (m : TracedModule) (nodes : List ReExportAllNode) (leads
   pub covers : (url : Parts) (name : Name) → is_read url leads ≡ true → is_some (module_answer m name url) ≡ true
       → is_some (first_lead name leads.items.items) ≡ true
 
+-- a URL was met
+abbrev pub is_met : Parts → Leads → Bool
+is_met url leads = contains_by (λ k. slice_cmp nat_cmp (serialize url) k.now) leads.urls
+
+-- and so is each name of the module at a URL that was met
+pub record AreUrlsOf (m : TracedModule) (nodes : List ReExportAllNode) (leads : Leads) : Type 0 where
+  pub says : (name : Name) → first_lead name leads.items.items ≡ first_origin m name nodes
+  pub covers : (url : Parts) (name : Name) → is_read url leads ≡ true → is_some (module_answer m name url) ≡ true
+      → is_some (first_lead name leads.items.items) ≡ true
+  pub meets : (url : Parts) (name : Name) → is_met url leads ≡ true → is_some (module_answer m name url) ≡ true
+      → is_some (first_lead name leads.items.items) ≡ true
+
 -- the answer of the module that a text leads to
 abbrev pub text_answer : TracedModule → Name → List ℕ → Option Parts
 text_answer m name text = option_and_then (λ other. resolved_export (tables_in other) name)
@@ -121,6 +137,8 @@ is_resolved text leads = contains_by (λ k. slice_cmp nat_cmp text k.now) leads.
 pub record AreLeadsOf (m : TracedModule) (nodes : List ReExportAllNode) (leads : Leads) : Type 0 where
   pub says : (name : Name) → first_lead name leads.items.items ≡ first_origin m name nodes
   pub covers : (url : Parts) (name : Name) → is_read url leads ≡ true → is_some (module_answer m name url) ≡ true
+      → is_some (first_lead name leads.items.items) ≡ true
+  pub meets : (url : Parts) (name : Name) → is_met url leads ≡ true → is_some (module_answer m name url) ≡ true
       → is_some (first_lead name leads.items.items) ≡ true
   pub resolves : (text : List ℕ) (name : Name) → is_resolved text leads ≡ true →
       is_some (text_answer m name text) ≡ true → is_some (first_lead name leads.items.items) ≡ true

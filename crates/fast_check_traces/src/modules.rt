@@ -1,12 +1,15 @@
 //! The tables and the exports of a module that is followed.
 ghost use Rattle.std.specs.Prelude.{◌≡◌, is_some};
-ghost use Rattle.std.specs.Option.{option_copied};
+ghost use Rattle.std.specs.Option.{option_copied, option_and_then};
+ghost use Rattle.fast_check_graph.specs.Resolutions.{text_resolved};
 ghost use Rattle.fast_check_traces.specs.Modules.{tables_in, own_tables, own_export, led_to, answer_of, first_with};
+ghost use Rattle.fast_check_traces.specs.Origins.{own_resolutions};
 
 use fast_check_demands::CheckedTables;
 use fast_check_graph::{AnyModuleInfo, ModuleGraph, RootSymbol};
 use fast_check_modules::ReExportAllNode;
 use fast_check_symbols::SymbolId;
+use std::collections::BTreeMap;
 use url::Url;
 
 /// The tables of a module.
@@ -40,6 +43,20 @@ pub fn own_export(tables: &CheckedTables, name: &str) -> Option<SymbolId>
 {
     let symbol = tables.symbol(tables.module_symbol())?;
     symbol.exports.get(name)
+}
+
+/// What the texts in the module that is followed resolve to.
+pub fn own_resolutions<'a>(traced: TracedModule<'a>) -> Option<&'a BTreeMap<String, Url>>
+    ensures { option_copied result ≡ own_resolutions traced.entry }
+{
+    traced.graph.resolutions_of(traced.info.specifier())
+}
+
+/// What a text resolves to, by what the texts of its module do.
+pub fn resolved<'a>(resolutions: Option<&'a BTreeMap<String, Url>>, text: &str) -> Option<&'a Url>
+    ensures { option_copied result ≡ option_and_then (text_resolved text.now) (option_copied resolutions.entry) }
+{
+    resolutions?.get(text)
 }
 
 /// The module that a re-export of all leads to.

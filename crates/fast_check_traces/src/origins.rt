@@ -4,13 +4,17 @@ ghost use Rattle.std.specs.Option.{option_or, option_and_then, option_copied};
 ghost use Rattle.std.specs.Str.{bytes_eq};
 ghost use Rattle.fast_check_names.specs.Names.{Name};
 ghost use Rattle.fast_check_modules.specs.symbols.declared.tables.ReExportAllNode.{ReExportAllNode};
+ghost use Rattle.fast_check_graph.specs.Graph.{resolved_to};
 ghost use Rattle.fast_check_graph.specs.Root.{specifier_of, found_module, AreFoundByOwnNames};
 ghost use Rattle.fast_check_traces.specs.declared.modules.TracedModule.{TracedModule as TracedSeen};
 ghost use Rattle.fast_check_traces.specs.Modules.{own_tables as tables_at, led_to, first_with};
 ghost use Rattle.fast_check_traces.specs.Origins.{Answered, origin_of, origin_at, first_origin, lead_origin, lead_with, first_lead};
-ghost use Rattle.fast_check_traces.specs.Origins.{indexed, read_origin, found_origin, AreModulesOf, AreLeadsOf, AreReadOf, AreOriginsOf};
+ghost use Rattle.fast_check_traces.specs.Origins.{own_resolutions as resolutions_at, AreModulesOf, AreUrlsOf, AreLeadsOf};
+ghost use Rattle.fast_check_traces.specs.Origins.{indexed, read_origin, found_origin, AreReadOf, AreOriginsOf};
 
-use crate::modules::{TracedModule, answer_of, first_with, led_to, own_tables, tables_of};
+use crate::modules::{
+    TracedModule, answer_of, first_with, own_resolutions, own_tables, resolved, tables_of,
+};
 use fast_check_demands::CheckedTables;
 use fast_check_graph::AnyModuleInfo;
 use fast_check_modules::ReExportAllNode;
@@ -18,6 +22,9 @@ use std::alloc::{AllocError, Global};
 use std::collections::{BTreeMap, BTreeSet};
 use std::mem;
 use url::Url;
+
+/// How many re-exports of all are gone over, with no memory of what was met, before they are read.
+const FEW_STEPS: usize = 16;
 
 /// Where a name comes from: the re-export of all that has it, and the module that answers it.
 #[derive(Clone, Copy)]
@@ -39,6 +46,8 @@ pub struct Leads<'a> {
     items: Vec<Lead<'a>>,
     /// The first re-export of all that leads to a module, by the module's own name.
     firsts: BTreeMap<&'a str, &'a ReExportAllNode>,
+    /// The URLs to which texts were resolved.
+    urls: BTreeSet<&'a str>,
     /// The texts that were resolved.
     texts: BTreeSet<&'a str>,
 }
@@ -126,6 +135,7 @@ impl<'a> Leads<'a> {
         Leads {
             items: Vec::new(alloc),
             firsts: BTreeMap::new(alloc),
+            urls: BTreeSet::new(alloc),
             texts: BTreeSet::new(alloc),
         }
     }
@@ -140,6 +150,7 @@ impl<'a> Leads<'a> {
         ensures modules { OnOk result ((nodes : List ReExportAllNode) → led_to traced.entry node.now ≡ Some info.now
             → found_module traced.entry.root_symbol.now (specifier_of info.now) ≡ Some info.now
             → AreModulesOf traced.entry nodes self.old → AreModulesOf traced.entry (nodes ++ node.now ∷ []) self.new) }
+        ensures urls { OnOk result (self.new.urls ≡ self.old.urls) }
         ensures texts { OnOk result (self.new.texts ≡ self.old.texts) }
     {
         let name = info.specifier().as_str();
@@ -152,19 +163,62 @@ impl<'a> Leads<'a> {
         Ok(())
     }
 
+    /// Adds the module at a URL to which the next re-export of all leads, if there is one.
+    fn push_found(
+        &mut self,
+        traced: TracedModule<'a>,
+        node: &'a ReExportAllNode,
+        url: &Url,
+    ) -> Result<(), AllocError>
+        ensures modules { OnOk result ((nodes : List ReExportAllNode) → AreFoundByOwnNames traced.entry.root_symbol.now
+            → led_to traced.entry node.now ≡ found_module traced.entry.root_symbol.now url.now
+            → AreModulesOf traced.entry nodes self.old → AreModulesOf traced.entry (nodes ++ node.now ∷ []) self.new) }
+        ensures urls { OnOk result (self.new.urls ≡ self.old.urls) }
+        ensures texts { OnOk result (self.new.texts ≡ self.old.texts) }
+    {
+        match traced.root_symbol.module_from_specifier(url) {
+            None => Ok(()),
+            Some(info) => self.push_module(traced, node, info),
+        }
+    }
+
+    /// Adds the module at the URL to which the text of the next re-export of all resolves. A URL that was met adds nothing.
+    fn push_url(
+        &mut self,
+        traced: TracedModule<'a>,
+        node: &'a ReExportAllNode,
+        url: &'a Url,
+    ) -> Result<(), AllocError>
+        ensures modules { OnOk result ((nodes : List ReExportAllNode) → AreFoundByOwnNames traced.entry.root_symbol.now
+            → led_to traced.entry node.now ≡ found_module traced.entry.root_symbol.now url.now
+            → AreUrlsOf traced.entry nodes self.old → AreUrlsOf traced.entry (nodes ++ node.now ∷ []) self.new) }
+        ensures texts { OnOk result (self.new.texts ≡ self.old.texts) }
+    {
+        let text = url.as_str();
+        if self.urls.contains(text) {
+            return Ok(());
+        }
+        self.urls.insert(text)?;
+        self.push_found(traced, node, url)?;
+        Ok(())
+    }
+
     /// Adds the module that the next re-export of all leads to, if it leads to one.
     fn push(
         &mut self,
         traced: TracedModule<'a>,
+        resolutions: Option<&'a BTreeMap<String, Url>>,
         node: &'a ReExportAllNode,
     ) -> Result<(), AllocError>
+        requires { option_copied resolutions ≡ resolutions_at traced }
         ensures modules { OnOk result ((nodes : List ReExportAllNode) → AreFoundByOwnNames traced.entry.root_symbol.now
-            → AreModulesOf traced.entry nodes self.old → AreModulesOf traced.entry (nodes ++ node.now ∷ []) self.new) }
+            → AreUrlsOf traced.entry nodes self.old → AreUrlsOf traced.entry (nodes ++ node.now ∷ []) self.new) }
         ensures texts { OnOk result (self.new.texts ≡ self.old.texts) }
     {
-        match led_to(traced, node) {
+        let text = node.specifier.as_str();
+        match resolved(resolutions, text) {
             None => Ok(()),
-            Some(info) => self.push_module(traced, node, info),
+            Some(url) => self.push_url(traced, node, url),
         }
     }
 
@@ -172,8 +226,10 @@ impl<'a> Leads<'a> {
     fn read(
         &mut self,
         traced: TracedModule<'a>,
+        resolutions: Option<&'a BTreeMap<String, Url>>,
         node: &'a ReExportAllNode,
     ) -> Result<(), AllocError>
+        requires { option_copied resolutions ≡ resolutions_at traced }
         ensures { OnOk result ((nodes : List ReExportAllNode) → AreFoundByOwnNames traced.entry.root_symbol.now
             → AreLeadsOf traced.entry nodes self.old → AreLeadsOf traced.entry (nodes ++ node.now ∷ []) self.new) }
     {
@@ -182,7 +238,7 @@ impl<'a> Leads<'a> {
             return Ok(());
         }
         self.texts.insert(text)?;
-        self.push(traced, node)?;
+        self.push(traced, resolutions, node)?;
         Ok(())
     }
 }
@@ -193,9 +249,10 @@ fn leads_of<'a>(alloc: Global, traced: TracedModule<'a>) -> Result<Vec<Lead<'a>>
 {
     // A module that has two names is read once: by its own it is the same.
     traced.root_symbol.own_names_find();
+    let resolutions = own_resolutions(traced);
     let mut leads = Leads::new(alloc, traced);
     for node in own_tables(traced).re_export_all_nodes() {
-        leads.read(traced, node)?;
+        leads.read(traced, resolutions, node)?;
     }
     Ok(leads.items)
 }
@@ -276,7 +333,13 @@ fn indexed_for<'a>(
     Ok(Origins::Indexed(names))
 }
 
-/// Reads the re-exports of all of a module, where more than one name is looked for.
+/// Whether so many looks go over the re-exports of all of a module in few steps.
+fn takes_few_steps(traced: TracedModule<'_>, looks: usize) -> bool {
+    let nodes = own_tables(traced).re_export_all_nodes();
+    looks.saturating_mul(nodes.len()) <= FEW_STEPS
+}
+
+/// Reads the re-exports of all of a module, unless so many looks go over them in few steps.
 fn read_for<'a>(
     alloc: Global,
     traced: TracedModule<'a>,
@@ -284,7 +347,7 @@ fn read_for<'a>(
 ) -> Result<Origins<'a>, AllocError>
     ensures { IfOk result (AreReadOf traced.entry) }
 {
-    if looks < 2 {
+    if takes_few_steps(traced, looks) {
         return Ok(Origins::Unread);
     }
     let leads = leads_of(alloc, traced)?;
@@ -325,7 +388,8 @@ impl<'a> KeptOrigins<'a> {
         self.looks
     }
 
-    /// Reads what so many looks more take: nothing for the first, the modules from the second on, and an index of their names once that is cheaper.
+    /// Reads what so many looks more take: nothing while they go over the re-exports in few steps, then the modules, and an index of their names once that
+    /// is cheaper.
     pub fn look_for(
         &mut self,
         alloc: Global,

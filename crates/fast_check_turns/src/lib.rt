@@ -12,7 +12,7 @@ pub use fast_check_entries::MemberEntries;
 pub use fast_check_entries::findings::{
     EnteredPackage, EntryFault, Finding, FollowedModule, FoundModule, KeptPackage, UntypedModule,
 };
-pub use fast_check_sources::Sources;
+pub use fast_check_sources::{MetPackages, Sources};
 pub use input::FinderInput;
 pub use modules::follow;
 pub use packages::enter;

@@ -9,12 +9,13 @@ ghost use Rattle.fast_check_names.specs.declared.lattice.imported_exports.Import
 ghost use Rattle.fast_check_name_demands.specs.NameDemands.{Holds};
 ghost use Rattle.fast_check_worklists.specs.Account.{Followed};
 ghost use Rattle.fast_check_worklists.specs.State.{want_of, state_of, trace_of, IsFollowed};
+ghost use Rattle.fast_check_entries.specs.findings.Yields.{dependency};
 ghost use Rattle.fast_check_entries.specs.findings.Findings.{module_yields, yields_of};
 ghost use Rattle.fast_check_sources.specs.Sources.{Used, known, with_used, info_at, traced_as};
 ghost use Rattle.fast_check_turns.specs.Rules.{world};
 ghost use Rattle.fast_check_turns.specs.Searches.{IsKeptFor, AreKeptOf};
 ghost use Rattle.fast_check_turns.specs.Traced.{IsTracedFor};
-ghost use Rattle.fast_check_turns.specs.Yields.{dependencies, untyped_yields, gives};
+ghost use Rattle.fast_check_turns.specs.Yields.{untyped_yields, gives};
 
 use crate::progress::{Progress, push_finding};
 use crate::searches::{KeptSearch, KeptSearches, ModuleOfPackage};
@@ -23,29 +24,28 @@ use fast_check_entries::findings::{Finding, FollowedModule, FoundModule, Untyped
 use fast_check_graph::{AnyModuleInfo, ModuleGraph};
 use fast_check_name_demands::{HeldDemands, hold, name_demands};
 use fast_check_packages::{JsrUrlProvider, PackageNv};
-use fast_check_sources::{Asker, Sources, info_of, is_untyped};
+use fast_check_sources::{Asker, MetPackages, Sources, info_of, is_untyped};
 use fast_check_traces::{KeptOrigins, TracedModule, tables_of};
 use fast_check_worklists::{OuterWant, PendingTrace};
 use std::alloc::{AllocError, Global};
+use std::rc::Rc;
 
 /// What is found of a module that is followed for a package, with the packages that it asks for.
 fn followed_module<'a>(
-    alloc: Global,
     package: PackageNv,
     info: &'a AnyModuleInfo,
-    outer: &[OuterWant],
     found: FoundModule,
-) -> Result<Finding<'a>, AllocError>
-    ensures { IfOk result (λ finding. yields_of finding
-        ≡ module_yields (nv_of «package») (serialize (specifier_of info.now)) found (dependencies (nv_of «package») (map want_of outer.now))) }
+    dependencies: Vec<Rc<PackageNv>>,
+) -> Finding<'a>
+    ensures { yields_of result ≡ module_yields (nv_of «package») (serialize (specifier_of info.now)) found
+        (map (λ p. dependency (nv_of «package») (nv_of p.value)) dependencies.items) }
 {
-    let dependencies = dependencies_of(alloc, &package, outer)?;
-    Ok(Finding::Followed(FollowedModule {
+    Finding::Followed(FollowedModule {
         package,
         specifier: info.specifier(),
         found,
         dependencies,
-    }))
+    })
 }
 
 /// What is asked of a module: the module and the package, and the names, which are held while their single demands are lent.
@@ -64,7 +64,8 @@ fn follow_in<'a, 'm: 'a>(
     info: &'m AnyModuleInfo,
     asked: &'a AskedNames,
     kept: KeptSearch<'m>,
-) -> Result<(KeptSearch<'m>, Vec<OuterWant>, FoundModule, usize), AllocError>
+    owners: &mut MetPackages,
+) -> Result<(KeptSearch<'m>, Vec<OuterWant<'a>>, FoundModule, usize), AllocError>
     ensures traced { let without = known sources.entry (url_of provider.now) (nv_at provider.now) in
         IfOk result (λ r. (used : Used) (exports : ImportedExports) → Holds exports asked.now.held → let k = with_used used without in
         IsKeptFor (traced_as k info.now) (Some kept.entry)
@@ -99,7 +100,7 @@ fn follow_in<'a, 'm: 'a>(
         package: &asked.followed.nv,
         traced: module,
     };
-    let (outer, found) = found_of(alloc, asker, provider, traced)?;
+    let (outer, found) = found_of(alloc, asker, provider, traced, owners)?;
     let kept = KeptSearch {
         searched,
         told,
@@ -191,13 +192,22 @@ fn follow_at<'a>(
     let was_kept = searches.has(&followed);
     let before = searches.take(alloc, &followed);
     let asked = AskedNames { followed, held };
-    let (kept, outer, found, faulty) = follow_in(alloc, sources, provider, info, &asked, before)?;
-    let AskedNames { followed, .. } = asked;
+    let (kept, outer, found, faulty) = follow_in(
+        alloc,
+        sources,
+        provider,
+        info,
+        &asked,
+        before,
+        &mut progress.owners,
+    )?;
     let is_much = is_much(was_kept, info, &kept, outer.as_slice(), &found, faulty);
-    searches.keep(&followed, kept, is_much)?;
-    let finding = followed_module(alloc, followed.nv, info, outer.as_slice(), found)?;
-    push_finding(&mut progress.found, finding)?;
+    let dependencies = dependencies_of(alloc, &asked.followed.nv, outer.as_slice())?;
     progress.worklist.ask_all(alloc, outer)?;
+    let AskedNames { followed, .. } = asked;
+    searches.keep(&followed, kept, is_much)?;
+    let finding = followed_module(followed.nv, info, found, dependencies);
+    push_finding(&mut progress.found, finding)?;
     Ok(())
 }
 

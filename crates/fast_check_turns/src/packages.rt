@@ -25,7 +25,7 @@ use fast_check_cache::{FastCheckCache, FastCheckCacheItem, look_up};
 use fast_check_entries::findings::{EnteredPackage, EntryFault, Finding, KeptPackage};
 use fast_check_entries::{MemberEntries, entry_faults, entry_points};
 use fast_check_graph::ModuleGraph;
-use fast_check_names::ImportedExports;
+use fast_check_name_demands::NameDemand;
 use fast_check_packages::{BuildFault, JsrUrlProvider, PackageNv};
 use fast_check_sources::Sources;
 use fast_check_worklists::{OuterWant, copy_of};
@@ -39,21 +39,21 @@ fn push_entry(
     alloc: Global,
     shared: &Rc<PackageNv>,
     specifier: &Url,
-    out: &mut Vec<OuterWant>,
+    out: &mut Vec<OuterWant<'_>>,
 ) -> Result<(), AllocError>
     ensures { OnOk result (map want_of out.new.items ≡ map want_of out.old.items ++ entry_want (nv_of shared.now.value) specifier.now ∷ []) }
 {
     let specifier = Rc::new(alloc, specifier.clone()?)?;
-    out.push(OuterWant::Module(shared.clone()?, specifier, ImportedExports::StarWithDefault))?;
+    out.push(OuterWant::Module(shared.clone()?, specifier, NameDemand::All))?;
     Ok(())
 }
 
 /// All names of each entry point.
-fn entries_of(
+fn entries_of<'a>(
     alloc: Global,
     nv: &PackageNv,
     entry_points: &BTreeSet<Url>,
-) -> Result<Vec<OuterWant>, AllocError>
+) -> Result<Vec<OuterWant<'a>>, AllocError>
     ensures { IfOk result (λ out. map want_of out.items ≡ map (entry_want (nv_of nv.now)) entry_points.now.keys) }
 {
     let shared = Rc::new(alloc, copy_of(nv)?)?;
@@ -65,12 +65,12 @@ fn entries_of(
 }
 
 /// What a package asks for: all names of its entry points, unless something is wrong with one of them.
-fn entry_wants(
+fn entry_wants<'a>(
     alloc: Global,
     nv: &PackageNv,
     entry_points: &BTreeSet<Url>,
     faults: &[(Url, EntryFault)],
-) -> Result<Vec<OuterWant>, AllocError>
+) -> Result<Vec<OuterWant<'a>>, AllocError>
     ensures { IfOk result (λ out. map want_of out.items ≡ unless_faulty faults.now (map (entry_want (nv_of nv.now)) entry_points.now.keys)) }
 {
     match faults.split_first() {
@@ -131,7 +131,11 @@ fn enter_at(
 }
 
 /// Adds that a package is asked for.
-fn push_package(alloc: Global, nv: &PackageNv, out: &mut Vec<OuterWant>) -> Result<(), AllocError>
+fn push_package(
+    alloc: Global,
+    nv: &PackageNv,
+    out: &mut Vec<OuterWant<'_>>,
+) -> Result<(), AllocError>
     ensures { OnOk result (map want_of out.new.items ≡ map want_of out.old.items ++ to_package (nv_of nv.now) ∷ []) }
 {
     out.push(OuterWant::Package(Rc::new(alloc, copy_of(nv)?)?))?;
@@ -139,7 +143,10 @@ fn push_package(alloc: Global, nv: &PackageNv, out: &mut Vec<OuterWant>) -> Resu
 }
 
 /// What a package whose item is used asks for: its dependencies.
-fn kept_wants(alloc: Global, item: &FastCheckCacheItem) -> Result<Vec<OuterWant>, AllocError>
+fn kept_wants<'a>(
+    alloc: Global,
+    item: &FastCheckCacheItem,
+) -> Result<Vec<OuterWant<'a>>, AllocError>
     ensures { IfOk result (λ out. map want_of out.items ≡ map to_package (item_of item.now).0) }
 {
     let mut out = Vec::new(alloc);

@@ -17,11 +17,11 @@ use fast_check_entries::findings::{DemandFault, FaultyModule, FoundModule, fault
 use fast_check_graph::AnyModuleInfo;
 use fast_check_packages::{JsrUrlProvider, PackageNv};
 use fast_check_search::Found;
-use fast_check_sources::{Asker, outer_wants};
+use fast_check_sources::{Asker, MetPackages, outer_wants};
 use fast_check_traces::{Traced, TracedModule, tables_of};
-use fast_check_worklists::{OuterWant, copy_of};
+use fast_check_worklists::OuterWant;
 use std::alloc::{AllocError, Global};
-use std::rc::RcStr;
+use std::rc::{Rc, RcStr};
 
 /// The source text of a module; one of JSON has none.
 fn text_of(alloc: Global, info: &AnyModuleInfo) -> Result<RcStr, AllocError>
@@ -66,12 +66,13 @@ fn faults_of(
 }
 
 /// What a module that was traced for a package wants of others, and what is found of it.
-pub fn found_of(
+pub fn found_of<'a>(
     alloc: Global,
-    asker: Asker<'_>,
+    asker: Asker<'a>,
     provider: &dyn JsrUrlProvider,
-    traced: Traced<'_>,
-) -> Result<(Vec<OuterWant>, FoundModule), AllocError>
+    traced: Traced<'a>,
+    owners: &mut MetPackages,
+) -> Result<(Vec<OuterWant<'a>>, FoundModule), AllocError>
     ensures wants { let k = known asker.entry.sources (url_of provider.now) (nv_at provider.now) in
         let nv = nv_of asker.entry.package.now in
         IfOk result (λ r. Adds (flat_map (file_wants k nv asker.entry.traced) traced.entry.found.files
@@ -93,7 +94,7 @@ pub fn found_of(
         files,
     } = found;
     ranges.append(&mut re_export_ranges)?;
-    let outer = outer_wants(alloc, asker, provider, &files, &wants)?;
+    let outer = outer_wants(alloc, asker, provider, &files, &wants, owners)?;
     let placed = faults_of(alloc, asker.traced, faults.as_slice())?;
     let found = FoundModule {
         ranges,
@@ -107,14 +108,14 @@ pub fn found_of(
 fn push_dependency(
     nv: &PackageNv,
     want: &OuterWant,
-    out: &mut Vec<PackageNv>,
+    out: &mut Vec<Rc<PackageNv>>,
 ) -> Result<(), AllocError>
-    ensures { OnOk result (map (λ p. dependency (nv_of nv.now) (nv_of p)) out.new.items
-        ≡ map (λ p. dependency (nv_of nv.now) (nv_of p)) out.old.items ++ dependency_of (nv_of nv.now) (want_of want.now)) }
+    ensures { OnOk result (map (λ p. dependency (nv_of nv.now) (nv_of p.value)) out.new.items
+        ≡ map (λ p. dependency (nv_of nv.now) (nv_of p.value)) out.old.items ++ dependency_of (nv_of nv.now) (want_of want.now)) }
 {
     match want {
         OuterWant::Package(on) => {
-            out.push(copy_of(on)?)?;
+            out.push(on.clone()?)?;
             Ok(())
         }
         OuterWant::Module(_, _, _) => Ok(()),
@@ -126,8 +127,8 @@ pub fn dependencies_of(
     alloc: Global,
     nv: &PackageNv,
     outer: &[OuterWant],
-) -> Result<Vec<PackageNv>, AllocError>
-    ensures { IfOk result (λ out. map (λ p. dependency (nv_of nv.now) (nv_of p)) out.items ≡ dependencies (nv_of nv.now) (map want_of outer.now)) }
+) -> Result<Vec<Rc<PackageNv>>, AllocError>
+    ensures { IfOk result (λ out. map (λ p. dependency (nv_of nv.now) (nv_of p.value)) out.items ≡ dependencies (nv_of nv.now) (map want_of outer.now)) }
 {
     let mut out = Vec::new(alloc);
     for want in outer {

@@ -1,8 +1,10 @@
 -- Steps in turn, and small facts of what they name.
 use Rattle.std.proofs.Common.{◌≡◌, ◌∙◌, sym, ap, refl, subst, Bool, true, false, cond, ◌||◌, List, [], ◌∷◌, ◌++◌, Option, Some, None, map}
 use Rattle.std.specs.List.{list_any}
+use Rattle.std.specs.Map.{lookup}
 use Rattle.std.specs.BTreeSet.{BTreeSet, contains, Updates}
 use Rattle.std.specs.Cmp.{eq_by_cmp_equiv}
+use Rattle.std.proofs.lemmas.Bool.{false≢true}
 use Rattle.std.proofs.lemmas.List.Folds.{list_any-append}
 use Rattle.url.specs.Parts.{Parts}
 use Rattle.fast_check_packages.specs.declared.package.PackageNv.{PackageNv}
@@ -10,11 +12,14 @@ use Rattle.fast_check_packages.specs.Package.{Nv, nv_of}
 use Rattle.fast_check_packages.specs.PackageOrder.{nv_total}
 use Rattle.fast_check_packages.specs.Packages.{package_cmp}
 use Rattle.fast_check_worklists.specs.declared.worklist.OuterWant.{OuterWant}
-use Rattle.fast_check_worklists.specs.Demands.{same_nv}
+use Rattle.fast_check_worklists.specs.Demands.{same_nv, one}
 use Rattle.fast_check_names.specs.declared.lattice.imported_exports.ImportedExports.{ImportedExports}
-use Rattle.fast_check_worklists.specs.Traces.{Handles, Waits}
+use Rattle.fast_check_names.specs.Names.{IsBelow}
+use Rattle.fast_check_names.specs.Imports.{imported, NameDemand}
+use Rattle.fast_check_worklists.specs.Traces.{is_module, Handles, Waits}
 use Rattle.fast_check_worklists.specs.Places.{HasPackages}
-use Rattle.fast_check_worklists.specs.State.{State, AddsPackage, WaitsFor, AsksModuleFor, AsksOne, AsksAll}
+use Rattle.fast_check_worklists.specs.State.{State, was_told, WereAsked, AddsPackage, WaitsFor, AsksModuleFor, AsksOne, AsksAll}
+use Rattle.fast_check_worklists.proofs.Single.{path_in}
 
 pub asks_more : (outer : List OuterWant) (s : OuterWant) (a b c : State) → AsksAll outer a b → AsksOne s b c → AsksAll (outer ++ s ∷ []) a c
 asks_more [] s a b c h k = (c, subst (λ (x : State). AsksOne s x c) h k, refl)
@@ -92,3 +97,12 @@ module _ (nv : PackageNv) (url : Parts) (x : ImportedExports) (a b : State) (ans
       ),
     ),
   )
+
+-- a path that is among what was demanded of a module was demanded before
+told_by : (d : NameDemand) (found : Option ImportedExports) → was_told found d ≡ true →
+    (x : ImportedExports) × (found ≡ Some x) × IsBelow (one d) (imported x)
+told_by d None h = absurd (false≢true h)
+told_by d (Some x) h = (x, refl, path_in x d h)
+
+pub told_before : (url : Parts) (d : NameDemand) (a : State) → was_told (lookup (is_module url) a.handled) d ≡ true → WereAsked url d a
+told_before url d a h = told_by d (lookup (is_module url) a.handled) h

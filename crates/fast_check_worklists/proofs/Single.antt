@@ -1,20 +1,19 @@
 -- Single demands and their paths.
-use Rattle.std.proofs.Common.{◌≡◌, ◌∙◌, sym, refl, subst, true, not, [], ◌∷◌, ◌++◌}
+use Rattle.std.proofs.Common.{◌≡◌, sym, refl, subst, true, not, [], ◌∷◌, ◌++◌}
 use Rattle.std.specs.Str.{bytes_eq}
 use Rattle.std.proofs.lemmas.Bool.{false≢true, and_parts, and_from}
 use Rattle.std.proofs.lemmas.Slice.Eq.{bytes_eq-Decides}
-use Rattle.fast_check_names.specs.declared.lattice.named_subset.NamedSubset.{NamedSubset}
 use Rattle.fast_check_names.specs.declared.lattice.imported_exports.ImportedExports.{ImportedExports}
 use Rattle.fast_check_names.specs.declared.lattice.imported_exports.ImportedExports.TheVariants.{Star, StarWithDefault, Subset}
 use Rattle.fast_check_names.specs.Names.{Name, Path, Part, Touched, Covered, NameSet, paths, whole_below, whole_path, has_whole, IsBelow}
-use Rattle.fast_check_names.specs.Names.{IsClosed}
-use Rattle.fast_check_names.specs.Paths.{paths_opened_nil}
+use Rattle.fast_check_names.specs.Names.{IsClosed, IsNameSet}
 use Rattle.fast_check_names.specs.Shapes.{own_set}
 use Rattle.fast_check_names.specs.Imports.{default_name, all_but_default, all_names, imported, NameDemand, names_but_default, each_name}
 use Rattle.fast_check_names.specs.Imports.{subset_at, whole_at}
 use Rattle.fast_check_names.proofs.Forms.{star_below_all}
-use Rattle.fast_check_worklists.specs.Demands.{asked, one, touched_path, begins}
+use Rattle.fast_check_worklists.specs.Demands.{set_demands, asked, asked_by, one, touched_path, begins}
 use Rattle.fast_check_worklists.specs.Account.{IsStarred, HasDefault}
+use Rattle.fast_check_worklists.specs.State.{has_path}
 
 -- what is whole is covered
 pub whole_covered : (f : NameSet) (p : Path) → has_whole f p ≡ true → f Covered p ≡ true
@@ -48,22 +47,81 @@ begins_in e c (n ∷ p) (m ∷ q) h t =
     (begins_in (λ r u. e r (n ∷ u))
     (record { beginnings = λ u v. c.beginnings (n ∷ u) v; longer = λ u v r. c.longer (n ∷ u) v r }) p q h a.1)
 
-touched_in : (s : NamedSubset) (p : Path) → paths s Touched p ≡ true → IsBelow (touched_path p) (paths s)
-touched_in s p h part [] t = absurd (false≢true t)
-touched_in s [] h part (m ∷ q) t = absurd (false≢true (sym (paths_opened_nil s Touched) ∙ h))
-touched_in s (n ∷ p) h Covered (m ∷ q) t = absurd (false≢true t)
-touched_in s (n ∷ p) h Touched (m ∷ q) t =
+-- a name set has what a path has that it touches, and what one has whole that it covers
+touched_in : (f : NameSet) → IsNameSet f → (p : Path) → f Touched p ≡ true → IsBelow (touched_path p) f
+touched_in f names p h part [] t = absurd (false≢true t)
+touched_in f names p h Covered (m ∷ q) t = absurd (false≢true t)
+touched_in f names [] h Touched (m ∷ q) t = absurd (false≢true t)
+touched_in f names (n ∷ p) h Touched (m ∷ q) t =
     let a = and_parts (bytes_eq n m) (begins q p) t in
-    subst (λ (k : Name). paths s Touched (k ∷ q) ≡ true) ((bytes_eq-Decides n m).0 a.0)
-    (begins_in (λ r u. paths s r (n ∷ u)) (own_set s n) p q h a.1)
+    subst (λ (k : Name). f Touched (k ∷ q) ≡ true) ((bytes_eq-Decides n m).0 a.0)
+    (begins_in (λ r u. f r (n ∷ u)) (names n) p q h a.1)
 
-whole_path_in : (s : NamedSubset) (p : Path) → paths s Covered p ≡ true → IsBelow (whole_path p) (paths s)
-whole_path_in s [] h part q t = absurd (false≢true t)
-whole_path_in s (n ∷ p) h part [] t = absurd (false≢true t)
-whole_path_in s (n ∷ p) h part (m ∷ q) t =
+whole_path_in : (f : NameSet) → IsNameSet f → (p : Path) → f Covered p ≡ true → IsBelow (whole_path p) f
+whole_path_in f names [] h part q t = absurd (false≢true t)
+whole_path_in f names (n ∷ p) h part [] t = absurd (false≢true t)
+whole_path_in f names (n ∷ p) h part (m ∷ q) t =
     let a = and_parts (bytes_eq n m) (whole_below p part q) t in
-    subst (λ (k : Name). paths s part (k ∷ q) ≡ true) ((bytes_eq-Decides n m).0 a.0)
-    (whole_in (λ r u. paths s r (n ∷ u)) (own_set s n) p h part q a.1)
+    subst (λ (k : Name). f part (k ∷ q) ≡ true) ((bytes_eq-Decides n m).0 a.0)
+    (whole_in (λ r u. f r (n ∷ u)) (names n) p h part q a.1)
+
+none_in : (f : NameSet) → IsBelow (touched_path []) f
+none_in f part [] t = absurd (false≢true t)
+none_in f Touched (m ∷ q) t = absurd (false≢true t)
+none_in f Covered (m ∷ q) t = absurd (false≢true t)
+
+-- a name set has what each single demand of its paths has
+set_in : (f : NameSet) → IsNameSet f → (d : NameDemand) → set_demands f d ≡ true → IsBelow (one d) f
+set_in f names names_but_default h = absurd (false≢true h)
+set_in f names each_name h = absurd (false≢true h)
+set_in f names (subset_at []) h = none_in f
+set_in f names (subset_at (n ∷ p)) h = touched_in f names (n ∷ p) (and_parts (f Touched (n ∷ p)) (not (f Covered (n ∷ p))) h).0
+set_in f names (whole_at p) h = whole_path_in f names p (whole_covered f p h)
+
+-- each form has the paths of a name set
+form_set : (x : ImportedExports) → IsNameSet (imported x)
+form_set Star n = record { beginnings = λ p q t. t; longer = λ p q part t. t }
+form_set StarWithDefault n = record { beginnings = λ p q t. refl; longer = λ p q part t. refl }
+form_set (Subset s) n = own_set s n
+
+-- and so has a path that is touched
+begins_less : (q r p : Path) → begins (q ++ r) p ≡ true → begins q p ≡ true
+begins_less [] r p t = refl
+begins_less (m ∷ q) r [] t = absurd (false≢true t)
+begins_less (m ∷ q) r (n ∷ p) t =
+    let a = and_parts (bytes_eq n m) (begins (q ++ r) p) t in and_from (bytes_eq n m) (begins q p) a.0 (begins_less q r p a.1)
+
+touched_set : (p : Path) → IsNameSet (touched_path p)
+touched_set p n = record {
+  beginnings = λ q r t. begins_less (n ∷ q) r p t;
+  longer = λ q r part t. absurd (false≢true t);
+}
+
+-- or whole
+whole_less : (p q r : Path) → whole_below p Touched (q ++ r) ≡ true → whole_below p Touched q ≡ true
+whole_less [] q r t = refl
+whole_less (n ∷ p) [] r t = refl
+whole_less (n ∷ p) (m ∷ q) r t =
+    let a = and_parts (bytes_eq n m) (whole_below p Touched (q ++ r)) t in
+    and_from (bytes_eq n m) (whole_below p Touched q) a.0 (whole_less p q r a.1)
+
+whole_more : (p q r : Path) (part : Part) → whole_below p Covered q ≡ true → whole_below p part (q ++ r) ≡ true
+whole_more [] q r part t = refl
+whole_more (n ∷ p) [] r part t = absurd (false≢true t)
+whole_more (n ∷ p) (m ∷ q) r part t =
+    let a = and_parts (bytes_eq n m) (whole_below p Covered q) t in
+    and_from (bytes_eq n m) (whole_below p part (q ++ r)) a.0 (whole_more p q r part a.1)
+
+whole_set : (p : Path) → IsNameSet (whole_path p)
+whole_set [] n = record { beginnings = λ q r t. absurd (false≢true t); longer = λ q r part t. absurd (false≢true t) }
+whole_set (n ∷ p) m = record {
+  beginnings = λ q r t.
+      let a = and_parts (bytes_eq n m) (whole_below p Touched (q ++ r)) t in
+      and_from (bytes_eq n m) (whole_below p Touched q) a.0 (whole_less p q r a.1);
+  longer = λ q r part t.
+      let a = and_parts (bytes_eq n m) (whole_below p Covered q) t in
+      and_from (bytes_eq n m) (whole_below p part (q ++ r)) a.0 (whole_more p q r part a.1);
+}
 
 -- names have what each single demand of theirs has
 pub one_in : (x : ImportedExports) (d : NameDemand) → asked x d ≡ true → IsBelow (one d) (imported x)
@@ -75,16 +133,23 @@ one_in StarWithDefault names_but_default h = absurd (false≢true h)
 one_in StarWithDefault each_name h = λ part p t. t
 one_in StarWithDefault (subset_at p) h = absurd (false≢true h)
 one_in StarWithDefault (whole_at p) h = absurd (false≢true h)
-one_in (Subset s) names_but_default h = absurd (false≢true h)
-one_in (Subset s) each_name h = absurd (false≢true h)
-one_in (Subset s) (subset_at []) h = λ part p t. nothing_touched part p t
-  where
-    nothing_touched : (part : Part) (p : Path) → touched_path [] part p ≡ true → paths s part p ≡ true
-    nothing_touched part [] t = absurd (false≢true t)
-    nothing_touched Touched (m ∷ q) t = absurd (false≢true t)
-    nothing_touched Covered (m ∷ q) t = absurd (false≢true t)
-one_in (Subset s) (subset_at (n ∷ p)) h = touched_in s (n ∷ p) (and_parts (paths s Touched (n ∷ p)) (not (paths s Covered (n ∷ p))) h).0
-one_in (Subset s) (whole_at p) h = whole_path_in s p (whole_covered (paths s) p h)
+one_in (Subset s) d h = set_in (paths s) (own_set s) d h
+
+-- and a demand has what each single demand has for which it stands
+pub asked_in : (d e : NameDemand) → asked_by d e ≡ true → IsBelow (one e) (one d)
+asked_in names_but_default e h = one_in Star e h
+asked_in each_name e h = one_in StarWithDefault e h
+asked_in (subset_at p) e h = set_in (touched_path p) (touched_set p) e h
+asked_in (whole_at p) e h = set_in (whole_path p) (whole_set p) e h
+
+-- a path that is among what was demanded was demanded
+pub path_in : (x : ImportedExports) (d : NameDemand) → has_path x d ≡ true → IsBelow (one d) (imported x)
+path_in x names_but_default h = absurd (false≢true h)
+path_in x each_name h = absurd (false≢true h)
+path_in x (subset_at []) h = absurd (false≢true h)
+path_in x (subset_at (n ∷ p)) h = touched_in (imported x) (form_set x) (n ∷ p) h
+path_in x (whole_at []) h = absurd (false≢true h)
+path_in x (whole_at (n ∷ p)) h = whole_path_in (imported x) (form_set x) (n ∷ p) h
 
 -- stars have all names but `default`
 pub star_in : (x : ImportedExports) (d : NameDemand) → IsStarred d → IsBelow (one d) (imported x) → IsBelow all_but_default (imported x)

@@ -20,18 +20,20 @@ use Rattle.fast_check_names.proofs.Forms.{least_all}
 use Rattle.fast_check_demands.specs.Demands.{Demand as SymbolDemand}
 use Rattle.fast_check_worklists.specs.declared.worklist.OuterWant.{OuterWant}
 use Rattle.fast_check_worklists.specs.declared.worklist.OuterWant.TheVariants.{Package as PackageWant, Module as ModuleWant}
-use Rattle.fast_check_worklists.specs.Demands.{Text, Wanted, same_nv, asked, one, Want, to_package, to_module, to_symbol, Demand}
+use Rattle.fast_check_name_demands.specs.Files.{names_of}
+use Rattle.fast_check_worklists.specs.Demands.{Text, Wanted, same_nv, asked, asked_by, one, Want, to_package, to_module, to_symbol, Demand}
 use Rattle.fast_check_worklists.specs.Demands.{of_package, of_module, of_symbol, World, Gives, Follows}
 use Rattle.fast_check_worklists.specs.Account.{Trace, Followed, Account, HasIn, Has, traces_of, Chained, step, is_of, joined}
 use Rattle.fast_check_worklists.specs.Account.{IsCovered, IsWidening, IsAccount, IsYield}
-use Rattle.fast_check_worklists.specs.State.{want_of, State, AsksModule, AsksOne, AsksAll, Reached, root as reached_root}
+use Rattle.fast_check_worklists.specs.State.{want_of, State, WereAsked, AsksModule, AsksModuleFor, AsksOne, AsksAll, Reached}
+use Rattle.fast_check_worklists.specs.State.{root as reached_root}
 use Rattle.fast_check_worklists.specs.State.{step as reached_step, IsMetAmong, IsSearched, IsOuter, IsGivenAmong, IsFollowed, IsEntered}
 use Rattle.fast_check_worklists.specs.Turn.{IsOrderly, handled_at, waiting_of, IsKept, IsAsked, IsMore, IsOnTheWay}
 use Rattle.fast_check_worklists.specs.Measure.{Universe, IsUniverse}
 use Rattle.fast_check_worklists.proofs.Maps.{split_in, first_in, rest_in, none_in, only_in}
 use Rattle.fast_check_worklists.proofs.Asks.{map_last}
 use Rattle.fast_check_worklists.proofs.Waiting.{contains_map}
-use Rattle.fast_check_worklists.proofs.Single.{one_in, star_in, default_in, one_below_all}
+use Rattle.fast_check_worklists.proofs.Single.{one_in, asked_in, star_in, default_in, one_below_all}
 use Rattle.fast_check_worklists.proofs.Falls.{Falls, falls_self, falls_then, falls_package, falls_module}
 use Rattle.fast_check_worklists.proofs.Kept.{IsHomely, kept_module, more_module, asked_module, kept_package, more_package, asked_package}
 
@@ -100,6 +102,34 @@ module _ (world : World) (roots : List Nv) (u : Universe) (is_universe : IsUnive
             let m = asked_module world roots home done a b kept nv url x asks fair.0 homely in
             (m.0, ap (handled_at b) (sym g.1) ∙ m.1, λ part r h. m.2 part r (one_in x d g.2 part r h))
 
+    -- names that were asked for before
+    told_module : (p : Nv) (url : Parts) (d : NameDemand) (a : State) → IsKept world roots home done a → WereAsked url d a →
+        IsAfter home done a a (to_module p (serialize url) (asked_by d) ∷ [])
+    told_module p url d a kept told = record {
+      kept = kept;
+      more = more_self a;
+      asked = λ w c e g. subst (λ (v : Want). Gives v e → IsAsked a e) (only_in (to_module p (serialize url) (asked_by d)) w c)
+          (by_module e) g;
+      falls = falls_self u a a refl;
+    }
+      where
+        by_module : (e : Demand) → Gives (to_module p (serialize url) (asked_by d)) e → IsAsked a e
+        by_module (of_package q) g = absurd g
+        by_module (of_symbol q t s) g = absurd g
+        by_module (of_module q t e) g =
+            (told.0, ap (handled_at a) (sym g.1) ∙ told.1, λ part r h. told.2 part r (asked_in d e g.2 part r h))
+
+    -- names of which what is demanded was made
+    made_module : (p : Nv) (url : Parts) (d : NameDemand) (x : ImportedExports) (a b : State) → IsKept world roots home done a →
+        IsFair home (to_module p (serialize url) (asked_by d)) → asked x ≡ asked_by d → AsksModuleFor p url x a b →
+        IsAfter home done a b (to_module p (serialize url) (asked_by d) ∷ [])
+    made_module p url d x a b kept fair same asks =
+        subst (λ (v : Wanted). IsFair home (to_module p (serialize url) v) → IsAfter home done a b (to_module p (serialize url) v ∷ []))
+        same
+        (subst (λ (q : Nv). IsFair home (to_module q (serialize url) (asked x)) →
+        IsAfter home done a b (to_module q (serialize url) (asked x) ∷ []))
+        asks.1 (λ f. one_module asks.0 url x a b kept f asks.2)) fair
+
     one_want : (s : OuterWant) (a b : State) → IsKept world roots home done a → IsFair home (want_of s) → AsksOne s a b →
         IsAfter home done a b (want_of s ∷ [])
     one_want (PackageWant nv) a b kept fair asks = record {
@@ -114,10 +144,10 @@ module _ (world : World) (roots : List Nv) (u : Universe) (is_universe : IsUnive
             (asked_package world roots home done a b kept nv.value asks fair same_self)
         by_package (of_module p t d) g = absurd g
         by_package (of_symbol p t d) g = absurd g
-    one_want (ModuleWant nv url x) a b kept fair asks =
-        subst (λ (p : Nv). IsFair home (to_module p (serialize url.value) (asked x)) →
-        IsAfter home done a b (to_module p (serialize url.value) (asked x) ∷ []))
-        asks.1 (λ f. one_module asks.0 url.value x a b kept f asks.2) fair
+    one_want (ModuleWant nv url d) a b kept fair asks = ⊎_elim
+        (λ told. subst (λ (s : State). IsAfter home done a s (want_of (ModuleWant nv url d) ∷ [])) (sym told.1)
+        (told_module (nv_of nv.value) url.value (names_of d) a kept told.0))
+        (λ made. made_module (nv_of nv.value) url.value (names_of d) made.0 a b kept fair made.1 made.2) asks
 
     all_wants : (outer : List OuterWant) (a b : State) → IsKept world roots home done a →
         ((w : Want) → Contains (map want_of outer) w → IsFair home w) →

@@ -1,6 +1,7 @@
 pub mod Traces
 pub mod Demands
 pub mod Account
+pub mod Exports
 pub mod State
 pub mod Turn
 pub mod Measure

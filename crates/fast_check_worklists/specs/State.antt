@@ -1,25 +1,29 @@
 -- Inner: no contract of a public call cites what stands here.
 -- What is asked in one turn of the search.
-use Rattle.std.specs.Prelude.{◌≡◌, ◌⊎◌, ◌++◌, cond, List, [], ◌∷◌, Option, Some, None, map, IsTrue}
+use Rattle.std.specs.Prelude.{◌≡◌, ◌⊎◌, ◌++◌, Bool, false, cond, List, [], ◌∷◌, Option, Some, None, map, IsTrue}
 use Rattle.std.specs.List.{list_any, Contains}
+use Rattle.std.specs.Map.{lookup}
 use Rattle.url.specs.Parts.{Parts, serialize}
 use Rattle.fast_check_packages.specs.declared.package.PackageNv.{PackageNv}
 use Rattle.fast_check_names.specs.declared.lattice.imported_exports.ImportedExports.{ImportedExports}
-use Rattle.fast_check_names.specs.Imports.{NameDemand}
+use Rattle.fast_check_names.specs.Names.{Touched, Covered, IsBelow}
+use Rattle.fast_check_names.specs.Imports.{imported, NameDemand, subset_at, whole_at}
 use Rattle.fast_check_worklists.specs.declared.module_maps.PendingTrace.{PendingTrace}
 use Rattle.fast_check_packages.specs.Package.{Nv, nv_of}
-use Rattle.fast_check_worklists.specs.Traces.{handled, pending, Handles, Waits}
+use Rattle.fast_check_worklists.specs.Traces.{is_module, handled, pending, Handles, Waits}
 use Rattle.fast_check_demands.specs.Demands.{Demand as SymbolDemand}
+use Rattle.fast_check_name_demands.specs.Files.{names_of}
 use Rattle.fast_check_worklists.specs.declared.worklist.OuterWant.{OuterWant}
 use Rattle.fast_check_worklists.specs.declared.worklist.OuterWant.TheVariants.{Package, Module}
 use Rattle.fast_check_worklists.specs.declared.worklist.Worklist.{Worklist}
-use Rattle.fast_check_worklists.specs.Demands.{Text, same_nv, asked, Want, to_package, to_module, to_symbol, Demand}
+use Rattle.fast_check_worklists.specs.Demands.{Text, same_nv, asked, asked_by, one, Want, to_package, to_module}
+use Rattle.fast_check_worklists.specs.Demands.{to_symbol, Demand}
 use Rattle.fast_check_worklists.specs.Demands.{of_package, of_module, of_symbol, World, Gives}
 use Rattle.fast_check_worklists.specs.Account.{Trace, Followed, HasIn, IsSymbolMet}
 
 abbrev pub want_of : OuterWant → Want
 want_of (Package nv) = to_package (nv_of nv.value)
-want_of (Module nv url x) = to_module (nv_of nv.value) (serialize url.value) (asked x)
+want_of (Module nv url d) = to_module (nv_of nv.value) (serialize url.value) (asked_by (names_of d))
 
 -- what was asked of each module, what waits, and the packages
 pub record State : Type 0 where
@@ -53,12 +57,32 @@ AsksModule nv url x a b =
 abbrev pub AsksModuleFor : Nv → Parts → ImportedExports → State → State → Type 0
 AsksModuleFor nv url x a b = (held : PackageNv) × (nv_of held ≡ nv) × AsksModule held url x a b
 
+-- whether a demand is a path that is among what was demanded; other demands are not looked up
+abbrev pub has_path : ImportedExports → NameDemand → Bool
+has_path x (subset_at (n ∷ p)) = imported x Touched (n ∷ p)
+has_path x (whole_at (n ∷ p)) = imported x Covered (n ∷ p)
+has_path x _ = false
+
+-- the same of what was demanded of a module, if it is known
+abbrev pub was_told : Option ImportedExports → NameDemand → Bool
+was_told None d = false
+was_told (Some x) d = has_path x d
+
+-- the names were demanded of the module before
+abbrev pub WereAsked : Parts → NameDemand → State → Type 0
+WereAsked url d a = (x : ImportedExports) × (lookup (is_module url) a.handled ≡ Some x) × IsBelow (one d) (imported x)
+
+-- names of a module: where they were demanded before, nothing changes; else what is demanded is made of them
+abbrev pub AsksNames : Nv → Parts → NameDemand → State → State → Type 0
+AsksNames nv url d a b = (WereAsked url d a × (b ≡ a)) ⊎
+    ((x : ImportedExports) × (asked x ≡ asked_by d) × AsksModuleFor nv url x a b)
+
 abbrev pub AsksPackage : PackageNv → State → State → Type 0
 AsksPackage nv a b = (b.handled ≡ a.handled) × (b.waiting ≡ a.waiting) × AddsPackage (nv_of nv) a.packages b.packages
 
 abbrev pub AsksOne : OuterWant → State → State → Type 0
 AsksOne (Package nv) a b = AsksPackage nv.value a b
-AsksOne (Module nv url x) a b = AsksModuleFor (nv_of nv.value) url.value x a b
+AsksOne (Module nv url d) a b = AsksNames (nv_of nv.value) url.value (names_of d) a b
 
 -- each of these wants in turn
 abbrev pub AsksAll : List OuterWant → State → State → Type 0

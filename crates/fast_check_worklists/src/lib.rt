@@ -2,6 +2,7 @@
 #![tactic(auto)]
 
 mod asked_packages;
+mod exports;
 mod module_maps;
 mod worklist;
 

@@ -2,8 +2,10 @@
 
 ghost use Rattle.std.specs.Prelude.{◌≡◌, ◌∷◌, ◌++◌, [], ◌<◌, ◌↔◌, length, IfOk, OnOk, OnErr, IsSome, option_map, option_to_list};
 ghost use Rattle.std.specs.BTreeMap.{get};
+ghost use Rattle.std.specs.Map.{lookup};
+ghost use Rattle.std.specs.Option.{option_copied};
 ghost use Rattle.fast_check_packages.specs.Package.{nv_of};
-ghost use Rattle.fast_check_worklists.specs.Traces.{handled, pending, entry_of, Handles, Waits};
+ghost use Rattle.fast_check_worklists.specs.Traces.{is_module, handled, pending, entry_of, Handles, Waits};
 ghost use Rattle.fast_check_worklists.specs.Places.{module_cmp, HasPlaces};
 
 use fast_check_names::ImportedExports;
@@ -69,6 +71,16 @@ impl HandledExports {
         HandledExports {
             modules: Vec::new(alloc),
             places: BTreeMap::new(alloc),
+        }
+    }
+
+    /// What was demanded so far of a module, if it is known.
+    pub(crate) fn exports_of(&self, specifier: &Url) -> Option<&ImportedExports>
+        ensures { option_copied result ≡ lookup (is_module specifier.now) (handled self.now) }
+    {
+        match self.places.get(specifier).copied() {
+            None => None,
+            Some(place) => Some(&self.modules[place].1),
         }
     }
 

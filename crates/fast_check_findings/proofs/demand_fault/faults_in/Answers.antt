@@ -15,6 +15,7 @@ loop-fault-init c =
     let m = source_of c.args.faulty in
     let out = map placed_in c.new-out.result.items in
     record {
+      namesakes = c.new-namesakes.ensures m;
       met = given_none met_order.cmp-value.it (placed_seen m) c.new-met.result out
           (λ k. ap (list_any (is_at (met_order.cmp-value.it k))) c.new-met.ensures.empty);
       told = given_none told_order.cmp-value.it (tells m) c.new-told.result out
@@ -24,12 +25,13 @@ loop-fault-init c =
 
 pub loop-fault-preserved : goal.loop-fault-preserved
 loop-fault-preserved c =
-    let e = c.in_ok-push_once.ensures in
+    let e = c.in_ok-push_as_first.ensures in
     record {
+      namesakes = e.namesakes;
       met = e.met;
       told = e.told;
       faults = adds_one (placed_seen (source_of c.args.faulty)) c.args.faults.now c.loop-fault.fault-index
-          (map placed_in c.loop-fault.out.items) (map placed_in c.push_once.new.out.items) {k = c.fault-item.result} e.faults
+          (map placed_in c.loop-fault.out.items) (map placed_in c.push_as_first.new.out.items) {k = c.fault-item.result} e.faults
           c.loop-fault-test.true (search rules) c.loop-fault.invariant.faults;
     }
 

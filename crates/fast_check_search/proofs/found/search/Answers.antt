@@ -1,11 +1,8 @@
 use Rattle.std.proofs.Common.{◌≡◌, ◌∙◌, ap, refl, subst, List, [], ◌++◌, map, length, arith, ◌≤◌}
-use Rattle.std.specs.BTreeMap.{is_at}
-use Rattle.std.specs.List.{list_any}
 use Rattle.std.proofs.lemmas.Option.{get_or_from_slice_get}
 use Rattle.fast_check_name_demands.specs.demands.Demands.{Demand, demand_of}
 use Rattle.fast_check_name_demands.specs.demands.Noted.{public_ranges, noted_ranges}
 use Rattle.fast_check_name_demands.specs.demands.Yields.{fault_seen}
-use Rattle.fast_check_search.specs.contracts.wanted.DoneWantOrd.TheImpl as wanted_order
 use Rattle.fast_check_search.specs.declared.worklist.SymbolWorklist.{SymbolWorklist}
 use Rattle.fast_check_search.specs.Done.{asked_path}
 use Rattle.fast_check_search.specs.declared.found.Found.{Found}
@@ -21,7 +18,7 @@ use Rattle.fast_check_search.proofs.Kept.{kept_numbered}
 use Rattle.fast_check_search.proofs.Numbering.{number_kept}
 use Rattle.fast_check_search.proofs.OwnParts.{parts_beside, parts_after}
 use Rattle.fast_check_search.proofs.Own.{own_found, own_found_implementations}
-use Rattle.fast_check_search.proofs.Wants.{wanted_none, wanted_kept}
+use Rattle.fast_check_search.proofs.SymbolPaths.{files_kept}
 use Rattle.fast_check_search.proofs.found.search.Goals as goal
 
 -- nothing is listed, and nothing is noted
@@ -39,9 +36,9 @@ loop-next-init c =
           (rw c.new-work.ensures.demands at a.grown) a.covered
           (nothing_found t public c.new-found.result (nothing _ _ f.ranges (c.new-noted.ensures t)) f.implementations
           (ap (map fault_seen) f.faults) f.files);
+      tables = c.new-targets.ensures;
       kept = a.kept;
-      wanted = wanted_none c.ask_all.new.self.paths c.new-wanted.result c.new-found.result.files
-          (λ k. ap (list_any (is_at (wanted_order.cmp-value.it k))) c.new-wanted.ensures.empty);
+      wanted = c.new-wanted.ensures t c.ask_all.new.self.paths c.new-found.result.files;
       parts = parts_beside t c.args.parts.now c.args.before (asked c.ask_all.new.self);
     }
 
@@ -66,14 +63,15 @@ loop-next-preserved c =
           i.way (omega (arith, c.len.ensures, c.loop-next-test.true))
           (get_or_from_slice_get (asked c.loop-next.work) c.loop-next.next _ _ c.at-demand.ensures.demand) a.grown
           (λ are. a.covered (i.parts are)) c.in_ok-add.ensures.gains;
+      tables = a.tables ∙ i.tables;
       kept = a.kept;
-      wanted = wanted_kept c.add.new.paths c.ask_named.new.work.paths a.numbers c.add.new.wanted c.add.new.self.files
+      wanted = files_kept c.args.tables.now c.add.new.paths c.ask_named.new.work.paths a.numbers c.add.new.wanted c.add.new.self.files
           c.in_ok-add.ensures.wanted;
       parts = λ are. a.parts (i.parts are);
     }
 
 -- what was found, with what was noted
-abbrev all_found : goal.After-drop-wanted-2 → Found
+abbrev all_found : goal.After-drop-wanted-3 → Found
 all_found c = record {
   ranges = c.push_untold.new.out;
   implementations = c.loop-next.found.implementations;
@@ -81,7 +79,7 @@ all_found c = record {
   files = c.loop-next.found.files;
 }
 
-at_end : (c : goal.After-drop-wanted-2) →
+at_end : (c : goal.After-drop-wanted-3) →
     (ArePartsCovered c.args.tables.now c.args.parts.now c.args.before →
     IsContinued c.args.tables.now (map demand_of c.args.roots.now) c.args.before (asked c.loop-next.work)) ×
     IsFound c.args.tables.now (asked c.loop-next.work) (noted_ranges c.args.tables.now c.args.told.now)
@@ -91,7 +89,7 @@ at_end c = ended c.args.tables.now (map demand_of c.args.roots.now) c.args.befor
     (noted_ranges c.args.tables.now c.push_untold.new.told) c.loop-next.found (all_found c)
     (omega (arith, c.len.ensures, c.loop-next-test.false)) c.loop-next.invariant.way c.in_ok-push_untold.ensures refl refl refl
 
-kept_all : (c : goal.After-drop-wanted-2) → IsKeptWith c.args.before (asked c.loop-next.work) c.keep_all.new.self
+kept_all : (c : goal.After-drop-wanted-3) → IsKeptWith c.args.before (asked c.loop-next.work) c.keep_all.new.self
 kept_all c = subst (λ (ds : List Demand). IsKeptWith c.args.before ds c.keep_all.new.self)
     (ap (map demanded) c.as_slice-met.ensures.value ∙ c.into_demands-demands.ensures) c.in_ok-keeps_names.ensures.kept
 

@@ -1,36 +1,21 @@
-use Rattle.std.proofs.Common.{◌≡◌, ◌∙◌, sym, subst, List, []}
-use Rattle.std.specs.List.{Contains}
-use Rattle.std.proofs.lemmas.Result.{on_ok_weaker}
-use Rattle.fast_check_demands.proofs.Adds.{adds_gathered}
-use Rattle.fast_check_names.specs.Names.{Path}
-use Rattle.fast_check_name_demands.specs.demands.Yields.{Adds}
-use Rattle.fast_check_name_demands.specs.Files.{FileDemand, file_demand_of, files}
-use Rattle.fast_check_search.specs.Numbers.{Follows}
+use Rattle.std.proofs.Common.{◌∙◌, sym}
+use Rattle.fast_check_name_demands.specs.Files.{files}
 use Rattle.fast_check_search.specs.SymbolWorklist.{demanded}
-use Rattle.fast_check_search.specs.Wanted.{rest_path}
-use Rattle.fast_check_search.proofs.Each.{contains_map}
-use Rattle.fast_check_search.proofs.FileRests.{follow_want}
+use Rattle.fast_check_search.proofs.SymbolPaths.{found_more}
 use Rattle.fast_check_search.proofs.wanted.add_files.Goals as goal
 
-gathered : {these old new : List FileDemand} → Adds these old new → old ≡ [] → Adds these [] new
-gathered {these} {old} {new} a e = subst (λ (fs : List FileDemand). Adds these fs new) e a
+pub add_each-requires-clause-wanted : goal.add_each-requires-clause-wanted
+add_each-requires-clause-wanted c = c.requires.wanted.wants
 
-pub add_wants-requires-clause-follow : goal.add_wants-requires-clause-follow
-add_wants-requires-clause-follow c want h =
+pub returns-in_ok-add_each-in-None-clause-wanted : goal.returns-in_ok-add_each-in-None-clause-wanted
+returns-in_ok-add_each-in-None-clause-wanted c =
     let t = c.args.tables.now in
-    let d = demanded c.args.demand in
-    subst (λ (p : Path). Follows p (rest_path want.names)) (sym c.asked_path.ensures)
-    (follow_want t d want
-    ((gathered c.in_ok-push_files.ensures c.new-wants.ensures).parts (file_demand_of want)
-    (subst (λ (fs : List FileDemand). Contains fs (file_demand_of want))
-    (c.as_slice.ensures ∙ (gathered c.in_ok-push_files.ensures c.new-wants.ensures).is)
-    (contains_map file_demand_of c.as_slice.result.now want h))))
+    let a = c.in_ok-add_each-in-None.ensures in
+    record {
+      wants = a.wanted;
+      paths = found_more t c.args.paths.now c.add_each.new.paths a.kept (files t (demanded c.args.demand)) c.args.out.now
+          c.add_each.new.out a.files c.args.wanted.now.paths c.requires.wanted.paths;
+    }
 
-pub returns-clause-files : goal.returns-clause-files
-returns-clause-files c =
-    let t = c.args.tables.now in
-    let d = demanded c.args.demand in
-    on_ok_weaker c.add_wants.result
-    (λ a. adds_gathered (files t d) c.push_files.new.out c.args.out.now c.add_wants.new.out
-    (gathered c.in_ok-push_files.ensures c.new-wants.ensures)
-    (rw c.as_slice.ensures at a)) c.add_wants.ensures.files
+pub add_once-requires-clause-key : goal.add_once-requires-clause-key
+add_once-requires-clause-key c = sym c.symbol_path.ensures ∙ c.in-Some.is

@@ -1,4 +1,5 @@
 use Rattle.std.proofs.Common.{map}
+use Rattle.std.proofs.lemmas.List.Sorted.{IsPermutation-map}
 use Rattle.fast_check_packages.specs.Package.{nv_of}
 use Rattle.fast_check_sources.specs.Sources.{known}
 use Rattle.fast_check_name_demands.specs.Files.{file_demand_of}
@@ -21,5 +22,7 @@ returns g c =
     let nv = nv_of c.args.asker.package.now in
     outer_asked k.owner nv c.args.asker.traced (file_wants k nv c.args.asker.traced) (left_wants k nv c.args.asker.traced)
     c.args.files.now (map file_demand_of c.as_slice-files.result.now) c.args.wants.now (map want_seen c.as_slice-wants.result.now)
-    _ _ _ c.nothing_asked-asking.ensures.none c.as_slice-files.ensures c.as_slice-wants.ensures c.in_ok-push_files.ensures
-    c.in_ok-push_wants.ensures
+    _ _ _ c.nothing_asked-asking.ensures.none
+    (rw (c.as_slice-files.ensures.value, ← c.as_slice.ensures)
+    (IsPermutation-map file_demand_of c.as_slice.result.now c.in_ok-files.files.items c.in_ok-files.ensures.same))
+    c.as_slice-wants.ensures c.in_ok-push_files.ensures c.in_ok-push_wants.ensures

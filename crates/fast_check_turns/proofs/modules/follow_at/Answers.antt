@@ -1,8 +1,10 @@
 use Rattle.std.proofs.Common.{◌≡◌, ◌∙◌, ap, List, ◌++◌, Some, option_map}
 use Rattle.std.specs.List.{flat_map}
 use Rattle.url.specs.Parts.{serialize}
+use Rattle.fast_check_packages.specs.Package.{nv_of}
+use Rattle.fast_check_graph.specs.Root.{specifier_of}
 use Rattle.fast_check_entries.specs.findings.Yields.{Yield}
-use Rattle.fast_check_entries.specs.findings.Findings.{yields_of}
+use Rattle.fast_check_entries.specs.findings.Findings.{module_yields, yields_of}
 use Rattle.fast_check_traces.specs.Modules.{own_tables}
 use Rattle.fast_check_worklists.specs.State.{state_of, trace_of}
 use Rattle.fast_check_sources.specs.Sources.{known, with_used, traced_as, module_at}
@@ -36,4 +38,7 @@ returns g c used earlier are here =
     })
     (state_of c.args.progress.now.worklist) (state_of c.ask_all.new.self) c.in_ok-ask_all.ensures old
     (flat_map yields_of c.push_finding.new.found.items)
-    (c.in_ok-push_finding.ensures ∙ ap (λ (ys : List Yield). old ++ ys) (rw c.as_slice-2.ensures.value at c.in_ok-finding.ensures))
+    (c.in_ok-push_finding.ensures ∙ ap (λ (ys : List Yield). old ++ ys)
+    (c.followed_module-finding.ensures
+    ∙ ap (module_yields (nv_of c.args.trace.package_nv) (serialize (specifier_of c.args.info.now)) s.found)
+    (rw c.as_slice-2.ensures.value at c.in_ok-dependencies.ensures)))

@@ -7,4 +7,4 @@ use Rattle.fast_check_turns.proofs.traced.dependencies_of.Given as goal
 
 abbrev pub invariant-loop-want : goal.invariant-loop-want
 invariant-loop-want l =
-    map (λ p. dependency (nv_of l.nv) (nv_of p)) l.out.items ≡ dependencies (nv_of l.nv) (map want_of (take l.want-index l.outer))
+    map (λ p. dependency (nv_of l.nv) (nv_of p.value)) l.out.items ≡ dependencies (nv_of l.nv) (map want_of (take l.want-index l.outer))

@@ -20,7 +20,7 @@ returns-clause-modules c = λ nodes e f.
     let text = c.as_str-name.ensures.value ∙ ap serialize c.specifier.ensures in
     let lead : Lead = record { node = c.args.node; tables = c.tables_of-tables.result } in
     read_now c.args.traced c.args.node.now nodes own (e ∙ sym f) old
-    (record { items = c.push.new.self; firsts = c.insert.new.self; texts = old.texts })
+    (record { items = c.push.new.self; firsts = c.insert.new.self; urls = old.urls; texts = old.texts })
     (rw c.in_ok-push.ensures.items (more_names c.args.traced c.args.node.now nodes own (e ∙ sym f) old.items.items lead c.args.info.now
     f refl c.tables_of-tables.ensures))
     (λ url. has_at c.as_str-name.result.now (serialize url) c.args.node old.firsts c.insert.new.self c.in_ok-insert.ensures.updates

@@ -15,7 +15,7 @@ returns-then-contains c = λ nodes _ h.
 pub returns : goal.returns
 returns c = λ nodes own h.
     text_read_now c.args.traced c.args.node.now nodes c.args.self.now c.push.new.self h
-    (c.in_ok-push.ensures.modules nodes own (record { says = h.says; covers = h.covers }))
+    (c.in_ok-push.ensures.modules nodes own (record { says = h.says; covers = h.covers; meets = h.meets }))
     c.as_str-text.result.now c.as_str-text.ensures.value
     (λ q. ap (λ (ts : BTreeSet (Bor (List ℕ))). contains_by (λ k. slice_cmp nat_cmp q.now k.now) ts) c.in_ok-push.ensures.texts
     ∙ c.in_ok-insert.ensures.updates.0 q)

@@ -1,24 +1,18 @@
-use Rattle.std.proofs.Common.{refl, map}
-use Rattle.fast_check_packages.specs.Package.{nv_of}
-use Rattle.fast_check_worklists.specs.State.{state_of}
-use Rattle.fast_check_worklists.specs.Traces.{handled, pending}
-use Rattle.fast_check_worklists.proofs.Asks.{asks_none, asks_some}
+use Rattle.std.proofs.Common.{◌∙◌, sym, ap, refl, inl, inr}
+use Rattle.fast_check_names.proofs.Writes.{on_ok_from}
+use Rattle.fast_check_name_demands.specs.Files.{names_of}
+use Rattle.fast_check_worklists.specs.State.{state_of, was_told}
+use Rattle.fast_check_worklists.proofs.Asks.{told_before}
 use Rattle.fast_check_worklists.proofs.worklist.Worklist.ask_module.Goals as goal
 
-pub returns-in_ok-add_copies : goal.returns-in_ok-add_copies
-returns-in_ok-add_copies c = asks_some c.args.nv.now c.args.specifier.now c.args.exports (state_of c.args.self.now)
-    (record {
-      handled = handled c.add.new.self;
-      waiting = pending c.add_copies.new.self;
-      packages = map nv_of c.args.self.now.packages;
-    })
-    c.in_ok-new.field-0 refl c.in_ok-new.ensures.added c.in-Some.new c.in-Some.is c.in_ok-add_copies.ensures.added
+pub returns-then-was_told : goal.returns-then-was_told
+returns-then-was_told c =
+    let d = names_of c.args.names in
+    inl (
+      told_before c.args.specifier.now d (state_of c.args.self.now)
+          (sym (ap (λ o. was_told o d) c.exports_of.ensures) ∙ (sym c.was_told.ensures ∙ c.if-was_told.true)),
+      refl,
+    )
 
-pub returns-in_default : goal.returns-in_default
-returns-in_default c = asks_none c.args.nv.now c.args.specifier.now c.args.exports (state_of c.args.self.now)
-    (record {
-      handled = handled c.add.new.self;
-      waiting = pending c.args.self.now.waiting;
-      packages = map nv_of c.args.self.now.packages;
-    })
-    c.in_ok-new.field-0 refl c.in_ok-new.ensures.added c.in_default.is refl
+pub returns : goal.returns
+returns c = on_ok_from c.ask_exports.result (λ is. inr (c.in_ok-exports.exports, c.in_ok-exports.ensures, is)) c.ask_exports.ensures
