@@ -106,6 +106,7 @@ def keys_with_other_values():
 
 ONE = [tables.url(0)]
 TWO = [tables.url(0), tables.url(1)]
+THREE = [*TWO, tables.url(2)]
 IN_TURNS = sorted(tables.url(place) for place in range(1, 51))
 # what a run shows, the shape and its size, and the modules that are answered (with their skeletons where these are not empty), or the line of the refusal
 CASES = [
@@ -125,9 +126,9 @@ CASES = [
     ("hostile_parts_through_aliases", shapes.parts_through_aliases(50), ONE),
     ("hostile_askers_through_aliases", shapes.askers_through_aliases(50), ONE),
     ("hostile_qualified_name_without_names", a_qualified_name_without_names(), TWO),
-    ("hostile_paths_covered", shapes.paths_covered_of_many_lengths(50), TWO),
-    ("hostile_names_covered_before_others", squares.names_covered_before_others(50), TWO),
-    ("hostile_more_names_covered_before_others", squares.names_covered_before_others(300), TWO),
+    ("hostile_paths_covered", squares.paths_covered_of_many_lengths(50), THREE),
+    ("hostile_names_covered_before_others", squares.names_covered_before_others(50), THREE),
+    ("hostile_more_names_covered_before_others", squares.names_covered_before_others(300), THREE),
     # found and told once, though many declarations, names or paths lead to it
     ("hostile_path_of_two_askers", shapes.path_of_two_askers(50), ONE),
     ("hostile_parts_of_many_declarations", shapes.parts_of_many_declarations(50), ONE),

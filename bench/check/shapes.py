@@ -363,10 +363,13 @@ def names_of_many_re_exports(n):
 
 
 def covered(n, parts, others=()):
-    """One declaration asks by import types for a path below each name of a module, for these others, and then for all of each name."""
-    asks = [import_type(url(1), f"s{i}", *parts(i)) for i in range(1, n + 1)] + [*others] + [import_type(url(1), f"s{i}") for i in range(1, n + 1)]
+    """One declaration asks by import types for a path below each name of a module, and for these others; in a later turn that of another module asks for all
+    of each name."""
+    asks = [import_type(url(1), f"s{i}", *parts(i)) for i in range(1, n + 1)]
     names = [[f"s{i}", i] for i in range(1, n + 1)]
-    return request(module(url(0), [symbol(1, definition(*asks))], [["s1", 1]]), module(url(1), [symbol(i, definition()) for i in range(1, n + 1)], names))
+    return request(module(url(0), [symbol(1, definition(*asks, *others, import_type(url(2))))], [["s1", 1]]),
+                   module(url(1), [symbol(i, definition()) for i in range(1, n + 1)], names),
+                   module(url(2), [symbol(1, definition(*(import_type(url(1), f"s{i}") for i in range(1, n + 1))))], [["s1", 1]]))
 
 
 @shape
@@ -377,12 +380,6 @@ def names_covered(n):
 @shape
 def paths_covered(n):
     return covered(n, lambda i: ["x"] * 6)
-
-
-@shape
-def paths_covered_of_many_lengths(n):
-    """Paths of many lengths, so that the nodes of the last path are seldom as many as those that go."""
-    return covered(n, lambda i: ["x"] * (1 + i % 7))
 
 
 @shape

@@ -24,7 +24,7 @@ from long_texts import nowhere, with_alias
 from one_hash import colliding
 from shapes import alias_urls, covered, paths_below, under_aliases
 from tables import (
-    by_name, chain_to, definition, exports_of, file_ref, import_type, module, one_name, request, single, symbol, target, transform, url,
+    by_name, chain_to, definition, exports_of, file_ref, import_type, module, one_name, part, request, single, symbol, target, transform, url,
 )
 
 FIRST, LEAST_SECONDS, RUNS = 125, 0.04, 2
@@ -124,6 +124,15 @@ def paths_of_references_that_lead_nowhere(n):
     return nowhere(paths_below(n, *(file_ref("./no.ts", f"y{i}") for i in range(n))))
 
 
+@known(first=4000, last=4000)
+def askers_of_many_references_and_a_part(n):
+    """Symbols that ask one path of a symbol times the exports of a file for which that stands, where it stands for a part of a symbol too: the own parts of
+    aliases are looked for among all of these for each who asks (fast_check_demands, `own_parts_of`)."""
+    asks = [symbol(1 + i, part("s1", "x")) for i in range(1, n + 1)]
+    asked = symbol(1, part("s2", "y"), *(file_ref(url(1), f"y{i}") for i in range(n)))
+    return request(module(url(0), [asked, *asks], [[f"s{1 + i}", 1 + i] for i in range(1, n + 1)]), one_name(url(1)))
+
+
 # ---- a long name, text or URL is compared or copied for each of many
 
 
@@ -171,9 +180,15 @@ def names_behind_a_long_url_in_turns(n):
 
 @known(first=500)
 def names_covered_before_others(n):
-    """Names that come to be asked for whole, after a part of each was, times the nodes of the set: those at its end hang on one behind those that go, by more
-    than are moved (fast_check_names, `cover_apart`)."""
+    """Names that come to be asked for whole, in a turn after a part of each was, times the nodes of the set: those at its end hang on one behind those that go,
+    by more than are moved (fast_check_names, `cover_apart`)."""
     return covered(n, lambda i: ["x"], [import_type(url(1), "m", f"y{i}", "z") for i in range(1, n + 1)])
+
+
+@known(first=1000)
+def paths_covered_of_many_lengths(n):
+    """The same of paths of one to seven names: the shortest are asked for first, so the longest are at the end."""
+    return covered(n, lambda i: ["x"] * (1 + i % 7))
 
 
 def measure(program, name):

@@ -109,7 +109,7 @@ no_parts t s q none r d c = none (by_other t r q d) (other_found t r q (symbol_o
 abbrev id_of : ℕ → SymbolId
 id_of n = record { 0 = n }
 
-one_id : (a b : SymbolId) → is_eq (id_order.cmp-value.it a b) ≡ true → a ≡ b
+pub one_id : (a b : SymbolId) → is_eq (id_order.cmp-value.it a b) ≡ true → a ≡ b
 one_id a b h = ap (λ n. id_of n) (one_number a.0 b.0 h)
 
 module _ (t : Tables) where

@@ -5,6 +5,7 @@ use Rattle.std.specs.BTreeSet.{BTreeSet, contains}
 use Rattle.std.specs.List.{Contains}
 use Rattle.std.specs.Ordering.{is_eq}
 use Rattle.fast_check_names.specs.Names.{Path, path_of}
+use Rattle.fast_check_symbols.specs.contracts.symbol_id.SymbolIdOrd.TheImpl as id_order
 use Rattle.fast_check_symbols.specs.declared.symbol_id.SymbolId.{SymbolId}
 use Rattle.fast_check_symbols.specs.Tables.{Tables}
 use Rattle.fast_check_name_demands.specs.demands.symbol_demands.declared.demand.Ask.{Ask}
@@ -86,7 +87,12 @@ abbrev pub ArePathsFound : Tables → PathNumbers → BTreeSet SymbolPath → Li
 ArePathsFound t w paths found = (k : SymbolPath) → contains path_order.cmp-value.it paths k ≡ true →
     IsPathFound t w found k
 
--- what the sets tell is found
+-- no path of the symbol asks anything of other files
+abbrev pub HasNoFiles : Tables → SymbolId → Type 0
+HasNoFiles t s = (p : Path) (x : Extent) (f : FileDemand) → Contains (path_files t s p x) f → ⊥
+
+-- what the sets tell is found; and these other symbols ask nothing
 pub record AreFilesWanted (t : Tables) (w : PathNumbers) (wanted : WantedFiles) (found : List FileDemand) : Type 0 where
   pub wants : AreWanted w wanted.wants found
   pub paths : ArePathsFound t w wanted.paths found
+  pub without : (s : SymbolId) → contains id_order.cmp-value.it wanted.without s ≡ true → HasNoFiles t s

@@ -1,7 +1,6 @@
 //! The search through the symbols of a module: all demands that follow from the first ones, what they make public, and what they ask of other files.
 #![tactic(auto)]
 
-mod aliases;
 mod done;
 mod effort;
 mod found;

@@ -1,5 +1,5 @@
 //! What is asked of other files, each thing once.
-ghost use Rattle.std.specs.Prelude.{◌≡◌, List, [], ◌∷◌, map, Some, OnOk};
+ghost use Rattle.std.specs.Prelude.{◌≡◌, List, [], ◌∷◌, map, Some, IsTrue, IfOk, OnOk};
 ghost use Rattle.std.specs.List.{Contains};
 ghost use Rattle.fast_check_names.specs.Names.{path_of};
 ghost use Rattle.fast_check_symbols.specs.Tables.{Tables};
@@ -11,13 +11,12 @@ ghost use Rattle.fast_check_name_demands.specs.demands.Yields.{Adds};
 ghost use Rattle.fast_check_search.specs.declared.numbers.PathNumbers.{PathNumbers};
 ghost use Rattle.fast_check_search.specs.Numbers.{number_of, IsNumbering, Keeps, Follows};
 ghost use Rattle.fast_check_search.specs.SymbolWorklist.{demanded};
-ghost use Rattle.fast_check_search.specs.Wanted.{rest_path, want_key, symbol_path, AreWanted, AreFilesWanted};
+ghost use Rattle.fast_check_search.specs.Wanted.{rest_path, want_key, symbol_path, AreWanted, HasNoFiles, AreFilesWanted};
 
-use crate::aliases::may_ask_files;
 use crate::done::NumberedDemand;
 use crate::numbers::{NumberedPath, PathNumbers};
 use crate::worklist::asked_path;
-use fast_check_name_demands::demands::{Ask, CheckedTables, Extent, SymbolId};
+use fast_check_name_demands::demands::{Ask, CheckedTables, Extent, SymbolId, has_light_aliases};
 use fast_check_name_demands::{FileWant, FileWants, NameDemand, push_files};
 use std::alloc::{AllocError, Global};
 use std::collections::BTreeSet;
@@ -54,6 +53,8 @@ pub struct WantedFiles<'a> {
     wants: BTreeSet<DoneWant<'a>>,
     /// Paths all of whose wants are among these.
     paths: BTreeSet<SymbolPath>,
+    /// Symbols with many aliases, or with some of long names, no path of which asks for anything.
+    without: BTreeSet<SymbolId>,
 }
 
 impl<'a> WantedFiles<'a> {
@@ -64,7 +65,21 @@ impl<'a> WantedFiles<'a> {
         WantedFiles {
             wants: BTreeSet::new(alloc),
             paths: BTreeSet::new(alloc),
+            without: BTreeSet::new(alloc),
         }
+    }
+
+    /// Notes that no path of a symbol asks for anything, where its aliases are many or have long names.
+    fn note_without(&mut self, tables: &CheckedTables, symbol: SymbolId) -> Result<(), AllocError>
+        requires { HasNoFiles tables.now symbol }
+        ensures { OnOk result ((w : PathNumbers) (found : List FileDemand) →
+            AreFilesWanted tables.now w self.old found → AreFilesWanted tables.now w self.new found) }
+    {
+        if has_light_aliases(tables, symbol) {
+            return Ok(());
+        }
+        self.without.insert(symbol)?;
+        Ok(())
     }
 }
 
@@ -142,7 +157,7 @@ fn add_wants<'a>(
     Ok(())
 }
 
-/// Adds each thing that a demand asks of other files, unless it was added before.
+/// Adds each thing that a demand asks of other files, unless it was added before. Answers whether it asks for nothing.
 fn add_each<'a>(
     alloc: Global,
     tables: &'a CheckedTables,
@@ -150,7 +165,7 @@ fn add_each<'a>(
     paths: &mut PathNumbers<'a>,
     wanted: &mut BTreeSet<DoneWant<'a>>,
     out: &mut FileWants<'a>,
-) -> Result<(), AllocError>
+) -> Result<bool, AllocError>
     requires numbering { IsNumbering paths.old }
     requires number { IsNumbered paths.old (demanded demand) demand.path }
     requires wanted { AreWanted paths.old wanted.old out.old }
@@ -158,6 +173,7 @@ fn add_each<'a>(
     ensures kept { OnOk result (Keeps paths.old paths.new) }
     ensures wanted { OnOk result (AreWanted paths.new wanted.new out.new) }
     ensures files { OnOk result (Adds (files tables.now (demanded demand.entry)) out.old out.new) }
+    ensures none { IfOk result (λ none. IsTrue none → (f : FileDemand) → Contains (files tables.now (demanded demand.entry)) f → ⊥) }
 {
     let NumberedDemand { demand, path } = demand;
     let mut wants = FileWants::new(alloc);
@@ -166,7 +182,9 @@ fn add_each<'a>(
         names: asked_path(demand.ask),
         number: path,
     };
-    add_wants(path, wants.as_slice(), paths, wanted, out)
+    let wants = wants.as_slice();
+    add_wants(path, wants, paths, wanted, out)?;
+    Ok(wants.is_empty())
 }
 
 /// The path that a demand asks of a symbol. None where it asks for the symbol itself.
@@ -206,8 +224,12 @@ fn add_once<'a>(
     if wanted.paths.contains(&key) {
         return Ok(());
     }
-    add_each(alloc, tables, demand, paths, &mut wanted.wants, out)?;
-    if !may_ask_files(tables, key.symbol) {
+    if wanted.without.contains(&key.symbol) {
+        return Ok(());
+    }
+    let asks_none = add_each(alloc, tables, demand, paths, &mut wanted.wants, out)?;
+    if asks_none {
+        wanted.note_without(tables, key.symbol)?;
         return Ok(());
     }
     wanted.paths.insert(key)?;

@@ -71,7 +71,7 @@ loop-next-preserved c =
     }
 
 -- what was found, with what was noted
-abbrev all_found : goal.After-drop-wanted-3 → Found
+abbrev all_found : goal.After-drop-wanted-4 → Found
 all_found c = record {
   ranges = c.push_untold.new.out;
   implementations = c.loop-next.found.implementations;
@@ -79,7 +79,7 @@ all_found c = record {
   files = c.loop-next.found.files;
 }
 
-at_end : (c : goal.After-drop-wanted-3) →
+at_end : (c : goal.After-drop-wanted-4) →
     (ArePartsCovered c.args.tables.now c.args.parts.now c.args.before →
     IsContinued c.args.tables.now (map demand_of c.args.roots.now) c.args.before (asked c.loop-next.work)) ×
     IsFound c.args.tables.now (asked c.loop-next.work) (noted_ranges c.args.tables.now c.args.told.now)
@@ -89,7 +89,7 @@ at_end c = ended c.args.tables.now (map demand_of c.args.roots.now) c.args.befor
     (noted_ranges c.args.tables.now c.push_untold.new.told) c.loop-next.found (all_found c)
     (omega (arith, c.len.ensures, c.loop-next-test.false)) c.loop-next.invariant.way c.in_ok-push_untold.ensures refl refl refl
 
-kept_all : (c : goal.After-drop-wanted-3) → IsKeptWith c.args.before (asked c.loop-next.work) c.keep_all.new.self
+kept_all : (c : goal.After-drop-wanted-4) → IsKeptWith c.args.before (asked c.loop-next.work) c.keep_all.new.self
 kept_all c = subst (λ (ds : List Demand). IsKeptWith c.args.before ds c.keep_all.new.self)
     (ap (map demanded) c.as_slice-met.ensures.value ∙ c.into_demands-demands.ensures) c.in_ok-keeps_names.ensures.kept
 

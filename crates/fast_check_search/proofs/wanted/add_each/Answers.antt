@@ -1,6 +1,7 @@
-use Rattle.std.proofs.Common.{◌≡◌, ◌∙◌, sym, subst, List, []}
+use Rattle.std.proofs.Common.{◌≡◌, ◌∙◌, sym, ap, subst, arith, List, [], length}
 use Rattle.std.specs.List.{Contains}
-use Rattle.std.proofs.lemmas.Result.{on_ok_weaker}
+use Rattle.std.proofs.lemmas.Bool.{eqb-true}
+use Rattle.std.proofs.lemmas.List.{length-map}
 use Rattle.fast_check_demands.proofs.Adds.{adds_gathered}
 use Rattle.fast_check_names.specs.Names.{Path}
 use Rattle.fast_check_name_demands.specs.demands.Yields.{Adds}
@@ -23,14 +24,19 @@ add_wants-requires-clause-follow c want h =
     (follow_want t d want
     ((gathered c.in_ok-push_files.ensures c.new-wants.ensures).parts (file_demand_of want)
     (subst (λ (fs : List FileDemand). Contains fs (file_demand_of want))
-    (c.as_slice.ensures ∙ (gathered c.in_ok-push_files.ensures c.new-wants.ensures).is)
-    (contains_map file_demand_of c.as_slice.result.now want h))))
+    (c.as_slice-wants.ensures ∙ (gathered c.in_ok-push_files.ensures c.new-wants.ensures).is)
+    (contains_map file_demand_of c.as_slice-wants.result.now want h))))
 
 pub returns-clause-files : goal.returns-clause-files
 returns-clause-files c =
     let t = c.args.tables.now in
     let d = demanded c.args.demand in
-    on_ok_weaker c.add_wants.result
-    (λ a. adds_gathered (files t d) c.push_files.new.out c.args.out.now c.add_wants.new.out
+    adds_gathered (files t d) c.push_files.new.out c.args.out.now c.add_wants.new.out
     (gathered c.in_ok-push_files.ensures c.new-wants.ensures)
-    (rw c.as_slice.ensures at a)) c.add_wants.ensures.files
+    (rw c.as_slice-wants.ensures at c.in_ok-add_wants.ensures.files)
+
+pub returns-clause-none : goal.returns-clause-none
+returns-clause-none c = λ e f h.
+    let none : length c.as_slice-wants.result.now ≡ 0 = eqb-true (length c.as_slice-wants.result.now) 0 (sym c.is_empty.ensures ∙ e) in
+    let there = (gathered c.in_ok-push_files.ensures c.new-wants.ensures).whole f h in
+    omega (arith, there.1, ap length c.as_slice-wants.ensures, length-map c.as_slice-wants.result.now file_demand_of, none)

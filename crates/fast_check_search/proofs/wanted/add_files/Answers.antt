@@ -15,6 +15,7 @@ returns-in_ok-add_each-in-None-clause-wanted c =
       wants = a.wanted;
       paths = found_more t c.args.paths.now c.add_each.new.paths a.kept (files t (demanded c.args.demand)) c.args.out.now
           c.add_each.new.out a.files c.args.wanted.now.paths c.requires.wanted.paths;
+      without = c.requires.wanted.without;
     }
 
 pub add_once-requires-clause-key : goal.add_once-requires-clause-key
