@@ -1,10 +1,9 @@
-"""Runs of `fast-check build` on hostile tables, in the shapes that `bench/check/shapes.py` and `squares.py` measure and in some of its own: rings, long
+"""Runs of `fast-check build` on hostile tables, in the shapes that `bench/check/shapes.py` measures and in some of its own: rings, long
 paths, names that come twice, and modules that lead back to themselves. The trees are empty, so that each module with something public is answered by an
 empty skeleton: what is shown is that the call ends, which modules are answered, and which fault of the tables is told."""
 import in_turns
 import long_texts
 import shapes
-import squares
 import tables
 
 def skeleton(leading=(), trailing=()):
@@ -126,9 +125,9 @@ CASES = [
     ("hostile_parts_through_aliases", shapes.parts_through_aliases(50), ONE),
     ("hostile_askers_through_aliases", shapes.askers_through_aliases(50), ONE),
     ("hostile_qualified_name_without_names", a_qualified_name_without_names(), TWO),
-    ("hostile_paths_covered", squares.paths_covered_of_many_lengths(50), THREE),
-    ("hostile_names_covered_before_others", squares.names_covered_before_others(50), THREE),
-    ("hostile_more_names_covered_before_others", squares.names_covered_before_others(300), THREE),
+    ("hostile_paths_covered", shapes.paths_covered_of_many_lengths(50), THREE),
+    ("hostile_names_covered_before_others", shapes.names_covered_before_others(50), THREE),
+    ("hostile_more_names_covered_before_others", shapes.names_covered_before_others(300), THREE),
     # found and told once, though many declarations, names or paths lead to it
     ("hostile_path_of_two_askers", shapes.path_of_two_askers(50), ONE),
     ("hostile_parts_of_many_declarations", shapes.parts_of_many_declarations(50), ONE),
@@ -137,6 +136,11 @@ CASES = [
     ("hostile_one_property_of_many_functions", shapes.one_property_of_many_functions(50), ONE),
     ("hostile_paths_of_many_references", shapes.paths_of_many_references(50), TWO),
     ("hostile_paths_of_many_targets", shapes.paths_of_many_targets(50), ONE),
+    ("hostile_paths_of_references_of_which_few_lead_somewhere", shapes.paths_of_references_of_which_few_lead_somewhere(50), TWO),
+    ("hostile_askers_of_one_part_by_many_names", long_texts.askers_of_one_part_by_many_names(50), ONE),
+    # one module under many names
+    ("hostile_names_of_aliases", shapes.names_of_aliases(50), TWO),
+    ("hostile_aliases_of_re_exports", shapes.aliases_of_re_exports(50), TWO),
     ("hostile_levels_of_qualified_aliases", shapes.levels_of_qualified_aliases(6), ONE),
     ("hostile_versions_of_a_member", shapes.versions_of_a_member(50), ["file:///w/m.ts"]),
     ("hostile_aliases_of_a_module", shapes.aliases_of_a_module(20), TWO),

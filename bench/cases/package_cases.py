@@ -336,6 +336,27 @@ module file:///w/a.ts
   export a: define keyword
 ''')
 
+case('files of two members in turn', '''
+member w/a - file:///w/a/ ./mod.ts
+member w/b - file:///w/b/ ./mod.ts
+pending w/a@0.0.0
+module file:///w/a/mod.ts
+  export a: file ./a.ts a
+  export b: file file:///w/b/b.ts b
+  export c: file ./c.ts c
+  export d: file file:///w/b/d.ts d
+module file:///w/a/a.ts
+  export a: define keyword
+module file:///w/a/c.ts
+  export c: define keyword
+module file:///w/b/mod.ts
+  export m: define keyword
+module file:///w/b/b.ts
+  export b: define keyword
+module file:///w/b/d.ts
+  export d: define keyword
+''')
+
 case('a file of no member belongs to no package', '''
 member w/a - file:///w/a/ ./mod.ts
 pending w/a@0.0.0

@@ -1,8 +1,8 @@
 """Hostile shapes of modules that are followed in many turns, each of which asks for more of them (`shapes.py`)."""
 from shape import DEMAND, shape, shape_by
 from tables import (
-    FEW, HOST, by_name, chain_to, decl, definition, exports_of, import_type, module, names_that_ask, namespace_of_items, part, request, symbol,
-    target, url,
+    FEW, HOST, by_name, chain_to, decl, definition, exports_of, file_ref, import_type, module, names_that_ask, namespace_of_items, one_name, part,
+    request, symbol, target, url,
 )
 
 
@@ -37,6 +37,12 @@ def one_property_in_turns(n):
 def one_property_apart_in_turns(n):
     """Such functions, in each of which it is declared once."""
     return property_in_turns(n, lambda i: [10 * i, 10 * i + 9], [[10 * i + 1, 10 * i + 2] for i in range(1, n + 1)])
+
+
+@shape
+def one_property_inside_in_turns(n):
+    """Such functions, each inside of the one before, and all declarations inside of all of them."""
+    return property_in_turns(n, lambda i: [i, 4 * n - i], [[2 * n, 2 * n + 1]] * n)
 
 
 def two_in_turns(n, first, second, symbols=(), *deps):
@@ -151,3 +157,29 @@ def files_that_lead_nowhere_in_turns(n):
 def one_import_type_again_in_turns(n):
     """The same of one import type that stands there as often, and is asked for once."""
     return asked_by_each(n, definition(*[import_type(HOST + "q/m.ts", "x")] * (2 * n)))
+
+
+def two_names_in_turns(n, first, *symbols, others=()):
+    """Turns in which two names are asked below another alias of the symbol of this name, each of one path; and these modules more."""
+    aliases = [symbol(i, target(first), name=f"a{i}") for i in range(1, n + 1)]
+    return chain_to(n, lambda i: [f"a{i}", "x", "y"], module(url("m"), [*aliases, *symbols], exports_of("a", n)), *others)
+
+
+@shape
+def two_names_through_aliases_in_turns(n):
+    """Such turns, and a chain of aliases, of each of which the two names are asked."""
+    chain = [symbol(n + i, target(f"t{i + 1}"), name=f"t{i}") for i in range(1, n)]
+    return two_names_in_turns(n, "t1", *chain, symbol(2 * n, definition(), name=f"t{n}"))
+
+
+@shape
+def two_names_of_faulty_targets_in_turns(n):
+    """Such turns, and the namespaces for which a symbol stands, none of which has the name."""
+    spaces = [symbol(n + 1 + i, definition(is_ts_namespace=True), name=f"t{i}") for i in range(1, n + 1)]
+    return two_names_in_turns(n, "B", symbol(n + 1, *(target(f"t{i}") for i in range(1, n + 1)), name="B"), *spaces)
+
+
+@shape
+def two_names_of_references_in_turns(n):
+    """Such turns, and the exports of a file for which a symbol stands: each is asked for the two names."""
+    return two_names_in_turns(n, "B", symbol(n + 1, *(file_ref(url("o"), f"y{i}") for i in range(1, n + 1)), name="B"), others=[one_name(url("o"))])

@@ -1,6 +1,6 @@
 """Hostile shapes with a long name, text or URL of which many things have to do (`shapes.py`)."""
 from shape import DEMAND, shape, shape_by
-from tables import HOST, decl, definition, file_ref, import_type, module, one_name, part, request, single, symbol, target, url
+from tables import HOST, chain_to, decl, definition, file_ref, import_type, module, one_name, part, request, single, symbol, target, url
 
 
 def nowhere(made, *others):
@@ -60,6 +60,41 @@ def askers_of(n, asked, *others):
 def askers_of_many_references(n):
     """Symbols that ask one path of a symbol, and the exports of a file for which that stands."""
     return askers_of(n, symbol(1, *(file_ref(url(1), f"y{i}") for i in range(n))), one_name(url(1)))
+
+
+@shape
+def askers_of_many_references_and_a_part(n):
+    """The same of a symbol that stands for a part of a symbol too: that part is asked for by each who asks."""
+    return askers_of(n, symbol(1, part("s2", "y"), *(file_ref(url(1), f"y{i}") for i in range(n))), one_name(url(1)))
+
+
+@shape
+def askers_of_unbound_parts(n):
+    """Symbols that ask one path of a symbol, and its aliases of parts of names that nothing binds, beside one of a part of a symbol."""
+    return askers_of(n, symbol(1, part("s2", "y"), *(part(f"u{i}", "y") for i in range(n))))
+
+
+@shape
+def askers_of_one_name_again(n):
+    """Symbols that ask one path of an alias of a path, which is one name again and again."""
+    return askers_of(n, symbol(1, part("s2", *["y"] * n)))
+
+
+@shape
+def askers_of_one_part_by_many_names(n):
+    """Symbols that ask one path of a symbol, and its aliases of one part of one symbol under different names."""
+    asks = [symbol(2 + i, part("s1", "x")) for i in range(1, n + 1)]
+    ids = [[["s1", 1], 1], *([[f"s{2 + i}", 1], 2 + i] for i in range(1, n + 1)), *([[f"u{i}", 1], 2] for i in range(n))]
+    symbols = [symbol(1, *(part(f"u{i}", "y") for i in range(n))), symbol(2, definition()), *asks]
+    return request(module(url(0), symbols, [[f"s{2 + i}", 2 + i] for i in range(1, n + 1)], ids=ids))
+
+
+@shape
+def askers_of_a_part_of_a_long_name(n):
+    """Symbols that ask one path of an alias of a part of a symbol with a long name."""
+    long = "N" * (100 * n)
+    asks = [symbol(2 + i, part("s1", "x")) for i in range(1, n + 1)]
+    return request(module(url(0), [symbol(1, part(long, "y")), symbol(2, definition(), name=long), *asks], [[f"s{2 + i}", 2 + i] for i in range(1, n + 1)]))
 
 
 @shape
@@ -162,3 +197,79 @@ def faults_of_a_long_referrer(n):
 def faults_of_namesakes_in_a_long_url(n):
     """Such namespaces in a module at a long URL."""
     return faults_of_namesakes(n, "r", url("a" * (60 * n)))
+
+
+def files_of_members(n, *names):
+    """URLs that one module asks for in turn of members of the workspace with these names."""
+    members = [{"name": name, "base": f"file:///w{place}/", "version": "1.0.0"} for place, name in enumerate(names)]
+    asks = definition(*(import_type(f"file:///w{i % len(names)}/{i}.ts", "x") for i in range(n)))
+    return single([symbol(1, asks)], [["s1", 1]]) | {"workspace_members": members}
+
+
+@shape
+def files_of_a_long_member(n):
+    """URLs that belong to a member of the workspace with a long name."""
+    return files_of_members(n, "@w/" + "w" * (100 * n))
+
+
+@shape_by(lambda n: 100 * n * n)
+def own_files_of_a_long_member(n):
+    """The same of URLs that belong to the package of the module: each demand of names of a file has the package."""
+    name = "@w/" + "w" * (100 * n)
+    asks = definition(*(import_type(f"file:///w/{i}.ts", "x") for i in range(1, n + 1)))
+    made = request(module("file:///w/0.ts", [symbol(1, asks)], [["s1", 1]]), pending=[f"{name}@1.0.0"])
+    made["graph"]["packages"] = [[f"{name}@1.0.0", [[".", "./0.ts"]]]]
+    made["provider"]["packages"] = []
+    return made | {"workspace_members": [{"name": name, "base": "file:///w/", "version": "1.0.0", "exports": [[".", "./0.ts"]]}]}
+
+
+@shape_by(lambda n: 100 * n * n)
+def modules_that_depend_on_a_long_member(n):
+    """Modules, each of which depends on a member of the workspace with a long name: each has that name among what it depends on."""
+    depends = (module(url(i), [symbol(1, definition(import_type("file:///w/m.ts", "x")))], [["s1", 1]]) for i in range(n))
+    made = request(*depends, exports=[[f"./{i}", f"./{i}.ts"] for i in range(n)])
+    return made | {"workspace_members": [{"name": "@w/" + "w" * (100 * n), "base": "file:///w/", "version": "1.0.0"}]}
+
+
+@shape
+def files_of_two_long_members(n):
+    """The same of two members in turn, whose names differ in the end."""
+    return files_of_members(n, *("@w/" + "w" * (100 * n) + end for end in "ab"))
+
+
+# ---- turns in which a name is looked for behind few re-exports of all that take long to follow
+
+
+def asked_behind(n, *resolved):
+    """Turns in which a name is asked of a module that exports all again by these texts, which lead to modules of one name at these URLs: none has it."""
+    others = [one_name(to) for to in sorted({to for _, to in resolved})]
+    made = chain_to(n, lambda i: [f"a{i}"], module(url("m"), [], [], again=[text for text, _ in resolved]), *others)
+    kept = [each for each in made["graph"]["resolutions"] if each[0] != url("m")]
+    return nowhere(made, *kept, *([url("m"), text, to] for text, to in resolved))
+
+
+@shape
+def names_behind_a_long_url_in_turns(n):
+    """Such turns, and one re-export that leads to a long URL."""
+    return asked_behind(n, ("./b.ts", url("b" * (100 * n))))
+
+
+@shape
+def names_behind_long_urls_in_turns(n):
+    """Such turns, and fifteen re-exports, each of which leads to another long URL."""
+    return asked_behind(n, *((f"./{i}.ts", url("b" * (7 * n) + str(i))) for i in range(15)))
+
+
+@shape
+def names_behind_a_long_text_in_turns(n):
+    """Such turns, and one re-export by a long text."""
+    return asked_behind(n, ("./" + "b" * (100 * n), url(0)))
+
+
+@shape
+def names_behind_an_alias_of_a_long_url_in_turns(n):
+    """Such turns, and one re-export that leads by an alias to a module at a long URL."""
+    long, alias = url("b" * (100 * n)), url("alias")
+    made = asked_behind(n, ("./b.ts", long))
+    made["graph"]["resolutions"] = [[at, text, alias if to == long else to] for at, text, to in made["graph"]["resolutions"]]
+    return with_alias(made, alias, long)

@@ -22,7 +22,7 @@ from growth import MOST_EXPONENT, exponent, in_three_sizes, measured, row, spent
 from one_hash import NAME_LETTERS, URL_LETTERS, colliding
 from shape import COMMANDS, DEMAND, FOLLOWS, ITEM, NAME, SHAPES, shape, shape_by, shape_of
 from tables import (
-    FEW, HOST, NO_TEXT, ONE, RANGES, assigned, decl, definition, exported_const, exports_of, file_ref, import_type, imported, module, one_name, part,
+    FEW, HOST, NO_TEXT, ONE, RANGES, assigned, by_name, decl, definition, exported_const, exports_of, file_ref, import_type, imported, module, one_name, part,
     request, single, span, symbol, target, transform, tree_module, url,
 )
 
@@ -148,6 +148,28 @@ def paths_below(n, *decls):
     """One declaration asks n paths of one name of a symbol with these declarations, which are aliases of another symbol."""
     asks = definition(*([{"QualifiedId": [["s2", 1], [f"x{i}"]]}, "Type_"] for i in range(n)))
     return single([symbol(1, asks), symbol(2, *decls), symbol(3, definition())], [["s1", 1]])
+
+
+@shape
+def paths_of_references_that_lead_nowhere(n):
+    """Paths that are asked of a symbol that stands for as many exports of a file, whose text resolves to nothing."""
+    return long_texts.nowhere(paths_below(n, *(file_ref("./no.ts", f"y{i}") for i in range(n))))
+
+
+@shape
+def paths_of_references_of_which_few_lead_somewhere(n):
+    """The same, where two of them are of a file that is there."""
+    made = paths_below(n, *(file_ref("./no.ts", f"y{i}") for i in range(n)), file_ref("./1.ts", "s1"), file_ref("./1.ts", "s2"))
+    made["modules"].append(one_name(url(1)))
+    made["graph"]["modules"].append([url(1), {"Js": {"media_type": "TypeScript"}}])
+    return long_texts.nowhere(made, [url(0), "./1.ts", url(1)])
+
+
+@shape
+def paths_of_a_reference_of_a_long_text(n):
+    """Paths that are asked of a symbol that stands for an export of a file whose text is long and resolves to nothing, beside one that is as long."""
+    long = "./" + "a" * (200 * n)
+    return long_texts.nowhere(paths_below(n, file_ref(long, "y")), [url(0), long + "b", url(0)])
 
 
 @shape
@@ -383,6 +405,24 @@ def paths_covered(n):
 
 
 @shape
+def names_covered_with_parts_apart(n):
+    """Names of which two parts are asked for, whose nodes stand apart from each other."""
+    return covered(n, lambda i: ["x", "a"], [import_type(url(1), f"s{i}", "y", "b", "c") for i in range(1, n + 1)])
+
+
+@shape
+def names_covered_before_others(n):
+    """Names that come to be asked for whole, where the nodes at the end of the set hang on one behind those that go."""
+    return covered(n, lambda i: ["x"], [import_type(url(1), "m", f"y{i}", "z") for i in range(1, n + 1)])
+
+
+@shape
+def paths_covered_of_many_lengths(n):
+    """Paths of one to seven names more: nodes that move leave a path in pieces, which goes later."""
+    return covered(n, lambda i: ["x"] * (1 + i % 7))
+
+
+@shape
 def long_paths_covered(n):
     """Long paths, of which all nodes go in one stretch."""
     return covered(n, lambda i: ["x"] * 66)
@@ -554,17 +594,44 @@ def alias_urls(n):
     return [url(f"a{i}") for i in range(n)]
 
 
-def under_aliases(n, of, *more):
-    """A module that exports all of n others, which are all this one by aliases; and these modules more."""
-    made = request(module(url(0), [], [], again=alias_urls(n)), of, *more, aliases=[[each, of[0]] for each in alias_urls(n)])
+def under_aliases(n, of, *more, by=()):
+    """A module that exports all of n others, or asks for these import types of them, which are all one module by aliases; and these modules more."""
+    asks = module(url(0), [symbol(1, definition(*by))], [["s1", 1]]) if by else module(url(0), [], [], again=alias_urls(n))
+    made = request(asks, of, *more, aliases=[[each, of[0]] for each in alias_urls(n)])
     made["graph"]["modules"] += [[each, {"Js": {"media_type": "TypeScript"}}] for each in alias_urls(n)]
     return made
 
 
-@shape_by(lambda n: 2 * DEMAND * n * n)
+@shape
 def aliases_of_a_module(n):
-    """Aliases of a module that are asked for, and its names: a demand has the URL by which a module was asked for, so each alias is asked for each name."""
+    """Aliases of a module that are asked for, and its names."""
     return under_aliases(n, module(url(1), [symbol(i, definition()) for i in range(1, n + 1)], exports_of("s", n)))
+
+
+@shape
+def names_of_aliases(n):
+    """The same, where each alias is asked for one name, from which all others follow."""
+    names = module(url(1), [symbol(i, definition(by_name(f"s{i % n + 1}"))) for i in range(1, n + 1)], exports_of("s", n))
+    return under_aliases(n, names, by=[import_type(each, f"s{1 + i}") for i, each in enumerate(alias_urls(n))])
+
+
+@shape
+def aliases_of_re_exports(n):
+    """Aliases of a module that are asked for, and its re-exports of all, which are the same demands under each."""
+    return under_aliases(n, module(url(1), [], [], again=alias_urls(n)))
+
+
+@shape
+def aliases_of_import_types(n):
+    """Aliases of a module that are asked for, and the import types of its one name."""
+    asks = symbol(1, definition(*(import_type(url(2), f"x{i}") for i in range(n))))
+    return under_aliases(n, module(url(1), [asks], [["s1", 1]]), module(url(2), [], []))
+
+
+@shape
+def aliases_of_unbound_names(n):
+    """Aliases of a module that are asked for, and the names that its one symbol mentions and nothing binds."""
+    return under_aliases(n, module(url(1), [symbol(1, definition(*(by_name(f"u{i}") for i in range(4 * n))))], [["s1", 1]]))
 
 
 @shape_by(lambda n: ITEM * n * n)

@@ -20,12 +20,10 @@ sys.path[:0] = [os.path.join(os.path.dirname(os.path.dirname(os.path.abspath(__f
 
 from growth import MOST_EXPONENT, exponent, in_three_sizes, measured, row, spent
 from in_turns import property_in_turns, two_in_turns
-from long_texts import nowhere, with_alias
+from long_texts import askers_of, with_alias
 from one_hash import colliding
-from shapes import alias_urls, covered, paths_below, under_aliases
-from tables import (
-    by_name, chain_to, definition, exports_of, file_ref, import_type, module, one_name, part, request, single, symbol, target, transform, url,
-)
+from shapes import covered, paths_below
+from tables import definition, file_ref, import_type, module, one_name, part, request, symbol, transform, url
 
 FIRST, LEAST_SECONDS, RUNS = 125, 0.04, 2
 # Letters of texts that are neither names nor URLs.
@@ -51,98 +49,46 @@ def export_names_of_one_hash(n):
     return transform([], [], graph={"packages": [["@p/p0@1.0.0", [[each, ""] for each in colliding(n, TEXT_LETTERS)]]]})
 
 
-# ---- a module is followed anew under each alias by which it is asked for, and for each package
+# ---- a set of names is walked at each cover
 
 
-@known(last=500)
-def aliases_of_re_exports(n):
-    """Aliases of a module that are asked for times its re-exports of all, which are the same demands under each (fast_check_traces, `push_all_wants`)."""
-    return under_aliases(n, module(url(1), [], [], again=alias_urls(n)))
+@known(first=500)
+def names_covered_before_a_long_path(n):
+    """Names that come to be asked for whole, in a turn after a part of each was, times the nodes of the set: it ends with one path of as many names, so more
+    nodes lead to the last one than are moved (fast_check_names, `is_near`, `cover_apart`)."""
+    return covered(n, lambda i: ["x"], [import_type(url(1), "m", *["z"] * n)])
 
 
-@known(last=500)
-def aliases_of_import_types(n):
-    """Aliases of a module that are asked for times the import types of its one name, as in `aliases_of_re_exports` (fast_check_sources, `push_files`)."""
-    asks = symbol(1, definition(*(import_type(url(2), f"x{i}") for i in range(n))))
-    return under_aliases(n, module(url(1), [asks], [["s1", 1]]), module(url(2), [], []))
+# ---- what a path asks of files is worked out for each of them
 
 
-@known(last=500)
-def aliases_of_unbound_names(n):
-    """Aliases of a module that are asked for times the names that its one symbol mentions and nothing binds (fast_check_symbol_demands, `push_deps`)."""
-    return under_aliases(n, module(url(1), [symbol(1, definition(*(by_name(f"u{i}") for i in range(4 * n))))], [["s1", 1]]))
-
-
-# ---- turns: paths of more than one name, which are not kept
-
-
-def two_names_in_turns(n, first, *symbols, others=()):
-    """Turns in which two names are asked below another alias of the symbol of this name, each of one path; and these modules more."""
-    aliases = [symbol(i, target(first), name=f"a{i}") for i in range(1, n + 1)]
-    return chain_to(n, lambda i: [f"a{i}", "x", "y"], module(url("m"), [*aliases, *symbols], exports_of("a", n)), *others)
-
-
-@known()
-def two_names_through_aliases_in_turns(n):
-    """Turns times a chain of aliases, of each of which the same two names are asked in each (fast_check_search, `Searched`, keeps demands of one name at
-    most)."""
-    chain = [symbol(n + i, target(f"t{i + 1}"), name=f"t{i}") for i in range(1, n)]
-    return two_names_in_turns(n, "t1", *chain, symbol(2 * n, definition(), name=f"t{n}"))
-
-
-@known(first=125, last=250)
-def two_names_of_faulty_targets_in_turns(n):
-    """Turns times the namespaces for which a symbol stands, none of which has the name: each fault is told in each turn, and kept with its texts until all
-    is found (the same; fast_check_findings, `faults_in`). Holds some 250 bytes for each pair, of which one of a turn is answered."""
-    spaces = [symbol(n + 1 + i, definition(is_ts_namespace=True), name=f"t{i}") for i in range(1, n + 1)]
-    return two_names_in_turns(n, "B", symbol(n + 1, *(target(f"t{i}") for i in range(1, n + 1)), name="B"), *spaces)
-
-
-@known()
-def two_names_of_references_in_turns(n):
-    """Turns times the exports of a file for which a symbol stands: each is asked for the same two names in each turn (the same)."""
-    return two_names_in_turns(n, "B", symbol(n + 1, *(file_ref(url("o"), f"y{i}") for i in range(1, n + 1)), name="B"), others=[one_name(url("o"))])
+@known(first=250, last=500)
+def paths_of_references_to_no_package(n):
+    """Paths that are asked of a symbol times the exports of a file for which it stands, where the file belongs to no package: each path below each export is
+    kept, and nothing is asked (fast_check_search, `add_want`). Holds some 130 bytes for each pair."""
+    made = paths_below(n, *(file_ref("npm:no", f"y{i}") for i in range(n)))
+    made["graph"]["resolutions"] = [[url(0), "npm:no", "npm:no"]]
+    return made
 
 
 # ---- turns: declarations that stand within functions
 
 
 @known(first=4000, last=4000)
-def one_property_inside_in_turns(n):
-    """Turns in which a function is asked for, each inside of the one before, times the declarations inside of all of them of one symbol that each exports:
-    they are gone through in each (fast_check_demands, `push_public`)."""
-    return property_in_turns(n, lambda i: [i, 4 * n - i], [[2 * n, 2 * n + 1]] * n)
-
-
-# ---- what a symbol asks for is worked out anew for each path
-
-
-@known(first=250, last=500)
-def paths_of_references_that_lead_nowhere(n):
-    """Paths that are asked of a symbol times the exports of a file for which it stands, where the text of the file resolves to nothing: each path below each
-    export is kept, and nothing is asked (fast_check_search, `add_want`). Holds some 130 bytes for each pair."""
-    return nowhere(paths_below(n, *(file_ref("./no.ts", f"y{i}") for i in range(n))))
-
-
-@known(first=4000, last=4000)
-def askers_of_many_references_and_a_part(n):
-    """Symbols that ask one path of a symbol times the exports of a file for which that stands, where it stands for a part of a symbol too: the own parts of
-    aliases are looked for among all of these for each who asks (fast_check_demands, `own_parts_of`)."""
-    asks = [symbol(1 + i, part("s1", "x")) for i in range(1, n + 1)]
-    asked = symbol(1, part("s2", "y"), *(file_ref(url(1), f"y{i}") for i in range(n)))
-    return request(module(url(0), [asked, *asks], [[f"s{1 + i}", 1 + i] for i in range(1, n + 1)]), one_name(url(1)))
+def one_property_at_the_edges_in_turns(n):
+    """Turns in which a function is asked for, each inside of the one before, times the declarations of one symbol that each exports, of which each turn makes
+    one more public: they are gone through in each (fast_check_demands, `push_public` and `of_these`)."""
+    return property_in_turns(n, lambda i: [2 * i, 8 * n - 2 * i], [[2 * i, 2 * i + 1] for i in range(1, n + 1)])
 
 
 # ---- a long name, text or URL is compared or copied for each of many
 
 
 @known(first=1000)
-def files_of_a_long_member(n):
-    """URLs that one module asks for times the bytes of the name of the member of the workspace to which they belong: it is copied and compared for each
-    (fast_check_packages, `as_nv`; fast_check_sources, `owner_seen`)."""
-    member = {"name": "@w/" + "w" * (100 * n), "base": "file:///w/", "version": "1.0.0"}
-    asks = definition(*(import_type(f"file:///w/{i}.ts", "x") for i in range(n)))
-    return single([symbol(1, asks)], [["s1", 1]]) | {"workspace_members": [member]}
+def askers_of_a_long_part(n):
+    """Symbols that ask one path of an alias of a part with a long name times the bytes of that name: it is compared for each who asks, where its path gets
+    a number (fast_check_search, `ask_own_parts`)."""
+    return askers_of(n, symbol(1, part("s2", "y" * (200 * n))))
 
 
 @known(first=1000, last=1000)
@@ -163,32 +109,6 @@ def turns_of_an_alias_of_a_long_url(n):
     made = two_in_turns(n, url(0), long)
     made["graph"]["resolutions"] = [[at, text, alias if to == long else to] for at, text, to in made["graph"]["resolutions"]]
     return with_alias(made, alias, long)
-
-
-@known(first=4000, last=4000)
-def names_behind_a_long_url_in_turns(n):
-    """Turns in which a name is asked of a module times the bytes of the URL to which its one re-export of all leads: what was found of so few is not kept
-    (fast_check_turns, `re_exports_behind`; fast_check_traces, `find_unread`)."""
-    long = url("b" * (100 * n))
-    made = chain_to(n, lambda i: [f"a{i}"], module(url("m"), [], [], again=["./b.ts"]), one_name(long))
-    made["graph"]["resolutions"] = [[at, text, long if text == "./b.ts" else to] for at, text, to in made["graph"]["resolutions"]]
-    return made
-
-
-# ---- a set of names is walked at each cover
-
-
-@known(first=500)
-def names_covered_before_others(n):
-    """Names that come to be asked for whole, in a turn after a part of each was, times the nodes of the set: those at its end hang on one behind those that go,
-    by more than are moved (fast_check_names, `cover_apart`)."""
-    return covered(n, lambda i: ["x"], [import_type(url(1), "m", f"y{i}", "z") for i in range(1, n + 1)])
-
-
-@known(first=1000)
-def paths_covered_of_many_lengths(n):
-    """The same of paths of one to seven names: the shortest are asked for first, so the longest are at the end."""
-    return covered(n, lambda i: ["x"] * (1 + i % 7))
 
 
 def measure(program, name):

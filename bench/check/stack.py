@@ -18,7 +18,6 @@ sys.setrecursionlimit(100_000)
 sys.path[:0] = [os.path.join(os.path.dirname(os.path.dirname(os.path.abspath(__file__))), folder) for folder in ("rules", "cases", "check", "time")]
 
 import shapes
-import squares
 from function_cases import ONE, const, func, if_
 from module_trees import namespace
 from runs import request
@@ -97,7 +96,7 @@ TABLES = {
     "paths that part behind a file": (shapes.paths_that_part_behind_a_file, (10, 1000, 10_000)),
     "namespaces behind a file": (shapes.namespaces_behind_a_file, (10, 1000, 100_000)),
     "path through files": (shapes.path_through_files, (10, 100, 1000)),
-    "paths covered": (squares.paths_covered_of_many_lengths, (10, 100, 1000)),
+    "paths covered": (shapes.paths_covered_of_many_lengths, (10, 100, 1000)),
 }
 
 

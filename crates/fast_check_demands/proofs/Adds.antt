@@ -1,5 +1,5 @@
 -- What a list adds to another as a set: in parts, or not at all where it is there.
-use Rattle.std.proofs.Common.{◌≡◌, ◌∙◌, sym, ap, subst, ⊎_elim, arith, ℕ, ◌+◌, ◌<◌, List, [], ◌∷◌, ◌++◌, append-nil, append_assoc}
+use Rattle.std.proofs.Common.{◌≡◌, ◌∙◌, sym, ap, refl, subst, ⊎_elim, arith, ℕ, ◌+◌, ◌<◌, List, [], ◌∷◌, ◌++◌, append-nil, append_assoc}
 use Rattle.std.proofs.Common.{map, length, get_or, take}
 use Rattle.std.specs.List.{Contains, flat_map}
 use Rattle.std.proofs.lemmas.List.{take_more}
@@ -93,3 +93,8 @@ adds_next {X} {Y} f xs i x these first second third lt e a b =
     more : flat_map f (take (i + 1) xs) ≡ flat_map f (take i xs) ++ f y
     more = ap (flat_map f) (take_more xs i x lt)
         ∙ (flat_map-append f (take i xs) (y ∷ []) ∙ ap (λ (ys : List Y). flat_map f (take i xs) ++ ys) (append-nil (f y)))
+
+-- one for each of these
+pub one_each : {X Y : Type 0} (f : X → Y) (xs : List X) → flat_map (λ x. f x ∷ []) xs ≡ map f xs
+one_each f [] = refl
+one_each f (x ∷ xs) = ap (λ ys. f x ∷ ys) (one_each f xs)

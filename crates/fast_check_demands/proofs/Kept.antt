@@ -1,20 +1,16 @@
--- Symbols to which aliases are bound, as they are listed and kept.
-use Rattle.std.proofs.Common.{◌≡◌, ◌∙◌, sym, ap, refl, subst, Bool, true, false, cond, List, [], ◌∷◌, ◌++◌, Option, Some, None}
-use Rattle.std.specs.Prelude.{Vec}
+-- What is kept of symbols, and symbols as they are listed.
+use Rattle.std.proofs.Common.{◌≡◌, ◌∙◌, sym, ap, refl, subst, Bool, true, false, cond, List, [], ◌∷◌, ◌++◌, Some, None}
 use Rattle.std.specs.BTreeMap as map
 use Rattle.std.specs.BTreeMap.{is_at}
 use Rattle.std.specs.BTreeSet as set
 use Rattle.std.specs.List.{Contains}
 use Rattle.std.specs.Map.{lookup}
-use Rattle.std.specs.declared.alloc.Global.{Global}
 use Rattle.std.proofs.lemmas.Bool.{false≢true}
 use Rattle.std.proofs.lemmas.List.Elements.{Contains-push, Contains-append_left}
 use Rattle.std.proofs.lemmas.Map.Views.{tells_apart}
-use Rattle.fast_check_symbol_demands.specs.symbols.Tables.{Tables}
 use Rattle.fast_check_symbol_demands.specs.symbols.contracts.symbol_id.SymbolIdOrd.TheImpl as order
 use Rattle.fast_check_symbol_demands.specs.symbols.declared.symbol_id.SymbolId.{SymbolId}
-use Rattle.fast_check_demands.specs.Targets.{targets_at, AreListed, AreKept}
-use Rattle.fast_check_demands.specs.Yields.{Adds}
+use Rattle.fast_check_demands.specs.Targets.{AreListed}
 use Rattle.fast_check_demands.proofs.OneMore.{exact}
 
 -- nothing was met
@@ -33,36 +29,26 @@ listed_more met more x old new e h u y there = subst (λ (xs : List SymbolId). C
     by true f c = subst (λ (z : SymbolId). Contains (old ++ x ∷ []) z) (tells_apart exact x y f) (Contains-push old x)
     by false f c = Contains-append_left old (x ∷ []) y (h y c)
 
-abbrev Targets : Type 0
-Targets = Vec SymbolId Global
+not_none : {V : Type 0} (v : V) → None ≡ Some v → ⊥
+not_none v e = cc
 
-some : (x y : Targets) → Some x ≡ Some y → x ≡ y
-some x y e = ap (λ (o : Option Targets). chosen x o) e
-  where
-    chosen : Targets → Option Targets → Targets
-    chosen z None = z
-    chosen z (Some w) = w
+-- of each symbol of which something is kept
+module _ {V : Type 0} (P : SymbolId → V → Type 0) where
+  abbrev AllKept : map.BTreeMap SymbolId V → Type 0
+  AllKept kept = (id : SymbolId) (v : V) → map.get order.cmp-value.it kept id ≡ Some v → P id v
 
-not_none : (x : Targets) → None ≡ Some x → ⊥
-not_none x e = cc
-
-module _ (t : Tables) where
   -- nothing is kept
-  pub kept_none : (kept : map.BTreeMap SymbolId Targets) → kept.entries ≡ [] → AreKept t kept
-  kept_none kept e id targets g =
-      absurd (not_none targets (sym (ap (lookup (is_at (order.cmp-value.it id))) e) ∙ g))
+  pub kept_none : (kept : map.BTreeMap SymbolId V) → kept.entries ≡ [] → AllKept kept
+  kept_none kept e id v g = absurd (not_none v (sym (ap (lookup (is_at (order.cmp-value.it id))) e) ∙ g))
 
-  -- the same is kept
-  pub kept_same : (old new : map.BTreeMap SymbolId Targets) → new.entries ≡ old.entries → AreKept t old → AreKept t new
-  kept_same old new e h id targets g = h id targets (sym (ap (lookup (is_at (order.cmp-value.it id))) e) ∙ g)
-
-  -- those of one symbol more are kept
-  pub kept_more : (old new : map.BTreeMap SymbolId Targets) (id : SymbolId) (targets : Targets) → Adds (targets_at t id) [] targets.items →
-      map.Updates order.cmp-value.it old new id (Some targets) → AreKept t old → AreKept t new
-  kept_more old new id targets a u h key found g = by (is_at (order.cmp-value.it id) key) refl (sym (u.0 key) ∙ g)
+  -- something is kept of one symbol more
+  pub kept_more : (old new : map.BTreeMap SymbolId V) (id : SymbolId) (v : V) → P id v →
+      map.Updates order.cmp-value.it old new id (Some v) → AllKept old → AllKept new
+  kept_more old new id v p u h key found g = by (is_at (order.cmp-value.it id) key) refl (sym (u.0 key) ∙ g)
     where
-      by : (b : Bool) → is_at (order.cmp-value.it id) key ≡ b →
-          cond b (Some targets) (map.get order.cmp-value.it old key) ≡ Some found → Adds (targets_at t key) [] found.items
-      by true f e = subst (λ (k : SymbolId). Adds (targets_at t k) [] found.items) (tells_apart exact id key f)
-          (subst (λ (v : Targets). Adds (targets_at t id) [] v.items) (some targets found e) a)
+      some : (w : V) → Some v ≡ Some w → v ≡ w
+      some w e = cc
+
+      by : (b : Bool) → is_at (order.cmp-value.it id) key ≡ b → cond b (Some v) (map.get order.cmp-value.it old key) ≡ Some found → P key found
+      by true f e = subst (λ (k : SymbolId). P k found) (tells_apart exact id key f) (subst (P id) (some found e) p)
       by false f e = h key found e

@@ -9,5 +9,6 @@ mod Outside
 pub mod Yielded
 pub mod Aliased
 mod Kept
+mod KeptParts
 mod Passed
 pub mod OwnParts

@@ -1,5 +1,5 @@
 -- What is listed and told of a list, unless it was told before.
-use Rattle.std.proofs.Common.{◌≡◌, ◌∙◌, sym, ap, subst, ⊎_elim, inl, inr, List, [], ◌∷◌, ◌++◌, append-nil, append_assoc}
+use Rattle.std.proofs.Common.{◌≡◌, ◌∙◌, sym, ap, subst, ⊎_elim, inl, inr, ◌⊎◌, List, [], ◌∷◌, ◌++◌, append-nil, append_assoc}
 use Rattle.std.specs.List.{Contains, flat_map}
 use Rattle.std.proofs.lemmas.List.Concat.{flat_map-append}
 use Rattle.std.proofs.lemmas.List.Elements.{Contains-append_left, Contains-append_right, Contains-append_cases}
@@ -28,15 +28,20 @@ module _ {X : Type 0} where
     told = joins_none told;
   }
 
-  -- all of these are listed
-  pub tells_now : (these was_told is_told old new : List X) → new ≡ old ++ these → Joins these was_told is_told →
+  -- those that were not told are listed
+  pub tells_rest : (these more was_told is_told old new : List X) → new ≡ old ++ more → ((x : X) → Contains more x → Contains these x) →
+      ((x : X) → Contains these x → Contains more x ⊎ Contains was_told x) → Joins these was_told is_told →
       Tells these was_told is_told old new
-  tells_now these was_told is_told old new e j = record {
-    more = these;
+  tells_rest these more was_told is_told old new e parts whole j = record {
+    more = more;
     is = e;
-    parts = λ x c. c;
-    whole = λ x c. inl c;
-    told = j;
+    parts = parts;
+    whole = whole;
+    told = record {
+      sound = λ x c. ⊎_elim (λ was. inl was) (λ now. ⊎_elim (λ listed. inr listed) (λ was. inl was) (whole x now)) (j.sound x c);
+      kept = j.kept;
+      whole = λ x c. j.whole x (parts x c);
+    };
   }
 
   -- these, and then those

@@ -1,6 +1,6 @@
 -- Inner: no contract of a public call cites what stands here.
 -- The symbols of which declarations are public by where they stand.
-use Rattle.std.specs.Prelude.{◌≡◌, ◌⊎◌, Bool, true, false, not, List, ◌++◌, Option, Some, None}
+use Rattle.std.specs.Prelude.{◌≡◌, ◌⊎◌, Bool, true, false, not, ◌&&◌, List, ◌++◌, Option, Some, None}
 use Rattle.std.specs.List.{Contains, filter, flat_map}
 use Rattle.fast_check_syntax.specs.declared.source.SourceRange.{SourceRange}
 use Rattle.fast_check_symbol_demands.specs.symbols.Tables.{Tables}
@@ -19,6 +19,14 @@ is_public (Outside range) r = not (is_within range r)
 abbrev pub is_noted : Option PublicDecls → SourceRange → Bool
 is_noted None r = false
 is_noted (Some which) r = is_public which r
+
+-- public, and not noted before
+abbrev pub is_untold : Option PublicDecls → PublicDecls → SourceRange → Bool
+is_untold told which r = is_public which r && not (is_noted told r)
+
+-- all that the second makes public is public by the first
+abbrev pub IsWider : PublicDecls → PublicDecls → Type 0
+IsWider wide which = (r : SourceRange) → is_public which r ≡ true → is_public wide r ≡ true
 
 -- the declarations of a symbol that are public
 abbrev pub public_at : Tables → SymbolId → PublicDecls → List SourceRange

@@ -38,6 +38,10 @@ symbol_parts t referrer s = flat_map (λ x. kind_parts t referrer x.kind) s.decl
 abbrev pub own_parts : Tables → SymbolId → SymbolId → List Demand
 own_parts t symbol referrer = each_of (symbol_parts t referrer) (symbol_of symbol t.symbols)
 
+-- the same as another asks for it
+abbrev pub by_referrer : SymbolId → Demand → Demand
+by_referrer referrer d = record { symbol = d.symbol; asked = d.asked; referrer = referrer }
+
 -- beside what is asked for: nothing where no path is
 abbrev pub parts_beside : Tables → SymbolId → SymbolId → Asked → List Demand
 parts_beside t symbol referrer (by_reference n) = []

@@ -1,6 +1,7 @@
 -- Inner: no contract of a public call cites what stands here.
 -- The symbols to which aliases are bound. A path that is asked of a symbol is asked of these, whatever the path is
--- (`proofs/Passed.antt`), so they are worked out once for all paths.
+-- (`proofs/Passed.antt`), so they are worked out once for all paths; and so are the own parts of aliases, which are the
+-- same but for who asks (`proofs/KeptParts.antt`).
 use Rattle.std.specs.Prelude.{◌≡◌, true, List, [], Some, Vec, option_to_list}
 use Rattle.std.specs.BTreeMap.{BTreeMap, get}
 use Rattle.std.specs.BTreeSet.{BTreeSet, contains}
@@ -14,7 +15,11 @@ use Rattle.fast_check_symbol_demands.specs.symbols.declared.decl.SymbolDecl.{Sym
 use Rattle.fast_check_symbol_demands.specs.symbols.declared.decl.SymbolDeclKind.{SymbolDeclKind}
 use Rattle.fast_check_symbol_demands.specs.symbols.declared.decl.SymbolDeclKind.TheVariants.{Target, QualifiedTarget, FileRef}
 use Rattle.fast_check_symbol_demands.specs.symbols.declared.decl.SymbolDeclKind.TheVariants.{Definition}
+use Rattle.fast_check_symbol_demands.specs.contracts.demand.SymbolDemandOrd.TheImpl as demand_order
+use Rattle.fast_check_symbol_demands.specs.declared.demand.SymbolDemand.{SymbolDemand}
+use Rattle.fast_check_symbol_demands.specs.Demands.{Demand, demand_of}
 use Rattle.fast_check_symbol_demands.specs.Rules.{each_of, bound}
+use Rattle.fast_check_demands.specs.Parts.{own_parts}
 use Rattle.fast_check_demands.specs.Yields.{Adds}
 
 -- what a declaration stands for, or of what it stands for a part, where the module has the symbol
@@ -40,3 +45,17 @@ AreListed met listed = (x : SymbolId) → contains order.cmp-value.it met x ≡ 
 abbrev pub AreKept : Tables → BTreeMap SymbolId (Vec SymbolId Global) → Type 0
 AreKept t kept = (id : SymbolId) (targets : Vec SymbolId Global) → get order.cmp-value.it kept id ≡ Some targets →
     Adds (targets_at t id) [] targets.items
+
+-- the demands that were met are listed
+abbrev pub AreMet : BTreeSet SymbolDemand → List Demand → Type 0
+AreMet met listed = (x : SymbolDemand) → contains demand_order.cmp-value.it met x ≡ true → Contains listed (demand_of x)
+
+-- what is kept of a symbol are the own parts of its aliases, as a set, as the symbol itself asks for them
+abbrev pub ArePartsKept : Tables → BTreeMap SymbolId (List Demand) → Type 0
+ArePartsKept t kept = (id : SymbolId) (parts : List Demand) → get order.cmp-value.it kept id ≡ Some parts →
+    Adds (own_parts t id id) [] parts
+
+-- both are kept
+pub record AreBothKept (t : Tables) (kept : BTreeMap SymbolId (Vec SymbolId Global)) (kept_parts : BTreeMap SymbolId (List Demand)) : Type 0 where
+  pub targets : AreKept t kept
+  pub parts : ArePartsKept t kept_parts

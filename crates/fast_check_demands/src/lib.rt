@@ -17,6 +17,5 @@ pub use fast_check_syntax::SourceRange;
 pub use fault::{DemandFaultKind, SymbolFault, fault_of};
 pub use follow::demands_of;
 pub use noted::NotedSymbols;
-pub use parts::own_parts_of;
 pub use public::{push_implementations, push_ranges};
 pub use targets::{AliasTargets, has_light_aliases};

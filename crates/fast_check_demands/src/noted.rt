@@ -1,9 +1,11 @@
 //! Symbols of which declarations are public by where they stand.
-ghost use Rattle.std.specs.Prelude.{◌≡◌, ◌++◌, true, not, ◌&&◌, ◌||◌, [], OnOk};
-ghost use Rattle.std.specs.List.{filter, list_any, Contains};
+ghost use Rattle.std.specs.Prelude.{◌≡◌, ◌++◌, true, false, not, ◌&&◌, ◌||◌, [], OnOk};
+ghost use Rattle.std.specs.BTreeMap.{get};
+ghost use Rattle.std.specs.List.{filter, Contains};
+ghost use Rattle.fast_check_symbol_demands.specs.symbols.contracts.symbol_id.SymbolIdOrd.TheImpl as order;
 ghost use Rattle.fast_check_symbol_demands.specs.symbols.Tables.{Tables};
 ghost use Rattle.fast_check_demands.specs.Yields.{decl_ranges, ranges_at, is_within, Joins};
-ghost use Rattle.fast_check_demands.specs.Noted.{is_public, is_noted, public_at, noted_ranges, Tells};
+ghost use Rattle.fast_check_demands.specs.Noted.{is_public, is_noted, is_untold, public_at, noted_ranges, IsWider, Tells};
 
 use fast_check_symbol_demands::symbols::{CheckedTables, SymbolDecl, SymbolId};
 use fast_check_syntax::{SourcePos, SourceRange};
@@ -37,6 +39,19 @@ fn is_public(which: PublicDecls, range: SourceRange) -> bool
     match which {
         PublicDecls::All => true,
         PublicDecls::Outside(hidden) => !is_within(hidden, range),
+    }
+}
+
+/// Whether a declaration is public so, and was not told before.
+fn is_untold(told: Option<PublicDecls>, which: PublicDecls, range: SourceRange) -> bool
+    ensures { result ≡ is_untold told which range }
+{
+    if !is_public(which, range) {
+        return false;
+    }
+    match told {
+        None => true,
+        Some(told) => !is_public(told, range),
     }
 }
 
@@ -83,7 +98,7 @@ fn hides_more(hidden: SourceRange, which: PublicDecls) -> bool
 
 /// Whether all that the second makes public is public by the first.
 fn is_wider(wide: PublicDecls, which: PublicDecls) -> bool
-    ensures { result ≡ true → (r : SourceRange) → is_public which r ≡ true → is_public wide r ≡ true }
+    ensures { result ≡ true → IsWider wide which }
 {
     match wide {
         PublicDecls::All => true,
@@ -101,21 +116,41 @@ fn was_noted(before: Option<PublicDecls>, which: PublicDecls) -> bool
     }
 }
 
-/// Whether one of these declarations is not public so.
-fn hides_some(which: PublicDecls, decls: &[SymbolDecl]) -> bool
-    ensures { result ≡ list_any (λ x. not (is_public which x.range)) decls.now }
+/// The least range within which both lie.
+fn hull(first: SourceRange, second: SourceRange) -> SourceRange
+    ensures first { is_within result first ≡ true }
+    ensures second { is_within result second ≡ true }
+    ensures least { (r : SourceRange) → is_within r first ≡ true → is_within r second ≡ true → is_within r result ≡ true }
 {
-    decls.iter().any(|decl| !is_public(which, decl.range))
+    SourceRange {
+        start: SourcePos(first.start.0.min(second.start.0)),
+        end: SourcePos(first.end.0.max(second.end.0)),
+    }
 }
 
-/// The same of these declarations: all, where none is hidden.
+/// The most of the same without a declaration at this range.
+fn without(which: PublicDecls, range: SourceRange) -> PublicDecls
+    ensures fewer { IsWider which result }
+    ensures hidden { is_public result range ≡ false }
+    ensures most { (other : PublicDecls) → IsWider which other → is_public other range ≡ false → IsWider result other }
+{
+    match which {
+        PublicDecls::All => PublicDecls::Outside(range),
+        PublicDecls::Outside(hidden) => PublicDecls::Outside(hull(hidden, range)),
+    }
+}
+
+/// The same of these declarations, and no more is hidden than these: all are public, where none is hidden.
 fn of_these(which: PublicDecls, decls: &[SymbolDecl]) -> PublicDecls
     ensures { (r : SourceRange) → Contains (decl_ranges decls.now) r → is_public result r ≡ is_public which r }
 {
-    if hides_some(which, decls) {
-        return which;
+    let mut found = PublicDecls::All;
+    for decl in decls {
+        if !is_public(which, decl.range) {
+            found = without(found, decl.range);
+        }
     }
-    PublicDecls::All
+    found
 }
 
 /// The same of the declarations of a symbol: all, where none is hidden.
@@ -128,15 +163,17 @@ fn of_symbol(tables: &CheckedTables, id: SymbolId, which: PublicDecls) -> Public
     }
 }
 
+/// Lists the declarations that are public so, and were not told before.
 fn push_public(
+    told: Option<PublicDecls>,
     which: PublicDecls,
     decls: &[SymbolDecl],
     out: &mut Vec<SourceRange>,
 ) -> Result<(), AllocError>
-    ensures { OnOk result (out.new.items ≡ out.old.items ++ filter (is_public which) (decl_ranges decls.now)) }
+    ensures { OnOk result (out.new.items ≡ out.old.items ++ filter (is_untold told which) (decl_ranges decls.now)) }
 {
     for decl in decls {
-        if is_public(which, decl.range) {
+        if is_untold(told, which, decl.range) {
             out.push(decl.range)?;
         }
     }
@@ -146,18 +183,19 @@ fn push_public(
 fn push_public_at(
     tables: &CheckedTables,
     id: SymbolId,
+    told: Option<PublicDecls>,
     which: PublicDecls,
     out: &mut Vec<SourceRange>,
 ) -> Result<(), AllocError>
-    ensures { OnOk result (out.new.items ≡ out.old.items ++ public_at tables.now id which) }
+    ensures { OnOk result (out.new.items ≡ out.old.items ++ filter (is_untold told which) (ranges_at tables.now id)) }
 {
     match tables.symbol(id) {
         None => Ok(()),
-        Some(symbol) => push_public(which, symbol.decls.as_slice(), out),
+        Some(symbol) => push_public(told, which, symbol.decls.as_slice(), out),
     }
 }
 
-/// Lists the declarations of a symbol that are public so, and tells them, unless all of them were told.
+/// Lists the declarations of a symbol that are public so and were not told, and tells them, unless all of them were told.
 fn push_untold_at(
     tables: &CheckedTables,
     id: SymbolId,
@@ -168,10 +206,11 @@ fn push_untold_at(
     ensures { OnOk result (Tells (public_at tables.now id which) (noted_ranges tables.now told.old) (noted_ranges tables.now told.new)
         out.old.items out.new.items) }
 {
-    if told.has(id, which) {
+    let before = told.of(id);
+    if was_noted(before, which) {
         return Ok(());
     }
-    push_public_at(tables, id, which, out)?;
+    push_public_at(tables, id, before, which, out)?;
     told.tell(tables, id, which)
 }
 
@@ -209,11 +248,11 @@ impl NotedSymbols {
         Ok(())
     }
 
-    /// Whether all declarations of a symbol that are public so are noted.
-    fn has(&self, id: SymbolId, which: PublicDecls) -> bool
-        ensures { (t : Tables) → result ≡ true → (r : SourceRange) → Contains (public_at t id which) r → Contains (noted_ranges t self.now) r }
+    /// Which declarations of a symbol are noted, if any.
+    fn of(&self, id: SymbolId) -> Option<PublicDecls>
+        ensures { result ≡ get order.cmp-value.it self.now.decls id }
     {
-        was_noted(self.decls.get(&id).copied(), which)
+        self.decls.get(&id).copied()
     }
 
     /// Lists of what is noted what was not told before, and tells it: the declarations of each symbol once, unless all of them that are noted were told.

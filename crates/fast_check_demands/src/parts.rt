@@ -1,14 +1,17 @@
 //! The own parts of aliases: what these ask for beside the paths that are asked of them.
-ghost use Rattle.std.specs.Prelude.{◌≡◌, [], ◌++◌, IfOk, OnOk};
+ghost use Rattle.std.specs.Prelude.{◌≡◌, [], ◌∷◌, ◌++◌, map, IfOk, OnOk};
 ghost use Rattle.std.specs.List.{flat_map};
 ghost use Rattle.std.specs.Option.{option_copied};
+ghost use Rattle.fast_check_symbol_demands.specs.Demands.{demand_of};
 ghost use Rattle.fast_check_symbol_demands.specs.Rules.{each_of};
-ghost use Rattle.fast_check_demands.specs.Parts.{whole_parts, kind_parts, own_parts};
+ghost use Rattle.fast_check_demands.specs.Parts.{whole_parts, kind_parts, own_parts, by_referrer};
+ghost use Rattle.fast_check_demands.specs.Targets.{AreMet, ArePartsKept};
 ghost use Rattle.fast_check_demands.specs.Yields.{Adds};
 
 use fast_check_symbol_demands::symbols::{CheckedTables, SymbolDeclKind, SymbolDecls, SymbolId};
-use fast_check_symbol_demands::{Demands, Extent, bound, push_path};
+use fast_check_symbol_demands::{Demands, Extent, SymbolDemand, bound, push_path};
 use std::alloc::{AllocError, Global};
+use std::collections::{BTreeMap, BTreeSet};
 use std::slice;
 
 fn push_parts<'a>(
@@ -86,8 +89,8 @@ fn push_symbol_parts<'a>(
     Ok(())
 }
 
-/// The own parts of a symbol's aliases: what these ask for beside each path that the referrer asks of the symbol.
-pub fn own_parts_of<'a>(
+/// The own parts of a symbol's aliases, as the referrer asks for them.
+pub(crate) fn parts_in<'a>(
     alloc: Global,
     tables: &'a CheckedTables,
     symbol: SymbolId,
@@ -99,5 +102,75 @@ pub fn own_parts_of<'a>(
     if let Some(symbol) = tables.symbol(symbol) {
         push_symbol_parts(tables, referrer, &symbol.decls, &mut out)?;
     }
+    Ok(out)
+}
+
+/// Pushes a demand, unless it was met.
+fn push_unmet<'a>(
+    demand: SymbolDemand<'a>,
+    met: &mut BTreeSet<SymbolDemand<'a>>,
+    out: &mut Demands<'a>,
+) -> Result<(), AllocError>
+    requires { AreMet met.old out.old }
+    ensures met { OnOk result (AreMet met.new out.new) }
+    ensures added { OnOk result (Adds (demand_of demand.entry ∷ []) out.old out.new) }
+{
+    if met.contains(&demand) {
+        return Ok(());
+    }
+    out.push(demand)?;
+    met.insert(demand)?;
+    Ok(())
+}
+
+/// These demands, each once.
+fn each_once<'a>(alloc: Global, demands: &[SymbolDemand<'a>]) -> Result<Demands<'a>, AllocError>
+    ensures { IfOk result (λ out. Adds (map demand_of demands.now) [] out) }
+{
+    let mut met = BTreeSet::new(alloc);
+    let mut out = Demands::new(alloc);
+    for demand in demands {
+        push_unmet(*demand, &mut met, &mut out)?;
+    }
+    Ok(out)
+}
+
+/// The same demands by another referrer.
+fn asked_by<'a>(
+    alloc: Global,
+    referrer: SymbolId,
+    demands: &[SymbolDemand<'a>],
+) -> Result<Demands<'a>, AllocError>
+    ensures { IfOk result (λ out. out ≡ map (λ x. by_referrer referrer (demand_of x)) demands.now) }
+{
+    let mut out = Demands::new(alloc);
+    for demand in demands {
+        out.push(SymbolDemand {
+            referrer,
+            ..*demand
+        })?;
+    }
+    Ok(out)
+}
+
+/// The own parts of a symbol's aliases, as the referrer asks for them: of those that are kept, or are worked out, and kept then.
+pub(crate) fn kept_parts<'a>(
+    alloc: Global,
+    tables: &'a CheckedTables,
+    symbol: SymbolId,
+    referrer: SymbolId,
+    kept: &mut BTreeMap<SymbolId, Demands<'a>>,
+) -> Result<Demands<'a>, AllocError>
+    requires { ArePartsKept tables.now kept.old }
+    ensures kept { ArePartsKept tables.now kept.new }
+    ensures parts { IfOk result (λ out. Adds (own_parts tables.now symbol referrer) [] out) }
+{
+    if let Some(parts) = kept.get(&symbol) {
+        return asked_by(alloc, referrer, parts.as_slice());
+    }
+    let all = parts_in(alloc, tables, symbol, symbol)?;
+    let parts = each_once(alloc, all.as_slice())?;
+    let out = asked_by(alloc, referrer, parts.as_slice())?;
+    kept.insert(symbol, parts)?;
     Ok(out)
 }

@@ -1,60 +1,72 @@
-//! The symbols to which the aliases of a symbol are bound. Where these are many, or have long names, they are worked out once for all paths that are asked of
-//! it.
+//! The symbols to which the aliases of a symbol are bound, and the own parts of these. Where the aliases are many, or long, both are worked out once for all
+//! paths that are asked of the symbol, whoever asks.
 ghost use Rattle.std.specs.Prelude.{◌≡◌, [], ◌∷◌, ◌++◌, map, option_to_list, IfOk, OnOk};
 ghost use Rattle.std.specs.Option.{option_copied};
 ghost use Rattle.fast_check_names.specs.Names.{path_of};
 ghost use Rattle.fast_check_symbol_demands.specs.Rules.{each_of, qualified};
+ghost use Rattle.fast_check_demands.specs.Parts.{own_parts};
 ghost use Rattle.fast_check_demands.specs.Targets.{kind_targets, decl_targets, targets_at, AreListed, AreKept};
 ghost use Rattle.fast_check_demands.specs.Yields.{Adds};
 
+use crate::parts::{kept_parts, parts_in};
 use fast_check_symbol_demands::symbols::{CheckedTables, SymbolDeclKind, SymbolDecls, SymbolId};
 use fast_check_symbol_demands::{Demands, Extent, SymbolDemand, bound, push_path};
+use fast_check_syntax::Id;
 use std::alloc::{AllocError, Global};
 use std::collections::{BTreeMap, BTreeSet};
 use std::marker::Model;
 
-/// So many aliases of a symbol are gone through for each path, if none of them has a longer name than this, in bytes.
+/// So many aliases of a symbol are gone through for each path, if none of them has a longer name than this, in bytes, or a longer own path, in names.
 const FEW_ALIASES: usize = 8;
 
 const SHORT_NAME: usize = 64;
 
-/// The symbols to which the aliases of a module's symbols are bound, as far as they are kept.
+const SHORT_PATH: usize = 8;
+
+/// The symbols to which the aliases of a module's symbols are bound, and the own parts of these aliases, as far as they are kept.
 #[derive(Drop)]
 pub struct AliasTargets<'a> {
     tables: &'a CheckedTables,
-    /// Of a symbol of many aliases or of long names, of which a path was asked, the different symbols to which these are bound.
+    /// Of a symbol of many or long aliases, of which a path was asked, the different symbols to which these are bound.
     kept: BTreeMap<SymbolId, Vec<SymbolId>>,
+    /// The different own parts of such aliases, as their symbol itself would ask for them.
+    parts: BTreeMap<SymbolId, Demands<'a>>,
 }
 
 impl<'a> Model for AliasTargets<'a> {
     ghost use Rattle.fast_check_symbol_demands.specs.symbols.Tables.{Tables};
-    ghost use Rattle.fast_check_demands.specs.Targets.{AreKept};
+    ghost use Rattle.fast_check_demands.specs.Targets.{AreBothKept};
 
     ghost Value = { Tables };
 
     ghost view = { λ targets. targets.tables.now };
 
-    ghost invariant = { λ targets. AreKept targets.tables.now targets.kept };
+    ghost invariant = { λ targets. AreBothKept targets.tables.now targets.kept targets.parts };
 }
 
-/// Whether an alias has a long name, by which it takes long to find what it is bound to.
-fn has_long_name(kind: Option<&SymbolDeclKind>) -> bool {
+fn has_long_name(id: &Id) -> bool {
+    id.0.as_str().len() > SHORT_NAME
+}
+
+/// Whether an alias has a long name, by which it takes long to find what it is bound to, or a long path of its own.
+fn is_long(kind: Option<&SymbolDeclKind>) -> bool {
     match kind {
-        Some(SymbolDeclKind::Target(id) | SymbolDeclKind::QualifiedTarget(id, _)) => {
-            id.0.as_str().len() > SHORT_NAME
+        Some(SymbolDeclKind::Target(id)) => has_long_name(id),
+        Some(SymbolDeclKind::QualifiedTarget(id, parts)) => {
+            has_long_name(id) || parts.len() > SHORT_PATH
         }
         Some(SymbolDeclKind::FileRef { .. } | SymbolDeclKind::Definition(_)) | None => false,
     }
 }
 
-/// Whether the aliases among declarations are few and have short names, so that they are gone through as fast as what is kept of them is found. What follows
-/// does not depend on it.
+/// Whether the aliases among declarations are few and short, so that they are gone through as fast as what is kept of them is found. What follows does not
+/// depend on it.
 pub fn are_light(decls: &SymbolDecls) -> bool {
     if decls.alias_places().len() > FEW_ALIASES {
         return false;
     }
     for place in decls.alias_places() {
-        if has_long_name(decls.kind_at(*place)) {
+        if is_long(decls.kind_at(*place)) {
             return false;
         }
     }
@@ -200,6 +212,7 @@ impl<'a> AliasTargets<'a> {
         AliasTargets {
             tables,
             kept: BTreeMap::new(alloc),
+            parts: BTreeMap::new(alloc),
         }
     }
 
@@ -225,5 +238,22 @@ impl<'a> AliasTargets<'a> {
     {
         let tables = self.tables;
         push_kept(alloc, tables, demand, names, extent, &mut self.kept, out)
+    }
+
+    /// The own parts of a symbol's aliases: what these ask for beside each path that the referrer asks of the symbol.
+    pub fn own_parts_of(
+        &mut self,
+        alloc: Global,
+        symbol: SymbolId,
+        referrer: SymbolId,
+    ) -> Result<Demands<'a>, AllocError>
+        ensures tables { self.new ≡ self.old }
+        ensures parts { IfOk result (λ out. Adds (own_parts self.old symbol referrer) [] out) }
+    {
+        let tables = self.tables;
+        if has_light_aliases(tables, symbol) {
+            return parts_in(alloc, tables, symbol, referrer);
+        }
+        kept_parts(alloc, tables, symbol, referrer, &mut self.parts)
     }
 }

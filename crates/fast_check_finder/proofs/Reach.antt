@@ -55,9 +55,9 @@ use Rattle.fast_check_worklists.specs.Demands.{of_module, of_symbol}
 use Rattle.fast_check_worklists.specs.Measure.{IsWithin, IsPathWithin, IsInside, IsWantInside, IsUniverse}
 use Rattle.fast_check_findings.specs.declared.finding.EntryFault.{EntryFault}
 use Rattle.fast_check_turns.specs.entries.Entries.{Entrance, passed_over, refused, entered, all_faults}
-use Rattle.fast_check_turns.specs.wants.Sources.{Used, Known, is_text, node_at, named_at, typed_info, info_at, traced_as, module_at}
+use Rattle.fast_check_turns.specs.wants.Sources.{Used, Known, is_text, node_at, named_at, typed_info, info_at, traced_as}
 use Rattle.fast_check_turns.specs.wants.Wants.{file_at, behind, resolved, file_wants, left_wants}
-use Rattle.fast_check_turns.specs.Rules.{names_wants, symbol_wants, entry_want, unless_faulty, entrance_at, entered_wants, entry_wants}
+use Rattle.fast_check_turns.specs.Rules.{own_text, names_wants, symbol_wants, entry_want, unless_faulty, entrance_at, entered_wants, entry_wants}
 use Rattle.fast_check_turns.specs.Rules.{world}
 use Rattle.fast_check_finder.specs.Reach.{dep_names, kind_names, symbol_names, table_names, all_names, paths_up_to, targets, answers}
 use Rattle.fast_check_finder.specs.Reach.{entry_texts, outer_texts, all_packages, urls_in, reach}
@@ -124,15 +124,13 @@ module _ (k : Known) (stored roots_in : List Nv) (has_all : HasDependencies k.us
       (λ h. absurd (none_some info (sym (ap (λ (b : Bool). cond b (named_at k.root_symbol t) None) h) ∙ n.2)))
       (cases_Bool (is_typed_module n.0))
 
-  -- of the module that is followed
-  each_traced : {Y : Type 0} (P : Y → Type 0) (f : TracedModule → List Y) (t : Text) →
+  -- of a module that was found
+  each_traced : {Y : Type 0} (P : Y → Type 0) (f : TracedModule → List Y) (o : Option AnyModuleInfo) →
+      ((info : AnyModuleInfo) → o ≡ Some info → IsInfo info) →
       ((info : AnyModuleInfo) → IsInfo info → Each P (f (traced_as k info))) →
-      Each P (each_of f (module_at k t))
-  each_traced {Y} P f t h = go (info_at k.graph k.root_symbol t) refl
-    where
-      go : (o : Option AnyModuleInfo) → info_at k.graph k.root_symbol t ≡ o → Each P (each_of f (option_map (traced_as k) o))
-      go None e = each_nil P
-      go (Some info) e = h info (info_in t info e)
+      Each P (each_of f (option_map (traced_as k) o))
+  each_traced P f None is h = each_nil P
+  each_traced P f (Some info) is h = h info (is info refl)
 
   -- packages and texts
 
@@ -436,13 +434,13 @@ module _ (k : Known) (stored roots_in : List Nv) (has_all : HasDependencies k.us
     wants_in nv (whole_at []) h = each_nil In
     wants_in nv (whole_at (n ∷ p)) h = in_path nv n (whole_at (n ∷ p)) h
 
-    in_names : (nv : Nv) (t : Text) (d : NameDemand) → Within d → Each In (names_wants k nv t d m)
-    in_names nv t d h = each_append In (map (to_symbol nv t) (roots T d)) (flat_map (left_wants k nv m) (module_wants m d))
-        (each_map In (to_symbol nv t) (roots T d) (λ s c. roots_within d h s c)) (wants_in nv d h)
+    in_names : (nv : Nv) (d : NameDemand) → Within d → Each In (names_wants k nv d m)
+    in_names nv d h = each_append In (map (to_symbol nv (own_text m)) (roots T d)) (flat_map (left_wants k nv m) (module_wants m d))
+        (each_map In (to_symbol nv (own_text m)) (roots T d) (λ s c. roots_within d h s c)) (wants_in nv d h)
 
-    in_symbols : (nv : Nv) (t : Text) (s : SymbolDemand) → SymbolIn s → Each In (symbol_wants k nv t s m)
-    in_symbols nv t s h = each_append In (map (to_symbol nv t) (names T s)) (flat_map (file_wants k nv m) (files T s))
-        (each_map In (to_symbol nv t) (names T s) (λ e c. names_in s h e c))
+    in_symbols : (nv : Nv) (s : SymbolDemand) → SymbolIn s → Each In (symbol_wants k nv s m)
+    in_symbols nv s h = each_append In (map (to_symbol nv (own_text m)) (names T s)) (flat_map (file_wants k nv m) (files T s))
+        (each_map In (to_symbol nv (own_text m)) (names T s) (λ e c. names_in s h e c))
         (each_flat In (file_wants k nv m) (files T s) (λ f c.
         each_each_of In (λ url. file_at nv (serialize url) (asked_by f.names) (k.owner (serialize url))) (resolved m f.text)
         (λ url e. in_file nv (serialize url) f.names (k.owner (serialize url)) refl (target_in info f.text url e) (files_within s h f c))))
@@ -479,8 +477,10 @@ module _ (k : Known) (stored roots_in : List Nv) (has_all : HasDependencies k.us
 
   closed : (d : Demand) → IsInside (reach k stored roots_in) d → Each In (world k d)
   closed (of_package nv) i = entries_in nv i
-  closed (of_module nv t d) i = each_traced In (names_wants k nv t d) t (λ info is. in_names info is nv t d i.1)
-  closed (of_symbol nv t s) i = each_traced In (symbol_wants k nv t s) t (λ info is. in_symbols info is nv t s i)
+  closed (of_module nv t d) i =
+      each_traced In (names_wants k nv d) (info_at k.graph k.root_symbol t) (info_in t) (λ info is. in_names info is nv d i.1)
+  closed (of_symbol nv t s) i =
+      each_traced In (symbol_wants k nv s) (named_at k.root_symbol t) (named_info t) (λ info is. in_symbols info is nv s i)
 
   pub universe : IsUniverse (world k) roots_in (reach k stored roots_in)
   universe = record {

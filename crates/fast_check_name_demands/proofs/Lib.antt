@@ -1,3 +1,2 @@
 mod Held
 pub mod Parts
-mod Below

@@ -8,6 +8,6 @@ mod want;
 
 pub use fast_check_demands as demands;
 pub use list::FileWants;
-pub use references::push_files;
+pub use references::{push_path_files, push_symbol_files};
 pub use single::{HeldDemands, hold, name_demands};
 pub use want::{FileWant, NameDemand};

@@ -1,19 +1,15 @@
 //! What a demand of a module asks of other files: by file references, import types and aliases.
 ghost use Rattle.std.specs.Prelude.{◌≡◌, ◌++◌, OnOk};
 ghost use Rattle.std.specs.List.{flat_map};
-ghost use Rattle.std.specs.Option.{option_copied};
 ghost use Rattle.fast_check_names.specs.Names.{path_of};
-ghost use Rattle.fast_check_demands.specs.Demands.{demand_of, asked_of};
+ghost use Rattle.fast_check_symbols.specs.Symbols.{symbol_of};
 ghost use Rattle.fast_check_demands.specs.Rules.{each_of};
-ghost use Rattle.fast_check_demands.specs.Yields.{Adds};
-ghost use Rattle.fast_check_name_demands.specs.Files.{dep_files, deps_files, kind_files, decl_files, symbol_files, alias_files, asked_files, files};
+ghost use Rattle.fast_check_name_demands.specs.Files.{dep_files, deps_files, kind_files, decl_files, symbol_files, alias_files};
 
 use crate::list::FileWants;
 use crate::want::{by_import, by_path_in_file, by_reference};
-use fast_check_demands::{Ask, CheckedTables, Extent, Namespace, SymbolDemand, binds};
-use fast_check_symbols::{
-    Symbol, SymbolDecl, SymbolDeclKind, SymbolDecls, SymbolDep, SymbolNodeDep,
-};
+use fast_check_demands::{CheckedTables, Extent, Namespace, SymbolId, binds};
+use fast_check_symbols::{Symbol, SymbolDecl, SymbolDeclKind, SymbolDep, SymbolNodeDep};
 use std::alloc::AllocError;
 
 fn push_dep<'a>(dep: &'a SymbolDep, out: &mut FileWants<'a>) -> Result<(), AllocError>
@@ -108,58 +104,32 @@ fn push_alias<'a>(
     }
 }
 
-fn push_alias_at<'a>(
+/// Pushes what a path below a symbol asks of other files by these of its aliases.
+pub fn push_path_files<'a>(
     names: &'a [String],
     extent: Extent,
-    kind: Option<&'a SymbolDeclKind>,
+    aliases: &[&'a SymbolDeclKind],
     out: &mut FileWants<'a>,
 ) -> Result<(), AllocError>
-    ensures { OnOk result (out.new ≡ out.old ++ each_of (alias_files (path_of names.now) extent) (option_copied kind.entry)) }
+    ensures { OnOk result (out.new ≡ out.old ++ flat_map (λ k. alias_files (path_of names.now) extent k.now) aliases.now) }
 {
-    match kind {
-        None => Ok(()),
-        Some(kind) => push_alias(names, extent, kind, out),
-    }
-}
-
-/// Pushes what the aliases among declarations ask of other files: what several of them stand for, once.
-fn push_aliases<'a>(
-    names: &'a [String],
-    extent: Extent,
-    decls: &'a SymbolDecls,
-    out: &mut FileWants<'a>,
-) -> Result<(), AllocError>
-    ensures { OnOk result (Adds (flat_map (λ x. alias_files (path_of names.now) extent x.kind) decls.now.items) out.old out.new) }
-{
-    for place in decls.alias_places() {
-        push_alias_at(names, extent, decls.kind_at(*place), out)?;
+    for kind in aliases {
+        push_alias(names, extent, *kind, out)?;
     }
     Ok(())
 }
 
-fn push_asked<'a>(
-    demand: SymbolDemand<'a>,
-    symbol: &'a Symbol,
-    out: &mut FileWants<'a>,
-) -> Result<(), AllocError>
-    ensures { OnOk result (Adds (asked_files (asked_of demand.entry.ask) symbol.now) out.old out.new) }
-{
-    match demand.ask {
-        Ask::Reference(namespace) | Ask::Child(namespace) => push_symbol(namespace, symbol, out),
-        Ask::Path(names, extent) => push_aliases(names, extent, &symbol.decls, out),
-    }
-}
-
-/// Pushes what a demand asks of other files. What several declarations of a symbol ask for a path is pushed once.
-pub fn push_files<'a>(
+/// Pushes what a symbol itself asks of other files where it is demanded in a namespace.
+pub fn push_symbol_files<'a>(
     tables: &'a CheckedTables,
-    demand: SymbolDemand<'a>,
+    symbol: SymbolId,
+    namespace: Namespace,
     out: &mut FileWants<'a>,
 ) -> Result<(), AllocError>
-    ensures { OnOk result (Adds (files tables.now (demand_of demand.entry)) out.old out.new) }
+    ensures { OnOk result (out.new ≡ out.old ++ each_of (symbol_files namespace) (symbol_of symbol tables.now.symbols)) }
 {
-    match tables.symbol(demand.symbol) {
+    match tables.symbol(symbol) {
         None => Ok(()),
-        Some(symbol) => push_asked(demand, symbol, out),
+        Some(symbol) => push_symbol(namespace, symbol, out),
     }
 }

@@ -36,23 +36,20 @@ pub record IsRenamed (g : Graph) (size : ℕ) (f : ℕ → Bool) (to : ℕ → �
   pub within : (k : ℕ) → k < size → f k ≡ true → to k < count
   pub onto : (m : ℕ) → m < count → (k : ℕ) × (k < size) × (f k ≡ true) × (to k ≡ m)
 
-module _ (g h w : Graph) (size at : ℕ) (name : Name) (no : NodeNo) (f : ℕ → Bool) (to : ℕ → ℕ) (count : ℕ) (tree : IsTree g size)
-    (link : g at name ≡ Some (Subset no)) (without : IsWithout g no.0 f) (renamed : IsRenamed g size f to count)
-    (written : IsWritten g at name (Some All) h)
-    (left : (k : ℕ) (n : Name) → k < size → f k ≡ true → w (to k) n ≡ moved to (h k n))
-    (past : (k : ℕ) (n : Name) → count ≤ k → w k n ≡ None) where
-  ends : (at < no.0) × (no.0 < size)
+module _ (g h : Graph) (size at : ℕ) (name : Name) (no : NodeNo) (f : ℕ → Bool) (tree : IsTree g size)
+    (link : g at name ≡ Some (Subset no)) (without : IsWithout g no.0 f) (written : IsWritten g at name (Some All) h) where
+  pub ends : (at < no.0) × (no.0 < size)
   ends = tree.later at name no link
 
   -- a reference that is left was there before, and is not the one that went
-  was : (k : ℕ) (n : Name) (j : NodeNo) → h k n ≡ Some (Subset j) → g k n ≡ Some (Subset j)
+  pub was : (k : ℕ) (n : Name) (j : NodeNo) → h k n ≡ Some (Subset j) → g k n ≡ Some (Subset j)
   was k n j e = ⊎_elim
       (λ (s : (k ≡ at) × (name ≡ n) × ((eqb k at && bytes_eq name n) ≡ true)).
       absurd (all_no j (sym (written k n ∙ ap (λ b. cond b (Some All) (g k n)) s.2) ∙ e)))
       (λ s. sym (written k n ∙ ap (λ b. cond b (Some All) (g k n)) s) ∙ e)
       (at_or_not k at name n)
 
-  kept : (k : ℕ) (n : Name) (j : NodeNo) → (j.0 ≡ no.0 → ⊥) → g k n ≡ Some (Subset j) → h k n ≡ Some (Subset j)
+  pub kept : (k : ℕ) (n : Name) (j : NodeNo) → (j.0 ≡ no.0 → ⊥) → g k n ≡ Some (Subset j) → h k n ≡ Some (Subset j)
   kept k n j d e = ⊎_elim
       (λ (s : (k ≡ at) × (name ≡ n) × ((eqb k at && bytes_eq name n) ≡ true)).
       let found : g k n ≡ Some (Subset no) = subst (λ (m : Name). g k m ≡ Some (Subset no)) s.1
@@ -66,50 +63,56 @@ module _ (g h w : Graph) (size at : ℕ) (name : Name) (no : NodeNo) (f : ℕ �
       (λ (s : (at ≡ at) × (name ≡ name) × ((eqb at at && bytes_eq name name) ≡ true)). ap (λ b. cond b (Some All) (g at name)) s.2)
       (λ s. absurd (false≢true (sym s ∙ (ap (λ b. b && bytes_eq name name) (eq-eqb at at refl) ∙ itself name)))) (at_or_not at at name name)
 
-  not_gone : (k : ℕ) (n : Name) (j : NodeNo) → h k n ≡ Some (Subset j) → j.0 ≡ no.0 → ⊥
+  pub not_gone : (k : ℕ) (n : Name) (j : NodeNo) → h k n ≡ Some (Subset j) → j.0 ≡ no.0 → ⊥
   not_gone k n j e same =
       let old : g k n ≡ Some (Subset no) = was k n j e ∙ ap (λ (x : NodeNo). Some (Subset x)) (no_is j no same) in
       let o = tree.once k n at name no old link in
       all_no j (sym covered ∙ (subst (λ (i : ℕ). h i name ≡ Some (Subset j)) o.0 (subst (λ (m : Name). h k m ≡ Some (Subset j)) o.1 e)))
 
   -- what refers to a node that stays, stays
-  parent_stays : (k : ℕ) (n : Name) (j : NodeNo) → g k n ≡ Some (Subset j) → f j.0 ≡ true → f k ≡ true
+  pub parent_stays : (k : ℕ) (n : Name) (j : NodeNo) → g k n ≡ Some (Subset j) → f j.0 ≡ true → f k ≡ true
   parent_stays k n j e t = ⊎_elim (λ (s : f k ≡ true). s)
       (λ (s : f k ≡ false). absurd (false≢true (sym (without.down k n j e s) ∙ t)))
       (cases_Bool (f k))
 
-  compacted : IsCompacted h size f to w count
-  compacted = record {
-    later = λ k n j e. tree.later k n j (was k n j e);
-    once = λ k n l m j e d. tree.once k n l m j (was k n j e) (was l m j d);
-    root = without.before 0 (omega (arith, ends.0));
-    children = λ k n j t e. without.up k n j (was k n j e) t (not_gone k n j e);
-    parent = λ j some high t.
-        let p = tree.parent j some high in
-        let l = tree.later p.0.0 p.0.1 (record { 0 = j }) p.1 in (
-          p.0,
-          parent_stays p.0.0 p.0.1 (record { 0 = j }) p.1 t,
-          omega (arith, l.0, l.1),
-          kept p.0.0 p.0.1 (record { 0 = j }) (λ e. false≢true (sym without.itself ∙ (ap f (sym e) ∙ t))) p.1,
-        );
-    first = renamed.first;
-    rises = λ k n j t d e. renamed.rises k n j t d (was k n j e);
-    one = renamed.one;
-    within = renamed.within;
-    onto = renamed.onto;
-    keeps = left;
-    past = past;
-  }
-
-  pub tree_covered : IsTree w count
-  tree_covered = tree_compacted h size f to w count compacted
-
-  pub cover_added : IsAdded g at (whole_below (name ∷ [])) w
-  cover_added part n q =
-      rooted_compacted h size f to w count compacted (omega (arith, ends.1)) part (n ∷ q) ∙
-      (let put = put_all g h size at name written in
+  -- below the root there is all below the name too
+  pub written_added : IsAdded g at (whole_below (name ∷ [])) h
+  written_added part n q =
+      let put = put_all g h size at name written in
       grown g h size at name put.now everything (whole_below (name ∷ [])) tree put.low (λ part x q. refl) put.gain 0
-      (omega (arith, ends.1)) n part q)
+      (omega (arith, ends.1)) n part q
+
+  module _ (w : Graph) (to : ℕ → ℕ) (count : ℕ) (renamed : IsRenamed g size f to count)
+      (left : (k : ℕ) (n : Name) → k < size → f k ≡ true → w (to k) n ≡ moved to (h k n))
+      (past : (k : ℕ) (n : Name) → count ≤ k → w k n ≡ None) where
+    compacted : IsCompacted h size f to w count
+    compacted = record {
+      later = λ k n j e. tree.later k n j (was k n j e);
+      once = λ k n l m j e d. tree.once k n l m j (was k n j e) (was l m j d);
+      root = without.before 0 (omega (arith, ends.0));
+      children = λ k n j t e. without.up k n j (was k n j e) t (not_gone k n j e);
+      parent = λ j some high t.
+          let p = tree.parent j some high in
+          let l = tree.later p.0.0 p.0.1 (record { 0 = j }) p.1 in (
+            p.0,
+            parent_stays p.0.0 p.0.1 (record { 0 = j }) p.1 t,
+            omega (arith, l.0, l.1),
+            kept p.0.0 p.0.1 (record { 0 = j }) (λ e. false≢true (sym without.itself ∙ (ap f (sym e) ∙ t))) p.1,
+          );
+      first = renamed.first;
+      rises = λ k n j t d e. renamed.rises k n j t d (was k n j e);
+      one = renamed.one;
+      within = renamed.within;
+      onto = renamed.onto;
+      keeps = left;
+      past = past;
+    }
+
+    pub tree_covered : IsTree w count
+    tree_covered = tree_compacted h size f to w count compacted
+
+    pub cover_added : IsAdded g at (whole_below (name ∷ [])) w
+    cover_added part n q = rooted_compacted h size f to w count compacted (omega (arith, ends.1)) part (n ∷ q) ∙ written_added part n q
 
 -- All is written, what stands under the names is renumbered, and the nodes that stay move down
 module _ (nodes written moving all : List Node) (size count len at : ℕ) (name : Name) (no : NodeNo) (numbers : List (Option ℕ))
@@ -151,10 +154,9 @@ module _ (nodes written moving all : List Node) (size count len at : ℕ) (name 
 
   pub tree_left : IsTree (entry all) len
   tree_left = subst (λ (m : ℕ). IsTree (entry all) m) (sym count_is)
-      (tree_covered (entry nodes) (entry written) (entry all) size at name no (stays numbers) (number numbers)
-      (rank (stays numbers) size) tree link
-      without renamed is_written left past)
+      (tree_covered (entry nodes) (entry written) size at name no (stays numbers) tree link without is_written (entry all)
+      (number numbers) (rank (stays numbers) size) renamed left past)
 
   pub added_left : IsAdded (entry nodes) at (whole_below (name ∷ [])) (entry all)
-  added_left = cover_added (entry nodes) (entry written) (entry all) size at name no (stays numbers) (number numbers)
-      (rank (stays numbers) size) tree link without renamed is_written left past
+  added_left = cover_added (entry nodes) (entry written) size at name no (stays numbers) tree link without is_written (entry all)
+      (number numbers) (rank (stays numbers) size) renamed left past

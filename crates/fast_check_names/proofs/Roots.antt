@@ -1,21 +1,17 @@
 -- A root without names, put where there is no node.
-use Rattle.std.proofs.Common.{◌≡◌, ◌∙◌, sym, ap, subst, ℕ, zero, suc, ◌≤◌, List, [], ◌∷◌, ◌++◌, Some, None, true, eqb, arith, length}
+use Rattle.std.proofs.Common.{◌≡◌, ◌∙◌, sym, ap, ℕ, zero, suc, ◌≤◌, List, [], ◌∷◌, ◌++◌, Some, None, true, eqb, arith, length}
 use Rattle.std.specs.Prelude.{Vec}
 use Rattle.std.proofs.lemmas.Bool.{eqb-true}
 use Rattle.std.specs.declared.alloc.Global.{Global}
 use Rattle.fast_check_names.specs.declared.lattice.node.Node.{Node}
 use Rattle.fast_check_names.specs.declared.lattice.node.NodeNo.{NodeNo}
 use Rattle.fast_check_names.specs.declared.lattice.node.Below.TheVariants.{Subset}
-use Rattle.fast_check_names.specs.Order.{Name, Entry, found, lists, IsOnce, IsOrder}
+use Rattle.fast_check_names.specs.Order.{Name, Entry, found, IsOnce}
 use Rattle.fast_check_names.specs.Graph.{entry, IsTree}
 use Rattle.fast_check_names.proofs.Copies.{past_none}
-use Rattle.fast_check_names.proofs.Sorted.{order_none}
 
 pub none_once : (es : List Entry) → es ≡ [] → IsOnce es
 none_once es e = λ i j l w d. omega (arith, ap length e, w)
-
-pub none_sorted : (ns : List Name) (runs : List (Vec ℕ Global)) → runs ≡ [] → IsOrder ns (lists runs) 0
-none_sorted ns runs e = subst (λ (rs : List (Vec ℕ Global)). IsOrder ns (lists rs) 0) (sym e) (order_none ns)
 
 pub none_there : (nodes : Vec Node Global) → true ≡ eqb nodes.len 0 → length nodes.items ≡ 0
 none_there nodes e = omega (arith, eqb-true nodes.len 0 (sym e), nodes.ok.0)

@@ -331,16 +331,6 @@ order_more ns ms xss count order = record {
 pub order_along : (ns ms : List Name) (xss : List (List ℕ)) (count : ℕ) → ns ≡ ms → IsOrder ms xss count → IsOrder ns xss count
 order_along ns ms xss count e order = let P : List Name → Type 0 = λ xs. IsOrder xs xss count in subst P (sym e) order
 
--- nothing is in order
-pub order_none : (ns : List Name) → IsOrder ns [] 0
-order_none ns = record {
-  filled = λ r h. absurd (omega (arith, h));
-  rising = λ i j l w. absurd (omega (arith, w));
-  within = λ p h. absurd (omega (arith, h));
-  each = λ k h none. omega (arith, h);
-  count_within = omega arith;
-}
-
 -- all names are in order
 pub order_all : (es : List Entry) (xss : List (List ℕ)) (count : ℕ) → IsOrder (names_in es) xss count → length es ≤ count →
     IsOrder (names_in es) xss (length es)

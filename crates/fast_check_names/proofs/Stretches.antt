@@ -216,7 +216,7 @@ moved_same f h None e = refl
 moved_same f h (Some All) e = refl
 moved_same f h (Some (Subset j)) e = ap (λ (m : ℕ). Some (Subset (record { 0 = m }))) (e j refl)
 
-moved_none : (f : ℕ → ℕ) (o : Option Below) → ((j : NodeNo) → o ≡ Some (Subset j) → f j.0 ≡ j.0) → moved f o ≡ o
+pub moved_none : (f : ℕ → ℕ) (o : Option Below) → ((j : NodeNo) → o ≡ Some (Subset j) → f j.0 ≡ j.0) → moved f o ≡ o
 moved_none f None e = refl
 moved_none f (Some All) e = refl
 moved_none f (Some (Subset j)) e = ap (λ (m : ℕ). Some (Subset (record { 0 = m }))) (e j refl)
@@ -632,9 +632,9 @@ module _ (nodes lowered written all : List Node) (size count at : ℕ) (name : N
   past k n l = past_none all k (omega (arith, l, long)) n
 
   pub tree_out : IsTree (entry all) count
-  tree_out = tree_covered (entry nodes) h (entry all) size at name first (is_outside first.0 end) number count tree link without
-      (renamed (entry nodes) size first.0 end from count tree filling hang count_is) (λ k n. refl) left past
+  tree_out = tree_covered (entry nodes) h size at name first (is_outside first.0 end) tree link without (λ k n. refl) (entry all) number count
+      (renamed (entry nodes) size first.0 end from count tree filling hang count_is) left past
 
   pub added_out : IsAdded (entry nodes) at (whole_below (name ∷ [])) (entry all)
-  added_out = cover_added (entry nodes) h (entry all) size at name first (is_outside first.0 end) number count tree link without
-      (renamed (entry nodes) size first.0 end from count tree filling hang count_is) (λ k n. refl) left past
+  added_out = cover_added (entry nodes) h size at name first (is_outside first.0 end) tree link without (λ k n. refl) (entry all) number count
+      (renamed (entry nodes) size first.0 end from count tree filling hang count_is) left past

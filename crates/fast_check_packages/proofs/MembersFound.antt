@@ -1,6 +1,9 @@
 -- An index of members as it grows, and what is found by it.
 use Rattle.std.proofs.Common.{◌≡◌, ◌∙◌, sym, ap, refl, ℕ, Bool, true, false, ◌&&◌, ◌||◌, cond, List, [], ◌∷◌, ◌++◌, length, true≢false}
 use Rattle.std.proofs.Common.{Option, Some, None, find, option_and_then, slice_get, is_some, is_none, bytes_eq, BTreeMap, string_bytes}
+use Rattle.std.proofs.Common.{map, option_map, nat_eq}
+use Rattle.std.specs.List.{starts_with}
+use Rattle.std.proofs.lemmas.Option.{slice_get-map}
 use Rattle.std.specs.Borrow.{Bor}
 use Rattle.std.specs.Slice.{IsItemAt}
 use Rattle.std.specs.Option.{option_copied, option_or}
@@ -22,6 +25,7 @@ use Rattle.fast_check_packages.specs.PackageOrder.{nv_total}
 use Rattle.fast_check_packages.specs.Listed.{begins_with}
 use Rattle.fast_check_packages.specs.First.{first_place, earlier}
 use Rattle.fast_check_packages.specs.Members.{has_version, is_member, member_nv, is_of_name, is_of_package, IsMemberIndex, bases_of}
+use Rattle.fast_check_packages.specs.Members.{member_of, place_around}
 use Rattle.fast_check_packages.specs.Packages.{package_cmp}
 use Rattle.fast_check_packages.specs.Texts.{place_of}
 use Rattle.fast_check_packages.specs.declared.member_places.MemberPlaces.{MemberPlaces}
@@ -185,3 +189,20 @@ some_there test members o i r is some item =
 pub base_place : (members : List WorkspaceMember) (text : List ℕ)
     → first_place (λ t. begins_with t text) (bases_of members) ≡ first_place (λ m. begins_with (serialize m.base) text) members
 base_place members text = first_mapped (λ (m : WorkspaceMember). serialize m.base) (λ t. begins_with t text) members
+
+-- the first member whose base begins a text stands at its place
+pub member_there : (members : List WorkspaceMember) (text : List ℕ)
+    → member_of members text ≡ option_and_then (slice_get members) (place_around members text)
+member_there members text = found_there (λ m. starts_with nat_eq text (serialize m.base)) members
+
+-- what one list lends at a place is as another list has it there
+pub same_at : {X Y Z : Type 0} (f : X → Z) (g : Y → Z) (xs : List X) (ys : List Y) (i : ℕ) (r : Option (Bor X)) → map f xs ≡ map g ys →
+    IsItemAt xs i r → option_map (λ b. f b.now) r ≡ option_map g (slice_get ys i)
+same_at {X} {Y} {Z} f g xs ys i r same item =
+    read r
+    ∙ (ap (λ (o : Option X). option_map f o) (item_at xs i r item)
+    ∙ (sym (slice_get-map f xs i) ∙ (ap (λ (zs : List Z). slice_get zs i) same ∙ slice_get-map g ys i)))
+  where
+    read : (o : Option (Bor X)) → option_map (λ b. f b.now) o ≡ option_map f (option_copied o)
+    read None = refl
+    read (Some b) = refl

@@ -33,6 +33,10 @@ member_named members nv = find (is_member nv) members
 abbrev pub member_of : List WorkspaceMember → List ℕ → Option WorkspaceMember
 member_of members t = find (λ m. starts_with nat_eq t (serialize m.base)) members
 
+-- its place
+abbrev pub place_around : List WorkspaceMember → List ℕ → Option ℕ
+place_around members t = first_place (λ m. starts_with nat_eq t (serialize m.base)) members
+
 -- the name and version of a member
 abbrev pub member_nv : WorkspaceMember → Nv
 member_nv m = (string_bytes m.name, version_or_zero m.version)

@@ -1,6 +1,6 @@
 -- The turns of the search, from its beginning to an account.
-use Rattle.std.proofs.Common.{◌≡◌, ◌∙◌, sym, ap, refl, subst, ℕ, ◌+◌, ◌<◌, ◌≤◌, Bool, true, List, [], ◌∷◌, ◌++◌, length, map, get_or, take}
-use Rattle.std.proofs.Common.{⊎_elim, inl, inr, arith, length-append, append-nil, append_assoc}
+use Rattle.std.proofs.Common.{◌≡◌, ◌∙◌, sym, ap, subst, ℕ, ◌+◌, ◌<◌, ◌≤◌, true, List, [], ◌∷◌, ◌++◌, length, map, get_or, take}
+use Rattle.std.proofs.Common.{⊎_elim, inl, inr, ◌⊎◌, ◌||◌, arith, length-append, append-nil, append_assoc}
 use Rattle.std.specs.List.{Contains, list_any}
 use Rattle.std.proofs.lemmas.Bool.{or_left, or_right, or_cases}
 use Rattle.std.proofs.lemmas.List.{take_more, take_all, take-append-le}
@@ -15,71 +15,92 @@ use Rattle.fast_check_name_demands.specs.demands.Noted.{public_ranges, Tells}
 use Rattle.fast_check_name_demands.specs.demands.declared.noted.NotedSymbols.{NotedSymbols}
 use Rattle.fast_check_syntax.specs.declared.source.SourceRange.{SourceRange}
 use Rattle.fast_check_name_demands.specs.demands.Account.{root, step, alike, referred, IsCovered, IsYield}
-use Rattle.fast_check_name_demands.specs.Files.{files}
 use Rattle.fast_check_demands.proofs.Adds.{adds_all, adds_kept, adds_both}
 use Rattle.fast_check_search.specs.declared.found.Found.{Found}
 use Rattle.fast_check_search.specs.declared.parts.AskedParts.{AskedParts}
+use Rattle.fast_check_search.specs.Led.{Texts, files_led}
 use Rattle.fast_check_search.specs.Parts.{ArePartsCovered}
-use Rattle.fast_check_search.specs.SymbolWorklist.{Grows, CoversEach}
+use Rattle.fast_check_search.specs.declared.worklist.SymbolWorklist.{SymbolWorklist}
+use Rattle.fast_check_search.specs.SymbolWorklist.{asked, met, Grows, CoversEach}
 use Rattle.fast_check_search.specs.Found.{IsUntold, IsFound, Gains, IsFoundSoFar, IsOnTheWay}
-use Rattle.fast_check_search.specs.Searched.{IsContinued}
+use Rattle.fast_check_search.specs.Searched.{IsAsked, IsContinued}
 use Rattle.fast_check_search.proofs.Each.{Contains_none, Contains_only}
+use Rattle.fast_check_search.proofs.Numbering.{keeps_itself, keeps_more}
 
--- lists that grow
+-- what is asked for
 
-pub any_more : {X : Type 0} (test : X → Bool) (xs more : List X) → list_any test xs ≡ true → list_any test (xs ++ more) ≡ true
-any_more test xs more h = rw list_any-append (or_left (list_any test xs) (list_any test more) h)
+-- what is asked for stays so, and what was covered stays covered
+pub covered_kept : (old new : List Demand) → ((d : Demand) → IsAsked old d → IsAsked new d) → (d : Demand) → IsCovered old d → IsCovered new d
+covered_kept old new f d h = ⊎_elim
+    (λ t. or_left (list_any (alike d) new) (list_any (alike (referred d)) new) (f d t))
+    (λ t. or_right (list_any (alike d) new) (list_any (alike (referred d)) new) (f (referred d) t))
+    (or_cases (list_any (alike d) old) (list_any (alike (referred d)) old) h)
 
--- what was covered stays covered
-pub covered_more : (account more : List Demand) (d : Demand) → IsCovered account d → IsCovered (account ++ more) d
-covered_more account more d h = ⊎_elim
-    (λ t. or_left (list_any (alike d) (account ++ more)) (list_any (alike (referred d)) (account ++ more))
-    (any_more (alike d) account more t))
-    (λ t. or_right (list_any (alike d) (account ++ more)) (list_any (alike (referred d)) (account ++ more))
-    (any_more (alike (referred d)) account more t))
-    (or_cases (list_any (alike d) account) (list_any (alike (referred d)) account) h)
-
-pub grows_none : (asks asked : List Demand) → Grows asks asked asked
-grows_none asks asked = record { more = []; is = sym (append-nil asked); parts = λ x h. absurd (Contains_none x h) }
-
-pub grows_one : (d : Demand) (asked : List Demand) → Grows (d ∷ []) asked (asked ++ d ∷ [])
-grows_one d asked = record { more = d ∷ []; is = refl; parts = λ x h. h }
-
-pub grows_more : (asks a b c : List Demand) → Grows asks a b → Grows asks b c → Grows asks a c
-grows_more asks a b c g h = record {
-  more = g.more ++ h.more;
-  is = h.is ∙ (ap (λ x. x ++ h.more) g.is ∙ append_assoc a g.more h.more);
-  parts = λ x t. ⊎_elim (g.parts x) (h.parts x) (Contains-append_cases g.more h.more x t);
+pub grows_none : (asks : List Demand) (w : SymbolWorklist) → Grows asks w w
+grows_none asks w = record {
+  more = [];
+  is = sym (append-nil (asked w));
+  parts = λ x h. absurd (Contains_none x h);
+  numbers = keeps_itself w.paths;
+  stays = λ d h. h;
+  came = λ d h. inl h;
 }
 
-pub grows_within : (few many a b : List Demand) → ((d : Demand) → Contains few d → Contains many d) → Grows few a b → Grows many a b
-grows_within few many a b f g = record { more = g.more; is = g.is; parts = λ x t. f x (g.parts x t) }
+pub grows_more : (asks : List Demand) (a b c : SymbolWorklist) → Grows asks a b → Grows asks b c → Grows asks a c
+grows_more asks a b c g h = record {
+  more = g.more ++ h.more;
+  is = h.is ∙ (ap (λ x. x ++ h.more) g.is ∙ append_assoc (asked a) g.more h.more);
+  parts = λ x t. ⊎_elim (g.parts x) (h.parts x) (Contains-append_cases g.more h.more x t);
+  numbers = keeps_more a.paths b.paths c.paths g.numbers h.numbers;
+  stays = λ d t. h.stays d (g.stays d t);
+  came = λ d t. ⊎_elim
+      (λ was. ⊎_elim
+      (λ first. inl first)
+      (λ early. inr (list_any-append (alike d) g.more h.more ∙ or_left (list_any (alike d) g.more) (list_any (alike d) h.more) early))
+      (g.came d was))
+      (λ late. inr (list_any-append (alike d) g.more h.more ∙ or_right (list_any (alike d) g.more) (list_any (alike d) h.more) late))
+      (h.came d t);
+}
 
--- what is covered by the demands of a search is covered by these beside earlier ones
-pub covered_beside : (before account : List Demand) (d : Demand) → IsCovered account d → IsCovered (before ++ account) d
-covered_beside before account d h = ⊎_elim
-    (λ t. or_left (list_any (alike d) (before ++ account)) (list_any (alike (referred d)) (before ++ account)) (beside (alike d) t))
-    (λ t. or_right (list_any (alike d) (before ++ account)) (list_any (alike (referred d)) (before ++ account))
-    (beside (alike (referred d)) t))
-    (or_cases (list_any (alike d) account) (list_any (alike (referred d)) account) h)
+pub grows_within : (few many : List Demand) (a b : SymbolWorklist) → ((d : Demand) → Contains few d → Contains many d) → Grows few a b →
+    Grows many a b
+grows_within few many a b f g = record {
+  more = g.more;
+  is = g.is;
+  parts = λ x t. f x (g.parts x t);
+  numbers = g.numbers;
+  stays = g.stays;
+  came = g.came;
+}
+
+pub grows_covers : (asks : List Demand) (a b : SymbolWorklist) (d : Demand) → Grows asks a b → IsCovered (met a) d → IsCovered (met b) d
+grows_covers asks a b d g h = covered_kept (met a) (met b) g.stays d h
+
+-- what is met was met before a search, or is asked for in it
+pub came_more : (before asks : List Demand) (a b : SymbolWorklist) → Grows asks a b →
+    ((d : Demand) → IsAsked (met a) d → IsAsked before d ⊎ IsAsked (asked a) d) → (d : Demand) → IsAsked (met b) d →
+    IsAsked before d ⊎ IsAsked (asked b) d
+came_more before asks a b g came d h = ⊎_elim
+    (λ was. ⊎_elim
+    (λ early. inl early)
+    (λ own. inr (now (or_left (list_any (alike d) (asked a)) (list_any (alike d) g.more) own)))
+    (came d was))
+    (λ late. inr (now (or_right (list_any (alike d) (asked a)) (list_any (alike d) g.more) late)))
+    (g.came d h)
   where
-    beside : (test : Demand → Bool) → list_any test account ≡ true → list_any test (before ++ account) ≡ true
-    beside test t = rw list_any-append (or_right (list_any test before) (list_any test account) t)
-
-pub grows_covers : (asks before a b : List Demand) (d : Demand) → Grows asks a b → IsCovered (before ++ a) d → IsCovered (before ++ b) d
-grows_covers asks before a b d g h = subst (λ (x : List Demand). IsCovered x d)
-    (append_assoc before a g.more ∙ ap (λ x. before ++ x) (sym g.is)) (covered_more (before ++ a) g.more d h)
+    now : (list_any (alike d) (asked a) || list_any (alike d) g.more) ≡ true → IsAsked (asked b) d
+    now t = subst (λ (ds : List Demand). IsAsked ds d) (sym g.is) (list_any-append (alike d) (asked a) g.more ∙ t)
 
 -- one turn of a loop that asks for each of the demands
-pub asked_more : (asks before a b c : List Demand) (i : ℕ) (d : Demand) → i < length asks → get_or asks i d ≡ d → Grows asks a b →
-    CoversEach (take i asks) (before ++ b) → Grows (d ∷ []) b c → IsCovered (before ++ c) d →
-    Grows asks a c × CoversEach (take (i + 1) asks) (before ++ c)
-asked_more asks before a b c i d lt e g h more now = (
+pub asked_more : (asks : List Demand) (a b c : SymbolWorklist) (i : ℕ) (d : Demand) → i < length asks → get_or asks i d ≡ d → Grows asks a b →
+    CoversEach (take i asks) (met b) → Grows (d ∷ []) b c → IsCovered (met c) d →
+    Grows asks a c × CoversEach (take (i + 1) asks) (met c)
+asked_more asks a b c i d lt e g h more now = (
   grows_more asks a b c g
       (grows_within (d ∷ []) asks b c (λ x t. subst (Contains asks) (e ∙ Contains_only d x t) (Contains-get_or asks i d lt)) more),
   (λ x inside. ⊎_elim
-      (λ early. grows_covers (d ∷ []) before b c x more (h x early))
-      (λ here. subst (λ (y : Demand). IsCovered (before ++ c) y) (sym e ∙ here) now)
+      (λ early. grows_covers (d ∷ []) b c x more (h x early))
+      (λ here. subst (λ (y : Demand). IsCovered (met c) y) (sym e ∙ here) now)
       (Contains-push_cases (take i asks) (get_or asks i d) x (subst (λ (y : List Demand). Contains y x) (take_more asks i d lt) inside))),
 )
 
@@ -117,13 +138,13 @@ nothing_yet : {X : Type 0} (gives : Demand → List X) → IsYield gives [] []
 nothing_yet gives = record { sound = λ r t. absurd (Contains_none r t); complete = λ d r t u. absurd (Contains_none d t) }
 
 -- before the first demand
-pub nothing_found : (t : Tables) (public : List SourceRange) (found : Found) → public ≡ [] → found.implementations.items ≡ [] →
-    map fault_seen found.faults.items ≡ [] → found.files ≡ [] → IsFoundSoFar t [] public found
-nothing_found t public found e f g h = record {
+pub nothing_found : (r : Texts) (t : Tables) (public : List SourceRange) (found : Found) → public ≡ [] → found.implementations.items ≡ [] →
+    map fault_seen found.faults.items ≡ [] → found.files ≡ [] → IsFoundSoFar r t [] public found
+nothing_found r t public found e f g h = record {
   public = rw e (nothing_yet (ranges t));
   implementing = rw f (nothing_yet (implementations t));
   faulty = rw g (nothing_yet (faults t));
-  outside = rw h (nothing_yet (files t));
+  outside = rw h (nothing_yet (files_led r t));
 }
 
 -- what is added is joined
@@ -135,15 +156,15 @@ joined {X} these old new a = record {
   whole = a.whole;
 }
 
-found_more : (t : Tables) (account : List Demand) (d : Demand) (before after : NotedSymbols) (old new : Found) →
-    IsFoundSoFar t account (public_ranges t before old.ranges.items) old → Gains t d before after old new →
-    IsFoundSoFar t (account ++ d ∷ []) (public_ranges t after new.ranges.items) new
-found_more t account d before after old new f g = record {
+found_more : (r : Texts) (t : Tables) (account : List Demand) (d : Demand) (before after : NotedSymbols) (old new : Found) →
+    IsFoundSoFar r t account (public_ranges t before old.ranges.items) old → Gains r t d before after old new →
+    IsFoundSoFar r t (account ++ d ∷ []) (public_ranges t after new.ranges.items) new
+found_more r t account d before after old new f g = record {
   public = yielded_joined (ranges t) account d _ _ f.public g.public;
   implementing = yielded_joined (implementations t) account d _ _ f.implementing
       (joined (implementations t d) _ _ (adds_all (implementations t d) _ _ g.implementing));
   faulty = yielded_joined (faults t) account d _ _ f.faulty (joined (faults t d) _ _ (adds_all (faults t d) _ _ g.faulty));
-  outside = yielded_joined (files t) account d _ _ f.outside (joined (files t d) _ _ g.outside);
+  outside = yielded_joined (files_led r t) account d _ _ f.outside (joined (files_led r t d) _ _ g.outside);
 }
 
 -- of what is listed or noted, what was told before is not found
@@ -164,57 +185,59 @@ untold t account listed noted was_told is_told found y h = record {
     is_found : (r : SourceRange) → Contains (listed ++ h.more) r → Contains found r
     is_found r c = subst (λ (xs : List SourceRange). Contains xs r) (sym h.is) c
 
-module _ (t : Tables) (roots before : List Demand) (parts : AskedParts) where
+module _ (r : Texts) (t : Tables) (roots before : List Demand) (parts : AskedParts) where
   -- after the first demands were asked for
-  pub begun : (asked : List Demand) (public : List SourceRange) (found : Found) → Grows roots [] asked →
-      CoversEach roots (before ++ asked) → IsFoundSoFar t [] public found → IsOnTheWay t roots before parts asked 0 public found
-  begun asked public found g h f = record {
+  pub begun : (first work : SymbolWorklist) (public : List SourceRange) (found : Found) → asked first ≡ [] → Grows roots first work →
+      CoversEach roots (met work) → IsFoundSoFar r t [] public found → IsOnTheWay r t roots before parts (asked work) (met work) 0 public found
+  begun first work public found none g h f = record {
     reached = omega arith;
-    chained = λ d u. root (g.parts d (subst (λ (x : List Demand). Contains x d) g.is u));
+    chained = λ d u. root (g.parts d (subst (λ (x : List Demand). Contains x d) (g.is ∙ ap (λ x. x ++ g.more) none) u));
     has_roots = h;
     closed = λ _ d e u v. absurd (Contains_none d u);
     found = f;
   }
 
-  module _ (asked after : List Demand) (next : ℕ) (d : Demand) (noted noting : NotedSymbols) (old new : Found)
-      (w : IsOnTheWay t roots before parts asked next (public_ranges t noted old.ranges.items) old)
-      (lt : next < length asked)
-      (here : get_or asked next d ≡ d) where
+  module _ (work after : SymbolWorklist) (next : ℕ) (d : Demand) (noted noting : NotedSymbols) (old new : Found)
+      (w : IsOnTheWay r t roots before parts (asked work) (met work) next (public_ranges t noted old.ranges.items) old)
+      (lt : next < length (asked work))
+      (here : get_or (asked work) next d ≡ d) where
     -- after the demand d, at next, was followed
-    pub turned : Grows (names t d) asked after → (ArePartsCovered t parts before → CoversEach (names t d) (before ++ after)) →
-        Gains t d noted noting old new → IsOnTheWay t roots before parts after (next + 1) (public_ranges t noting new.ranges.items) new
+    pub turned : Grows (names t d) work after → (ArePartsCovered t parts before → CoversEach (names t d) (met after)) →
+        Gains r t d noted noting old new →
+        IsOnTheWay r t roots before parts (asked after) (met after) (next + 1) (public_ranges t noting new.ranges.items) new
     turned g h j =
-        let front : take (next + 1) after ≡ take next asked ++ d ∷ [] =
-        ap (λ x. take (next + 1) x) g.is ∙ (take-append-le (next + 1) asked g.more (omega (arith, lt)) ∙
-        (take_more asked next d lt ∙ ap (λ x. take next asked ++ x ∷ []) here)) in
+        let front : take (next + 1) (asked after) ≡ take next (asked work) ++ d ∷ [] =
+        ap (λ x. take (next + 1) x) g.is ∙ (take-append-le (next + 1) (asked work) g.more (omega (arith, lt)) ∙
+        (take_more (asked work) next d lt ∙ ap (λ x. take next (asked work) ++ x ∷ []) here)) in
         record {
-          reached = omega (arith, lt, ap length g.is, length-append asked g.more);
+          reached = omega (arith, lt, ap length g.is, length-append (asked work) g.more);
           chained = λ e u. ⊎_elim (w.chained e)
               (λ v. step (w.chained d (next, lt, here)) (g.parts e v))
-              (Contains-append_cases asked g.more e (subst (λ (x : List Demand). Contains x e) g.is u));
-          has_roots = λ e r. grows_covers (names t d) before asked after e g (w.has_roots e r);
+              (Contains-append_cases (asked work) g.more e (subst (λ (x : List Demand). Contains x e) g.is u));
+          has_roots = λ e c. grows_covers (names t d) work after e g (w.has_roots e c);
           closed = λ are e f u v. ⊎_elim
-              (λ early. grows_covers (names t d) before asked after f g (w.closed are e f early v))
+              (λ early. grows_covers (names t d) work after f g (w.closed are e f early v))
               (λ same. h are f (subst (λ (x : Demand). Contains (names t x) f) (sym same) v))
-              (Contains-push_cases (take next asked) d e (subst (λ (x : List Demand). Contains x e) front u));
-          found = subst (λ (x : List Demand). IsFoundSoFar t x (public_ranges t noting new.ranges.items) new) (sym front)
-              (found_more t (take next asked) d noted noting old new w.found j);
+              (Contains-push_cases (take next (asked work)) d e (subst (λ (x : List Demand). Contains x e) front u));
+          found = subst (λ (x : List Demand). IsFoundSoFar r t x (public_ranges t noting new.ranges.items) new) (sym front)
+              (found_more r t (take next (asked work)) d noted noting old new w.found j);
         }
 
-  -- at the end
-  pub ended : (asked : List Demand) (next : ℕ) (noted was_told is_told : List SourceRange) (so_far found : Found) → length asked ≤ next →
-      IsOnTheWay t roots before parts asked next (so_far.ranges.items ++ noted) so_far →
+  -- at the end, where each demand that is met was met before, or is of those that were followed
+  pub ended : (asked met : List Demand) (next : ℕ) (noted was_told is_told : List SourceRange) (so_far found : Found) → length asked ≤ next →
+      ((d : Demand) → IsAsked met d → IsAsked (before ++ asked) d) →
+      IsOnTheWay r t roots before parts asked met next (so_far.ranges.items ++ noted) so_far →
       Tells noted was_told is_told so_far.ranges.items found.ranges.items → found.implementations ≡ so_far.implementations →
       found.faults ≡ so_far.faults → found.files ≡ so_far.files →
-      (ArePartsCovered t parts before → IsContinued t roots before asked) × IsFound t asked was_told is_told found
-  ended asked next noted was_told is_told so_far found le w told e f g =
+      (ArePartsCovered t parts before → IsContinued t roots before asked) × IsFound r t asked was_told is_told found
+  ended asked met next noted was_told is_told so_far found le own w told e f g =
       let all : take next asked ≡ asked = take_all next asked le in
-      let way = subst (λ (x : List Demand). IsFoundSoFar t x (so_far.ranges.items ++ noted) so_far) all w.found in (
+      let way = subst (λ (x : List Demand). IsFoundSoFar r t x (so_far.ranges.items ++ noted) so_far) all w.found in (
         λ are. record {
           chained = w.chained;
-          has_roots = w.has_roots;
-          closed =
-              λ d e u v. w.closed are d e (subst (λ (x : List Demand). Contains x d) (sym all) u) v;
+          has_roots = λ d r. covered_kept met (before ++ asked) own d (w.has_roots d r);
+          closed = λ d i u v. covered_kept met (before ++ asked) own i
+              (w.closed are d i (subst (λ (x : List Demand). Contains x d) (sym all) u) v);
         },
         record {
           public = untold t asked so_far.ranges.items noted was_told is_told found.ranges.items way.public told;

@@ -1,34 +1,42 @@
--- What searches keep as it grows.
-use Rattle.std.proofs.Common.{◌≡◌, ◌∙◌, sym, ap, refl, subst, ⊎_elim, Bool, true, false, cond, List, [], ◌∷◌, ◌++◌, map, Option, Some, None}
-use Rattle.std.proofs.Common.{ℕ, ◌+◌, ◌<◌, ◌≤◌, length, get_or, take, append-nil, append_assoc, ◌⊎◌}
-use Rattle.std.specs.BTreeSet as sorted
+-- What searches keep.
+use Rattle.std.proofs.Common.{◌≡◌, ◌∙◌, sym, ap, refl, subst, ⊎_elim, ◌⊎◌, true, List, [], ◌∷◌, ◌++◌, append-nil, append_assoc}
+use Rattle.std.proofs.Common.{ℕ, ◌+◌, ◌<◌, ◌≤◌, length, get_or, take, arith}
+use Rattle.std.specs.BTreeSet.{BTreeSet, contains, insert_key}
 use Rattle.std.specs.List.{list_any, Contains}
-use Rattle.std.specs.Ordering.{is_eq}
-use Rattle.std.proofs.lemmas.Bool.{false≢true, cases_Bool, cond-false, or_left, or_right, or_cases}
+use Rattle.std.proofs.lemmas.Bool.{cases_Bool, or_left, or_right, or_cases}
 use Rattle.std.proofs.lemmas.List.{take_more, take_all}
 use Rattle.std.proofs.lemmas.List.Elements.{Contains-push_cases}
 use Rattle.std.proofs.lemmas.List.Folds.{list_any-append}
-use Rattle.fast_check_name_demands.specs.demands.Demands.{Demand}
+use Rattle.fast_check_names.specs.Names.{Path}
+use Rattle.fast_check_name_demands.specs.demands.Demands.{Demand, Asked, by_reference, as_child, by_path}
 use Rattle.fast_check_name_demands.specs.demands.Account.{alike}
-use Rattle.fast_check_search.specs.contracts.nameless.NamelessDemandOrd.TheImpl as order
-use Rattle.fast_check_search.specs.declared.nameless.NamelessDemand.{NamelessDemand}
-use Rattle.fast_check_search.specs.Named.{of_name, AreNamesAsked}
-use Rattle.fast_check_search.specs.Nameless.{nameless_of, without_names}
+use Rattle.fast_check_search.specs.contracts.done.DoneDemandOrd.TheImpl as order
+use Rattle.fast_check_search.specs.declared.done.DoneDemand.{DoneDemand}
+use Rattle.fast_check_search.specs.declared.done.NumberedDemand.{NumberedDemand}
+use Rattle.fast_check_search.specs.declared.numbers.PathNumbers.{PathNumbers}
+use Rattle.fast_check_search.specs.Done.{asked_path, key_of, demands_in, IsNumbered, AreMet}
+use Rattle.fast_check_search.specs.Numbers.{number_of}
 use Rattle.fast_check_search.specs.Searched.{IsAsked, IsNameless, IsKeptWith}
-use Rattle.fast_check_search.proofs.Closure.{any_more}
-use Rattle.fast_check_search.proofs.Each.{Contains_none, Contains_only, Contains_first}
-use Rattle.fast_check_search.proofs.WithoutNames.{keys_compare, key_alike, nameless_some, found_nameless, no_names_found}
-use Rattle.fast_check_search.proofs.Same.{alike_itself, alike_laws}
+use Rattle.fast_check_search.specs.SymbolWorklist.{demanded}
+use Rattle.fast_check_search.proofs.Compared.{found_key}
+use Rattle.fast_check_search.proofs.Each.{Contains_none, Contains_only, Contains_first, Contains_cases}
+use Rattle.fast_check_search.proofs.Kept.{stays_put, came_put, is_asked}
+use Rattle.fast_check_search.proofs.Same.{alike_itself}
 
 pub asked_more : (demands more : List Demand) (d : Demand) → IsAsked demands d → IsAsked (demands ++ more) d
-asked_more demands more d h = any_more (alike d) demands more h
+asked_more demands more d h = list_any-append (alike d) demands more ∙ or_left (list_any (alike d) demands) (list_any (alike d) more) h
 
 pub asked_behind : (demands more : List Demand) (d : Demand) → IsAsked more d → IsAsked (demands ++ more) d
 asked_behind demands more d h =
     list_any-append (alike d) demands more ∙ or_right (list_any (alike d) demands) (list_any (alike d) more) h
 
-pub asked_one : (d e : Demand) → alike e d ≡ true → IsAsked (d ∷ []) e
-asked_one d e h = or_left (alike e d) false h
+-- a demand asks for itself
+pub asks_itself : (demands : List Demand) (d : Demand) → Contains demands d → IsAsked demands d
+asks_itself [] d c = absurd (Contains_none d c)
+asks_itself (e ∷ demands) d c = ⊎_elim
+    (λ is. or_left (alike d e) (list_any (alike d) demands) (subst (λ (x : Demand). alike d x ≡ true) (sym is) (alike_itself d)))
+    (λ later. or_right (alike d e) (list_any (alike d) demands) (asks_itself demands d later))
+    (Contains_cases e demands d c)
 
 -- nothing more
 pub kept_none : (before : List Demand) → IsKeptWith before [] before
@@ -62,103 +70,53 @@ kept_next before demands i d middle after lt here g h = subst (λ (ds : List Dem
     (sym (take_more demands i d lt ∙ ap (λ x. take i demands ++ x ∷ []) here))
     (kept_more before (take i demands) d middle after g h)
 
--- those of one name
-pub names_next : (demands : List Demand) (i : ℕ) (d : Demand) (middle after : List Demand) → i < length demands →
-    get_or demands i d ≡ d → IsKeptWith middle (d ∷ []) after → AreNamesAsked (take i demands) middle → AreNamesAsked (d ∷ []) after →
-    AreNamesAsked (take (i + 1) demands) after
-names_next demands i d middle after lt here kept early late =
-    subst (λ (ds : List Demand). AreNamesAsked ds after) (sym (take_more demands i d lt ∙ ap (λ x. take i demands ++ x ∷ []) here))
-    (λ n k h. ⊎_elim (λ l. kept.kept (of_name n k) (early n k l)) (late n k)
-    (or_cases (list_any (alike (of_name n k)) (take i demands)) (list_any (alike (of_name n k)) (d ∷ []))
-    (sym (list_any-append (alike (of_name n k)) (take i demands) (d ∷ [])) ∙ h)))
-
 -- all of them
 pub kept_all : (before demands : List Demand) (i : ℕ) (after : List Demand) → length demands ≤ i →
     IsKeptWith before (take i demands) after → IsKeptWith before demands after
 kept_all before demands i after le h = subst (λ (ds : List Demand). IsKeptWith before ds after) (take_all i demands le) h
 
--- a demand of names is not kept
-pub kept_without : (before : List Demand) (d : Demand) → nameless_of d ≡ None → IsKeptWith before (d ∷ []) before
-kept_without before d n = record {
-  met = λ e h. asked_more before (d ∷ []) e h;
-  kept = λ e h. h;
-  added = λ e c i. absurd (nameless_some d (subst (λ (x : Demand). IsNameless x.asked) (sym (Contains_only d e c)) i) n);
+-- all that is met is kept
+pub kept_met : (before more after : List Demand) → ((d : Demand) → IsAsked after d → IsAsked before d ⊎ IsAsked more d) →
+    ((d : Demand) → IsAsked before d → IsAsked after d) → ((d : Demand) → IsAsked more d → IsAsked after d) → IsKeptWith before more after
+kept_met before more after came stays own = record {
+  met = λ d h. ⊎_elim (asked_more before more d) (asked_behind before more d) (came d h);
+  kept = stays;
+  added = λ d c _. own d (asks_itself more d c);
 }
 
-module _ (old new : sorted.BTreeSet NamelessDemand) (d : Demand) (k : NamelessDemand) (is : nameless_of d ≡ Some k)
-    (u : sorted.Updates order.cmp-value.it old new k true) where
-  abbrev demands : sorted.BTreeSet NamelessDemand → List Demand
-  demands s = map without_names s.keys
+-- a demand without names is kept, and one of names is not
 
-  same_key : (e : Demand) (l : NamelessDemand) → nameless_of e ≡ Some l → is_eq (order.cmp-value.it k l) ≡ alike e d
-  same_key e l h = keys_compare k l ∙ (key_alike d k is (without_names l) ∙ (alike_laws.symm d (without_names l) ∙ key_alike e l h d))
+no_length : (p : Path) → length p ≡ 0 → p ≡ []
+no_length [] e = refl
+no_length (n ∷ p) e = absurd (omega (arith, e))
 
-  -- the set asks for what the new demand does, and for what it did
-  now_asks : (e : Demand) (l : NamelessDemand) → nameless_of e ≡ Some l →
-      list_any (alike e) (demands new) ≡ cond (alike e d) true (list_any (alike e) (demands old))
-  now_asks e l h = sym (found_nameless new e l h) ∙
-      (u.0 l ∙
-      (ap (λ b. cond b true (sorted.contains order.cmp-value.it old l)) (same_key e l h) ∙
-      ap (λ b. cond (alike e d) true b) (found_nameless old e l h)))
+no_path : (a : Asked) → IsNameless a → asked_path a ≡ []
+no_path (by_reference n) i = refl
+no_path (as_child n) i = refl
+no_path (by_path [] x) i = refl
+no_path (by_path (n ∷ p) x) i = absurd i
 
-  met_one : (e : Demand) (o : Option NamelessDemand) → nameless_of e ≡ o → IsAsked (demands new) e → IsAsked (demands old ++ d ∷ []) e
-  met_one e None h i = absurd (false≢true (sym (no_names_found new e h) ∙ i))
-  met_one e (Some l) h i = ⊎_elim
-      (λ t. asked_behind (demands old) (d ∷ []) e (asked_one d e t))
-      (λ f. asked_more (demands old) (d ∷ []) e
-      (sym (cond-false (alike e d) true (list_any (alike e) (demands old)) f) ∙ (sym (now_asks e l h) ∙ i)))
-      (cases_Bool (alike e d))
+pub kept_without : (before : List Demand) (d : Demand) → (length (asked_path d.asked) ≡ 0 → ⊥) → IsKeptWith before (d ∷ []) before
+kept_without before d named = record {
+  met = λ e h. asked_more before (d ∷ []) e h;
+  kept = λ e h. h;
+  added = λ e c i. absurd (named (ap length
+      (no_path d.asked (subst (λ (x : Demand). IsNameless x.asked) (sym (Contains_only d e c)) i))));
+}
 
-  true_either : (b c : Bool) → c ≡ true → cond b true c ≡ true
-  true_either true c h = refl
-  true_either false c h = h
+pub numbered_none : (w : PathNumbers) (d : Demand) → length (asked_path d.asked) ≡ 0 → IsNumbered w d 0
+numbered_none w d e = ap (number_of w) (no_length (asked_path d.asked) e)
 
-  kept_one : (e : Demand) (o : Option NamelessDemand) → nameless_of e ≡ o → IsAsked (demands old) e → IsAsked (demands new) e
-  kept_one e None h i = absurd (false≢true (sym (no_names_found old e h) ∙ i))
-  kept_one e (Some l) h i = now_asks e l h ∙ true_either (alike e d) (list_any (alike e) (demands old)) i
-
-  -- a demand without names is kept
-  pub kept_key : IsKeptWith (demands old) (d ∷ []) (demands new)
-  kept_key = record {
-    met = λ e h. met_one e (nameless_of e) refl h;
-    kept = λ e h. kept_one e (nameless_of e) refl h;
-    added = λ e c i. subst (λ (x : Demand). IsAsked (demands new) x) (Contains_only d e c)
-        (now_asks d k is ∙ ap (λ b. cond b true (list_any (alike d) (demands old))) (alike_itself d));
-  }
-
--- beside others that stay
-module _ (before more after others : List Demand) (h : IsKeptWith before more after) where
-  either : (xs ys : List Demand) (d : Demand) → IsAsked (xs ++ ys) d → IsAsked xs d ⊎ IsAsked ys d
-  either xs ys d i = or_cases (list_any (alike d) xs) (list_any (alike d) ys) (sym (list_any-append (alike d) xs ys) ∙ i)
-
-  pub kept_beside : IsKeptWith (before ++ others) more (after ++ others)
-  kept_beside = record {
-    met = λ d i. ⊎_elim
-        (λ now. ⊎_elim
-        (λ l. asked_more (before ++ others) more d (asked_more before others d l))
-        (λ r. asked_behind (before ++ others) more d r)
-        (either before more d (h.met d now)))
-        (λ other. asked_more (before ++ others) more d (asked_behind before others d other))
-        (either after others d i);
-    kept = λ d i. ⊎_elim
-        (λ l. asked_more after others d (h.kept d l))
-        (λ r. asked_behind after others d r)
-        (either before others d i);
-    added = λ d c i. asked_more after others d (h.added d c i);
-  }
-
-  pub kept_behind : IsKeptWith (others ++ before) more (others ++ after)
-  kept_behind = record {
-    met = λ d i. ⊎_elim
-        (λ other. asked_more (others ++ before) more d (asked_more others before d other))
-        (λ now. ⊎_elim
-        (λ l. asked_more (others ++ before) more d (asked_behind others before d l))
-        (λ r. asked_behind (others ++ before) more d r)
-        (either before more d (h.met d now)))
-        (either others after d i);
-    kept = λ d i. ⊎_elim
-        (λ l. asked_more others after d l)
-        (λ r. asked_behind others after d (h.kept d r))
-        (either others before d i);
-    added = λ d c i. asked_behind others after d (h.added d c i);
-  }
+pub kept_put : (w : PathNumbers) (old new : BTreeSet DoneDemand) (x : NumberedDemand) (n : IsNumbered w (demanded x) x.path) → AreMet w old →
+    new.keys ≡ insert_key order.cmp-value.it old.keys (key_of x) → IsKeptWith (demands_in w old) (demanded x ∷ []) (demands_in w new)
+kept_put w old new x n are keys = record {
+  met = λ d h. ⊎_elim
+      (asked_more (demands_in w old) (demanded x ∷ []) d)
+      (asked_behind (demands_in w old) (demanded x ∷ []) d)
+      (came_put w old new x n keys are.numbering d h);
+  kept = stays_put w old new x n keys;
+  added = λ d c i. subst (λ (e : Demand). IsAsked (demands_in w new) e) (Contains_only (demanded x) d c) (⊎_elim
+      (λ t. stays_put w old new x n keys (demanded x) (sym (found_key w old are x n) ∙ t))
+      (λ f. is_asked w old new x n keys are.numbering f (demanded x) (alike_itself (demanded x)))
+      (cases_Bool (contains order.cmp-value.it old (key_of x))));
+}

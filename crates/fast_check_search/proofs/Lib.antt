@@ -2,16 +2,14 @@ pub mod Same
 pub mod Each
 pub mod Inside
 pub mod Closure
-pub mod Blocks
 pub mod Numbering
 pub mod Rests
 pub mod FileRests
 pub mod Wants
 pub mod OwnParts
+pub mod Led
 pub mod SymbolPaths
 pub mod Compared
 pub mod Kept
 pub mod Own
-pub mod WithoutNames
 pub mod KeptWith
-pub mod OneName

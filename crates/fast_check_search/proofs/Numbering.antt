@@ -1,32 +1,26 @@
 -- How paths are numbered.
-use Rattle.std.proofs.Common.{rules, ◌≡◌, ◌∙◌, sym, ap, refl, ⊎_elim, ◌⊎◌, inl, inr, ℕ, ◌+◌, ◌-◌, ◌<◌, ◌==◌, Bool, true, false, ◌&&◌, ◌≤◌}
-use Rattle.std.proofs.Common.{cond, List, [], ◌∷◌, ◌++◌, length, get_or, take, drop, Option, Some, None, arith, String}
-use Rattle.std.proofs.Common.{string_bytes, length-append}
-use Rattle.std.specs.List.{between}
-use Rattle.std.specs.Cmp.Lexicographic.{slice_cmp}
-use Rattle.std.specs.Map.{lookup, KeepsOthers}
-use Rattle.std.specs.BTreeMap.{is_at, get, Updates}
+use Rattle.std.proofs.Common.{rules, ◌≡◌, ◌∙◌, sym, ap, refl, subst, ⊎_elim, ℕ, ◌+◌, ◌-◌, ◌<◌, ◌≤◌, ◌==◌, Bool, true, false, ◌&&◌, cond}
+use Rattle.std.proofs.Common.{List, [], ◌∷◌, ◌++◌, length, get_or, drop, Option, Some, None, arith, String, string_bytes, ◌⊎◌, inl, inr, zero, suc}
+use Rattle.std.specs.Map.{lookup}
+use Rattle.std.specs.BTreeMap.{is_at, get, insert_entry, get_by_text, Updates}
 use Rattle.std.specs.Option.{option_and_then}
-use Rattle.std.specs.Ordering.{is_eq, eq_by_cmp, nat_cmp, ordering_then}
+use Rattle.std.specs.Ordering.{is_eq, match_ordering, nat_cmp, ordering_then}
 use Rattle.std.specs.Str.{bytes_eq}
 use Rattle.std.specs.String.{string_cmp}
+use Rattle.std.specs.Cmp.Lexicographic.{bytes_decides}
 use Rattle.std.specs.declared.alloc.Global.{Global}
 use Rattle.std.specs.declared.cmp.Ordering.{Ordering}
 use Rattle.std.specs.declared.cmp.Ordering.TheVariants.{Less, Equal, Greater}
-use Rattle.std.proofs.lemmas.Bool.{cases_Bool, false≢true, eqb-true, eq-eqb, and_parts}
-use Rattle.std.proofs.lemmas.List.{get_or_append_left, get_or_push, length_push, length-map, take-append-drop, drop-drop, drop-map, drop_more}
-use Rattle.std.proofs.lemmas.List.{take-map, take_at}
-use Rattle.std.proofs.lemmas.List.Edits.{length-between}
-use Rattle.std.proofs.lemmas.Map.Text.{is_eq-slice_cmp}
+use Rattle.std.proofs.lemmas.Bool.{cases_Bool, cond-true, cond-false, false≢true, eqb-true, eq-eqb, and_parts}
+use Rattle.std.proofs.lemmas.List.{get_or_append_left, get_or_push, length_push, length-map, drop_more, get_or-map}
+use Rattle.std.proofs.lemmas.Map.Text.{btree_map_updates_text}
 use Rattle.fast_check_names.specs.Names.{Name, Path, path_of}
 use Rattle.fast_check_name_demands.specs.demands.Account.{same_path}
 use Rattle.fast_check_search.specs.contracts.numbers.NamedRestOrd.TheImpl as order
-use Rattle.fast_check_search.specs.declared.numbers.FirstNames.{FirstNames}
 use Rattle.fast_check_search.specs.declared.numbers.NamedRest.{NamedRest}
 use Rattle.fast_check_search.specs.declared.numbers.PathNumbers.{PathNumbers}
-use Rattle.fast_check_search.specs.Numbers.{blocks, is_named, number_before, number_of_blocks, number_of}
-use Rattle.fast_check_search.specs.Numbers.{IsNumbering, Keeps}
-use Rattle.fast_check_search.proofs.Blocks.{First, first_block, has_name, all, begins, blocks_once, is_full, one_block}
+use Rattle.fast_check_search.specs.Numbers.{name_number, number_at, number_before, number_of, name_in, first_at, path_within, path_at}
+use Rattle.fast_check_search.specs.Numbers.{AreBelow, IsNumbering, Keeps}
 use Rattle.fast_check_search.proofs.Same.{same_paths, path_itself}
 
 pub then_equal : (a b : Ordering) → is_eq (ordering_then a b) ≡ (is_eq a && is_eq b)
@@ -40,193 +34,220 @@ and_same a b c d e f = cc
 pub numbers_compare : (a b : ℕ) → is_eq (nat_cmp a b) ≡ (a == b)
 numbers_compare a b = search rules
 
-names_compare : (xs ys : List (String Global)) → is_eq (slice_cmp string_cmp xs ys) ≡ same_path (path_of xs) (path_of ys)
-names_compare [] [] = refl
-names_compare [] (y ∷ ys) = refl
-names_compare (x ∷ xs) [] = refl
-names_compare (x ∷ xs) (y ∷ ys) = then_equal (string_cmp x y) (slice_cmp string_cmp xs ys) ∙
-    and_same (is_eq (string_cmp x y)) (bytes_eq (string_bytes x) (string_bytes y)) (is_eq (slice_cmp string_cmp xs ys))
-    (same_path (path_of xs) (path_of ys))
-    (is_eq-slice_cmp (string_bytes x) (string_bytes y)) (names_compare xs ys)
+some_is : {X : Type 0} (a b : X) → Some a ≡ Some b → a ≡ b
+some_is a b e = cc
 
--- the order of keys tells them apart as their parts do
-named_is : (a b : NamedRest) → is_eq (order.cmp-value.it a b) ≡ is_named a.rest (path_of a.names.now) b
-named_is a b = then_equal (nat_cmp a.rest b.rest) (slice_cmp string_cmp a.names.now b.names.now) ∙
-    and_same _ (a.rest == b.rest) _ (same_path (path_of a.names.now) (path_of b.names.now)) (numbers_compare a.rest b.rest)
-    (names_compare a.names.now b.names.now)
+some_none : {X : Type 0} (a : X) → Some a ≡ None → ⊥
+some_none a e = cc
 
-lookup_alike : {K X : Type 0} (f g : K → Bool) → ((k : K) → f k ≡ g k) → (es : List (K × X)) → lookup f es ≡ lookup g es
-lookup_alike f g h [] = refl
-lookup_alike f g h (e ∷ es) = ap (λ b. cond b (Some e.1) (lookup f es)) (h e.0) ∙
-    ap (λ o. cond (g e.0) (Some e.1) o) (lookup_alike f g h es)
+not_equal : (a b : ℕ) → (a ≡ b → ⊥) → (a == b) ≡ false
+not_equal a b h = ⊎_elim (λ (t : (a == b) ≡ true). absurd (h (eqb-true a b t))) (λ (f : (a == b) ≡ false). f) (cases_Bool (a == b))
 
--- a key finds what its parts find
-pub found_at : (w : PathNumbers) (k : NamedRest) → number_before w k.rest (path_of k.names.now) ≡ get order.cmp-value.it w.numbers k
-found_at w k = lookup_alike (is_named k.rest (path_of k.names.now)) (is_at (order.cmp-value.it k)) (λ x. sym (named_is k x))
-    w.numbers.entries
+-- the order of first names and rests tells them apart
+abbrev named : ℕ → ℕ → NamedRest
+named rest name = record { rest = rest; name = name }
 
-parts_are : (rest : ℕ) (n : Path) (k : NamedRest) → is_named rest n k ≡ true → (rest ≡ k.rest) × (n ≡ path_of k.names.now)
-parts_are rest n k t =
-    let a = and_parts (rest == k.rest) (same_path n (path_of k.names.now)) t in
-    (eqb-true rest k.rest a.0, same_paths n (path_of k.names.now) a.1)
+one_first : (k l : NamedRest) → is_eq (order.cmp-value.it k l) ≡ true → k ≡ l
+one_first k l h =
+    let both = and_parts (is_eq (nat_cmp k.rest l.rest)) (is_eq (nat_cmp k.name l.name))
+    (sym (then_equal (nat_cmp k.rest l.rest) (nat_cmp k.name l.name)) ∙ h) in
+    ap (λ n. named n k.name) (eqb-true k.rest l.rest (sym (numbers_compare k.rest l.rest) ∙ both.0)) ∙
+    ap (λ n. named l.rest n) (eqb-true k.name l.name (sym (numbers_compare k.name l.name) ∙ both.1))
 
-found_by : (w : PathNumbers) (rest : ℕ) (n : Path) (k : NamedRest) → is_named rest n k ≡ true →
-    number_before w rest n ≡ get order.cmp-value.it w.numbers k
-found_by w rest n k t =
-    let a = parts_are rest n k t in
-    ap (λ (r : ℕ). number_before w r n) a.0 ∙ (ap (λ (m : Path). number_before w k.rest m) a.1 ∙ found_at w k)
+itself : (k : NamedRest) → is_eq (order.cmp-value.it k k) ≡ true
+itself k = then_equal (nat_cmp k.rest k.rest) (nat_cmp k.name k.name) ∙
+    and_same _ true _ true (numbers_compare k.rest k.rest ∙ eq-eqb k.rest k.rest refl) (numbers_compare k.name k.name ∙ eq-eqb k.name k.name refl)
 
-one_key : (rest : ℕ) (n : Path) (x y : NamedRest) → is_named rest n x ≡ true → is_named rest n y ≡ eq_by_cmp order.cmp-value.it x y
-one_key rest n x y t =
-    let a = parts_are rest n x t in
-    ap (λ (r : ℕ). is_named r n y) a.0 ∙ (ap (λ (m : Path). is_named x.rest m y) a.1 ∙ sym (named_is x y))
+-- names
 
-apart : (rest : ℕ) (n : Path) (key k : NamedRest) → is_named rest n key ≡ false → is_eq (order.cmp-value.it key k) ≡ true →
-    is_named rest n k ≡ false
-apart rest n key k f y = ⊎_elim
-    (λ (t : is_named rest n k ≡ true).
-    let a = parts_are rest n k t in
-    let b = parts_are key.rest (path_of key.names.now) k (sym (named_is key k) ∙ y) in
-    absurd (false≢true (sym f ∙ (ap (λ (r : ℕ). is_named r n key) (a.0 ∙ sym b.0) ∙
-    (ap (λ (m : Path). is_named key.rest m key) (a.1 ∙ sym b.1) ∙ itself key)))))
-    (λ (g : is_named rest n k ≡ false). g)
-    (cases_Bool (is_named rest n k))
-  where
-    itself : (x : NamedRest) → is_named x.rest (path_of x.names.now) x ≡ true
-    itself x = and_same _ true _ true (eq-eqb x.rest x.rest refl) (path_itself (path_of x.names.now))
+below_more : (few many : ℕ) (es : List (String Global × ℕ)) → few ≤ many → AreBelow few es → AreBelow many es
+below_more few many [] l h = tt
+below_more few many (e ∷ es) l h = (omega (arith, h.0, l), below_more few many es l h.1)
 
-kept : (eq : NamedRest → NamedRest → Bool) (test : NamedRest → Bool) (old new : List (NamedRest × ℕ)) → KeepsOthers eq test old new →
-    (other : NamedRest → Bool) → ((x y : NamedRest) → other x ≡ true → other y ≡ eq x y) →
-    ((k : NamedRest) → test k ≡ true → other k ≡ false) → lookup other new ≡ lookup other old
-unfolding KeepsOthers
-kept eq test old new h = h
+module _ (k : String Global) (v : ℕ) where
+  abbrev put : List (String Global × ℕ) → List (String Global × ℕ)
+  put es = insert_entry string_cmp es k v
 
--- no path stands before the newest one
-pub noted_none : (w : PathNumbers) → IsNumbering w → (rest : ℕ) (n : Path) → length w.rests.items ≤ rest → number_before w rest n ≡ None
-noted_none w numbering rest n l = none_of (number_before w rest n)
-    (λ m e. let a = numbering.within rest n m e in omega (arith, a.0, a.1, l))
-  where
-    none_of : (o : Option ℕ) → ((m : ℕ) → o ≡ Some m → ⊥) → o ≡ None
-    none_of None h = refl
-    none_of (Some m) h = absurd (h m refl)
+  abbrev branch : Ordering → String Global × ℕ → List (String Global × ℕ) → List (String Global × ℕ)
+  branch o e es = match_ordering o ((k, v) ∷ e ∷ es) ((e.0, v) ∷ es) (e ∷ put es)
+
+  abbrev Absent : List (String Global × ℕ) → Type 0
+  Absent es = lookup (is_at (string_cmp k)) es ≡ None
+
+  below_put : (most : ℕ) (es : List (String Global × ℕ)) → v < most → AreBelow most es → AreBelow most (put es)
+  below_put most [] l h = (l, tt)
+  below_put most (e ∷ es) l h = go (string_cmp k e.0) (below_put most es l h.1)
+    where
+      go : (o : Ordering) → AreBelow most (put es) → AreBelow most (branch o e es)
+      go Less i = (l, h)
+      go Equal i = (l, h.1)
+      go Greater i = (h.0, i)
+
+  pub length_put : (es : List (String Global × ℕ)) → Absent es → length (put es) ≡ length es + 1
+  length_put [] a = refl
+  length_put (e ∷ es) a = go (string_cmp k e.0) refl (length_put es)
+    where
+      go : (o : Ordering) → string_cmp k e.0 ≡ o → (Absent es → length (put es) ≡ length es + 1) →
+          length (branch o e es) ≡ length (e ∷ es) + 1
+      go Less i others = omega arith
+      go Equal i others = absurd (some_none e.1 (sym (cond-true (is_at (string_cmp k) e.0) (Some e.1) (lookup (is_at (string_cmp k)) es) (ap is_eq i)) ∙ a))
+      go Greater i others = omega (
+        arith,
+        others (sym (cond-false (is_at (string_cmp k) e.0) (Some e.1) (lookup (is_at (string_cmp k)) es) (ap is_eq i)) ∙ a),
+      )
+
+  -- a name that comes has its number
+  name_put : (es : List (String Global × ℕ)) → AreBelow v es → Absent es → name_in (put es) v ≡ string_bytes k
+  name_put [] h a = cond-true (v == v) (string_bytes k) [] (eq-eqb v v refl)
+  name_put (e ∷ es) h a = go (string_cmp k e.0) refl (name_put es h.1)
+    where
+      go : (o : Ordering) → string_cmp k e.0 ≡ o → (Absent es → name_in (put es) v ≡ string_bytes k) → name_in (branch o e es) v ≡ string_bytes k
+      go Less i others = cond-true (v == v) (string_bytes k) (name_in (e ∷ es) v) (eq-eqb v v refl)
+      go Equal i others = absurd (some_none e.1 (sym (cond-true (is_at (string_cmp k) e.0) (Some e.1) (lookup (is_at (string_cmp k)) es) (ap is_eq i)) ∙ a))
+      go Greater i others =
+          cond-false (e.1 == v) (string_bytes e.0) (name_in (put es) v) (not_equal e.1 v (λ s. omega (arith, h.0, s))) ∙
+          others (sym (cond-false (is_at (string_cmp k) e.0) (Some e.1) (lookup (is_at (string_cmp k)) es) (ap is_eq i)) ∙ a)
+
+  -- the others keep theirs
+  name_kept : (es : List (String Global × ℕ)) (m : ℕ) → m < v → Absent es → name_in (put es) m ≡ name_in es m
+  name_kept [] m l a = cond-false (v == m) (string_bytes k) [] (not_equal v m (λ s. omega (arith, l, s)))
+  name_kept (e ∷ es) m l a = go (string_cmp k e.0) refl (name_kept es m l)
+    where
+      go : (o : Ordering) → string_cmp k e.0 ≡ o → (Absent es → name_in (put es) m ≡ name_in es m) →
+          name_in (branch o e es) m ≡ name_in (e ∷ es) m
+      go Less i others = cond-false (v == m) (string_bytes k) (name_in (e ∷ es) m) (not_equal v m (λ s. omega (arith, l, s)))
+      go Equal i others = absurd (some_none e.1 (sym (cond-true (is_at (string_cmp k) e.0) (Some e.1) (lookup (is_at (string_cmp k)) es) (ap is_eq i)) ∙ a))
+      go Greater i others = ap (λ n. cond (e.1 == m) (string_bytes e.0) n)
+          (others (sym (cond-false (is_at (string_cmp k) e.0) (Some e.1) (lookup (is_at (string_cmp k)) es) (ap is_eq i)) ∙ a))
+
+below_found : (most : ℕ) (test : String Global → Bool) (es : List (String Global × ℕ)) (m : ℕ) → AreBelow most es → lookup test es ≡ Some m →
+    m < most
+below_found most test [] m h e = absurd (some_none m (sym e))
+below_found most test (e ∷ es) m h f = ⊎_elim
+    (λ t. let is = some_is e.1 m (sym (cond-true (test e.0) (Some e.1) (lookup test es) t) ∙ f) in omega (arith, h.0, is))
+    (λ g. below_found most test es m h.1 (sym (cond-false (test e.0) (Some e.1) (lookup test es) g) ∙ f))
+    (cases_Bool (test e.0))
+
+then_some : (f : ℕ → Option ℕ) (o : Option ℕ) (m : ℕ) → option_and_then f o ≡ Some m → (r : ℕ) × (o ≡ Some r) × (f r ≡ Some m)
+then_some f None m e = absurd (some_none m (sym e))
+then_some f (Some r) m e = (r, refl, e)
+
+then_is : (f : ℕ → Option ℕ) (o : Option ℕ) (r m : ℕ) → o ≡ Some r → f r ≡ Some m → option_and_then f o ≡ Some m
+then_is f o r m e g = ap (option_and_then f) e ∙ g
+
+pub before_is : (w : PathNumbers) (rest : ℕ) (n : Name) (name m : ℕ) → name_number w n ≡ Some name → number_at w (named rest name) ≡ Some m →
+    number_before w rest n ≡ Some m
+before_is w rest n name m e f = then_is (λ i. number_at w (named rest i)) (name_number w n) name m e f
+
+-- a name gets the next number
+module _ (old new : PathNumbers) (key : String Global) (v : ℕ) (numbering : IsNumbering old) (next : v ≡ length old.names.entries)
+    (entries : new.names.entries ≡ insert_entry string_cmp old.names.entries key v)
+    (put : Updates string_cmp old.names new.names key (Some v)) (absent : name_number old (string_bytes key) ≡ None)
+    (numbers : new.numbers ≡ old.numbers) (rests : new.rests ≡ old.rests) where
+  below : AreBelow v old.names.entries
+  below = below_more (length old.names.entries) v old.names.entries (omega (arith, next)) numbering.below
+
+  none : Absent key v old.names.entries
+  none = absent
+
+  names_long : length new.names.entries ≡ v + 1
+  names_long = ap length entries ∙ (length_put key v old.names.entries none ∙ ap (λ n. n + 1) (sym next))
+
+  text : (n : Name) → name_number new n ≡ cond (bytes_eq (string_bytes key) n) (Some v) (name_number old n)
+  text = btree_map_updates_text (string_bytes key) old.names new.names (Some v) put
+
+  still : (n : Name) (m : ℕ) → name_number old n ≡ Some m → name_number new n ≡ Some m
+  still n m e = ⊎_elim
+      (λ t. absurd (some_none m (sym e ∙ (ap (name_number old) (sym ((bytes_decides (string_bytes key) n).0 t)) ∙ absent))))
+      (λ f. text n ∙ (cond-false (bytes_eq (string_bytes key) n) (Some v) (name_number old n) f ∙ e))
+      (cases_Bool (bytes_eq (string_bytes key) n))
+
+  pub name_numbering : IsNumbering new
+  name_numbering = record {
+    below = subst (λ es. AreBelow (length new.names.entries) es) (sym entries)
+        (below_put key v (length new.names.entries) old.names.entries (omega (arith, names_long))
+        (below_more v (length new.names.entries) old.names.entries (omega (arith, names_long)) below));
+    named = λ n m e. ap (λ es. name_in es m) entries ∙ ⊎_elim
+        (λ t.
+        let is = some_is v m (sym (text n ∙ cond-true (bytes_eq (string_bytes key) n) (Some v) (name_number old n) t) ∙ e) in
+        subst (λ i. name_in (insert_entry string_cmp old.names.entries key v) i ≡ n) is
+        (name_put key v old.names.entries below none ∙ (bytes_decides (string_bytes key) n).0 t))
+        (λ f.
+        let was = sym (text n ∙ cond-false (bytes_eq (string_bytes key) n) (Some v) (name_number old n) f) ∙ e in
+        name_kept key v old.names.entries m (below_found v _ old.names.entries m below was) none ∙ numbering.named n m was)
+        (cases_Bool (bytes_eq (string_bytes key) n));
+    within = λ k m e. subst (λ rs. (k.rest < m) × (m ≤ length rs.items)) (sym rests)
+        (numbering.within k m (subst (λ ns. get order.cmp-value.it ns k ≡ Some m) numbers e));
+    noted = λ k m x e. subst (λ rs. get_or rs.items (m - 1) x ≡ k) (sym rests)
+        (numbering.noted k m x (subst (λ ns. get order.cmp-value.it ns k ≡ Some m) numbers e));
+  }
+
+  pub name_keeps : Keeps old new
+  name_keeps rest n m e =
+      let a = then_some (λ i. number_at old (named rest i)) (name_number old n) m e in
+      before_is new rest n a.0 m (still n a.0 a.1)
+      (subst (λ ns. get order.cmp-value.it ns (named rest a.0) ≡ Some m) (sym numbers) a.2)
+
+  pub name_numbered : name_number new (string_bytes key) ≡ Some v
+  name_numbered = text (string_bytes key) ∙ cond-true (bytes_eq (string_bytes key) (string_bytes key)) (Some v)
+      (name_number old (string_bytes key)) ((bytes_decides (string_bytes key) (string_bytes key)).1 refl)
 
 -- a path gets the next number
-module _ (old new : PathNumbers) (key : NamedRest) (number : ℕ) (numbering : IsNumbering old)
-    (absent : get order.cmp-value.it old.numbers key ≡ None) (put : Updates order.cmp-value.it old.numbers new.numbers key (Some number))
-    (noted : new.rests.items ≡ old.rests.items ++ record { rest = key.rest; count = length (path_of key.names.now) } ∷ [])
-    (next : number ≡ length old.rests.items + 1) (low : key.rest ≤ length old.rests.items) (few : length (path_of key.names.now) ≤ 8) where
-  abbrev first : FirstNames
-  first = record { rest = key.rest; count = length (path_of key.names.now) }
+module _ (old new : PathNumbers) (key : NamedRest) (number : ℕ) (numbering : IsNumbering old) (absent : number_at old key ≡ None)
+    (put : Updates order.cmp-value.it old.numbers new.numbers key (Some number)) (names : new.names ≡ old.names)
+    (noted : new.rests.items ≡ old.rests.items ++ key ∷ []) (next : number ≡ length old.rests.items + 1)
+    (low : key.rest ≤ length old.rests.items) where
+  here : number_at new key ≡ Some number
+  here = put.0 key ∙ cond-true (is_at (order.cmp-value.it key) key) (Some number) (number_at old key) (itself key)
 
-  here : (rest : ℕ) (n : Path) → is_named rest n key ≡ true → number_before new rest n ≡ Some number
-  here rest n t = found_by new rest n key t ∙ put.1
+  there : (k : NamedRest) → is_eq (order.cmp-value.it key k) ≡ false → number_at new k ≡ number_at old k
+  there k f = put.0 k ∙ cond-false (is_at (order.cmp-value.it key) k) (Some number) (number_at old k) f
 
-  there : (rest : ℕ) (n : Path) → is_named rest n key ≡ false → number_before new rest n ≡ number_before old rest n
-  there rest n f = kept (eq_by_cmp order.cmp-value.it) (is_at (order.cmp-value.it key)) old.numbers.entries new.numbers.entries put.3
-      (is_named rest n) (one_key rest n) (λ k y. apart rest n key k f y)
-
-  -- the path that came, or one that had its number
-  abbrev Came : ℕ → Path → ℕ → Type 0
-  Came rest n m = ((rest ≡ key.rest) × (n ≡ path_of key.names.now) × (m ≡ number)) ⊎ (number_before old rest n ≡ Some m)
-
-  came : (rest : ℕ) (n : Path) (m : ℕ) → number_before new rest n ≡ Some m → Came rest n m
-  came rest n m e = ⊎_elim
-      (λ (t : is_named rest n key ≡ true).
-      let a = parts_are rest n key t in inl (a.0, a.1, some_is m number (sym e ∙ here rest n t)))
-      (λ (f : is_named rest n key ≡ false). inr (sym (there rest n f) ∙ e))
-      (cases_Bool (is_named rest n key))
-    where
-      some_is : (a b : ℕ) → Some a ≡ Some b → a ≡ b
-      some_is a b e = cc
+  came : (k : NamedRest) (m : ℕ) → number_at new k ≡ Some m → ((key ≡ k) × (number ≡ m)) ⊎ (number_at old k ≡ Some m)
+  came k m e = ⊎_elim
+      (λ t. let is = one_first key k t in inl (is, some_is number m (sym here ∙ (ap (number_at new) is ∙ e))))
+      (λ f. inr (sym (there k f) ∙ e))
+      (cases_Bool (is_eq (order.cmp-value.it key k)))
 
   long : length new.rests.items ≡ length old.rests.items + 1
-  long = ap length noted ∙ length_push old.rests.items first
-
-  newest : (m : ℕ) (x : FirstNames) → m ≡ number → get_or new.rests.items (m - 1) x ≡ first
-  newest m x e = ap (λ (xs : List FirstNames). get_or xs (m - 1) x) noted ∙
-      get_or_push old.rests.items first x (m - 1) (omega (arith, e, next))
-
-  older : (m : ℕ) (x : FirstNames) → m - 1 < length old.rests.items → get_or new.rests.items (m - 1) x ≡ get_or old.rests.items (m - 1) x
-  older m x l = ap (λ (xs : List FirstNames). get_or xs (m - 1) x) noted ∙ get_or_append_left old.rests.items (first ∷ []) x (m - 1) l
+  long = ap length noted ∙ length_push old.rests.items key
 
   pub numbering_put : IsNumbering new
   numbering_put = record {
-    within = λ rest n m e. ⊎_elim
-        (λ (c : (rest ≡ key.rest) × (n ≡ path_of key.names.now) × (m ≡ number)). (
-          omega (arith, c.0, c.2, next, low),
-          omega (arith, c.2, next, long),
-        ))
-        (λ (c : number_before old rest n ≡ Some m). let a = numbering.within rest n m c in (a.0, omega (arith, a.1, long)))
-        (came rest n m e);
-    short = λ rest n m e. ⊎_elim
-        (λ (c : (rest ≡ key.rest) × (n ≡ path_of key.names.now) × (m ≡ number)). omega (arith, ap length c.1, few))
-        (λ (c : number_before old rest n ≡ Some m). numbering.short rest n m c)
-        (came rest n m e);
-    rest = λ rest n m x e. ⊎_elim
-        (λ (c : (rest ≡ key.rest) × (n ≡ path_of key.names.now) × (m ≡ number)). ap (λ (y : FirstNames). y.rest) (newest m x c.2) ∙ sym c.0)
-        (λ (c : number_before old rest n ≡ Some m).
-        let a = numbering.within rest n m c in
-        ap (λ (y : FirstNames). y.rest) (older m x (omega (arith, a.0, a.1))) ∙ numbering.rest rest n m x c)
-        (came rest n m e);
-    count = λ rest n m x e. ⊎_elim
-        (λ (c : (rest ≡ key.rest) × (n ≡ path_of key.names.now) × (m ≡ number)).
-        ap (λ (y : FirstNames). y.count) (newest m x c.2) ∙ ap length (sym c.1))
-        (λ (c : number_before old rest n ≡ Some m).
-        let a = numbering.within rest n m c in
-        ap (λ (y : FirstNames). y.count) (older m x (omega (arith, a.0, a.1))) ∙ numbering.count rest n m x c)
-        (came rest n m e);
-    once = λ rest n m other o e f. ⊎_elim
-        (λ (c : (rest ≡ key.rest) × (n ≡ path_of key.names.now) × (m ≡ number)). ⊎_elim
-        (λ (d : (other ≡ key.rest) × (o ≡ path_of key.names.now) × (m ≡ number)). c.1 ∙ sym d.1)
-        (λ (d : number_before old other o ≡ Some m).
-        let a = numbering.within other o m d in absurd (omega (arith, a.1, c.2, next)))
-        (came other o m f))
-        (λ (c : number_before old rest n ≡ Some m). ⊎_elim
-        (λ (d : (other ≡ key.rest) × (o ≡ path_of key.names.now) × (m ≡ number)).
-        let a = numbering.within rest n m c in absurd (omega (arith, a.1, d.2, next)))
-        (λ (d : number_before old other o ≡ Some m). numbering.once rest n m other o c d)
-        (came other o m f))
-        (came rest n m e);
+    below = subst (λ ns. AreBelow (length ns.entries) ns.entries) (sym names) numbering.below;
+    named = λ n m e. subst (λ ns. name_in ns.entries m ≡ n) (sym names)
+        (numbering.named n m (subst (λ ns. get_by_text ns n ≡ Some m) names e));
+    within = λ k m e. ⊎_elim
+        (λ c. (omega (arith, ap (λ (x : NamedRest). x.rest) c.0, c.1, next, low), omega (arith, c.1, next, long)))
+        (λ was. let a = numbering.within k m was in (a.0, omega (arith, a.1, long)))
+        (came k m e);
+    noted = λ k m x e. ⊎_elim
+        (λ c. ap (λ (xs : List NamedRest). get_or xs (m - 1) x) noted ∙ (get_or_push old.rests.items key x (m - 1) (omega (arith, c.1, next)) ∙ c.0))
+        (λ was.
+        let a = numbering.within k m was in
+        ap (λ (xs : List NamedRest). get_or xs (m - 1) x) noted ∙
+        (get_or_append_left old.rests.items (key ∷ []) x (m - 1) (omega (arith, a.0, a.1)) ∙ numbering.noted k m x was))
+        (came k m e);
   }
 
   pub keeps_put : Keeps old new
-  keeps_put rest n m e = ⊎_elim
-      (λ (t : is_named rest n key ≡ true). absurd (some_none m (sym e ∙ (found_by old rest n key t ∙ absent))))
-      (λ (f : is_named rest n key ≡ false). there rest n f ∙ e)
-      (cases_Bool (is_named rest n key))
-    where
-      some_none : (a : ℕ) → Some a ≡ None → ⊥
-      some_none a e = cc
+  keeps_put rest n m e =
+      let a = then_some (λ i. number_at old (named rest i)) (name_number old n) m e in
+      before_is new rest n a.0 m (subst (λ ns. get_by_text ns n ≡ Some a.0) (sym names) a.1)
+      (⊎_elim
+      (λ t. absurd (some_none m (sym a.2 ∙ (ap (number_at old) (sym (one_first key (named rest a.0) t)) ∙ absent))))
+      (λ f. there (named rest a.0) f ∙ a.2)
+      (cases_Bool (is_eq (order.cmp-value.it key (named rest a.0)))))
 
-  pub number_put : number_before new key.rest (path_of key.names.now) ≡ Some number
-  number_put = found_at new key ∙ put.0 key ∙ itself
-    where
-      itself : cond (is_at (order.cmp-value.it key) key) (Some number) (get order.cmp-value.it old.numbers key) ≡ Some number
-      itself = ap (λ b. cond b (Some number) (get order.cmp-value.it old.numbers key))
-          (named_is key key ∙ and_same _ true _ true (eq-eqb key.rest key.rest refl) (path_itself (path_of key.names.now)))
-
-then_some : (f : ℕ → Option ℕ) (o : Option ℕ) (m : ℕ) → option_and_then f o ≡ Some m → (r : ℕ) × (o ≡ Some r) × (f r ≡ Some m)
-then_some f None m e = absurd (none_some m e)
-  where
-    none_some : (a : ℕ) → None ≡ Some a → ⊥
-    none_some a e = cc
-then_some f (Some r) m e = (r, refl, e)
-
-pub before_some : (w : PathNumbers) (b : Path) (bs : List Path) (rest m : ℕ) → number_of_blocks w bs ≡ Some rest →
-    number_before w rest b ≡ Some m → number_of_blocks w (b ∷ bs) ≡ Some m
-before_some w b bs rest m e f = ap (λ (o : Option ℕ). option_and_then (λ r. number_before w r b) o) e ∙ f
+  pub number_put : number_at new key ≡ Some number
+  number_put = here
 
 -- a path keeps its number
-
-blocks_kept : (old new : PathNumbers) → Keeps old new → (bs : List Path) (m : ℕ) → number_of_blocks old bs ≡ Some m →
-    number_of_blocks new bs ≡ Some m
-blocks_kept old new h [] m e = e
-blocks_kept old new h (b ∷ bs) m e =
-    let a = then_some (λ r. number_before old r b) (number_of_blocks old bs) m e in
-    before_some new b bs a.0 m (blocks_kept old new h bs a.0 a.1) (h a.0 b m a.2)
-
 pub number_kept : (old new : PathNumbers) → Keeps old new → (p : Path) (m : ℕ) → number_of old p ≡ Some m → number_of new p ≡ Some m
-number_kept old new h p m e = blocks_kept old new h (blocks p) m e
+number_kept old new h [] m e = e
+number_kept old new h (n ∷ p) m e =
+    let a = then_some (λ r. number_before old r n) (number_of old p) m e in
+    then_is (λ r. number_before new r n) (number_of new p) a.0 m (number_kept old new h p a.0 a.1) (h a.0 n m a.2)
 
 pub keeps_itself : (w : PathNumbers) → Keeps w w
 keeps_itself w rest n m e = e
@@ -235,39 +256,59 @@ pub keeps_more : (a b c : PathNumbers) → Keeps a b → Keeps b c → Keeps a c
 keeps_more a b c f g rest n m e = g rest n m (f rest n m e)
 
 module _ (w : PathNumbers) (numbering : IsNumbering w) where
-  zero_is : (a : ℕ) → Some 0 ≡ Some a → 0 ≡ a
-  zero_is a e = cc
+  pub number_upto : (p : Path) (m : ℕ) → number_of w p ≡ Some m → m ≤ length w.rests.items
+  number_upto [] m e = let is = some_is 0 m e in omega (arith, is)
+  number_upto (n ∷ p) m e =
+      let a = then_some (λ r. number_before w r n) (number_of w p) m e in
+      let b = then_some (λ i. number_at w (named a.0 i)) (name_number w n) m a.2 in
+      (numbering.within (named a.0 b.0) m b.2).1
+
+  -- a path behind its first name
+  pub rest_of : (n : Name) (p : Path) (m : ℕ) (x : NamedRest) → number_of w (n ∷ p) ≡ Some m → x ≡ get_or w.rests.items (m - 1) x →
+      (0 < m) × (number_of w p ≡ Some x.rest)
+  rest_of n p m x e is =
+      let a = then_some (λ r. number_before w r n) (number_of w p) m e in
+      let b = then_some (λ i. number_at w (named a.0 i)) (name_number w n) m a.2 in (
+        omega (arith, (numbering.within (named a.0 b.0) m b.2).0),
+        a.1 ∙ ap (λ (y : NamedRest). Some y.rest) (sym (is ∙ numbering.noted (named a.0 b.0) m x b.2)),
+      )
+
+  -- the path of a number is the one that has it
+  within_is : (p : Path) (m most : ℕ) → number_of w p ≡ Some m → m ≤ most → path_within w most m ≡ p
+  within_is [] m most e l = subst (λ k. path_within w most k ≡ []) (some_is 0 m e) (none most)
+    where
+      none : (k : ℕ) → path_within w k 0 ≡ []
+      none zero = refl
+      none (suc k) = refl
+  within_is (n ∷ p) m most e l = go most l (within_is p)
+    where
+      a : (r : ℕ) × (number_of w p ≡ Some r) × (number_before w r n ≡ Some m)
+      a = then_some (λ r. number_before w r n) (number_of w p) m e
+
+      b : (i : ℕ) × (name_number w n ≡ Some i) × (number_at w (named a.0 i) ≡ Some m)
+      b = then_some (λ i. number_at w (named a.0 i)) (name_number w n) m a.2
+
+      low : a.0 < m
+      low = (numbering.within (named a.0 b.0) m b.2).0
+
+      first : first_at w m ≡ named a.0 b.0
+      first = numbering.noted (named a.0 b.0) m (named 0 0) b.2
+
+      go : (k : ℕ) → m ≤ k → ((i most : ℕ) → number_of w p ≡ Some i → i ≤ most → path_within w most i ≡ p) → path_within w k m ≡ n ∷ p
+      go zero h behind = absurd (omega (arith, h, low))
+      go (suc k) h behind =
+          cond-false (m == 0) [] (name_in w.names.entries (first_at w m).name ∷ path_within w k (first_at w m).rest)
+          (not_equal m 0 (λ s. omega (arith, s, low))) ∙
+          (ap (λ (x : NamedRest). name_in w.names.entries x.name ∷ path_within w k x.rest) first ∙
+          (ap (λ (x : Name). x ∷ path_within w k a.0) (numbering.named n b.0 b.1) ∙
+          ap (λ (q : Path). n ∷ q) (behind a.0 k a.1 (omega (arith, h, low)))))
+
+  pub path_is : (p : Path) (m : ℕ) → number_of w p ≡ Some m → path_at w m ≡ p
+  path_is p m e = within_is p m m e (omega arith)
 
   -- no two paths have one number
-
-  behind_rest : (b : Path) (bs : List Path) (m : ℕ) → number_of_blocks w (b ∷ bs) ≡ Some m → 0 < m
-  behind_rest b bs m e =
-      let a = then_some (λ r. number_before w r b) (number_of_blocks w bs) m e in omega (arith, (numbering.within a.0 b m a.2).0)
-
-  blocks_tell : (bs cs : List Path) (m : ℕ) → number_of_blocks w bs ≡ Some m → number_of_blocks w cs ≡ Some m → bs ≡ cs
-  blocks_tell [] [] m e f = refl
-  blocks_tell [] (c ∷ cs) m e f = absurd (omega (arith, behind_rest c cs m f, zero_is m e))
-  blocks_tell (b ∷ bs) [] m e f = absurd (omega (arith, behind_rest b bs m e, zero_is m f))
-  blocks_tell (b ∷ bs) (c ∷ cs) m e f =
-      let x : FirstNames = record { rest = 0; count = 0 } in
-      let g = then_some (λ r. number_before w r b) (number_of_blocks w bs) m e in
-      let h = then_some (λ r. number_before w r c) (number_of_blocks w cs) m f in
-      both b c bs cs (numbering.once g.0 b m h.0 c g.2 h.2)
-      (blocks_tell bs cs g.0 g.1 (h.1 ∙ ap Some (sym (numbering.rest h.0 c m x h.2) ∙ numbering.rest g.0 b m x g.2)))
-    where
-      both : (b c : Path) (bs cs : List Path) → b ≡ c → bs ≡ cs → b ∷ bs ≡ c ∷ cs
-      both b c bs cs e f = cc
-
   pub number_once : (p q : Path) (m : ℕ) → number_of w p ≡ Some m → number_of w q ≡ Some m → p ≡ q
-  number_once p q m e f = blocks_once p q (blocks_tell (blocks p) (blocks q) m e f)
-
-  blocks_upto : (bs : List Path) (m : ℕ) → number_of_blocks w bs ≡ Some m → m ≤ length w.rests.items
-  blocks_upto [] m e = omega (arith, zero_is m e)
-  blocks_upto (b ∷ bs) m e =
-      let a = then_some (λ r. number_before w r b) (number_of_blocks w bs) m e in (numbering.within a.0 b m a.2).1
-
-  pub number_upto : (p : Path) (m : ℕ) → number_of w p ≡ Some m → m ≤ length w.rests.items
-  number_upto p m e = blocks_upto (blocks p) m e
+  number_once p q m e f = sym (path_is p m e) ∙ path_is q m f
 
   -- so numbers tell paths apart
   pub numbers_tell : (p q : Path) (k l : ℕ) → number_of w p ≡ Some k → number_of w q ≡ Some l → (k == l) ≡ same_path p q
@@ -281,99 +322,13 @@ module _ (w : PathNumbers) (numbering : IsNumbering w) where
       (λ (g : (k == l) ≡ false). g ∙ sym u)
       (cases_Bool (k == l)))
       (cases_Bool (same_path p q))
-    where
-      some_is : (a b : ℕ) → Some a ≡ Some b → a ≡ b
-      some_is a b e = cc
 
-between_path : (names : List (String Global)) (i j : ℕ) → path_of (between i j names) ≡ take (j - i) (drop i (path_of names))
-between_path names i j = sym (ap (take (j - i)) (drop-map string_bytes i names) ∙ take-map string_bytes (j - i) (drop i names))
-
--- a path behind its first name
-module _ (w : PathNumbers) (numbering : IsNumbering w) (names : List (String Global)) (named : 0 < length names) (m : ℕ)
-    (e : number_of w (path_of names) ≡ Some m) where
-  abbrev n : Name
-  n = get_or (path_of names) 0 []
-
-  abbrev p : Path
-  p = drop 1 (path_of names)
-
-  path_is : path_of names ≡ n ∷ p
-  path_is = drop_more (path_of names) 0 [] (omega (arith, named, length-map names string_bytes))
-
-  f : First n (blocks p)
-  f = first_block n (blocks p)
-
-  blocks_are : blocks (path_of names) ≡ (n ∷ f.more) ∷ f.rest
-  blocks_are = ap blocks path_is ∙ f.is
-
-  before : (r : ℕ) × (number_of_blocks w f.rest ≡ Some r) × (number_before w r (n ∷ f.more) ≡ Some m)
-  before = then_some (λ r. number_before w r (n ∷ f.more)) (number_of_blocks w f.rest) m (ap (number_of_blocks w) (sym blocks_are) ∙ e)
-
-  names_are : path_of names ≡ (n ∷ f.more) ++ all f.rest
-  names_are = begins (path_of names) (n ∷ f.more) f.rest blocks_are
-
-  pub number_within : (0 < m) × (m ≤ length w.rests.items)
-  number_within = let a = numbering.within before.0 (n ∷ f.more) m before.2 in (omega (arith, a.0), a.1)
-
-  -- the first names that are noted
-  module _ (first : FirstNames) (is : first ≡ get_or w.rests.items (m - 1) first) where
-    rest_is : number_of_blocks w f.rest ≡ Some first.rest
-    rest_is = before.1 ∙ ap Some (sym (ap (λ (x : FirstNames). x.rest) is ∙ numbering.rest before.0 (n ∷ f.more) m first before.2))
-
-    count_is : first.count ≡ length f.more + 1
-    count_is = omega (arith, ap (λ (x : FirstNames). x.count) is, numbering.count before.0 (n ∷ f.more) m first before.2)
-
-    pub rest_within : first.rest ≤ length w.rests.items
-    rest_within = blocks_upto w numbering f.rest first.rest rest_is
-
-    pub count_within : (1 ≤ first.count) × (first.count ≤ 8) × (first.count ≤ length names)
-    count_within = (
-      omega (arith, count_is),
-      omega (arith, count_is, numbering.short before.0 (n ∷ f.more) m before.2),
-      omega (arith, count_is, ap length names_are, length-append (n ∷ f.more) (all f.rest), length-map names string_bytes),
-    )
-
-    pub rest_alone : first.count ≡ 1 → number_of w p ≡ Some first.rest
-    rest_alone one = ⊎_elim
-        (λ (c : (f.more ≡ []) × (f.rest ≡ blocks p)). ap (number_of_blocks w) (sym c.1) ∙ rest_is)
-        (λ (c : blocks p ≡ f.more ∷ f.rest). absurd (omega (arith, has_name p f.more f.rest c, one, count_is)))
-        f.from
-
-    more_is : path_of (between 1 first.count names) ≡ f.more
-    more_is = between_path names 1 first.count ∙ (ap (λ (q : Path). take (first.count - 1) (drop 1 q)) names_are ∙
-        take_at f.more (all f.rest) (first.count - 1) (omega (arith, count_is)))
-
-    pub rest_before : (new : PathNumbers) → Keeps w new → (first.count ≡ 1 → ⊥) → (r : ℕ) →
-        number_before new first.rest (path_of (between 1 first.count names)) ≡ Some r → number_of new p ≡ Some r
-    rest_before new h several r g = ⊎_elim
-        (λ (c : (f.more ≡ []) × (f.rest ≡ blocks p)). absurd (several (omega (arith, count_is, ap length c.0))))
-        (λ (c : blocks p ≡ f.more ∷ f.rest). ap (number_of_blocks new) c ∙ before_some new f.more f.rest first.rest r
-        (blocks_kept w new h f.rest first.rest rest_is)
-        (ap (λ (b : Path). number_before new first.rest b) (sym more_is) ∙ g))
-        f.from
-
--- one block more, from the end of a path
-module _ (w : PathNumbers) (names : List (String Global)) (start end : ℕ) (l : start < end) (m : end ≤ start + 8)
-    (within : end ≤ length names) (full : is_full (blocks (drop end (path_of names))) ≡ true) where
-  abbrev block : Path
-  block = path_of (between start end names)
-
-  block_long : length block ≡ end - start
-  block_long = length-map (between start end names) string_bytes ∙ length-between names start end within
-
-  joined : drop start (path_of names) ≡ block ++ drop end (path_of names)
-  joined = sym (take-append-drop (end - start) (drop start (path_of names))) ∙
-      (ap (λ (q : Path). q ++ drop (end - start) (drop start (path_of names))) (sym (between_path names start end)) ∙
-      ap (λ (q : Path). block ++ q) (drop-drop (end - start) start (path_of names) ∙
-      ap (λ (k : ℕ). drop k (path_of names)) (omega (arith, l))))
-
-  is_block : blocks (drop start (path_of names)) ≡ block ∷ blocks (drop end (path_of names))
-  is_block = ap blocks joined ∙ one_block block (drop end (path_of names)) (omega (arith, block_long, l))
-      (omega (arith, block_long, m)) full
-
-  pub numbered_more : (rest number : ℕ) → number_of w (drop end (path_of names)) ≡ Some rest → number_before w rest block ≡ Some number →
-      number_of w (drop start (path_of names)) ≡ Some number
-  numbered_more rest number e f = ap (number_of_blocks w) is_block ∙ before_some w block (blocks (drop end (path_of names))) rest number e f
-
-  pub full_more : end ≡ start + 8 → is_full (blocks (drop start (path_of names))) ≡ true
-  full_more e = ap is_full is_block ∙ eq-eqb (length block) 8 (omega (arith, block_long, e))
+-- a name more of a path, from its end
+module _ (w : PathNumbers) (names : List (String Global)) (start : ℕ) (l : start < length names) (x : String Global)
+    (is : x ≡ get_or names start x) (rest number : ℕ) (behind : number_of w (drop (start + 1) (path_of names)) ≡ Some rest)
+    (before : number_before w rest (string_bytes x) ≡ Some number) where
+  pub numbered_more : number_of w (drop start (path_of names)) ≡ Some number
+  numbered_more =
+      ap (number_of w) (drop_more (path_of names) start (string_bytes x) (omega (arith, l, length-map names string_bytes)) ∙
+      ap (λ (n : Name). n ∷ drop (start + 1) (path_of names)) (get_or-map string_bytes names start x (string_bytes x) l ∙ ap string_bytes (sym is))) ∙
+      then_is (λ r. number_before w r (string_bytes x)) (number_of w (drop (start + 1) (path_of names))) rest number behind before

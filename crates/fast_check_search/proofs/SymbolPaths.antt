@@ -1,26 +1,20 @@
 -- What paths ask of other files, whoever asks for them.
-use Rattle.std.proofs.Common.{◌≡◌, ◌∙◌, sym, ap, refl, subst, ⊎_elim, arith, ℕ, true, false, List, [], Option, Some, None, string_bytes}
+use Rattle.std.proofs.Common.{◌≡◌, ◌∙◌, sym, ap, refl, subst, ⊎_elim, ℕ, true, false, List, [], Some, None}
 use Rattle.std.specs.BTreeSet as sorted
 use Rattle.std.specs.List.{Contains}
 use Rattle.std.specs.Ordering.{is_eq, nat_cmp, ordering_then}
 use Rattle.std.proofs.lemmas.Bool.{cases_Bool, cond-false, false≢true}
 use Rattle.fast_check_names.specs.Names.{Path}
-use Rattle.fast_check_symbols.specs.contracts.symbol_id.SymbolIdOrd.TheImpl as id_order
 use Rattle.fast_check_symbols.specs.declared.symbol_id.SymbolId.{SymbolId}
-use Rattle.fast_check_symbols.specs.declared.symbol.Symbol.{Symbol}
-use Rattle.fast_check_symbols.specs.declared.decl.SymbolDeclKind.{SymbolDeclKind}
-use Rattle.fast_check_symbols.specs.declared.decl.SymbolDeclKind.TheVariants.{Target, QualifiedTarget, FileRef, Definition}
-use Rattle.fast_check_symbols.specs.Symbols.{symbol_of}
 use Rattle.fast_check_symbols.specs.Tables.{Tables}
 use Rattle.fast_check_demands.proofs.Adds.{adds_kept, adds_none}
 use Rattle.fast_check_name_demands.specs.demands.symbol_demands.contracts.demand.ExtentOrd.TheImpl as extent_order
 use Rattle.fast_check_name_demands.specs.demands.symbol_demands.declared.demand.Ask.{Ask}
 use Rattle.fast_check_name_demands.specs.demands.symbol_demands.declared.demand.Ask.TheVariants.{Reference, Child, Path as ByPath}
 use Rattle.fast_check_name_demands.specs.demands.symbol_demands.declared.demand.Extent.{Extent}
-use Rattle.fast_check_name_demands.specs.demands.Demands.{asked_of, by_path}
-use Rattle.fast_check_name_demands.specs.demands.Rules.{each_of}
+use Rattle.fast_check_name_demands.specs.demands.Demands.{asked_of}
 use Rattle.fast_check_name_demands.specs.demands.Yields.{Adds}
-use Rattle.fast_check_name_demands.specs.Files.{FileDemand, wants, path_in_file, alias_files, asked_files, files}
+use Rattle.fast_check_name_demands.specs.Files.{FileDemand}
 use Rattle.fast_check_search.specs.contracts.wanted.DoneWantOrd.TheImpl as want_order
 use Rattle.fast_check_search.specs.contracts.wanted.SymbolPathOrd.TheImpl as order
 use Rattle.fast_check_search.specs.declared.done.NumberedDemand.{NumberedDemand}
@@ -31,11 +25,12 @@ use Rattle.fast_check_search.specs.declared.wanted.WantedFiles.{WantedFiles}
 use Rattle.fast_check_search.specs.Done.{asked_path, IsNumbered}
 use Rattle.fast_check_search.specs.Numbers.{IsNumbering, Keeps}
 use Rattle.fast_check_search.specs.SymbolWorklist.{demanded}
-use Rattle.fast_check_search.specs.Wanted.{path_asked, symbol_path, path_files, AreWanted, IsPathFound, ArePathsFound, HasNoFiles}
-use Rattle.fast_check_search.specs.Wanted.{AreFilesWanted}
-use Rattle.fast_check_search.proofs.Each.{Each, Contains_none, each_nil, each_flat, contains_flat_map}
+use Rattle.fast_check_search.specs.Led.{Texts, files_led, path_files}
+use Rattle.fast_check_search.specs.Wanted.{path_asked, symbol_path, IsPathFound, ArePathsFound, AreFilesWanted}
+use Rattle.fast_check_search.proofs.Each.{Contains_none}
+use Rattle.fast_check_search.proofs.Led.{kept_none}
 use Rattle.fast_check_search.proofs.Numbering.{number_kept, number_once}
-use Rattle.fast_check_search.proofs.OwnParts.{one_number, one_id}
+use Rattle.fast_check_search.proofs.OwnParts.{one_number}
 use Rattle.fast_check_search.proofs.Wants.{then_parts, one_extent, wanted_none, wanted_kept}
 
 abbrev made : ℕ → ℕ → Extent → SymbolPath
@@ -57,37 +52,37 @@ none_some k e = cc
 some_is : (j k : SymbolPath) → Some j ≡ Some k → j ≡ k
 some_is j k e = cc
 
-module _ (t : Tables) where
+module _ (r : Texts) (t : Tables) where
   -- what a demand asks by its path
   abbrev Asks : SymbolId → SymbolId → Ask → ℕ → SymbolPath → Type 0
-  Asks s r a n k = (n ≡ k.path) ×
-      (files t (record { symbol = s; asked = asked_of a; referrer = r }) ≡ path_files t k.symbol (asked_path (asked_of a)) k.extent)
+  Asks s by a n k = (n ≡ k.path) ×
+      (files_led r t (record { symbol = s; asked = asked_of a; referrer = by }) ≡ path_files r t k.symbol (asked_path (asked_of a)) k.extent)
 
-  asks : (s r : SymbolId) (a : Ask) (n : ℕ) (k : SymbolPath) → path_asked s a n ≡ Some k → Asks s r a n k
-  asks s r (Reference m) n k e = absurd (none_some k e)
-  asks s r (Child m) n k e = absurd (none_some k e)
-  asks s r (ByPath names x) n k e = subst (λ (j : SymbolPath). Asks s r (ByPath names x) n j)
+  asks : (s by : SymbolId) (a : Ask) (n : ℕ) (k : SymbolPath) → path_asked s a n ≡ Some k → Asks s by a n k
+  asks s by (Reference m) n k e = absurd (none_some k e)
+  asks s by (Child m) n k e = absurd (none_some k e)
+  asks s by (ByPath names x) n k e = subst (λ (j : SymbolPath). Asks s by (ByPath names x) n j)
       (some_is (record { symbol = s; path = n; extent = x }) k e) (refl, refl)
 
   pub path_asks : (x : NumberedDemand) (k : SymbolPath) → symbol_path x ≡ Some k →
-      (x.path ≡ k.path) × (files t (demanded x) ≡ path_files t k.symbol (asked_path (demanded x).asked) k.extent)
+      (x.path ≡ k.path) × (files_led r t (demanded x) ≡ path_files r t k.symbol (asked_path (demanded x).asked) k.extent)
   path_asks x k e = asks x.demand.symbol x.demand.referrer x.demand.ask x.path k e
 
   -- all that a path in the set asks is found
   pub found_before : (w : PathNumbers) → IsNumbering w → (paths : sorted.BTreeSet SymbolPath) (found : List FileDemand) →
-      ArePathsFound t w paths found → (x : NumberedDemand) (k : SymbolPath) → symbol_path x ≡ Some k → IsNumbered w (demanded x) x.path →
-      sorted.contains order.cmp-value.it paths k ≡ true → (f : FileDemand) → Contains (files t (demanded x)) f → Contains found f
+      ArePathsFound r t w paths found → (x : NumberedDemand) (k : SymbolPath) → symbol_path x ≡ Some k → IsNumbered w (demanded x) x.path →
+      sorted.contains order.cmp-value.it paths k ≡ true → (f : FileDemand) → Contains (files_led r t (demanded x)) f → Contains found f
   found_before w numbering paths found h x k e n y f c =
       let a = h k y in
       let b = path_asks x k e in
       let p = asked_path (demanded x).asked in
       let one = number_once w numbering a.names p k.path a.numbered (n ∙ ap Some b.0) in
-      a.there f (subst (λ (q : Path). Contains (path_files t k.symbol q k.extent) f) (sym one)
+      a.there f (subst (λ (q : Path). Contains (path_files r t k.symbol q k.extent) f) (sym one)
       (subst (λ (fs : List FileDemand). Contains fs f) b.1 c))
 
   -- more paths have numbers, and more is found
   pub found_more : (old new : PathNumbers) → Keeps old new → (these before after : List FileDemand) → Adds these before after →
-      (paths : sorted.BTreeSet SymbolPath) → ArePathsFound t old paths before → ArePathsFound t new paths after
+      (paths : sorted.BTreeSet SymbolPath) → ArePathsFound r t old paths before → ArePathsFound r t new paths after
   found_more old new h these before after adds paths f k y =
       let a = f k y in record {
         names = a.names;
@@ -98,93 +93,40 @@ module _ (t : Tables) where
   -- the path of a demand all of whose files are found
   pub found_one : (w : PathNumbers) (paths more : sorted.BTreeSet SymbolPath) (found : List FileDemand) (x : NumberedDemand)
       (k : SymbolPath) → symbol_path x ≡ Some k → IsNumbered w (demanded x) x.path →
-      ((f : FileDemand) → Contains (files t (demanded x)) f → Contains found f) → ArePathsFound t w paths found →
-      sorted.Updates order.cmp-value.it paths more k true → ArePathsFound t w more found
+      ((f : FileDemand) → Contains (files_led r t (demanded x)) f → Contains found f) → ArePathsFound r t w paths found →
+      sorted.Updates order.cmp-value.it paths more k true → ArePathsFound r t w more found
   found_one w paths more found x k e n whole h u l y = ⊎_elim here there (cases_Bool (is_eq (order.cmp-value.it k l)))
     where
-      own : IsPathFound t w found k
+      own : IsPathFound r t w found k
       own = record {
         names = asked_path (demanded x).asked;
         numbered = n ∙ ap Some (path_asks x k e).0;
         there = λ f c. whole f (subst (λ (fs : List FileDemand). Contains fs f) (sym (path_asks x k e).1) c);
       }
 
-      here : is_eq (order.cmp-value.it k l) ≡ true → IsPathFound t w found l
-      here s = subst (λ (m : SymbolPath). IsPathFound t w found m) (one_symbol_path k l s) own
+      here : is_eq (order.cmp-value.it k l) ≡ true → IsPathFound r t w found l
+      here s = subst (λ (m : SymbolPath). IsPathFound r t w found m) (one_symbol_path k l s) own
 
-      there : is_eq (order.cmp-value.it k l) ≡ false → IsPathFound t w found l
+      there : is_eq (order.cmp-value.it k l) ≡ false → IsPathFound r t w found l
       there s = h l
           (sym (cond-false (is_eq (order.cmp-value.it k l)) true (sorted.contains order.cmp-value.it paths l) s) ∙ (sym (u.0 l) ∙ y))
-
-  -- whether a path asks anything does not depend on the path
-  kind_asks : (p q : Path) (x y : Extent) (k : SymbolDeclKind) →
-      Each (λ (f : FileDemand). (g : FileDemand) × Contains (alias_files q y k) g) (alias_files p x k)
-  kind_asks p q x y (Target id) = each_nil (λ (f : FileDemand). (g : FileDemand) × Contains [] g)
-  kind_asks p q x y (QualifiedTarget id parts) = each_nil (λ (f : FileDemand). (g : FileDemand) × Contains [] g)
-  kind_asks p q x y (FileRef specifier name) = λ f _. (wants (string_bytes specifier) (path_in_file name q y), (0, omega arith, refl))
-  kind_asks p q x y (Definition _) = each_nil (λ (f : FileDemand). (g : FileDemand) × Contains [] g)
-
-  symbol_asks : (p q : Path) (x y : Extent) (s : Symbol) →
-      Each (λ (f : FileDemand). (g : FileDemand) × Contains (asked_files (by_path q y) s) g) (asked_files (by_path p x) s)
-  symbol_asks p q x y s = each_flat (λ (f : FileDemand). (g : FileDemand) × Contains (asked_files (by_path q y) s) g)
-      (λ d. alias_files p x d.kind) s.decls.items
-      (λ d c f h. let g = kind_asks p q x y d.kind f h in
-      (g.0, contains_flat_map (λ d. alias_files q y d.kind) s.decls.items d g.0 c g.1))
-
-  found_asks : (p q : Path) (x y : Extent) (o : Option Symbol) →
-      Each (λ (f : FileDemand). (g : FileDemand) × Contains (each_of (asked_files (by_path q y)) o) g) (each_of (asked_files (by_path p x)) o)
-  found_asks p q x y None = each_nil (λ (f : FileDemand). (g : FileDemand) × Contains [] g)
-  found_asks p q x y (Some s) = symbol_asks p q x y s
-
-  -- where one path asks nothing, no other does
-  pub no_files : (x : NumberedDemand) (k : SymbolPath) → symbol_path x ≡ Some k →
-      ((f : FileDemand) → Contains (files t (demanded x)) f → ⊥) → HasNoFiles t k.symbol
-  no_files x k e none q y f c =
-      let p = asked_path (demanded x).asked in
-      let g = found_asks q p y k.extent (symbol_of k.symbol t.symbols) f c in
-      none g.0 (subst (λ (fs : List FileDemand). Contains fs g.0) (sym (path_asks x k e).1) g.1)
-
-  -- a path of a symbol that asks nothing asks nothing
-  pub asks_none : (x : NumberedDemand) (k : SymbolPath) → symbol_path x ≡ Some k → HasNoFiles t k.symbol →
-      (found : List FileDemand) (f : FileDemand) → Contains (files t (demanded x)) f → Contains found f
-  asks_none x k e none found f c = absurd
-      (none (asked_path (demanded x).asked) k.extent f (subst (λ (fs : List FileDemand). Contains fs f) (path_asks x k e).1 c))
-
-  -- a symbol more asks nothing
-  pub files_without : (w : PathNumbers) (old new : WantedFiles) (x : SymbolId) (found : List FileDemand) → HasNoFiles t x →
-      new.wants ≡ old.wants → new.paths ≡ old.paths → sorted.Updates id_order.cmp-value.it old.without new.without x true →
-      AreFilesWanted t w old found → AreFilesWanted t w new found
-  files_without w old new x found none wants paths u h = record {
-    wants = subst (λ these. AreWanted w these found) (sym wants) h.wants;
-    paths = subst (λ these. ArePathsFound t w these found) (sym paths) h.paths;
-    without = λ s y. ⊎_elim (here s) (there s y) (cases_Bool (is_eq (id_order.cmp-value.it x s)));
-  }
-    where
-      here : (s : SymbolId) → is_eq (id_order.cmp-value.it x s) ≡ true → HasNoFiles t s
-      here s e = subst (HasNoFiles t) (one_id x s e) none
-
-      there : (s : SymbolId) → sorted.contains id_order.cmp-value.it new.without s ≡ true → is_eq (id_order.cmp-value.it x s) ≡ false →
-          HasNoFiles t s
-      there s y e = h.without s
-          (sym (cond-false (is_eq (id_order.cmp-value.it x s)) true (sorted.contains id_order.cmp-value.it old.without s) e) ∙
-          (sym (u.0 s) ∙ y))
 
   -- nothing yet
   pub files_none : (w : PathNumbers) (wanted : WantedFiles) (found : List FileDemand) →
       ((k : DoneWant) → sorted.contains want_order.cmp-value.it wanted.wants k ≡ false) →
       ((k : SymbolPath) → sorted.contains order.cmp-value.it wanted.paths k ≡ false) →
-      ((s : SymbolId) → sorted.contains id_order.cmp-value.it wanted.without s ≡ false) → AreFilesWanted t w wanted found
+      wanted.references.entries ≡ [] → AreFilesWanted r t w wanted found
   files_none w wanted found f g h = record {
     wants = wanted_none w wanted.wants found f;
     paths = λ k y. absurd (false≢true (sym (g k) ∙ y));
-    without = λ s y. absurd (false≢true (sym (h s) ∙ y));
+    references = kept_none r t wanted.references h;
   }
 
   -- more paths have numbers
   pub files_kept : (old new : PathNumbers) → Keeps old new → (wanted : WantedFiles) (found : List FileDemand) →
-      AreFilesWanted t old wanted found → AreFilesWanted t new wanted found
+      AreFilesWanted r t old wanted found → AreFilesWanted r t new wanted found
   files_kept old new h wanted found f = record {
     wants = wanted_kept old new h wanted.wants found f.wants;
     paths = found_more old new h [] found found (adds_none [] found (λ d c. absurd (Contains_none d c))) wanted.paths f.paths;
-    without = f.without;
+    references = f.references;
   }

@@ -1,10 +1,9 @@
 pub mod Numbers
 pub mod Done
 pub mod SymbolWorklist
+pub mod Led
 pub mod Wanted
 pub mod Parts
 pub mod Found
-pub mod Nameless
-pub mod Named
 pub mod Searched
 pub mod Universe

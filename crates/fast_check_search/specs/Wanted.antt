@@ -5,17 +5,14 @@ use Rattle.std.specs.BTreeSet.{BTreeSet, contains}
 use Rattle.std.specs.List.{Contains}
 use Rattle.std.specs.Ordering.{is_eq}
 use Rattle.fast_check_names.specs.Names.{Path, path_of}
-use Rattle.fast_check_symbols.specs.contracts.symbol_id.SymbolIdOrd.TheImpl as id_order
 use Rattle.fast_check_symbols.specs.declared.symbol_id.SymbolId.{SymbolId}
 use Rattle.fast_check_symbols.specs.Tables.{Tables}
 use Rattle.fast_check_name_demands.specs.demands.symbol_demands.declared.demand.Ask.{Ask}
 use Rattle.fast_check_name_demands.specs.demands.symbol_demands.declared.demand.Ask.TheVariants as asks
-use Rattle.fast_check_name_demands.specs.demands.symbol_demands.declared.demand.Extent.{Extent}
-use Rattle.fast_check_name_demands.specs.demands.Demands.{by_path}
 use Rattle.fast_check_name_demands.specs.declared.want.FileWant.{FileWant}
 use Rattle.fast_check_name_demands.specs.declared.want.NameDemand.{NameDemand as Single}
 use Rattle.fast_check_name_demands.specs.declared.want.NameDemand.TheVariants as singles
-use Rattle.fast_check_name_demands.specs.Files.{FileDemand, file_demand_of, files}
+use Rattle.fast_check_name_demands.specs.Files.{FileDemand, file_demand_of}
 use Rattle.fast_check_search.specs.contracts.wanted.DoneWantOrd.TheImpl as order
 use Rattle.fast_check_search.specs.contracts.wanted.SymbolPathOrd.TheImpl as path_order
 use Rattle.fast_check_search.specs.declared.done.NumberedDemand.{NumberedDemand}
@@ -25,6 +22,7 @@ use Rattle.fast_check_search.specs.declared.wanted.DoneNames.TheVariants.{AllBut
 use Rattle.fast_check_search.specs.declared.wanted.DoneWant.{DoneWant}
 use Rattle.fast_check_search.specs.declared.wanted.SymbolPath.{SymbolPath}
 use Rattle.fast_check_search.specs.declared.wanted.WantedFiles.{WantedFiles}
+use Rattle.fast_check_search.specs.Led.{Texts, path_files, AreKept}
 use Rattle.fast_check_search.specs.Numbers.{number_of}
 
 -- the names behind the first one of a path; none where no path is asked for
@@ -72,27 +70,20 @@ path_asked s (asks.Path names x) path = Some (record { symbol = s; path = path; 
 abbrev pub symbol_path : NumberedDemand → Option SymbolPath
 symbol_path x = path_asked x.demand.symbol x.demand.ask x.path
 
--- what a path of a symbol asks of other files: as much as where the symbol itself asks for it
-abbrev pub path_files : Tables → SymbolId → Path → Extent → List FileDemand
-path_files t s p x = files t (record { symbol = s; asked = by_path p x; referrer = s })
-
--- all that a path asks of other files is found
-pub record IsPathFound (t : Tables) (w : PathNumbers) (found : List FileDemand) (k : SymbolPath) : Type 0 where
+-- all that a path asks of other files by texts that lead somewhere is found
+pub record IsPathFound (r : Texts) (t : Tables) (w : PathNumbers) (found : List FileDemand) (k : SymbolPath) : Type 0 where
   pub names : Path
   pub numbered : number_of w names ≡ Some k.path
-  pub there : (f : FileDemand) → Contains (path_files t k.symbol names k.extent) f → Contains found f
+  pub there : (f : FileDemand) → Contains (path_files r t k.symbol names k.extent) f → Contains found f
 
 -- of each of these paths, all that it asks is found
-abbrev pub ArePathsFound : Tables → PathNumbers → BTreeSet SymbolPath → List FileDemand → Type 0
-ArePathsFound t w paths found = (k : SymbolPath) → contains path_order.cmp-value.it paths k ≡ true →
-    IsPathFound t w found k
+abbrev pub ArePathsFound : Texts → Tables → PathNumbers → BTreeSet SymbolPath → List FileDemand → Type 0
+ArePathsFound r t w paths found = (k : SymbolPath) → contains path_order.cmp-value.it paths k ≡ true →
+    IsPathFound r t w found k
 
--- no path of the symbol asks anything of other files
-abbrev pub HasNoFiles : Tables → SymbolId → Type 0
-HasNoFiles t s = (p : Path) (x : Extent) (f : FileDemand) → Contains (path_files t s p x) f → ⊥
-
--- what the sets tell is found; and these other symbols ask nothing
-pub record AreFilesWanted (t : Tables) (w : PathNumbers) (wanted : WantedFiles) (found : List FileDemand) : Type 0 where
+-- what the sets tell is found; and what is kept of symbols is right
+pub record AreFilesWanted (r : Texts) (t : Tables) (w : PathNumbers) (wanted : WantedFiles) (found : List FileDemand) :
+    Type 0 where
   pub wants : AreWanted w wanted.wants found
-  pub paths : ArePathsFound t w wanted.paths found
-  pub without : (s : SymbolId) → contains id_order.cmp-value.it wanted.without s ≡ true → HasNoFiles t s
+  pub paths : ArePathsFound r t w wanted.paths found
+  pub references : AreKept r t wanted.references

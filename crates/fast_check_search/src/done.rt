@@ -12,12 +12,13 @@ pub struct NumberedDemand<'a> {
     pub path: u32,
 }
 
-/// What is demanded of a symbol, a path by its number.
+/// What is demanded of a symbol.
 #[derive(Clone, Copy, PartialEq, Eq, PartialOrd, Ord)]
 pub enum DoneAsk {
     Reference(Namespace),
     Child(Namespace),
-    Path(u32, Extent),
+    /// The number of a path, what it leads to, and who asks for it. By whom a symbol itself is demanded plays no part.
+    Path(u32, Extent, SymbolId),
 }
 
 /// A demand as a set has it: all that tells it from others. No path is compared name by name.
@@ -25,8 +26,6 @@ pub enum DoneAsk {
 pub struct DoneDemand {
     pub symbol: SymbolId,
     pub ask: DoneAsk,
-    /// Who asks for a path. By whom a symbol itself is demanded plays no part.
-    pub referrer: SymbolId,
 }
 
 /// What tells a demand from others.
@@ -34,22 +33,13 @@ pub fn done_demand(demand: NumberedDemand<'_>) -> DoneDemand
     ensures { result ≡ key_of demand.entry }
 {
     let NumberedDemand { demand, path } = demand;
-    let symbol = demand.symbol;
-    match demand.ask {
-        Ask::Reference(namespace) => DoneDemand {
-            symbol,
-            ask: DoneAsk::Reference(namespace),
-            referrer: symbol,
-        },
-        Ask::Child(namespace) => DoneDemand {
-            symbol,
-            ask: DoneAsk::Child(namespace),
-            referrer: symbol,
-        },
-        Ask::Path(_, extent) => DoneDemand {
-            symbol,
-            ask: DoneAsk::Path(path, extent),
-            referrer: demand.referrer,
-        },
+    let ask = match demand.ask {
+        Ask::Reference(namespace) => DoneAsk::Reference(namespace),
+        Ask::Child(namespace) => DoneAsk::Child(namespace),
+        Ask::Path(_, extent) => DoneAsk::Path(path, extent, demand.referrer),
+    };
+    DoneDemand {
+        symbol: demand.symbol,
+        ask,
     }
 }

@@ -1,5 +1,6 @@
 //! What is found by a search through the symbols of a module.
 ghost use Rattle.std.specs.Prelude.{◌≡◌, List, [], map, IfOk, OnOk, ◌++◌, option_map, option_to_list};
+ghost use Rattle.std.specs.Option.{option_copied};
 ghost use Rattle.fast_check_name_demands.specs.demands.Demands.{Demand, demand_of};
 ghost use Rattle.fast_check_name_demands.specs.demands.Yields.{fault_seen};
 ghost use Rattle.fast_check_name_demands.specs.demands.Noted.{noted_ranges};
@@ -9,7 +10,7 @@ ghost use Rattle.fast_check_search.specs.Searched.{IsContinued, IsKeptWith};
 ghost use Rattle.fast_check_search.specs.Done.{IsNumbered};
 ghost use Rattle.fast_check_search.specs.Numbers.{IsNumbering, Keeps};
 ghost use Rattle.fast_check_search.specs.Parts.{ArePartsCovered};
-ghost use Rattle.fast_check_search.specs.SymbolWorklist.{demanded, asked, IsKept, Grows, CoversEach};
+ghost use Rattle.fast_check_search.specs.SymbolWorklist.{demanded, met, IsKept, Grows, CoversEach};
 ghost use Rattle.fast_check_search.specs.Wanted.{AreFilesWanted};
 
 use crate::done::NumberedDemand;
@@ -25,6 +26,8 @@ use fast_check_name_demands::demands::{
     fault_of, push_implementations, push_ranges,
 };
 use std::alloc::{AllocError, Global};
+use std::collections::BTreeMap;
+use url::Url;
 
 /// What the demands of a module make public, what is wrong with them, and what they ask of other files. Each but the last may stand here more than once.
 #[derive(Drop)]
@@ -33,7 +36,7 @@ pub struct Found<'a> {
     /// Those of the implementations of overloads.
     pub implementations: Vec<SourceRange>,
     pub faults: Vec<SymbolFault<'a>>,
-    /// What is asked of other files, each thing once.
+    /// What is asked of other files by texts that are resolved, each thing once.
     pub files: FileWants<'a>,
 }
 
@@ -73,23 +76,24 @@ impl<'a> Found<'a> {
         &mut self,
         alloc: Global,
         tables: &'a CheckedTables,
+        texts: Option<&BTreeMap<String, Url>>,
         demand: NumberedDemand<'a>,
-        paths: &mut PathNumbers<'a>,
+        paths: &mut PathNumbers,
         noted: &mut NotedSymbols,
         wanted: &mut WantedFiles<'a>,
     ) -> Result<(), AllocError>
         requires numbering { IsNumbering paths.old }
         requires number { IsNumbered paths.old (demanded demand) demand.path }
-        requires wanted { AreFilesWanted tables.now paths.old wanted.old self.old.files }
+        requires wanted { AreFilesWanted (option_copied texts) tables.now paths.old wanted.old self.old.files }
         ensures numbering { OnOk result (IsNumbering paths.new) }
         ensures numbers { OnOk result (Keeps paths.old paths.new) }
-        ensures wanted { OnOk result (AreFilesWanted tables.now paths.new wanted.new self.new.files) }
-        ensures gains { OnOk result (Gains tables.now (demanded demand.entry) noted.old noted.new self.old self.new) }
+        ensures wanted { OnOk result (AreFilesWanted (option_copied texts.entry) tables.now paths.new wanted.new self.new.files) }
+        ensures gains { OnOk result (Gains (option_copied texts.entry) tables.now (demanded demand.entry) noted.old noted.new self.old self.new) }
     {
         push_ranges(tables, demand.demand, noted, &mut self.ranges)?;
         push_implementations(tables, demand.demand, &mut self.implementations)?;
         push_fault(fault_of(tables, demand.demand), &mut self.faults)?;
-        add_files(alloc, tables, demand, paths, wanted, &mut self.files)
+        add_files(alloc, tables, texts, demand, paths, wanted, &mut self.files)
     }
 }
 
@@ -97,7 +101,6 @@ impl<'a> Found<'a> {
 fn ask_named<'a>(
     alloc: Global,
     tables: &'a CheckedTables,
-    before: &Searched,
     demand: NumberedDemand<'a>,
     parts: &mut AskedParts,
     targets: &mut AliasTargets<'a>,
@@ -108,12 +111,11 @@ fn ask_named<'a>(
     requires number { IsNumbered work.old.paths (demanded demand) demand.path }
     ensures tables { targets.new ≡ targets.old }
     ensures kept { OnOk result (IsKept work.new) }
-    ensures numbers { OnOk result (Keeps work.old.paths work.new.paths) }
-    ensures grown { OnOk result (Grows (names tables.now (demanded demand.entry)) (asked work.old) (asked work.new)) }
-    ensures parts { OnOk result (ArePartsCovered tables.now parts.old (before.now ++ asked work.old)
-        → ArePartsCovered tables.now parts.new (before.now ++ asked work.new)) }
-    ensures covered { OnOk result (ArePartsCovered tables.now parts.old (before.now ++ asked work.old)
-        → CoversEach (names tables.now (demanded demand.entry)) (before.now ++ asked work.new)) }
+    ensures grown { OnOk result (Grows (names tables.now (demanded demand.entry)) work.old work.new) }
+    ensures parts { OnOk result (ArePartsCovered tables.now parts.old (met work.old)
+        → ArePartsCovered tables.now parts.new (met work.new)) }
+    ensures covered { OnOk result (ArePartsCovered tables.now parts.old (met work.old)
+        → CoversEach (names tables.now (demanded demand.entry)) (met work.new)) }
 {
     let NumberedDemand { demand, path } = demand;
     let named = demands_of(alloc, targets, demand)?;
@@ -121,17 +123,18 @@ fn ask_named<'a>(
         names: asked_path(demand.ask),
         number: path,
     };
-    work.ask_all(before, path, named.as_slice())?;
-    ask_parts(alloc, tables, before, demand, parts, work)?;
+    work.ask_all(path, named.as_slice())?;
+    ask_parts(alloc, targets, demand, parts, work)?;
     Ok(())
 }
 
 /// All that follows from these demands within a module, and did not follow from those of earlier searches of it: what it makes public, what is wrong
-/// with it, and what it asks of other files. Declarations that are public by where they stand are not found again where they were told, and are told
+/// with it, and what it asks of other files by texts that are among these resolved ones. Declarations that are public by where they stand are not found again where they were told, and are told
 /// then. Own parts of aliases are not asked for again where what earlier searches kept has to cover them. Beside it, what the next search goes on from.
 pub fn search<'a>(
     alloc: Global,
     tables: &'a CheckedTables,
+    texts: Option<&BTreeMap<String, Url>>,
     before: Searched,
     told: &mut NotedSymbols,
     parts: &mut AskedParts,
@@ -139,15 +142,16 @@ pub fn search<'a>(
 ) -> Result<(Searched, Found<'a>), AllocError>
     ensures continued { IfOk result (λ r. (more : List Demand)
         × (ArePartsCovered tables.now parts.old before → IsContinued tables.now (map demand_of roots.now) before more)
-        × IsFound tables.now more (noted_ranges tables.now told.old) (noted_ranges tables.now told.new) r.1 × IsKeptWith before more r.0) }
+        × IsFound (option_copied texts.entry) tables.now more (noted_ranges tables.now told.old) (noted_ranges tables.now told.new) r.1 × IsKeptWith before more r.0) }
     ensures parts { IfOk result (λ r. ArePartsCovered tables.now parts.old before → ArePartsCovered tables.now parts.new r.0) }
 
     // What is found is of the tables' own ranges, so a module of these tables admits it.
     ensures own_ranges { IfOk result (λ r. AreTableRanges tables.now r.1.ranges.items) }
     ensures own_implementations { IfOk result (λ r. AreTableRanges tables.now r.1.implementations.items) }
 {
-    let mut work = SymbolWorklist::new(alloc);
-    work.ask_all(&before, NumberedPath::none(), roots)?;
+    let keeps_names = before.was_searched();
+    let mut work = SymbolWorklist::after(alloc, before);
+    work.ask_all(NumberedPath::none(), roots)?;
     let mut found = Found::new(alloc);
     let mut noted = NotedSymbols::new(alloc);
     let mut wanted = WantedFiles::new(alloc);
@@ -158,27 +162,18 @@ pub fn search<'a>(
         found.add(
             alloc,
             tables,
+            texts,
             demand,
             &mut work.paths,
             &mut noted,
             &mut wanted,
         )?;
-        ask_named(
-            alloc,
-            tables,
-            &before,
-            demand,
-            parts,
-            &mut targets,
-            &mut work,
-        )?;
+        ask_named(alloc, tables, demand, parts, &mut targets, &mut work)?;
         next += 1;
     }
     noted.push_untold(tables, told, &mut found.ranges)?;
-    let demands = work.into_demands();
-    let met = demands.as_slice();
-    let mut searched = before;
-    let keeps_names = searched.keep_all(alloc, met, effort_of(tables, met))?;
+    let effort = effort_of(tables, work.as_slice());
+    let searched = work.into_searched(alloc, keeps_names, effort)?;
     parts.keep_if(alloc, keeps_names);
     Ok((searched, found))
 }

@@ -4,10 +4,9 @@
 mod done;
 mod effort;
 mod found;
-mod named;
-mod nameless;
 mod numbers;
 mod parts;
+mod references;
 mod searched;
 mod wanted;
 mod worklist;

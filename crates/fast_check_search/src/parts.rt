@@ -1,18 +1,14 @@
 //! The own parts of aliases, which are asked for once for all paths that one symbol asks of another.
-ghost use Rattle.std.specs.Prelude.{List, ◌++◌, IsTrue, OnOk};
+ghost use Rattle.std.specs.Prelude.{◌≡◌, List, IsTrue, OnOk};
 ghost use Rattle.fast_check_symbols.specs.Tables.{Tables};
 ghost use Rattle.fast_check_name_demands.specs.demands.Demands.{Demand, asked_of};
 ghost use Rattle.fast_check_name_demands.specs.demands.Parts.{own_parts, parts_beside};
-ghost use Rattle.fast_check_search.specs.Numbers.{Keeps};
-ghost use Rattle.fast_check_search.specs.Parts.{HasNoParts, ArePartsCovered};
-ghost use Rattle.fast_check_search.specs.SymbolWorklist.{asked, IsKept, Grows, CoversEach};
+ghost use Rattle.fast_check_search.specs.Parts.{ArePartsCovered};
+ghost use Rattle.fast_check_search.specs.SymbolWorklist.{met, IsKept, Grows, CoversEach};
 
 use crate::numbers::NumberedPath;
-use crate::searched::Searched;
 use crate::worklist::SymbolWorklist;
-use fast_check_name_demands::demands::{
-    Ask, CheckedTables, SymbolDemand, SymbolId, has_light_aliases, own_parts_of,
-};
+use fast_check_name_demands::demands::{AliasTargets, Ask, SymbolDemand, SymbolId};
 use std::alloc::{AllocError, Global};
 use std::collections::BTreeSet;
 
@@ -27,8 +23,6 @@ pub struct PathAsker {
 #[derive(Drop)]
 pub struct AskedParts {
     askers: BTreeSet<PathAsker>,
-    /// Symbols with many aliases, or with some of long names, none of which has own parts.
-    without: BTreeSet<SymbolId>,
 }
 
 impl AskedParts {
@@ -38,7 +32,6 @@ impl AskedParts {
     {
         AskedParts {
             askers: BTreeSet::new(alloc),
-            without: BTreeSet::new(alloc),
         }
     }
 
@@ -51,50 +44,33 @@ impl AskedParts {
         }
         *self = AskedParts::new(alloc);
     }
-
-    /// Notes that no alias of a symbol has own parts, where these are many or have long names.
-    fn note_without(&mut self, tables: &CheckedTables, symbol: SymbolId) -> Result<(), AllocError>
-        requires { HasNoParts tables.now symbol }
-        ensures { OnOk result ((account : List Demand) → ArePartsCovered tables.now self.old account → ArePartsCovered tables.now self.new account) }
-    {
-        if has_light_aliases(tables, symbol) {
-            return Ok(());
-        }
-        self.without.insert(symbol)?;
-        Ok(())
-    }
 }
 
 /// Asks for the own parts of a symbol's aliases, unless they were asked for before.
 fn ask_own_parts<'a>(
     alloc: Global,
-    tables: &'a CheckedTables,
-    before: &Searched,
+    targets: &mut AliasTargets<'a>,
     asker: PathAsker,
     parts: &mut AskedParts,
     work: &mut SymbolWorklist<'a>,
 ) -> Result<(), AllocError>
     requires { IsKept work.old }
+    ensures tables { targets.new ≡ targets.old }
     ensures kept { OnOk result (IsKept work.new) }
-    ensures numbers { OnOk result (Keeps work.old.paths work.new.paths) }
-    ensures grown { OnOk result (Grows (own_parts tables.now asker.symbol asker.referrer) (asked work.old) (asked work.new)) }
-    ensures parts { OnOk result (ArePartsCovered tables.now parts.old (before.now ++ asked work.old)
-        → ArePartsCovered tables.now parts.new (before.now ++ asked work.new)) }
-    ensures covered { OnOk result (ArePartsCovered tables.now parts.old (before.now ++ asked work.old)
-        → CoversEach (own_parts tables.now asker.symbol asker.referrer) (before.now ++ asked work.new)) }
+    ensures grown { OnOk result (Grows (own_parts targets.old asker.symbol asker.referrer) work.old work.new) }
+    ensures parts { OnOk result (ArePartsCovered targets.old parts.old (met work.old)
+        → ArePartsCovered targets.old parts.new (met work.new)) }
+    ensures covered { OnOk result (ArePartsCovered targets.old parts.old (met work.old)
+        → CoversEach (own_parts targets.old asker.symbol asker.referrer) (met work.new)) }
 {
     if parts.askers.contains(&asker) {
         return Ok(());
     }
-    if parts.without.contains(&asker.symbol) {
-        return Ok(());
-    }
-    let own = own_parts_of(alloc, tables, asker.symbol, asker.referrer)?;
+    let own = targets.own_parts_of(alloc, asker.symbol, asker.referrer)?;
     if own.as_slice().is_empty() {
-        parts.note_without(tables, asker.symbol)?;
         return Ok(());
     }
-    work.ask_all(before, NumberedPath::none(), own.as_slice())?;
+    work.ask_all(NumberedPath::none(), own.as_slice())?;
     parts.askers.insert(asker)?;
     Ok(())
 }
@@ -102,21 +78,20 @@ fn ask_own_parts<'a>(
 /// Asks for what aliases ask for beside the path of a demand, unless it was asked for beside another one.
 pub fn ask_parts<'a>(
     alloc: Global,
-    tables: &'a CheckedTables,
-    before: &Searched,
+    targets: &mut AliasTargets<'a>,
     demand: SymbolDemand<'a>,
     parts: &mut AskedParts,
     work: &mut SymbolWorklist<'a>,
 ) -> Result<(), AllocError>
     requires { IsKept work.old }
+    ensures tables { targets.new ≡ targets.old }
     ensures kept { OnOk result (IsKept work.new) }
-    ensures numbers { OnOk result (Keeps work.old.paths work.new.paths) }
-    ensures grown { OnOk result (Grows (parts_beside tables.now demand.entry.symbol demand.entry.referrer (asked_of demand.entry.ask))
-        (asked work.old) (asked work.new)) }
-    ensures parts { OnOk result (ArePartsCovered tables.now parts.old (before.now ++ asked work.old)
-        → ArePartsCovered tables.now parts.new (before.now ++ asked work.new)) }
-    ensures covered { OnOk result (ArePartsCovered tables.now parts.old (before.now ++ asked work.old)
-        → CoversEach (parts_beside tables.now demand.entry.symbol demand.entry.referrer (asked_of demand.entry.ask)) (before.now ++ asked work.new)) }
+    ensures grown { OnOk result (Grows (parts_beside targets.old demand.entry.symbol demand.entry.referrer (asked_of demand.entry.ask))
+        work.old work.new) }
+    ensures parts { OnOk result (ArePartsCovered targets.old parts.old (met work.old)
+        → ArePartsCovered targets.old parts.new (met work.new)) }
+    ensures covered { OnOk result (ArePartsCovered targets.old parts.old (met work.old)
+        → CoversEach (parts_beside targets.old demand.entry.symbol demand.entry.referrer (asked_of demand.entry.ask)) (met work.new)) }
 {
     let SymbolDemand {
         symbol,
@@ -127,7 +102,7 @@ pub fn ask_parts<'a>(
         Ask::Reference(_) | Ask::Child(_) => Ok(()),
         Ask::Path(_, _) => {
             let asker = PathAsker { symbol, referrer };
-            ask_own_parts(alloc, tables, before, asker, parts, work)
+            ask_own_parts(alloc, targets, asker, parts, work)
         }
     }
 }

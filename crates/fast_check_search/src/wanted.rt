@@ -1,25 +1,29 @@
 //! What is asked of other files, each thing once.
-ghost use Rattle.std.specs.Prelude.{◌≡◌, List, [], ◌∷◌, map, Some, IsTrue, IfOk, OnOk};
+ghost use Rattle.std.specs.Prelude.{◌≡◌, List, [], ◌∷◌, map, Some, OnOk};
+ghost use Rattle.std.specs.Option.{option_copied};
 ghost use Rattle.std.specs.List.{Contains};
 ghost use Rattle.fast_check_names.specs.Names.{path_of};
 ghost use Rattle.fast_check_symbols.specs.Tables.{Tables};
-ghost use Rattle.fast_check_name_demands.specs.demands.Demands.{demand_of};
 ghost use Rattle.fast_check_name_demands.specs.declared.want.FileWant.{FileWant};
-ghost use Rattle.fast_check_name_demands.specs.Files.{FileDemand, file_demand_of, files};
+ghost use Rattle.fast_check_name_demands.specs.Files.{FileDemand, file_demand_of};
 ghost use Rattle.fast_check_search.specs.Done.{IsNumbered};
 ghost use Rattle.fast_check_name_demands.specs.demands.Yields.{Adds};
 ghost use Rattle.fast_check_search.specs.declared.numbers.PathNumbers.{PathNumbers};
 ghost use Rattle.fast_check_search.specs.Numbers.{number_of, IsNumbering, Keeps, Follows};
 ghost use Rattle.fast_check_search.specs.SymbolWorklist.{demanded};
-ghost use Rattle.fast_check_search.specs.Wanted.{rest_path, want_key, symbol_path, AreWanted, HasNoFiles, AreFilesWanted};
+ghost use Rattle.fast_check_search.specs.Led.{Texts, files_led};
+ghost use Rattle.fast_check_search.specs.Wanted.{rest_path, want_key, symbol_path, AreWanted, AreFilesWanted};
 
 use crate::done::NumberedDemand;
 use crate::numbers::{NumberedPath, PathNumbers};
+use crate::references::push_led_files;
 use crate::worklist::asked_path;
-use fast_check_name_demands::demands::{Ask, CheckedTables, Extent, SymbolId, has_light_aliases};
-use fast_check_name_demands::{FileWant, FileWants, NameDemand, push_files};
+use fast_check_name_demands::demands::{Ask, CheckedTables, Extent, SymbolId};
+use fast_check_name_demands::{FileWant, FileWants, NameDemand};
+use fast_check_symbols::SymbolDeclKind;
 use std::alloc::{AllocError, Global};
-use std::collections::BTreeSet;
+use std::collections::{BTreeMap, BTreeSet};
+use url::Url;
 
 /// What is asked of a file, of a path the first name and the number of the rest.
 #[derive(Clone, Copy, PartialEq, Eq, PartialOrd, Ord)]
@@ -53,33 +57,20 @@ pub struct WantedFiles<'a> {
     wants: BTreeSet<DoneWant<'a>>,
     /// Paths all of whose wants are among these.
     paths: BTreeSet<SymbolPath>,
-    /// Symbols with many aliases, or with some of long names, no path of which asks for anything.
-    without: BTreeSet<SymbolId>,
+    /// Of symbols of which a path was asked, the aliases by which it asks files whose texts lead somewhere.
+    references: BTreeMap<SymbolId, Vec<&'a SymbolDeclKind>>,
 }
 
 impl<'a> WantedFiles<'a> {
     /// Nothing.
     pub fn new(alloc: Global) -> WantedFiles<'a>
-        ensures { (t : Tables) (w : PathNumbers) (found : List FileDemand) → AreFilesWanted t w result found }
+        ensures { (r : Texts) (t : Tables) (w : PathNumbers) (found : List FileDemand) → AreFilesWanted r t w result found }
     {
         WantedFiles {
             wants: BTreeSet::new(alloc),
             paths: BTreeSet::new(alloc),
-            without: BTreeSet::new(alloc),
+            references: BTreeMap::new(alloc),
         }
-    }
-
-    /// Notes that no path of a symbol asks for anything, where its aliases are many or have long names.
-    fn note_without(&mut self, tables: &CheckedTables, symbol: SymbolId) -> Result<(), AllocError>
-        requires { HasNoFiles tables.now symbol }
-        ensures { OnOk result ((w : PathNumbers) (found : List FileDemand) →
-            AreFilesWanted tables.now w self.old found → AreFilesWanted tables.now w self.new found) }
-    {
-        if has_light_aliases(tables, symbol) {
-            return Ok(());
-        }
-        self.without.insert(symbol)?;
-        Ok(())
     }
 }
 
@@ -111,7 +102,7 @@ fn done_want(want: FileWant<'_>, number: u32) -> DoneWant<'_>
 fn add_want<'a>(
     path: NumberedPath<'a>,
     want: FileWant<'a>,
-    paths: &mut PathNumbers<'a>,
+    paths: &mut PathNumbers,
     wanted: &mut BTreeSet<DoneWant<'a>>,
     out: &mut FileWants<'a>,
 ) -> Result<(), AllocError>
@@ -138,7 +129,7 @@ fn add_want<'a>(
 fn add_wants<'a>(
     path: NumberedPath<'a>,
     wants: &[FileWant<'a>],
-    paths: &mut PathNumbers<'a>,
+    paths: &mut PathNumbers,
     wanted: &mut BTreeSet<DoneWant<'a>>,
     out: &mut FileWants<'a>,
 ) -> Result<(), AllocError>
@@ -157,33 +148,40 @@ fn add_wants<'a>(
     Ok(())
 }
 
-/// Adds each thing that a demand asks of other files, unless it was added before. Answers whether it asks for nothing.
+/// Adds each thing that a demand asks of other files by texts that lead somewhere, unless it was added before. Answers whether it asks for nothing.
 fn add_each<'a>(
     alloc: Global,
     tables: &'a CheckedTables,
+    texts: Option<&BTreeMap<String, Url>>,
     demand: NumberedDemand<'a>,
-    paths: &mut PathNumbers<'a>,
-    wanted: &mut BTreeSet<DoneWant<'a>>,
+    paths: &mut PathNumbers,
+    wanted: &mut WantedFiles<'a>,
     out: &mut FileWants<'a>,
 ) -> Result<bool, AllocError>
     requires numbering { IsNumbering paths.old }
     requires number { IsNumbered paths.old (demanded demand) demand.path }
-    requires wanted { AreWanted paths.old wanted.old out.old }
+    requires wanted { AreFilesWanted (option_copied texts) tables.now paths.old wanted.old out.old }
     ensures numbering { OnOk result (IsNumbering paths.new) }
     ensures kept { OnOk result (Keeps paths.old paths.new) }
-    ensures wanted { OnOk result (AreWanted paths.new wanted.new out.new) }
-    ensures files { OnOk result (Adds (files tables.now (demanded demand.entry)) out.old out.new) }
-    ensures none { IfOk result (λ none. IsTrue none → (f : FileDemand) → Contains (files tables.now (demanded demand.entry)) f → ⊥) }
+    ensures wanted { OnOk result (AreFilesWanted (option_copied texts.entry) tables.now paths.new wanted.new out.new) }
+    ensures files { OnOk result (Adds (files_led (option_copied texts.entry) tables.now (demanded demand.entry)) out.old out.new) }
 {
     let NumberedDemand { demand, path } = demand;
     let mut wants = FileWants::new(alloc);
-    push_files(tables, demand, &mut wants)?;
+    push_led_files(
+        alloc,
+        tables,
+        texts,
+        demand,
+        &mut wanted.references,
+        &mut wants,
+    )?;
     let path = NumberedPath {
         names: asked_path(demand.ask),
         number: path,
     };
     let wants = wants.as_slice();
-    add_wants(path, wants, paths, wanted, out)?;
+    add_wants(path, wants, paths, &mut wanted.wants, out)?;
     Ok(wants.is_empty())
 }
 
@@ -206,58 +204,56 @@ fn symbol_path(demand: NumberedDemand<'_>) -> Option<SymbolPath>
 fn add_once<'a>(
     alloc: Global,
     tables: &'a CheckedTables,
+    texts: Option<&BTreeMap<String, Url>>,
     demand: NumberedDemand<'a>,
     key: SymbolPath,
-    paths: &mut PathNumbers<'a>,
+    paths: &mut PathNumbers,
     wanted: &mut WantedFiles<'a>,
     out: &mut FileWants<'a>,
 ) -> Result<(), AllocError>
     requires numbering { IsNumbering paths.old }
     requires number { IsNumbered paths.old (demanded demand) demand.path }
     requires key { symbol_path demand ≡ Some key }
-    requires wanted { AreFilesWanted tables.now paths.old wanted.old out.old }
+    requires wanted { AreFilesWanted (option_copied texts) tables.now paths.old wanted.old out.old }
     ensures numbering { OnOk result (IsNumbering paths.new) }
     ensures kept { OnOk result (Keeps paths.old paths.new) }
-    ensures wanted { OnOk result (AreFilesWanted tables.now paths.new wanted.new out.new) }
-    ensures files { OnOk result (Adds (files tables.now (demanded demand.entry)) out.old out.new) }
+    ensures wanted { OnOk result (AreFilesWanted (option_copied texts.entry) tables.now paths.new wanted.new out.new) }
+    ensures files { OnOk result (Adds (files_led (option_copied texts.entry) tables.now (demanded demand.entry)) out.old out.new) }
 {
     if wanted.paths.contains(&key) {
         return Ok(());
     }
-    if wanted.without.contains(&key.symbol) {
-        return Ok(());
-    }
-    let asks_none = add_each(alloc, tables, demand, paths, &mut wanted.wants, out)?;
+    let asks_none = add_each(alloc, tables, texts, demand, paths, wanted, out)?;
     if asks_none {
-        wanted.note_without(tables, key.symbol)?;
         return Ok(());
     }
     wanted.paths.insert(key)?;
     Ok(())
 }
 
-/// Adds what a demand asks of other files: each thing once, and what a path asks is worked out once, whoever asks for it.
+/// Adds what a demand asks of other files by texts that lead somewhere: each thing once, and what a path asks is worked out once, whoever asks for it.
 pub fn add_files<'a>(
     alloc: Global,
     tables: &'a CheckedTables,
+    texts: Option<&BTreeMap<String, Url>>,
     demand: NumberedDemand<'a>,
-    paths: &mut PathNumbers<'a>,
+    paths: &mut PathNumbers,
     wanted: &mut WantedFiles<'a>,
     out: &mut FileWants<'a>,
 ) -> Result<(), AllocError>
     requires numbering { IsNumbering paths.old }
     requires number { IsNumbered paths.old (demanded demand) demand.path }
-    requires wanted { AreFilesWanted tables.now paths.old wanted.old out.old }
+    requires wanted { AreFilesWanted (option_copied texts) tables.now paths.old wanted.old out.old }
     ensures numbering { OnOk result (IsNumbering paths.new) }
     ensures kept { OnOk result (Keeps paths.old paths.new) }
-    ensures wanted { OnOk result (AreFilesWanted tables.now paths.new wanted.new out.new) }
-    ensures files { OnOk result (Adds (files tables.now (demanded demand.entry)) out.old out.new) }
+    ensures wanted { OnOk result (AreFilesWanted (option_copied texts.entry) tables.now paths.new wanted.new out.new) }
+    ensures files { OnOk result (Adds (files_led (option_copied texts.entry) tables.now (demanded demand.entry)) out.old out.new) }
 {
     match symbol_path(demand) {
         None => {
-            add_each(alloc, tables, demand, paths, &mut wanted.wants, out)?;
+            add_each(alloc, tables, texts, demand, paths, wanted, out)?;
             Ok(())
         }
-        Some(key) => add_once(alloc, tables, demand, key, paths, wanted, out),
+        Some(key) => add_once(alloc, tables, texts, demand, key, paths, wanted, out),
     }
 }

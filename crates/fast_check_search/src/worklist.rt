@@ -1,12 +1,13 @@
 //! The demands of a search: those that were asked for, with a cursor.
-ghost use Rattle.std.specs.Prelude.{◌≡◌, [], ◌∷◌, ◌++◌, length, map, slice_get, Some, ◌<◌, OnOk};
+ghost use Rattle.std.specs.Prelude.{◌≡◌, [], ◌∷◌, length, map, slice_get, Some, true, false, ◌<◌, IfOk, OnOk};
 ghost use Rattle.std.specs.List.{list_any, Contains};
 ghost use Rattle.fast_check_names.specs.Names.{path_of};
 ghost use Rattle.fast_check_name_demands.specs.demands.Demands.{Demand, asked_of, demand_of};
 ghost use Rattle.fast_check_name_demands.specs.demands.Account.{referred as referred_of, alike, IsCovered};
 ghost use Rattle.fast_check_search.specs.Done.{asked_path, IsNumbered};
-ghost use Rattle.fast_check_search.specs.Numbers.{number_of, Keeps, Follows};
-ghost use Rattle.fast_check_search.specs.SymbolWorklist.{demanded, asked, IsKept, Grows, CoversEach};
+ghost use Rattle.fast_check_search.specs.Numbers.{number_of, Follows};
+ghost use Rattle.fast_check_search.specs.Searched.{IsKeptWith};
+ghost use Rattle.fast_check_search.specs.SymbolWorklist.{demanded, asked, met, IsKept, Grows, CoversEach};
 
 use crate::done::{DoneDemand, NumberedDemand, done_demand};
 use crate::numbers::{NumberedPath, PathNumbers};
@@ -19,10 +20,10 @@ use std::collections::BTreeSet;
 #[derive(Drop)]
 pub struct SymbolWorklist<'a> {
     demands: Vec<NumberedDemand<'a>>,
-    /// The same demands, each by what tells it from others.
-    done: BTreeSet<DoneDemand>,
+    /// These, and those that earlier searches kept, each by what tells it from others.
+    met: BTreeSet<DoneDemand>,
     /// The numbers of their paths.
-    pub paths: PathNumbers<'a>,
+    pub paths: PathNumbers,
 }
 
 /// The path that is asked for; none where a symbol itself is.
@@ -49,15 +50,17 @@ fn referred(demand: SymbolDemand<'_>) -> SymbolDemand<'_>
 }
 
 impl<'a> SymbolWorklist<'a> {
-    /// No demands.
-    pub fn new(alloc: Global) -> SymbolWorklist<'a>
+    /// No demands, behind earlier searches.
+    pub fn after(alloc: Global, before: Searched) -> SymbolWorklist<'a>
         ensures demands { asked result ≡ [] }
+        ensures met { met result ≡ before }
         ensures kept { IsKept result }
     {
+        let (met, paths) = before.into_met();
         SymbolWorklist {
             demands: Vec::new(alloc),
-            done: BTreeSet::new(alloc),
-            paths: PathNumbers::new(alloc),
+            met,
+            paths,
         }
     }
 
@@ -68,11 +71,26 @@ impl<'a> SymbolWorklist<'a> {
         self.demands.len()
     }
 
-    /// All of them, without what they were looked up by.
-    pub fn into_demands(self) -> Vec<NumberedDemand<'a>>
-        ensures { map demanded result.items ≡ asked self.entry }
+    /// All of them.
+    pub fn as_slice(&self) -> &[NumberedDemand<'a>] {
+        self.demands.as_slice()
+    }
+
+    /// What searches came to with these, where so much was gone over for them: all that was met, or else those that ask for no names.
+    pub fn into_searched(
+        self,
+        alloc: Global,
+        keeps_names: bool,
+        effort: usize,
+    ) -> Result<Searched, AllocError>
+        requires { IsKept self }
+        ensures all { IfOk result (λ searched. keeps_names ≡ true → searched ≡ met self.entry) }
+        ensures nameless { IfOk result (λ searched. keeps_names ≡ false → IsKeptWith [] (asked self.entry) searched) }
     {
-        self.demands
+        if keeps_names {
+            return Ok(Searched::of(self.met, self.paths, effort));
+        }
+        Searched::without_names(alloc, self.demands.as_slice(), effort)
     }
 
     /// The demand at a place.
@@ -85,72 +103,50 @@ impl<'a> SymbolWorklist<'a> {
         self.demands[place]
     }
 
-    /// Whether a demand that asks for the same was asked for.
-    fn has(&self, demand: SymbolDemand<'a>, path: u32) -> bool
+    /// Whether a demand that asks for the same was asked for, in this search or in an earlier one.
+    fn is_met(&self, demand: SymbolDemand<'a>, path: u32) -> bool
         requires kept { IsKept self.now }
         requires number { IsNumbered self.now.paths (demand_of demand) path }
-        ensures { result ≡ list_any (alike (demand_of demand.entry)) (asked self.now) }
+        ensures { result ≡ list_any (alike (demand_of demand.entry)) (met self.now) }
     {
-        self.done
+        self.met
             .contains(&done_demand(NumberedDemand { demand, path }))
     }
 
-    /// Whether a demand that asks for the same was asked for, in this search or in an earlier one.
-    fn is_met(&self, before: &Searched, demand: SymbolDemand<'a>, path: u32) -> bool
-        requires kept { IsKept self.now }
-        requires number { IsNumbered self.now.paths (demand_of demand) path }
-        ensures { result ≡ list_any (alike (demand_of demand.entry)) (before.now ++ asked self.now) }
-    {
-        before.has(demand) || self.has(demand, path)
-    }
-
     /// Asks for a demand, whose path has this number, unless what it asks for was asked for before.
-    fn ask_numbered(
-        &mut self,
-        before: &Searched,
-        demand: SymbolDemand<'a>,
-        path: u32,
-    ) -> Result<(), AllocError>
+    fn ask_numbered(&mut self, demand: SymbolDemand<'a>, path: u32) -> Result<(), AllocError>
         requires kept { IsKept self.old }
         requires number { IsNumbered self.old.paths (demand_of demand) path }
         ensures kept { OnOk result (IsKept self.new) }
-        ensures grown { OnOk result (Grows (demand_of demand.entry ∷ []) (asked self.old) (asked self.new)) }
-        ensures covered { OnOk result (IsCovered (before.now ++ asked self.new) (demand_of demand.entry)) }
-        ensures paths { OnOk result (self.new.paths ≡ self.old.paths) }
+        ensures grown { OnOk result (Grows (demand_of demand.entry ∷ []) self.old self.new) }
+        ensures covered { OnOk result (IsCovered (met self.new) (demand_of demand.entry)) }
     {
-        if self.is_met(before, demand, path) || self.is_met(before, referred(demand), path) {
+        if self.is_met(demand, path) || self.is_met(referred(demand), path) {
             return Ok(());
         }
         let numbered = NumberedDemand { demand, path };
         self.demands.push(numbered)?;
-        self.done.insert(done_demand(numbered))?;
+        self.met.insert(done_demand(numbered))?;
         Ok(())
     }
 
     /// Asks for a demand that follows where a path is followed.
-    fn ask(
-        &mut self,
-        before: &Searched,
-        path: NumberedPath<'a>,
-        demand: SymbolDemand<'a>,
-    ) -> Result<(), AllocError>
+    fn ask(&mut self, path: NumberedPath<'a>, demand: SymbolDemand<'a>) -> Result<(), AllocError>
         requires kept { IsKept self.old }
         requires number { number_of self.old.paths (path_of path.names.now) ≡ Some path.number }
         requires follows { Follows (path_of path.names.now) (asked_path (asked_of demand.ask)) }
         ensures kept { OnOk result (IsKept self.new) }
         ensures number { OnOk result (number_of self.new.paths (path_of path.entry.names.now) ≡ Some path.entry.number) }
-        ensures numbers { OnOk result (Keeps self.old.paths self.new.paths) }
-        ensures grown { OnOk result (Grows (demand_of demand.entry ∷ []) (asked self.old) (asked self.new)) }
-        ensures covered { OnOk result (IsCovered (before.now ++ asked self.new) (demand_of demand.entry)) }
+        ensures grown { OnOk result (Grows (demand_of demand.entry ∷ []) self.old self.new) }
+        ensures covered { OnOk result (IsCovered (met self.new) (demand_of demand.entry)) }
     {
         let number = self.paths.number_after(path, asked_path(demand.ask))?;
-        self.ask_numbered(before, demand, number)
+        self.ask_numbered(demand, number)
     }
 
     /// Asks for each of these, which follow where a path is followed.
     pub fn ask_all(
         &mut self,
-        before: &Searched,
         path: NumberedPath<'a>,
         demands: &[SymbolDemand<'a>],
     ) -> Result<(), AllocError>
@@ -158,12 +154,11 @@ impl<'a> SymbolWorklist<'a> {
         requires number { number_of self.old.paths (path_of path.names.now) ≡ Some path.number }
         requires follow { (d : Demand) → Contains (map demand_of demands.now) d → Follows (path_of path.names.now) (asked_path d.asked) }
         ensures kept { OnOk result (IsKept self.new) }
-        ensures numbers { OnOk result (Keeps self.old.paths self.new.paths) }
-        ensures grown { OnOk result (Grows (map demand_of demands.now) (asked self.old) (asked self.new)) }
-        ensures covered { OnOk result (CoversEach (map demand_of demands.now) (before.now ++ asked self.new)) }
+        ensures grown { OnOk result (Grows (map demand_of demands.now) self.old self.new) }
+        ensures covered { OnOk result (CoversEach (map demand_of demands.now) (met self.new)) }
     {
         for demand in demands {
-            self.ask(before, path, *demand)?;
+            self.ask(path, *demand)?;
         }
         Ok(())
     }

@@ -1,16 +1,38 @@
 -- What is asked of a module that was met, by its owner.
-use Rattle.std.proofs.Common.{◌≡◌, ◌∙◌, sym, ap, Bool, List, [], ◌∷◌, ◌++◌, cond, Option, ⊎_elim}
-use Rattle.std.specs.List.{Contains}
+use Rattle.std.proofs.Common.{◌≡◌, ◌∙◌, sym, ap, refl, ℕ, Bool, true, false, List, [], ◌∷◌, ◌++◌, cond, Option, None, Some, ⊎_elim}
+use Rattle.std.proofs.Common.{option_map, option_and_then, slice_get, nat_eq, codes}
+use Rattle.std.specs.List.{Contains, starts_with}
 use Rattle.std.proofs.lemmas.List.Elements.{Contains-append_cases, Contains-append_left, Contains-append_right}
 use Rattle.url.specs.Parts.{serialize}
 use Rattle.fast_check_packages.specs.Package.{Nv, nv_of}
+use Rattle.fast_check_packages.specs.declared.package.WorkspaceMember.{WorkspaceMember}
+use Rattle.fast_check_packages.specs.Members.{member_nv, member_of, place_around}
+use Rattle.fast_check_packages.proofs.MembersFound.{member_there}
 use Rattle.fast_check_demands.specs.Yields.{Adds}
 use Rattle.fast_check_worklists.specs.Demands.{Text, Wanted, to_package, to_module}
 use Rattle.fast_check_sources.specs.declared.asked.Owner.{Owner}
 use Rattle.fast_check_sources.specs.declared.asked.Owner.TheVariants.{Nobody, Own, Another}
 use Rattle.fast_check_sources.specs.declared.asked.AskedModule.{AskedModule}
+use Rattle.fast_check_sources.specs.Sources.{owner_by}
 use Rattle.fast_check_sources.specs.Wants.{file_at, behind}
-use Rattle.fast_check_sources.specs.Asked.{IsOwner, IsModuleAt, package_of, names_of_file, names_behind}
+use Rattle.fast_check_sources.specs.Asked.{IsOwner, IsModuleAt, package_at, package_of, names_of_file, names_behind}
+
+-- a file belongs to the member at the place of its base, another URL to what the provider says
+
+pub owner_elsewhere : (members : List WorkspaceMember) (nv_at : Text → Option Nv) (t : Text) → starts_with nat_eq t (codes "file:") ≡ false →
+    owner_by members nv_at t ≡ nv_at t
+owner_elsewhere members nv_at t other = ap (λ (b : Bool). cond b (option_map member_nv (member_of members t)) (nv_at t)) other
+
+pub owner_at_place : (members : List WorkspaceMember) (nv_at : Text → Option Nv) (t : Text) (place : Option ℕ) →
+    starts_with nat_eq t (codes "file:") ≡ true → place ≡ place_around members t →
+    owner_by members nv_at t ≡ option_and_then (package_at members) place
+owner_at_place members nv_at t place file is =
+    ap (λ (b : Bool). cond b (option_map member_nv (member_of members t)) (nv_at t)) file
+    ∙ (ap (option_map member_nv) (member_there members t ∙ ap (option_and_then (slice_get members)) (sym is)) ∙ through place)
+  where
+    through : (o : Option ℕ) → option_map member_nv (option_and_then (slice_get members) o) ≡ option_and_then (package_at members) o
+    through None = refl
+    through (Some i) = refl
 
 -- of a file, and behind a re-export of all, where the package comes last
 

@@ -1,11 +1,12 @@
 -- What stands by texts, as more is put.
-use Rattle.std.proofs.Common.{◌≡◌, sym, refl, subst, ℕ, Bool, true, false, cond, List, [], Option, Some, None, bytes_eq}
+use Rattle.std.proofs.Common.{◌≡◌, sym, refl, subst, ℕ, Bool, true, false, cond, List, Option, Some, None, bytes_eq}
 use Rattle.std.specs.Borrow.{Bor}
-use Rattle.std.specs.Map.{lookup}
 use Rattle.std.specs.BTreeMap as tree
 use Rattle.std.specs.BTreeMap.{BTreeMap}
 use Rattle.std.specs.Cmp.Lexicographic.{slice_cmp}
-use Rattle.std.specs.Ordering.{nat_cmp}
+use Rattle.std.specs.Ordering.{nat_cmp, is_eq}
+use Rattle.std.proofs.lemmas.Map.Lookups.{exact_unsigned}
+use Rattle.std.proofs.lemmas.Map.Views.{tells_apart}
 use Rattle.std.proofs.lemmas.Map.Text.{btree_map_updates_str}
 use Rattle.std.proofs.lemmas.Slice.Eq.{bytes_eq-Decides}
 use Rattle.fast_check_worklists.specs.Demands.{Text}
@@ -23,11 +24,16 @@ kept_put P key x old new u p all text =
     go true f = f refl
     go false f = all text
 
--- nothing is kept at first
-pub kept_none : {X : Type 0} (P : X → Type 0) (text : Text) (entries : List (Bor (List ℕ) × X)) → entries ≡ []
-    → IfKept P (lookup (tree.is_at (λ k. slice_cmp nat_cmp text k.now)) entries)
-kept_none P text entries none =
-    subst (λ es. IfKept P (lookup (tree.is_at (λ k. slice_cmp nat_cmp text k.now)) es)) (sym none) tt
+-- the same of what stands by places
+pub kept_put_of : {X : Type 0} (P : ℕ → X → Type 0) (key : ℕ) (x : X) (old new : BTreeMap ℕ X) → tree.Updates nat_cmp old new key (Some x)
+    → P key x → ((place : ℕ) → IfKept (P place) (tree.get nat_cmp old place)) → (place : ℕ) → IfKept (P place) (tree.get nat_cmp new place)
+kept_put_of P key x old new u p all place =
+    subst (IfKept (P place)) (sym (u.0 place))
+    (go (is_eq (nat_cmp key place)) (λ same. subst (λ (i : ℕ). P i x) (tells_apart exact_unsigned key place same) p))
+  where
+    go : (b : Bool) → (b ≡ true → P place x) → IfKept (P place) (cond b (Some x) (tree.get nat_cmp old place))
+    go true f = f refl
+    go false f = all place
 
 -- what holds of what is kept
 pub kept_more : {X : Type 0} (P Q : X → Type 0) → ((x : X) → P x → Q x) → (kept : Option X) → IfKept P kept → IfKept Q kept

@@ -1,19 +1,17 @@
 //! A module of which something is asked, with the package that it belongs to.
 
-ghost use Rattle.std.specs.Prelude.{◌≡◌, ◌++◌, ◌∷◌, [], map, option_map, OnOk, IfOk};
+ghost use Rattle.std.specs.Prelude.{◌≡◌, ◌++◌, ◌∷◌, [], Some, map, option_map, OnOk, IfOk};
 ghost use Rattle.url.specs.Parts.{serialize};
 ghost use Rattle.fast_check_packages.specs.Package.{nv_of};
 ghost use Rattle.fast_check_packages.specs.MembersIn.{members_in};
 ghost use Rattle.fast_check_name_demands.specs.Files.{names_of};
 ghost use Rattle.fast_check_worklists.specs.Demands.{asked_by, to_package};
 ghost use Rattle.fast_check_worklists.specs.State.{want_of};
-ghost use Rattle.fast_check_sources.specs.Sources.{owner_by};
 ghost use Rattle.fast_check_demands.specs.Yields.{Adds};
-ghost use Rattle.fast_check_sources.specs.Asked.{IsOwner, IsSameOwner, IsModuleAt, IsSameModule, package_of, names_of_file, names_behind};
+ghost use Rattle.fast_check_sources.specs.Asked.{IsOwner, IsSameOwner, IsSameModule, package_at, package_of, names_of_file, names_behind};
 ghost use Rattle.fast_check_sources.specs.Asked.{is_last, IsLastTold};
 
 use crate::owners::{MetPackages, shared};
-use crate::sources::owner_of;
 use fast_check_name_demands::NameDemand;
 use fast_check_packages::{IndexedMembers, JsrUrlProvider, PackageNv};
 use fast_check_worklists::{OuterWant, is_same_package};
@@ -38,7 +36,8 @@ pub struct AskedModule {
 }
 
 impl Owner {
-    fn shared(&self) -> Result<Owner, AllocError>
+    /// The same package once more.
+    pub fn shared(&self) -> Result<Owner, AllocError>
         ensures { IfOk result (IsSameOwner self.now) }
     {
         match self {
@@ -72,39 +71,43 @@ fn is_last(last: &Option<Rc<PackageNv>>, nv: &PackageNv) -> bool
 }
 
 /// A package as another one sees it.
-fn owner_seen(
-    alloc: Global,
-    nv: &PackageNv,
-    owner: Option<PackageNv>,
-    owners: &mut MetPackages,
-) -> Result<Owner, AllocError>
-    ensures { IfOk result (λ seen. IsOwner (nv_of nv.now) (option_map nv_of owner) seen) }
+fn owner_seen(nv: &PackageNv, owner: Rc<PackageNv>) -> Owner
+    ensures { IsOwner (nv_of nv.now) (Some (nv_of owner.value)) result }
 {
-    let Some(owner) = owner else {
-        return Ok(Owner::Nobody);
-    };
     if is_same_package(nv, &owner) {
-        return Ok(Owner::Own(owners.held(alloc, owner)?));
+        return Owner::Own(owner);
     }
-    Ok(Owner::Another(owners.held(alloc, owner)?))
+    Owner::Another(owner)
 }
 
-/// The module under a specifier, as a package asks for it.
-pub fn module_at(
+/// The package that a provider says of a URL, as another one sees it.
+pub fn provided_owner(
     alloc: Global,
     nv: &PackageNv,
-    members: &IndexedMembers<'_>,
     provider: &dyn JsrUrlProvider,
-    specifier: &Url,
+    url: &Url,
     owners: &mut MetPackages,
-) -> Result<AskedModule, AllocError>
-    ensures { IfOk result (λ found. IsModuleAt (owner_by (members_in members.now) (nv_at provider.now)) (nv_of nv.now)
-        (serialize specifier.now) found) }
+) -> Result<Owner, AllocError>
+    ensures { IfOk result (λ seen. IsOwner (nv_of nv.now) (nv_at provider.now (serialize url.now)) seen) }
 {
-    let owner = owner_of(alloc, members, provider, specifier)?;
-    let owner = owner_seen(alloc, nv, owner, owners)?;
-    let specifier = Rc::new(alloc, specifier.clone()?)?;
-    Ok(AskedModule { specifier, owner })
+    match provider.package_url_to_nv(url)? {
+        None => Ok(Owner::Nobody),
+        Some(owner) => Ok(owner_seen(nv, owners.held(alloc, owner)?)),
+    }
+}
+
+/// The package of the member at a place, as another one sees it.
+pub fn member_owner(
+    nv: &PackageNv,
+    members: &IndexedMembers<'_>,
+    place: usize,
+) -> Result<Owner, AllocError>
+    ensures { IfOk result (λ seen. IsOwner (nv_of nv.now) (package_at (members_in members.now) place) seen) }
+{
+    match members.package_at(place) {
+        None => Ok(Owner::Nobody),
+        Some(owner) => Ok(owner_seen(nv, owner.clone()?)),
+    }
 }
 
 /// Adds a package.

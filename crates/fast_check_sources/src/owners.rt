@@ -1,4 +1,4 @@
-//! The packages that modules belong to, as they were met: each is held once.
+//! The packages that a provider says, as they were met: each is held once.
 
 ghost use Rattle.std.specs.Prelude.{◌≡◌, IfSome, IfOk};
 ghost use Rattle.fast_check_packages.specs.Package.{nv_of};
@@ -9,7 +9,7 @@ use std::alloc::{AllocError, Global};
 use std::collections::BTreeSet;
 use std::rc::Rc;
 
-/// The packages that were met. Their names may be long: whoever has a package of this name and version shares the one that is held.
+/// The packages that a provider said. Their names may be long: whoever has a package of this name and version shares the one that is held.
 #[derive(Drop)]
 pub struct MetPackages {
     /// The one that was met last. Many modules in turn belong to one package, so it is looked at first.

@@ -1,9 +1,9 @@
 //! What a module that is followed wants of other modules and of packages.
 
-ghost use Rattle.std.specs.Prelude.{◌≡◌, ◌++◌, [], map, Option, Some, OnOk, IfOk};
+ghost use Rattle.std.specs.Prelude.{◌≡◌, ◌++◌, [], map, Option, Some, option_map, OnOk, IfOk};
 ghost use Rattle.std.specs.Option.{option_copied, option_and_then};
 ghost use Rattle.std.specs.List.{flat_map};
-ghost use Rattle.url.specs.Parts.{serialize};
+ghost use Rattle.url.specs.Parts.{Parts, serialize};
 ghost use Rattle.fast_check_packages.specs.Package.{Nv, nv_of};
 ghost use Rattle.fast_check_graph.specs.Resolutions.{text_resolved};
 ghost use Rattle.fast_check_name_demands.specs.Files.{names_of, file_demand_of};
@@ -12,11 +12,14 @@ ghost use Rattle.fast_check_traces.specs.Wants.{want_of as want_seen, re_exporte
 ghost use Rattle.fast_check_demands.specs.Yields.{Adds};
 ghost use Rattle.fast_check_worklists.specs.Demands.{Text};
 ghost use Rattle.fast_check_worklists.specs.State.{want_of};
-ghost use Rattle.fast_check_sources.specs.Sources.{known};
+ghost use Rattle.fast_check_sources.specs.Sources.{Known, known};
 ghost use Rattle.fast_check_sources.specs.Wants.{resolved, file_wants, left_wants};
-ghost use Rattle.fast_check_sources.specs.Asked.{kept_at, IsSameFound, IsResolving, IsAsking, Finds, Asks};
+ghost use Rattle.fast_check_sources.specs.Asked.{kept_at, package_at, IsLastTold, IsSameFound, IsResolving, IsAsking, Sees, Finds, Asks};
 
-use crate::asked::{AskedModule, module_at, push_names_behind, push_names_of_file, push_package};
+use crate::asked::{
+    AskedModule, Owner, member_owner, provided_owner, push_names_behind, push_names_of_file,
+    push_package,
+};
 use crate::order::shortest_first;
 use crate::owners::MetPackages;
 use crate::sources::Sources;
@@ -38,12 +41,14 @@ pub struct Asker<'a> {
     pub traced: TracedModule<'a>,
 }
 
-/// What was asked so far: the module that each text names, if it names one, the module at each URL, the texts of the re-exports of all that were met, and
-/// all that is asked for. The package of a module is asked for where the module is met first, unless it was the last one that was asked for.
+/// What was asked so far: the module that each text names, if it names one, the module at each URL, the package of each member of the workspace by its place,
+/// the texts of the re-exports of all that were met, and all that is asked for. The package of a member is asked for where a file of it is met first; another
+/// one where a module of it is met first, unless it was the last one that was asked for.
 #[derive(Drop)]
 struct Asking<'a> {
     named: BTreeMap<&'a str, Option<AskedModule>>,
     met: BTreeMap<&'a str, AskedModule>,
+    members: BTreeMap<usize, Owner>,
     re_exported: BTreeSet<&'a str>,
     owners: MetPackages,
     last_package: Option<Rc<PackageNv>>,
@@ -71,6 +76,65 @@ fn module_met<'b>(met: &'b BTreeMap<&str, AskedModule>, target: &Url) -> Option<
     met.get(target.as_str())
 }
 
+/// The package of the member at a place, no file of which was met before.
+fn member_first(
+    asker: Asker<'_>,
+    place: usize,
+    asking: &mut Asking<'_>,
+) -> Result<Owner, AllocError>
+    requires { IsLastTold (map want_of asking.old.out.items) (option_map (λ p. nv_of p.value) asking.old.last_package) }
+    ensures { (url_of : Nv → Parts) (nv_at : Text → Option Nv) → let k = known asker.entry.sources url_of nv_at in
+        let nv = nv_of asker.entry.package.now in IsAsking k nv asker.entry.traced asking.old
+        → IfOk result (λ seen. Sees k nv asker.entry.traced (package_at k.workspace_members place) asking.old asking.new seen) }
+{
+    let members = asker.sources.workspace_members;
+    let owner = member_owner(asker.package, members, place)?;
+    push_package(&owner, &mut asking.last_package, &mut asking.out)?;
+    let kept = owner.shared()?;
+    asking.members.insert(place, kept)?;
+    Ok(owner)
+}
+
+/// The package of the member at a place.
+fn member_met(asker: Asker<'_>, place: usize, asking: &mut Asking<'_>) -> Result<Owner, AllocError>
+    requires { IsLastTold (map want_of asking.old.out.items) (option_map (λ p. nv_of p.value) asking.old.last_package) }
+    ensures { (url_of : Nv → Parts) (nv_at : Text → Option Nv) → let k = known asker.entry.sources url_of nv_at in
+        let nv = nv_of asker.entry.package.now in IsAsking k nv asker.entry.traced asking.old
+        → IfOk result (λ seen. Sees k nv asker.entry.traced (package_at k.workspace_members place) asking.old asking.new seen) }
+{
+    match asking.members.get(&place) {
+        Some(owner) => owner.shared(),
+        None => member_first(asker, place, asking),
+    }
+}
+
+/// The package that a URL belongs to: that of a member of the workspace for a file, and else what the provider says.
+fn owner_met(
+    alloc: Global,
+    asker: Asker<'_>,
+    provider: &dyn JsrUrlProvider,
+    url: &Url,
+    asking: &mut Asking<'_>,
+) -> Result<Owner, AllocError>
+    requires { let k = known asker.sources (url_of provider.now) (nv_at provider.now) in
+        IsAsking k (nv_of asker.package.now) asker.traced asking.old }
+    ensures { let k = known asker.entry.sources (url_of provider.now) (nv_at provider.now) in
+        let nv = nv_of asker.entry.package.now in
+        IfOk result (λ seen. Sees k nv asker.entry.traced (k.owner (serialize url.now)) asking.old asking.new seen) }
+{
+    let text = url.as_str();
+    if !text.as_bytes().starts_with(b"file:") {
+        let owners = &mut asking.owners;
+        let owner = provided_owner(alloc, asker.package, provider, url, owners)?;
+        push_package(&owner, &mut asking.last_package, &mut asking.out)?;
+        return Ok(owner);
+    }
+    match asker.sources.workspace_members.place_around(text) {
+        None => Ok(Owner::Nobody),
+        Some(place) => member_met(asker, place, asking),
+    }
+}
+
 /// The module at a URL, which was not met before.
 fn meet_first<'a>(
     alloc: Global,
@@ -80,14 +144,13 @@ fn meet_first<'a>(
     asking: &mut Asking<'a>,
 ) -> Result<AskedModule, AllocError>
     requires { let k = known asker.sources (url_of provider.now) (nv_at provider.now) in
-        IsAsking k.owner (nv_of asker.package.now) asker.traced asking.old }
+        IsAsking k (nv_of asker.package.now) asker.traced asking.old }
     ensures { let k = known asker.entry.sources (url_of provider.now) (nv_at provider.now) in
-        IfOk result (λ found. Finds k.owner (nv_of asker.entry.package.now) asker.entry.traced (Some target.now) asking.old asking.new (Some found)) }
+        IfOk result (λ found. Finds k (nv_of asker.entry.package.now) asker.entry.traced (Some target.now) asking.old asking.new (Some found)) }
 {
-    let members = asker.sources.workspace_members;
-    let owners = &mut asking.owners;
-    let found = module_at(alloc, asker.package, members, provider, target, owners)?;
-    push_package(&found.owner, &mut asking.last_package, &mut asking.out)?;
+    let owner = owner_met(alloc, asker, provider, target, asking)?;
+    let specifier = Rc::new(alloc, target.clone()?)?;
+    let found = AskedModule { specifier, owner };
     let kept = found.shared()?;
     asking.met.insert(target.as_str(), kept)?;
     Ok(found)
@@ -102,9 +165,9 @@ fn meet<'a>(
     asking: &mut Asking<'a>,
 ) -> Result<AskedModule, AllocError>
     requires { let k = known asker.sources (url_of provider.now) (nv_at provider.now) in
-        IsAsking k.owner (nv_of asker.package.now) asker.traced asking.old }
+        IsAsking k (nv_of asker.package.now) asker.traced asking.old }
     ensures { let k = known asker.entry.sources (url_of provider.now) (nv_at provider.now) in
-        IfOk result (λ found. Finds k.owner (nv_of asker.entry.package.now) asker.entry.traced (Some target.now) asking.old asking.new (Some found)) }
+        IfOk result (λ found. Finds k (nv_of asker.entry.package.now) asker.entry.traced (Some target.now) asking.old asking.new (Some found)) }
 {
     match module_met(&asking.met, target) {
         Some(known) => known.shared(),
@@ -121,9 +184,9 @@ fn meet_some<'a>(
     asking: &mut Asking<'a>,
 ) -> Result<Option<AskedModule>, AllocError>
     requires { let k = known asker.sources (url_of provider.now) (nv_at provider.now) in
-        IsAsking k.owner (nv_of asker.package.now) asker.traced asking.old }
+        IsAsking k (nv_of asker.package.now) asker.traced asking.old }
     ensures { let k = known asker.entry.sources (url_of provider.now) (nv_at provider.now) in
-        IfOk result (λ found. Finds k.owner (nv_of asker.entry.package.now) asker.entry.traced (option_copied target.entry) asking.old asking.new found) }
+        IfOk result (λ found. Finds k (nv_of asker.entry.package.now) asker.entry.traced (option_copied target.entry) asking.old asking.new found) }
 {
     match target {
         None => Ok(None),
@@ -152,10 +215,10 @@ fn name_first<'a>(
 ) -> Result<Option<AskedModule>, AllocError>
     requires resolving { IsResolving asker.traced (option_copied resolutions) }
     requires asking { let k = known asker.sources (url_of provider.now) (nv_at provider.now) in
-        IsAsking k.owner (nv_of asker.package.now) asker.traced asking.old }
+        IsAsking k (nv_of asker.package.now) asker.traced asking.old }
     ensures { let k = known asker.entry.sources (url_of provider.now) (nv_at provider.now) in
         let nv = nv_of asker.entry.package.now in
-        IfOk result (λ found. Finds k.owner nv asker.entry.traced (resolved asker.entry.traced text.now) asking.old asking.new found) }
+        IfOk result (λ found. Finds k nv asker.entry.traced (resolved asker.entry.traced text.now) asking.old asking.new found) }
 {
     let target = resolved(resolutions, text);
     let found = meet_some(alloc, asker, provider, target, asking)?;
@@ -175,10 +238,10 @@ fn name<'a>(
 ) -> Result<Option<AskedModule>, AllocError>
     requires resolving { IsResolving asker.traced (option_copied resolutions) }
     requires asking { let k = known asker.sources (url_of provider.now) (nv_at provider.now) in
-        IsAsking k.owner (nv_of asker.package.now) asker.traced asking.old }
+        IsAsking k (nv_of asker.package.now) asker.traced asking.old }
     ensures { let k = known asker.entry.sources (url_of provider.now) (nv_at provider.now) in
         let nv = nv_of asker.entry.package.now in
-        IfOk result (λ found. Finds k.owner nv asker.entry.traced (resolved asker.entry.traced text.now) asking.old asking.new found) }
+        IfOk result (λ found. Finds k nv asker.entry.traced (resolved asker.entry.traced text.now) asking.old asking.new found) }
 {
     match asking.named.get(text) {
         Some(named) => shared_name(named),
@@ -197,10 +260,10 @@ fn push_file<'a>(
 ) -> Result<(), AllocError>
     requires resolving { IsResolving asker.traced (option_copied resolutions) }
     requires asking { let k = known asker.sources (url_of provider.now) (nv_at provider.now) in
-        IsAsking k.owner (nv_of asker.package.now) asker.traced asking.old }
+        IsAsking k (nv_of asker.package.now) asker.traced asking.old }
     ensures { let k = known asker.entry.sources (url_of provider.now) (nv_at provider.now) in
         let nv = nv_of asker.entry.package.now in
-        OnOk result (Asks k.owner nv asker.entry.traced (file_wants k nv asker.entry.traced (file_demand_of file.entry)) asking.old asking.new) }
+        OnOk result (Asks k nv asker.entry.traced (file_wants k nv asker.entry.traced (file_demand_of file.entry)) asking.old asking.new) }
 {
     match name(alloc, asker, provider, resolutions, file.specifier, asking)? {
         None => Ok(()),
@@ -219,10 +282,10 @@ fn push_first<'a>(
 ) -> Result<(), AllocError>
     requires resolving { IsResolving asker.traced (option_copied resolutions) }
     requires asking { let k = known asker.sources (url_of provider.now) (nv_at provider.now) in
-        IsAsking k.owner (nv_of asker.package.now) asker.traced asking.old }
+        IsAsking k (nv_of asker.package.now) asker.traced asking.old }
     ensures { let k = known asker.entry.sources (url_of provider.now) (nv_at provider.now) in
         let nv = nv_of asker.entry.package.now in
-        OnOk result (Asks k.owner nv asker.entry.traced (left_wants k nv asker.entry.traced (re_exported text.now)) asking.old asking.new) }
+        OnOk result (Asks k nv asker.entry.traced (left_wants k nv asker.entry.traced (re_exported text.now)) asking.old asking.new) }
 {
     match name(alloc, asker, provider, resolutions, text, asking)? {
         None => Ok(()),
@@ -244,10 +307,10 @@ fn push_again<'a>(
 ) -> Result<(), AllocError>
     requires resolving { IsResolving asker.traced (option_copied resolutions) }
     requires asking { let k = known asker.sources (url_of provider.now) (nv_at provider.now) in
-        IsAsking k.owner (nv_of asker.package.now) asker.traced asking.old }
+        IsAsking k (nv_of asker.package.now) asker.traced asking.old }
     ensures { let k = known asker.entry.sources (url_of provider.now) (nv_at provider.now) in
         let nv = nv_of asker.entry.package.now in
-        OnOk result (Asks k.owner nv asker.entry.traced (left_wants k nv asker.entry.traced (re_exported text.now)) asking.old asking.new) }
+        OnOk result (Asks k nv asker.entry.traced (left_wants k nv asker.entry.traced (re_exported text.now)) asking.old asking.new) }
 {
     if asking.re_exported.contains(text) {
         return Ok(());
@@ -267,10 +330,10 @@ fn push_answered<'a>(
     asking: &mut Asking<'a>,
 ) -> Result<(), AllocError>
     requires { let k = known asker.sources (url_of provider.now) (nv_at provider.now) in
-        IsAsking k.owner (nv_of asker.package.now) asker.traced asking.old }
+        IsAsking k (nv_of asker.package.now) asker.traced asking.old }
     ensures { let k = known asker.entry.sources (url_of provider.now) (nv_at provider.now) in
         let nv = nv_of asker.entry.package.now in
-        OnOk result (Asks k.owner nv asker.entry.traced
+        OnOk result (Asks k nv asker.entry.traced
         (left_wants k nv asker.entry.traced (name_answered target.now (names_of demand.entry))) asking.old asking.new) }
 {
     let found = meet(alloc, asker, provider, target, asking)?;
@@ -288,10 +351,10 @@ fn push_want<'a>(
 ) -> Result<(), AllocError>
     requires resolving { IsResolving asker.traced (option_copied resolutions) }
     requires asking { let k = known asker.sources (url_of provider.now) (nv_at provider.now) in
-        IsAsking k.owner (nv_of asker.package.now) asker.traced asking.old }
+        IsAsking k (nv_of asker.package.now) asker.traced asking.old }
     ensures { let k = known asker.entry.sources (url_of provider.now) (nv_at provider.now) in
         let nv = nv_of asker.entry.package.now in
-        OnOk result (Asks k.owner nv asker.entry.traced (left_wants k nv asker.entry.traced (want_seen want.entry)) asking.old asking.new) }
+        OnOk result (Asks k nv asker.entry.traced (left_wants k nv asker.entry.traced (want_seen want.entry)) asking.old asking.new) }
 {
     match want {
         ModuleWant::ReExported(text) => {
@@ -314,10 +377,10 @@ fn push_files<'a>(
 ) -> Result<(), AllocError>
     requires resolving { IsResolving asker.traced (option_copied resolutions) }
     requires asking { let k = known asker.sources (url_of provider.now) (nv_at provider.now) in
-        IsAsking k.owner (nv_of asker.package.now) asker.traced asking.old }
+        IsAsking k (nv_of asker.package.now) asker.traced asking.old }
     ensures { let k = known asker.entry.sources (url_of provider.now) (nv_at provider.now) in
         let nv = nv_of asker.entry.package.now in
-        OnOk result (Asks k.owner nv asker.entry.traced (flat_map (file_wants k nv asker.entry.traced) (map file_demand_of files.now)) asking.old asking.new) }
+        OnOk result (Asks k nv asker.entry.traced (flat_map (file_wants k nv asker.entry.traced) (map file_demand_of files.now)) asking.old asking.new) }
 {
     for file in files {
         push_file(alloc, asker, provider, resolutions, *file, asking)?;
@@ -336,10 +399,10 @@ fn push_wants<'a>(
 ) -> Result<(), AllocError>
     requires resolving { IsResolving asker.traced (option_copied resolutions) }
     requires asking { let k = known asker.sources (url_of provider.now) (nv_at provider.now) in
-        IsAsking k.owner (nv_of asker.package.now) asker.traced asking.old }
+        IsAsking k (nv_of asker.package.now) asker.traced asking.old }
     ensures { let k = known asker.entry.sources (url_of provider.now) (nv_at provider.now) in
         let nv = nv_of asker.entry.package.now in
-        OnOk result (Asks k.owner nv asker.entry.traced (flat_map (left_wants k nv asker.entry.traced) (map want_seen wants.now)) asking.old asking.new) }
+        OnOk result (Asks k nv asker.entry.traced (flat_map (left_wants k nv asker.entry.traced) (map want_seen wants.now)) asking.old asking.new) }
 {
     for want in wants {
         push_want(alloc, asker, provider, resolutions, *want, asking)?;
@@ -350,11 +413,12 @@ fn push_wants<'a>(
 /// Nothing was asked, where these packages were met before.
 fn nothing_asked<'a>(alloc: Global, owners: MetPackages) -> Asking<'a>
     ensures none { result.out.items ≡ [] }
-    ensures asking { (owner : Text → Option Nv) (nv : Nv) (traced : TracedSeen) → IsAsking owner nv traced result }
+    ensures asking { (k : Known) (nv : Nv) (traced : TracedSeen) → IsAsking k nv traced result }
 {
     Asking {
         named: BTreeMap::new(alloc),
         met: BTreeMap::new(alloc),
+        members: BTreeMap::new(alloc),
         re_exported: BTreeSet::new(alloc),
         owners,
         last_package: None,
@@ -363,7 +427,7 @@ fn nothing_asked<'a>(alloc: Global, owners: MetPackages) -> Asking<'a>
 }
 
 /// What a module asks of other modules and of packages: by what its symbols ask of files, and by what it exports again. What files are asked for comes
-/// with the shortest paths first. The packages that it asks for or asks of are met, and what is asked shares the names of those that were met before.
+/// with the shortest paths first. The packages that the provider says are met, and what is asked shares the names of those that were met before.
 pub fn outer_wants<'a>(
     alloc: Global,
     asker: Asker<'a>,

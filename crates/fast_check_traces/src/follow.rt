@@ -10,10 +10,10 @@ ghost use Rattle.fast_check_demands.specs.Noted.{noted_ranges};
 ghost use Rattle.fast_check_traces.specs.Roots.{roots};
 ghost use Rattle.fast_check_traces.specs.Told.{told_again, ArePartsOf};
 ghost use Rattle.fast_check_traces.specs.Wants.{AreRangesThrough, module_wants};
-ghost use Rattle.fast_check_traces.specs.Origins.{AreOriginsOf};
+ghost use Rattle.fast_check_traces.specs.Origins.{own_resolutions as resolutions_at, AreOriginsOf};
 
 use crate::list::ModuleWants;
-use crate::modules::{TracedModule, own_tables};
+use crate::modules::{TracedModule, own_resolutions, own_tables};
 use crate::origins::KeptOrigins;
 use crate::re_exports::re_exports_of;
 use crate::roots::roots_of;
@@ -26,7 +26,7 @@ use std::alloc::{AllocError, Global};
 /// What a module that is followed makes public, what is wrong with it, and what it asks of other modules.
 #[derive(Drop)]
 pub struct Traced<'a> {
-    /// What its symbols give. It asks other files by it, of its own package alone.
+    /// What its symbols give. It asks other files by it whose texts resolve, of its own package alone.
     pub found: Found<'a>,
     /// The ranges of the re-exports of all that are public.
     pub re_export_ranges: Vec<SourceRange>,
@@ -49,7 +49,7 @@ pub fn trace<'a, 'm: 'a>(
     ensures continued { IfOk result (λ r. (more : List Demand)
         × (ArePartsOf traced.entry told.old before
         → IsContinued (tables_at traced.entry) (flat_map (λ d. roots (tables_at traced.entry) (names_of d)) demands.now) before more)
-        × IsFound (tables_at traced.entry) more (noted_ranges (tables_at traced.entry) told.old.symbols)
+        × IsFound (resolutions_at traced.entry) (tables_at traced.entry) more (noted_ranges (tables_at traced.entry) told.old.symbols)
         (noted_ranges (tables_at traced.entry) told.new.symbols) r.1.found × IsKeptWith before more r.0) }
     ensures parts { IfOk result (λ r. ArePartsOf traced.entry told.old before → ArePartsOf traced.entry told.new r.0) }
     ensures re_exports { IfOk result (λ r. AreOriginsOf traced.entry origins.old → AreRangesThrough traced.entry (map names_of demands.now)
@@ -69,6 +69,7 @@ pub fn trace<'a, 'm: 'a>(
     let (searched, found) = search(
         alloc,
         tables,
+        own_resolutions(traced),
         before,
         &mut told.symbols,
         &mut told.parts,

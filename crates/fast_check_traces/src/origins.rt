@@ -23,8 +23,11 @@ use std::collections::{BTreeMap, BTreeSet};
 use std::mem;
 use url::Url;
 
-/// How many re-exports of all are gone over, with no memory of what was met, before they are read.
+/// In so many steps re-exports of all are gone over, with no memory of what was met, before they are read.
 const FEW_STEPS: usize = 16;
+
+/// To go over one re-export of all is a step, and one more for each so many bytes that are compared for it.
+const BYTES_OF_A_STEP: usize = 512;
 
 /// Where a name comes from: the re-export of all that has it, and the module that answers it.
 #[derive(Clone, Copy)]
@@ -75,6 +78,8 @@ pub enum Origins<'a> {
 pub struct KeptOrigins<'a> {
     /// How many names were looked for.
     looks: usize,
+    /// How many steps a look takes that goes over the re-exports.
+    steps: usize,
     read: Origins<'a>,
 }
 
@@ -333,21 +338,71 @@ fn indexed_for<'a>(
     Ok(Origins::Indexed(names))
 }
 
-/// Whether so many looks go over the re-exports of all of a module in few steps.
-fn takes_few_steps(traced: TracedModule<'_>, looks: usize) -> bool {
-    let nodes = own_tables(traced).re_export_all_nodes();
-    looks.saturating_mul(nodes.len()) <= FEW_STEPS
+/// How many bytes of URLs are compared to find the module to which a text resolves: of the URL that it names, and of the module's own.
+fn bytes_behind(
+    traced: TracedModule<'_>,
+    resolutions: Option<&BTreeMap<String, Url>>,
+    text: &str,
+) -> usize {
+    let Some(url) = resolved(resolutions, text) else {
+        return 0;
+    };
+    let named = url.as_str().len();
+    match traced.root_symbol.module_from_specifier(url) {
+        None => named,
+        Some(info) => named.saturating_add(info.specifier().as_str().len()),
+    }
 }
 
-/// Reads the re-exports of all of a module, unless so many looks go over them in few steps.
+/// How many steps it takes to go over a re-export of all of a module.
+fn steps_over(
+    traced: TracedModule<'_>,
+    resolutions: Option<&BTreeMap<String, Url>>,
+    node: &ReExportAllNode,
+) -> usize {
+    let text = node.specifier.as_str();
+    let own = traced.info.specifier().as_str().len();
+    let bytes = own
+        .saturating_add(text.len())
+        .saturating_add(bytes_behind(traced, resolutions, text));
+    1 + bytes / BYTES_OF_A_STEP
+}
+
+/// How many steps a look takes that goes over the re-exports of all of a module, as far as these are few.
+fn steps_of_a_look(traced: TracedModule<'_>) -> usize {
+    let nodes = own_tables(traced).re_export_all_nodes();
+    if nodes.is_empty() || nodes.len() > FEW_STEPS {
+        return nodes.len();
+    }
+    let resolutions = own_resolutions(traced);
+    let mut steps: usize = 0;
+    for node in nodes {
+        if steps > FEW_STEPS {
+            return steps;
+        }
+        steps = steps.saturating_add(steps_over(traced, resolutions, node));
+    }
+    steps
+}
+
+/// The same, where it is known or names are looked for.
+fn steps_for(traced: TracedModule<'_>, names: usize, known: usize) -> usize {
+    if names == 0 || known > 0 {
+        return known;
+    }
+    steps_of_a_look(traced)
+}
+
+/// Reads the re-exports of all of a module, unless so many looks go over them in few steps, by how many steps each takes.
 fn read_for<'a>(
     alloc: Global,
     traced: TracedModule<'a>,
     looks: usize,
+    steps: usize,
 ) -> Result<Origins<'a>, AllocError>
     ensures { IfOk result (AreReadOf traced.entry) }
 {
-    if takes_few_steps(traced, looks) {
+    if looks.saturating_mul(steps) <= FEW_STEPS {
         return Ok(Origins::Unread);
     }
     let leads = leads_of(alloc, traced)?;
@@ -361,12 +416,13 @@ fn read_more<'a>(
     alloc: Global,
     traced: TracedModule<'a>,
     looks: usize,
+    steps: usize,
     read: Origins<'a>,
 ) -> Result<Origins<'a>, AllocError>
     ensures { IfOk result (λ more. AreReadOf traced.entry read.entry → AreReadOf traced.entry more) }
 {
     match read {
-        Origins::Unread => read_for(alloc, traced, looks),
+        Origins::Unread => read_for(alloc, traced, looks, steps),
         Origins::Listed(listed) => indexed_for(alloc, looks, listed),
         Origins::Indexed(names) => Ok(Origins::Indexed(names)),
     }
@@ -379,13 +435,14 @@ impl<'a> KeptOrigins<'a> {
     {
         KeptOrigins {
             looks: 0,
+            steps: 0,
             read: Origins::Unread,
         }
     }
 
-    /// How many names were looked for. Nothing that is found depends on it.
-    pub fn looks(&self) -> usize {
-        self.looks
+    /// How many steps a look for one more name takes that goes over the re-exports: none, where no name was looked for. Nothing that is found depends on it.
+    pub fn steps(&self) -> usize {
+        self.steps
     }
 
     /// Reads what so many looks more take: nothing while they go over the re-exports in few steps, then the modules, and an index of their names once that
@@ -400,8 +457,10 @@ impl<'a> KeptOrigins<'a> {
     {
         let looks = self.looks.saturating_add(names);
         self.looks = looks;
+        let steps = steps_for(traced, names, self.steps);
+        self.steps = steps;
         let before = mem::replace(&mut self.read, Origins::Unread);
-        let read = read_more(alloc, traced, looks, before)?;
+        let read = read_more(alloc, traced, looks, steps, before)?;
         self.read = read;
         Ok(())
     }

@@ -8,5 +8,7 @@ pub mod OwnYields
 pub mod Owned
 mod Begun
 pub mod Touched
+mod Led
 mod Followed
 pub mod Turns
+mod Again

@@ -1,5 +1,5 @@
 -- What a demand makes public in a module is declared in it.
-use Rattle.std.proofs.Common.{◌≡◌, sym, refl, subst, Bool, true, false, cond, List, [], ◌∷◌, ◌++◌, map, Option, Some, None}
+use Rattle.std.proofs.Common.{◌≡◌, sym, ap, refl, subst, Bool, true, false, cond, List, [], ◌∷◌, ◌++◌, map, Option, Some, None}
 use Rattle.std.specs.Prelude.{option_map, option_to_list}
 use Rattle.std.specs.List.{Contains, flat_map}
 use Rattle.std.specs.Map.{lookup}
@@ -33,8 +33,8 @@ use Rattle.fast_check_entries.specs.findings.Yields.{ModuleFault, recorded, faul
 use Rattle.fast_check_entries.specs.findings.Findings.{faulty_module, entry_fault, placed_yield, placed_yields}
 use Rattle.fast_check_entries.specs.Entries.{Entrance, passed_over, refused, entered, all_faults}
 use Rattle.fast_check_sources.specs.Sources.{Known, is_text, node_at, named_at, traced_as, typed_info, info_at, module_at, untyped_at}
-use Rattle.fast_check_turns.specs.Rules.{names_wants, symbol_wants, entrance_at}
-use Rattle.fast_check_turns.specs.Yields.{own_text, dependency_of, dependencies, public_at, implementing_at, names_yields, source_in}
+use Rattle.fast_check_turns.specs.Rules.{own_text, module_of, names_wants, symbol_wants, entrance_at}
+use Rattle.fast_check_turns.specs.Yields.{dependency_of, dependencies, public_at, implementing_at, names_yields, source_in}
 use Rattle.fast_check_turns.specs.Yields.{faults_at, fault_yields, symbol_yields, untyped_yields, entry_fault_yields, entered_yields}
 use Rattle.fast_check_turns.specs.Yields.{entry_yields, gives}
 use Rattle.fast_check_turns.specs.Own.{IsOwnRange, IsOwnYield}
@@ -108,6 +108,16 @@ module _ (k : Known) (found : AreFoundByOwnNames k.root_symbol) where
   followed : (t : Text) (m : TracedModule) → module_at k t ≡ Some m → IsFollowed m
   followed t m e = from_traced (info_at k.graph k.root_symbol t) m (λ info h. from_node (node_at k.graph t) t info h) e
 
+  named : (t : Text) (m : TracedModule) → module_of k t ≡ Some m → IsFollowed m
+  named t m e = from_traced (named_at k.root_symbol t) m (λ info h. from_name t info h) e
+
+  pub named_own : (t : Text) (info : AnyModuleInfo) → info_at k.graph k.root_symbol t ≡ Some info → IsFoundByName info
+  named_own t info e = from_node (node_at k.graph t) t info e
+
+  pub own_module : (t : Text) (info : AnyModuleInfo) → info_at k.graph k.root_symbol t ≡ Some info →
+      module_of k (own_text (traced_as k info)) ≡ Some (traced_as k info)
+  own_module t info e = ap (option_map (traced_as k)) (named_own t info e)
+
   -- what of a module is public
 
   own_at : (m : TracedModule) → IsFollowed m → (r : SourceRange) →
@@ -145,23 +155,23 @@ module _ (k : Known) (found : AreFoundByOwnNames k.root_symbol) where
 
   -- by demands
 
-  of_names : (nv : Nv) (t : Text) (d : NameDemand) (m : TracedModule) → IsFollowed m → Each Q (names_yields k nv t d m)
-  of_names nv t d m h =
-      each_cons Q (recorded nv (own_text m)) (public_at nv m (re_export_ranges m d) ++ dependencies nv (names_wants k nv t d m)) tt
-      (each_append Q (public_at nv m (re_export_ranges m d)) (dependencies nv (names_wants k nv t d m))
-      (publics nv m h (re_export_ranges m d) (own_demand m d)) (all_dependencies nv (names_wants k nv t d m)))
+  of_names : (nv : Nv) (d : NameDemand) (m : TracedModule) → IsFollowed m → Each Q (names_yields k nv d m)
+  of_names nv d m h =
+      each_cons Q (recorded nv (own_text m)) (public_at nv m (re_export_ranges m d) ++ dependencies nv (names_wants k nv d m)) tt
+      (each_append Q (public_at nv m (re_export_ranges m d)) (dependencies nv (names_wants k nv d m))
+      (publics nv m h (re_export_ranges m d) (own_demand m d)) (all_dependencies nv (names_wants k nv d m)))
 
-  of_symbols : (nv : Nv) (t : Text) (s : SymbolDemand) (m : TracedModule) → IsFollowed m → Each Q (symbol_yields k nv t s m)
-  of_symbols nv t s m h =
+  of_symbols : (nv : Nv) (s : SymbolDemand) (m : TracedModule) → IsFollowed m → Each Q (symbol_yields k nv s m)
+  of_symbols nv s m h =
       let publics_of = public_at nv m (ranges (own_tables m) s) in
       let implementing_of = implementing_at nv m (implementations (own_tables m) s) in
       let faults_of = faults_at nv m (faults (own_tables m) s) in
-      let depends = dependencies nv (symbol_wants k nv t s m) in
+      let depends = dependencies nv (symbol_wants k nv s m) in
       each_append Q publics_of (implementing_of ++ (faults_of ++ depends))
       (publics nv m h (ranges (own_tables m) s) (own_ranges (own_tables m) s))
       (each_append Q implementing_of (faults_of ++ depends)
       (implementings nv m h (implementations (own_tables m) s) (own_implementations (own_tables m) s))
-      (each_append Q faults_of depends (all_faults_placed nv m (faults (own_tables m) s)) (all_dependencies nv (symbol_wants k nv t s m))))
+      (each_append Q faults_of depends (all_faults_placed nv m (faults (own_tables m) s)) (all_dependencies nv (symbol_wants k nv s m))))
 
   of_entered : (nv : Nv) (urls : List Parts) (item : Option ItemView) → Each Q (entered_yields k.graph nv urls item)
   of_entered nv urls (Some item) = each_one Q (kept nv urls item) tt
@@ -177,7 +187,7 @@ module _ (k : Known) (found : AreFoundByOwnNames k.root_symbol) where
 
   pub own_yields : (d : Demand) → Each Q (gives k d)
   own_yields (of_package nv) = of_entrance nv (entrance_at k nv)
-  own_yields (of_module nv t d) = each_append Q (each_of (names_yields k nv t d) (module_at k t)) (untyped_yields k.graph nv t)
-      (each_each_of Q (names_yields k nv t d) (module_at k t) (λ m e. of_names nv t d m (followed t m e)))
+  own_yields (of_module nv t d) = each_append Q (each_of (names_yields k nv d) (module_at k t)) (untyped_yields k.graph nv t)
+      (each_each_of Q (names_yields k nv d) (module_at k t) (λ m e. of_names nv d m (followed t m e)))
       (each_cond Q (untyped_at k.graph t) (faulty_module nv t untyped_module) [] (one_faulty nv t untyped_module) (each_nil Q))
-  own_yields (of_symbol nv t s) = each_each_of Q (symbol_yields k nv t s) (module_at k t) (λ m e. of_symbols nv t s m (followed t m e))
+  own_yields (of_symbol nv t s) = each_each_of Q (symbol_yields k nv s) (module_of k t) (λ m e. of_symbols nv s m (named t m e))

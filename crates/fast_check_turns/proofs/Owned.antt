@@ -21,7 +21,7 @@ use Rattle.fast_check_entries.specs.findings.declared.finding.EntryFault.{EntryF
 use Rattle.fast_check_entries.specs.Entries.{Entrance, passed_over, refused, entered, all_faults}
 use Rattle.fast_check_sources.specs.Sources.{Known, module_at}
 use Rattle.fast_check_sources.specs.Wants.{file_at, behind, resolved, file_wants, left_wants}
-use Rattle.fast_check_turns.specs.Rules.{names_wants, symbol_wants, entry_want, unless_faulty, entrance_at, entered_wants, entry_wants}
+use Rattle.fast_check_turns.specs.Rules.{own_text, module_of, names_wants, symbol_wants, entry_want, unless_faulty, entrance_at, entered_wants, entry_wants}
 use Rattle.fast_check_turns.specs.Rules.{world}
 
 module _ (k : Known) where
@@ -75,15 +75,15 @@ module _ (k : Known) where
   symbols_or nv t ss = each_map IsOwnedOrInside (to_symbol nv t) ss (λ s c. tt)
 
   owned_names : (nv : Nv) (t : Text) (d : NameDemand) → Each IsOwnedOrInside (world k (of_module nv t d))
-  owned_names nv t d = each_each_of IsOwnedOrInside (names_wants k nv t d) (module_at k t) (λ m e.
-      each_append IsOwnedOrInside (map (to_symbol nv t) (roots (own_tables m) d)) (flat_map (left_wants k nv m) (module_wants m d))
-      (symbols_or nv t (roots (own_tables m) d))
+  owned_names nv t d = each_each_of IsOwnedOrInside (names_wants k nv d) (module_at k t) (λ m e.
+      each_append IsOwnedOrInside (map (to_symbol nv (own_text m)) (roots (own_tables m) d)) (flat_map (left_wants k nv m) (module_wants m d))
+      (symbols_or nv (own_text m) (roots (own_tables m) d))
       (each_flat IsOwnedOrInside (left_wants k nv m) (module_wants m d) (λ v c w h. owned_or w (owned_left nv m v w h))))
 
   owned_symbols : (nv : Nv) (t : Text) (s : SymbolDemand) → Each IsOwnedOrInside (world k (of_symbol nv t s))
-  owned_symbols nv t s = each_each_of IsOwnedOrInside (symbol_wants k nv t s) (module_at k t) (λ m e.
-      each_append IsOwnedOrInside (map (to_symbol nv t) (names (own_tables m) s)) (flat_map (file_wants k nv m) (files (own_tables m) s))
-      (symbols_or nv t (names (own_tables m) s))
+  owned_symbols nv t s = each_each_of IsOwnedOrInside (symbol_wants k nv s) (module_of k t) (λ m e.
+      each_append IsOwnedOrInside (map (to_symbol nv (own_text m)) (names (own_tables m) s)) (flat_map (file_wants k nv m) (files (own_tables m) s))
+      (symbols_or nv (own_text m) (names (own_tables m) s))
       (each_flat IsOwnedOrInside (file_wants k nv m) (files (own_tables m) s) (λ f c w h. owned_or w (owned_files nv m f w h))))
 
   abbrev IsEntry : Want → Type 0

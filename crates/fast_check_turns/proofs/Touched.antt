@@ -36,7 +36,7 @@ use Rattle.fast_check_worklists.proofs.Waiting.{map_contains}
 use Rattle.fast_check_entries.specs.findings.Yields.{Yield}
 use Rattle.fast_check_sources.specs.Sources.{Known}
 use Rattle.fast_check_sources.specs.Wants.{file_at, resolved, file_wants}
-use Rattle.fast_check_turns.specs.Rules.{symbol_wants}
+use Rattle.fast_check_turns.specs.Rules.{own_text, symbol_wants}
 use Rattle.fast_check_turns.specs.Yields.{dependency_of, dependencies, public_at, implementing_at, fault_yields, faults_at, symbol_yields}
 use Rattle.fast_check_turns.proofs.Lists.{flat_contains}
 use Rattle.fast_check_turns.proofs.Begun.{not_whole, asked_longer, module_within, dependency_kept}
@@ -163,23 +163,23 @@ module _ (y : SymbolId) (q p : Path) (x : Extent) (r : SymbolId) (h : is_beginni
           (k.owner (serialize url))) z) v) e
           (at_within nv (serialize url) (asked_by f.names) (asked_by g.names) is.1 (k.owner (serialize url)) v c)
 
-  module _ (k : Known) (nv : Nv) (t : Text) (m : TracedModule) where
+  module _ (k : Known) (nv : Nv) (m : TracedModule) where
     -- what is asked of packages and other modules
-    pub touched_wants : (v : Want) → Contains (symbol_wants k nv t short m) v → IsOuter v → IsWanted (symbol_wants k nv t long m) v
+    pub touched_wants : (v : Want) → Contains (symbol_wants k nv short m) v → IsOuter v → IsWanted (symbol_wants k nv long m) v
     touched_wants v c o = ⊎_elim
-        (λ l. let s = map_contains (to_symbol nv t) (names (own_tables m) short) v l in
+        (λ l. let s = map_contains (to_symbol nv (own_text m)) (names (own_tables m) short) v l in
         absurd (subst (λ (w : Want). IsOuter w → ⊥) s.2 (λ z. z) o))
         (λ l.
         let f = flat_contains (file_wants k nv m) (files (own_tables m) short) v l in
         let g = files_asked (own_tables m) f.0 f.1 in
         let w = file_within k nv m f.0 g.0 g.2 v f.2 in (
           w.0,
-          Contains-append_right (map (to_symbol nv t) (names (own_tables m) long))
+          Contains-append_right (map (to_symbol nv (own_text m)) (names (own_tables m) long))
               (flat_map (file_wants k nv m) (files (own_tables m) long)) w.0
               (contains_flat_map (file_wants k nv m) (files (own_tables m) long) g.0 w.0 g.1 w.1),
           w.2,
         ))
-        (Contains-append_cases (map (to_symbol nv t) (names (own_tables m) short))
+        (Contains-append_cases (map (to_symbol nv (own_text m)) (names (own_tables m) short))
         (flat_map (file_wants k nv m) (files (own_tables m) short)) v c)
 
     dependency_outer : (w : Want) (z : Yield) → Contains (dependency_of nv w) z → IsOuter w
@@ -187,12 +187,12 @@ module _ (y : SymbolId) (q p : Path) (x : Extent) (r : SymbolId) (h : is_beginni
     dependency_outer (to_module o u v) z c = tt
     dependency_outer (to_symbol o u s) z c = absurd (Contains_none z c)
 
-    dependencies_kept : (z : Yield) → Contains (dependencies nv (symbol_wants k nv t short m)) z →
-        Contains (dependencies nv (symbol_wants k nv t long m)) z
+    dependencies_kept : (z : Yield) → Contains (dependencies nv (symbol_wants k nv short m)) z →
+        Contains (dependencies nv (symbol_wants k nv long m)) z
     dependencies_kept z c =
-        let w = flat_contains (dependency_of nv) (symbol_wants k nv t short m) z c in
+        let w = flat_contains (dependency_of nv) (symbol_wants k nv short m) z c in
         let v = touched_wants w.0 w.1 (dependency_outer w.0 z w.2) in
-        contains_flat_map (dependency_of nv) (symbol_wants k nv t long m) v.0 z v.1 (dependency_kept nv w.0 v.0 v.2 z w.2)
+        contains_flat_map (dependency_of nv) (symbol_wants k nv long m) v.0 z v.1 (dependency_kept nv w.0 v.0 v.2 z w.2)
 
     faults_kept : (z : Yield) → Contains (faults_at nv m (faults (own_tables m) short)) z →
         Contains (faults_at nv m (faults (own_tables m) long)) z
@@ -203,7 +203,7 @@ module _ (y : SymbolId) (q p : Path) (x : Extent) (r : SymbolId) (h : is_beginni
 
     abbrev rest_of : SymbolDemand → List Yield
     rest_of s = implementing_at nv m (implementations (own_tables m) s) ++ (faults_at nv m (faults (own_tables m) s)
-        ++ dependencies nv (symbol_wants k nv t s m))
+        ++ dependencies nv (symbol_wants k nv s m))
 
     implementing_kept : (z : Yield) → Contains (implementing_at nv m (implementations (own_tables m) short)) z →
         Contains (implementing_at nv m (implementations (own_tables m) long)) z
@@ -214,7 +214,7 @@ module _ (y : SymbolId) (q p : Path) (x : Extent) (r : SymbolId) (h : is_beginni
         by_symbol o c = c
 
     -- what is given
-    pub touched_yields : (z : Yield) → Contains (symbol_yields k nv t short m) z → Contains (symbol_yields k nv t long m) z
+    pub touched_yields : (z : Yield) → Contains (symbol_yields k nv short m) z → Contains (symbol_yields k nv long m) z
     touched_yields z c = ⊎_elim
         (λ l. Contains-append_left (public_at nv m (ranges (own_tables m) long)) (rest_of long) z
         (subst (λ (rs : List SourceRange). Contains (public_at nv m rs) z) (touched_ranges (own_tables m) y r x q p) l))
@@ -223,10 +223,10 @@ module _ (y : SymbolId) (q p : Path) (x : Extent) (r : SymbolId) (h : is_beginni
         (λ i. Contains-append_left (implementing_at nv m (implementations (own_tables m) long)) _ z (implementing_kept z i))
         (λ i. Contains-append_right (implementing_at nv m (implementations (own_tables m) long)) _ z
         (⊎_elim
-        (λ f. Contains-append_left (faults_at nv m (faults (own_tables m) long)) (dependencies nv (symbol_wants k nv t long m)) z
+        (λ f. Contains-append_left (faults_at nv m (faults (own_tables m) long)) (dependencies nv (symbol_wants k nv long m)) z
         (faults_kept z f))
-        (λ d. Contains-append_right (faults_at nv m (faults (own_tables m) long)) (dependencies nv (symbol_wants k nv t long m)) z
+        (λ d. Contains-append_right (faults_at nv m (faults (own_tables m) long)) (dependencies nv (symbol_wants k nv long m)) z
         (dependencies_kept z d))
-        (Contains-append_cases (faults_at nv m (faults (own_tables m) short)) (dependencies nv (symbol_wants k nv t short m)) z i)))
+        (Contains-append_cases (faults_at nv m (faults (own_tables m) short)) (dependencies nv (symbol_wants k nv short m)) z i)))
         (Contains-append_cases (implementing_at nv m (implementations (own_tables m) short)) _ z l)))
         (Contains-append_cases (public_at nv m (ranges (own_tables m) short)) (rest_of short) z c)

@@ -16,6 +16,7 @@ use Rattle.fast_check_search.specs.Found.{IsFound}
 use Rattle.fast_check_search.specs.Searched.{IsContinued, IsKeptWith}
 use Rattle.fast_check_traces.specs.declared.modules.TracedModule.{TracedModule}
 use Rattle.fast_check_traces.specs.Modules.{own_tables}
+use Rattle.fast_check_traces.specs.Origins.{own_resolutions}
 use Rattle.fast_check_traces.specs.declared.told.ToldRanges.{ToldRanges}
 use Rattle.fast_check_traces.specs.Roots.{roots}
 use Rattle.fast_check_traces.specs.Told.{told_again}
@@ -34,7 +35,7 @@ module _ (k : Known) (nv : Nv) (m : TracedModule) (names : List Single) where
   pub traced_with : (before after : List SymbolDemand) (was_told is_told : ToldRanges) (wants : List Want) (found : Found) (again : List SourceRange)
       (left : List ModuleWant) (of : FoundModule) →
       ((more : List SymbolDemand) × IsContinued (own_tables m) (flat_map (λ w. roots (own_tables m) (names_of w)) names) before more
-      × IsFound (own_tables m) more (noted_ranges (own_tables m) was_told.symbols) (noted_ranges (own_tables m) is_told.symbols) found
+      × IsFound (own_resolutions m) (own_tables m) more (noted_ranges (own_tables m) was_told.symbols) (noted_ranges (own_tables m) is_told.symbols) found
       × IsKeptWith before more after) →
       AreRangesThrough m (map names_of names) (told_again (own_tables m) was_told.re_exports) (told_again (own_tables m) is_told.re_exports) again →
       left ≡ flat_map (λ w. module_wants m (names_of w)) names →

@@ -27,9 +27,10 @@ use Rattle.fast_check_worklists.specs.Account.{Trace, Followed, HasIn}
 use Rattle.fast_check_worklists.specs.declared.worklist.OuterWant.{OuterWant}
 use Rattle.fast_check_worklists.specs.State.{want_of, State, AsksAll, IsFollowed, IsEntered}
 use Rattle.fast_check_sources.specs.Sources.{Known, node_at, named_at, typed_info, info_at, traced_as, module_at, is_untyped}
-use Rattle.fast_check_turns.specs.Rules.{names_wants, entrance_at, world}
-use Rattle.fast_check_turns.specs.Yields.{own_text, dependencies, names_yields, untyped_yields, gives}
+use Rattle.fast_check_turns.specs.Rules.{own_text, module_of, names_wants, entrance_at, world}
+use Rattle.fast_check_turns.specs.Yields.{dependencies, names_yields, untyped_yields, gives}
 use Rattle.fast_check_turns.specs.Searches.{IsFollowedAt, IsShownAmong}
+use Rattle.fast_check_turns.specs.Stars.{AreRootsMet}
 use Rattle.fast_check_turns.proofs.Followed.{followed_there}
 use Rattle.fast_check_turns.specs.Traced.{IsTracedFor}
 use Rattle.fast_check_turns.specs.Turns.{Enters}
@@ -38,7 +39,7 @@ none_some : {X : Type 0} (x : X) → None ≡ Some x → ⊥
 none_some x e = cc
 
 -- a module that is followed is not recorded as untyped
-typed_only : (k : Known) (nv : Nv) (t : Text) (info : AnyModuleInfo) → info_at k.graph k.root_symbol t ≡ Some info →
+pub typed_only : (k : Known) (nv : Nv) (t : Text) (info : AnyModuleInfo) → info_at k.graph k.root_symbol t ≡ Some info →
     untyped_yields k.graph nv t ≡ []
 typed_only k nv t info e = go (node_at k.graph t) e
   where
@@ -53,9 +54,9 @@ typed_only k nv t info e = go (node_at k.graph t) e
 module _ (k : Known) (x : Trace) (a b : State) (old new : List Yield) (none : info_at k.graph k.root_symbol x.specifier ≡ None)
     (same : b ≡ a)
     (more : new ≡ old ++ untyped_yields k.graph x.nv x.specifier) (earlier : List Followed) (Holds : List Followed → Type 0)
-    (holds : Holds (earlier ++ record { trace = x; symbols = [] } ∷ [])) where
+    (holds : Holds (earlier ++ record { trace = x; name = x.specifier; symbols = [] } ∷ [])) where
   abbrev alone : Followed
-  alone = record { trace = x; symbols = [] }
+  alone = record { trace = x; name = x.specifier; symbols = [] }
 
   abbrev given : List Yield
   given = untyped_yields k.graph x.nv x.specifier
@@ -75,20 +76,21 @@ module _ (k : Known) (x : Trace) (a b : State) (old new : List Yield) (none : in
 
   no_want : (d : Demand) → HasIn alone d → (w : Want) → Contains (world k d) w → ⊥
   no_want = by_names (world k) (λ w. ⊥) (λ d w c. Contains_none w
-      (subst (λ (ws : List Want). Contains ws w) (ap (each_of (names_wants k x.nv x.specifier d)) no_module) c))
+      (subst (λ (ws : List Want). Contains ws w) (ap (each_of (names_wants k x.nv d)) no_module) c))
 
   in_given : (d : Demand) → HasIn alone d → (y : Yield) → Contains (gives k d) y → Contains given y
   in_given = by_names (gives k) (λ y. Contains given y) (λ d y c. ⊎_elim
       (λ l. absurd
-      (Contains_none y (subst (λ (ys : List Yield). Contains ys y) (ap (each_of (names_yields k x.nv x.specifier d)) no_module) l)))
+      (Contains_none y (subst (λ (ys : List Yield). Contains ys y) (ap (each_of (names_yields k x.nv d)) no_module) l)))
       (λ r. r)
-      (Contains-append_cases (each_of (names_yields k x.nv x.specifier d) (module_at k x.specifier)) given y c))
+      (Contains-append_cases (each_of (names_yields k x.nv d) (module_at k x.specifier)) given y c))
 
   a_name : (d : NameDemand) × (asked x.exports d ≡ true)
   a_name = asked_some x.exports
 
   pub followed_nowhere : IsFollowed (world k) (gives k) earlier Holds x a b old new
   followed_nowhere = record {
+    name = x.specifier;
     symbols = [];
     outer = [];
     given = given;
@@ -98,7 +100,7 @@ module _ (k : Known) (x : Trace) (a b : State) (old new : List Yield) (none : in
       sound = λ y c. (
         of_module x.nv x.specifier a_name.0,
         (refl, refl, a_name.1),
-        Contains-append_right (each_of (names_yields k x.nv x.specifier a_name.0) (module_at k x.specifier)) given y c,
+        Contains-append_right (each_of (names_yields k x.nv a_name.0) (module_at k x.specifier)) given y c,
       );
       complete = λ d y h c. inl (in_given d h y c);
     };
@@ -112,20 +114,23 @@ pub entered_at : (k : Known) (nv : Nv) (a b : State) (old new : List Yield) → 
 entered_at k nv a b old new h = record { outer = h.0; wants = h.1; asks = h.2; new_is = h.3 }
 
 pub followed_one : (k : Known) (x : Trace) (info : AnyModuleInfo) → info_at k.graph k.root_symbol x.specifier ≡ Some info →
+    module_of k (own_text (traced_as k info)) ≡ Some (traced_as k info) →
     (before after : List SymbolDemand) (was_told is_told : ToldRanges) (outer : List OuterWant) (found : FoundModule) →
     IsTracedFor k x.nv (traced_as k info) x.exports before after was_told is_told (map want_of outer) found →
-    (earlier : List Followed) → ((d : SymbolDemand) → IsAsked before d → IsFollowedAt earlier x.nv x.specifier d) →
+    (earlier : List Followed) → ((d : SymbolDemand) → IsAsked before d → IsFollowedAt earlier x.nv (own_text (traced_as k info)) d) →
     ((r : SourceRange) → Contains (told_ranges (own_tables (traced_as k info)) was_told) r →
     IsShownAmong k earlier x.nv (traced_as k info) r) →
     (Holds : List Followed → Type 0) →
     ((more : List SymbolDemand) → IsKeptWith before more after →
     ((r : SourceRange) → Contains (told_ranges (own_tables (traced_as k info)) is_told) r →
-    IsShownAmong k (earlier ++ record { trace = x; symbols = more } ∷ []) x.nv (traced_as k info) r) →
-    Holds (earlier ++ record { trace = x; symbols = more } ∷ [])) →
+    IsShownAmong k (earlier ++ record { trace = x; name = own_text (traced_as k info); symbols = more } ∷ []) x.nv (traced_as k info) r) →
+    ((d : NameDemand) → asked x.exports d ≡ true →
+    AreRootsMet (earlier ++ record { trace = x; name = own_text (traced_as k info); symbols = more } ∷ []) x.nv (traced_as k info) d) →
+    Holds (earlier ++ record { trace = x; name = own_text (traced_as k info); symbols = more } ∷ [])) →
     (a b : State) → AsksAll outer a b → (old new : List Yield) →
     new ≡ old ++ module_yields x.nv (own_text (traced_as k info)) found (dependencies x.nv (map want_of outer)) →
     IsFollowed (world k) (gives k) earlier Holds x a b old new
-followed_one k x info e before after was_told is_told outer found h earlier met shown Holds holds a b asks old new is =
-    followed_there k x.nv x.specifier (traced_as k info) (ap (option_map (traced_as k)) e)
+followed_one k x info e own before after was_told is_told outer found h earlier met shown Holds holds a b asks old new is =
+    followed_there k x.nv x.specifier (traced_as k info) (ap (option_map (traced_as k)) e) own
     (typed_only k x.nv x.specifier info e) x.exports h.names h.are_names before after was_told is_told
     (map want_of outer) found h.traced earlier met shown Holds outer a b old new refl asks is (holds h.traced.symbols h.traced.kept)

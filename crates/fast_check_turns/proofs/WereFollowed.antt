@@ -27,9 +27,10 @@ use Rattle.fast_check_entries.specs.findings.Yields.{Yield, public}
 use Rattle.fast_check_traces.specs.declared.modules.TracedModule.{TracedModule}
 use Rattle.fast_check_traces.specs.Modules.{own_tables}
 use Rattle.fast_check_traces.specs.Told.{told_ranges}
-use Rattle.fast_check_sources.specs.Sources.{Known, info_at, traced_as, module_at}
+use Rattle.fast_check_sources.specs.Sources.{Known, named_at, traced_as}
 use Rattle.fast_check_sources.proofs.Packages.{exact_nv}
-use Rattle.fast_check_turns.specs.Yields.{own_text, gives}
+use Rattle.fast_check_turns.specs.Rules.{own_text, module_of}
+use Rattle.fast_check_turns.specs.Yields.{gives}
 use Rattle.fast_check_turns.specs.contracts.searches.ModuleOfPackageOrd.TheImpl as order
 use Rattle.fast_check_turns.specs.declared.searches.ModuleOfPackage.{ModuleOfPackage}
 use Rattle.fast_check_turns.specs.declared.searches.KeptSearch.{KeptSearch}
@@ -39,10 +40,10 @@ use Rattle.fast_check_turns.specs.Searches.{IsKeptFor, AreKeptFor}
 
 -- keys that tie are of one module and package
 
-abbrev key_of : ModuleOfPackage → Text × Nv
-key_of m = (serialize m.specifier, nv_of m.nv)
+abbrev pub key_of : ModuleOfPackage → Text × Nv
+key_of m = (serialize m.specifier.now, nv_of m.nv)
 
-same_keys : (m n : ModuleOfPackage) → is_at (order.cmp-value.it m) n ≡ true → key_of m ≡ key_of n
+pub same_keys : (m n : ModuleOfPackage) → is_at (order.cmp-value.it m) n ≡ true → key_of m ≡ key_of n
 same_keys m n h = tells_apart (exact_pairs (slice_cmp nat_cmp) nv_cmp exact_bytes exact_nv) (key_of m) (key_of n) h
 
 -- what is kept at the beginning, and of a module
@@ -60,7 +61,7 @@ none_kept k s none = record {
 
 module _ (P : Option KeptSearch → Type 0) where
   pub found_kept : (s : KeptSearches) (m : ModuleOfPackage) (kept : KeptSearch) →
-      Some kept ≡ get order.cmp-value.it s.searches m → P (Some kept) → IsKeptSo P s (nv_of m.nv) (serialize m.specifier)
+      Some kept ≡ get order.cmp-value.it s.searches m → P (Some kept) → IsKeptSo P s (nv_of m.nv) (serialize m.specifier.now)
   found_kept s m kept found h = (m, refl, refl, subst P found h)
 
   -- after another search is kept at a key
@@ -68,11 +69,11 @@ module _ (P : Option KeptSearch → Type 0) where
       (changes : (m : ModuleOfPackage) → get order.cmp-value.it new.searches m
       ≡ cond (is_at (order.cmp-value.it q) m) (Some kept) (get order.cmp-value.it old.searches m)) where
     pub put_kept : (nv : Nv) (t : Text) → IsKeptSo P new nv t →
-        IsKeptSo P old nv t ⊎ ((nv_of q.nv ≡ nv) × (serialize q.specifier ≡ t) × P (Some kept))
+        IsKeptSo P old nv t ⊎ ((nv_of q.nv ≡ nv) × (serialize q.specifier.now ≡ t) × P (Some kept))
     put_kept nv t (m, p, u, h) = by_key (is_at (order.cmp-value.it q) m) refl (subst P (changes m) h)
       where
         by_key : (same : Bool) → is_at (order.cmp-value.it q) m ≡ same → P (cond same (Some kept) (get order.cmp-value.it old.searches m)) →
-            IsKeptSo P old nv t ⊎ ((nv_of q.nv ≡ nv) × (serialize q.specifier ≡ t) × P (Some kept))
+            IsKeptSo P old nv t ⊎ ((nv_of q.nv ≡ nv) × (serialize q.specifier.now ≡ t) × P (Some kept))
         by_key true e h =
             let s = same_keys q m e in
             inr (ap (λ (x : Text × Nv). x.1) s ∙ p, ap (λ (x : Text × Nv). x.0) s ∙ u, h)
@@ -83,11 +84,11 @@ module _ (P : Option KeptSearch → Type 0) where
 
   -- under a copy of a key, where nothing changed before
   pub put_copied : (old mid new : KeptSearches) (q of : ModuleOfPackage) → nv_of q.nv ≡ nv_of of.nv →
-      serialize q.specifier ≡ serialize of.specifier → mid.searches ≡ old.searches → (kept : KeptSearch) →
+      serialize q.specifier.now ≡ serialize of.specifier.now → mid.searches ≡ old.searches → (kept : KeptSearch) →
       ((m : ModuleOfPackage) → get order.cmp-value.it new.searches m
       ≡ cond (is_at (order.cmp-value.it q) m) (Some kept) (get order.cmp-value.it mid.searches m)) →
       (nv : Nv) (t : Text) → IsKeptSo P new nv t →
-      IsKeptSo P old nv t ⊎ ((nv_of of.nv ≡ nv) × (serialize of.specifier ≡ t) × P (Some kept))
+      IsKeptSo P old nv t ⊎ ((nv_of of.nv ≡ nv) × (serialize of.specifier.now ≡ t) × P (Some kept))
   put_copied old mid new q of same_package same_specifier same kept changes nv t h =
       ⊎_elim (λ l. inl (subst (λ (m : BTreeMap ModuleOfPackage KeptSearch). IsKeptSo P (record { searches = m }) nv t) same l))
       (λ r. inr (sym same_package ∙ r.0, sym same_specifier ∙ r.1, r.2))
@@ -104,7 +105,7 @@ none_for k s none = record {
 
 pub found_for : (k : Known) (s : KeptSearches) (m : ModuleOfPackage) (kept : KeptSearch) →
     Some kept ≡ get order.cmp-value.it s.searches m → AreKeptFor k s →
-    (info : AnyModuleInfo) → info_at k.graph k.root_symbol (serialize m.specifier) ≡ Some info → IsKeptFor (traced_as k info) (Some kept)
+    (info : AnyModuleInfo) → named_at k.root_symbol (serialize m.specifier.now) ≡ Some info → IsKeptFor (traced_as k info) (Some kept)
 found_for k s m kept found are info e =
     subst (λ (o : Option KeptSearch). IsKeptFor (traced_as k info) o) (sym found) (are.says m info e)
 
@@ -119,8 +120,8 @@ some_same : {X : Type 0} (x y : X) → Some x ≡ Some y → x ≡ y
 some_same x y e = cc
 
 -- a specifier has one module
-pub kept_here : (k : Known) (t : Text) (here : AnyModuleInfo) (kept : KeptSearch) → info_at k.graph k.root_symbol t ≡ Some here →
-    IsKeptFor (traced_as k here) (Some kept) → (info : AnyModuleInfo) → info_at k.graph k.root_symbol t ≡ Some info →
+pub kept_here : (k : Known) (t : Text) (here : AnyModuleInfo) (kept : KeptSearch) → named_at k.root_symbol t ≡ Some here →
+    IsKeptFor (traced_as k here) (Some kept) → (info : AnyModuleInfo) → named_at k.root_symbol t ≡ Some info →
     IsKeptFor (traced_as k info) (Some kept)
 kept_here k t here kept e are info f =
     subst (λ (i : AnyModuleInfo). IsKeptFor (traced_as k i) (Some kept)) (some_same here info (sym e ∙ f)) are
@@ -130,7 +131,7 @@ module _ (old new : KeptSearches) (key : ModuleOfPackage) (kept : KeptSearch)
     (changes : (q : ModuleOfPackage) → get order.cmp-value.it new.searches q
     ≡ cond (is_at (order.cmp-value.it key) q) (Some kept) (get order.cmp-value.it old.searches q)) where
   pub put_for : (k : Known) →
-      ((info : AnyModuleInfo) → info_at k.graph k.root_symbol (serialize key.specifier) ≡ Some info → IsKeptFor (traced_as k info) (Some kept)) →
+      ((info : AnyModuleInfo) → named_at k.root_symbol (serialize key.specifier.now) ≡ Some info → IsKeptFor (traced_as k info) (Some kept)) →
       AreKeptFor k old → AreKeptFor k new
   put_for k mine are = record {
     says = λ m info e.
@@ -138,25 +139,25 @@ module _ (old new : KeptSearches) (key : ModuleOfPackage) (kept : KeptSearch)
         (by_key m info e (is_at (order.cmp-value.it key) m) refl);
   }
     where
-      by_key : (m : ModuleOfPackage) (info : AnyModuleInfo) → info_at k.graph k.root_symbol (serialize m.specifier) ≡ Some info →
+      by_key : (m : ModuleOfPackage) (info : AnyModuleInfo) → named_at k.root_symbol (serialize m.specifier.now) ≡ Some info →
           (same : Bool) → is_at (order.cmp-value.it key) m ≡ same →
           IsKeptFor (traced_as k info) (cond same (Some kept) (get order.cmp-value.it old.searches m))
       by_key m info e true s =
-          mine info (subst (λ (t : Text). info_at k.graph k.root_symbol t ≡ Some info)
+          mine info (subst (λ (t : Text). named_at k.root_symbol t ≡ Some info)
           (sym (ap (λ (x : Text × Nv). x.0) (same_keys key m s))) e)
       by_key m info e false s = are.says m info e
 
 -- under a copy of a key
 module _ (old mid new : KeptSearches) (key of : ModuleOfPackage) (same_package : nv_of key.nv ≡ nv_of of.nv)
-    (same_specifier : serialize key.specifier ≡ serialize of.specifier) (same : mid.searches ≡ old.searches) (kept : KeptSearch)
+    (same_specifier : serialize key.specifier.now ≡ serialize of.specifier.now) (same : mid.searches ≡ old.searches) (kept : KeptSearch)
     (changes : (q : ModuleOfPackage) → get order.cmp-value.it new.searches q
     ≡ cond (is_at (order.cmp-value.it key) q) (Some kept) (get order.cmp-value.it mid.searches q)) where
   pub copied_for : (k : Known) →
-      ((info : AnyModuleInfo) → info_at k.graph k.root_symbol (serialize of.specifier) ≡ Some info → IsKeptFor (traced_as k info) (Some kept)) →
+      ((info : AnyModuleInfo) → named_at k.root_symbol (serialize of.specifier.now) ≡ Some info → IsKeptFor (traced_as k info) (Some kept)) →
       AreKeptFor k old → AreKeptFor k new
   copied_for k mine are =
       put_for mid new key kept changes k
-      (λ info e. mine info (subst (λ (t : Text). info_at k.graph k.root_symbol t ≡ Some info) same_specifier e))
+      (λ info e. mine info (subst (λ (t : Text). named_at k.root_symbol t ≡ Some info) same_specifier e))
       (same_for k old mid same are)
 
 -- what was followed, and what was given
@@ -175,16 +176,16 @@ followed_more k done more s within are = record {
 some_is : (m n : TracedModule) → Some m ≡ Some n → m ≡ n
 some_is m n e = cc
 
-module _ (k : Known) (earlier : List Followed) (x : Followed) (m : TracedModule) (here : module_at k x.trace.specifier ≡ Some m)
+module _ (k : Known) (earlier : List Followed) (x : Followed) (m : TracedModule) (here : module_of k x.name ≡ Some m)
     (before : List SymbolDemand) (after : KeptSearch) (old mid new : KeptSearches)
     (are : AreFollowed k earlier old)
-    (taken : (d : SymbolDemand) → IsAsked before d → IsKeptAt old x.trace.nv x.trace.specifier d)
+    (taken : (d : SymbolDemand) → IsAsked before d → IsKeptAt old x.trace.nv x.name d)
     (left : (nv : Nv) (t : Text) (d : SymbolDemand) → IsKeptAt mid nv t d → IsKeptAt old nv t d)
     (left_told : (nv : Nv) (t : Text) (tables : Tables) (r : SourceRange) → IsToldAt mid nv t tables r → IsToldAt old nv t tables r)
     (put : (nv : Nv) (t : Text) (d : SymbolDemand) → IsKeptAt new nv t d →
-    IsKeptAt mid nv t d ⊎ ((x.trace.nv ≡ nv) × (x.trace.specifier ≡ t) × IsAsked after.searched d))
+    IsKeptAt mid nv t d ⊎ ((x.trace.nv ≡ nv) × (x.name ≡ t) × IsAsked after.searched d))
     (put_told : (nv : Nv) (t : Text) (tables : Tables) (r : SourceRange) → IsToldAt new nv t tables r →
-    IsToldAt mid nv t tables r ⊎ ((x.trace.nv ≡ nv) × (x.trace.specifier ≡ t) × Contains (told_ranges tables after.told) r))
+    IsToldAt mid nv t tables r ⊎ ((x.trace.nv ≡ nv) × (x.name ≡ t) × Contains (told_ranges tables after.told) r))
     (kept : IsKeptWith before x.symbols after.searched) where
   abbrev now : List Followed
   now = earlier ++ x ∷ []
@@ -195,19 +196,19 @@ module _ (k : Known) (earlier : List Followed) (x : Followed) (m : TracedModule)
   widen : (nv : Nv) (t : Text) (d : SymbolDemand) → IsFollowedAt earlier nv t d → IsFollowedAt now nv t d
   widen nv t d y = (y.0, within y.0 y.1, y.2, y.3, y.4)
 
-  asked_now : (d : SymbolDemand) → IsAsked after.searched d → IsFollowedAt now x.trace.nv x.trace.specifier d
+  asked_now : (d : SymbolDemand) → IsAsked after.searched d → IsFollowedAt now x.trace.nv x.name d
   asked_now d h =
-      ⊎_elim (λ l. widen x.trace.nv x.trace.specifier d (are.searched x.trace.nv x.trace.specifier d (taken d l)))
+      ⊎_elim (λ l. widen x.trace.nv x.name d (are.searched x.trace.nv x.name d (taken d l)))
       (λ r. (x, Contains-push earlier x, refl, refl, r))
       (or_cases (list_any (alike d) before) (list_any (alike d) x.symbols)
       (sym (list_any-append (alike d) before x.symbols) ∙ kept.met d h))
 
   module _ (given : (r : SourceRange) → Contains (told_ranges (own_tables m) after.told) r → IsShownAmong k now x.trace.nv m r) where
     -- a module is told by the text of its name
-    given_at : (nv : Nv) (t : Text) (n : TracedModule) → module_at k t ≡ Some n → (r : SourceRange) →
-        (x.trace.nv ≡ nv) × (x.trace.specifier ≡ t) × Contains (told_ranges (own_tables n) after.told) r → IsShownAmong k now nv n r
+    given_at : (nv : Nv) (t : Text) (n : TracedModule) → module_of k t ≡ Some n → (r : SourceRange) →
+        (x.trace.nv ≡ nv) × (x.name ≡ t) × Contains (told_ranges (own_tables n) after.told) r → IsShownAmong k now nv n r
     given_at nv t n e r q =
-        let same : m ≡ n = some_is m n (sym here ∙ (ap (module_at k) q.1 ∙ e)) in
+        let same : m ≡ n = some_is m n (sym here ∙ (ap (module_of k) q.1 ∙ e)) in
         subst (λ (p : Nv). IsShownAmong k now p n r) q.0
         (subst (λ (o : TracedModule). Contains (told_ranges (own_tables o) after.told) r → IsShownAmong k now x.trace.nv o r) same (given r) q.2)
 

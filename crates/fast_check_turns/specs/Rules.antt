@@ -1,7 +1,8 @@
 -- What a demand names: demands of symbols, and of packages and modules.
-use Rattle.std.specs.Prelude.{List, [], ◌∷◌, ◌++◌, map, Option, Some, None}
+use Rattle.std.specs.Prelude.{List, [], ◌∷◌, ◌++◌, map, Option, Some, None, option_map}
 use Rattle.std.specs.List.{flat_map}
 use Rattle.url.specs.Parts.{Parts, serialize}
+use Rattle.fast_check_graph.specs.Root.{specifier_of}
 use Rattle.fast_check_packages.specs.Package.{Nv}
 use Rattle.fast_check_cache.specs.Cache.{ItemView}
 use Rattle.fast_check_names.specs.Imports.{NameDemand, each_name}
@@ -17,17 +18,25 @@ use Rattle.fast_check_entries.specs.findings.declared.finding.EntryFault.{EntryF
 use Rattle.fast_check_entries.specs.Entries.{Entrance, passed_over, refused, entered, all_faults, entrance_of}
 use Rattle.fast_check_worklists.specs.Demands.{Text, asked_by, Want, to_package, to_module, to_symbol, of_package}
 use Rattle.fast_check_worklists.specs.Demands.{of_module, of_symbol, World}
-use Rattle.fast_check_sources.specs.Sources.{Used, Known, module_at}
+use Rattle.fast_check_sources.specs.Sources.{Used, Known, named_at, traced_as, module_at}
 use Rattle.fast_check_sources.specs.Wants.{file_wants, left_wants}
 
--- names of a module, for a package
-abbrev pub names_wants : Known → Nv → Text → NameDemand → TracedModule → List Want
-names_wants k nv t d m = map (to_symbol nv t) (roots (own_tables m) d) ++ flat_map (left_wants k nv m)
+-- the module's own name
+abbrev pub own_text : TracedModule → Text
+own_text m = serialize (specifier_of m.info.now)
+
+-- the module that goes by this name
+abbrev pub module_of : Known → Text → Option TracedModule
+module_of k t = option_map (traced_as k) (named_at k.root_symbol t)
+
+-- names of a module, for a package. Demands of its symbols go by its own name, whatever it was asked for under
+abbrev pub names_wants : Known → Nv → NameDemand → TracedModule → List Want
+names_wants k nv d m = map (to_symbol nv (own_text m)) (roots (own_tables m) d) ++ flat_map (left_wants k nv m)
     (module_wants m d)
 
 -- a demand of a symbol of the module
-abbrev pub symbol_wants : Known → Nv → Text → SymbolDemand → TracedModule → List Want
-symbol_wants k nv t s m = map (to_symbol nv t) (names (own_tables m) s) ++ flat_map (file_wants k nv m)
+abbrev pub symbol_wants : Known → Nv → SymbolDemand → TracedModule → List Want
+symbol_wants k nv s m = map (to_symbol nv (own_text m)) (names (own_tables m) s) ++ flat_map (file_wants k nv m)
     (files (own_tables m) s)
 
 -- all names of an entry point
@@ -55,5 +64,5 @@ entry_wants g used nv (entered urls) = entered_wants g nv urls (used nv urls)
 
 abbrev pub world : Known → World
 world k (of_package nv) = entry_wants k.graph k.used nv (entrance_at k nv)
-world k (of_module nv t d) = each_of (names_wants k nv t d) (module_at k t)
-world k (of_symbol nv t s) = each_of (symbol_wants k nv t s) (module_at k t)
+world k (of_module nv t d) = each_of (names_wants k nv d) (module_at k t)
+world k (of_symbol nv t s) = each_of (symbol_wants k nv s) (module_of k t)

@@ -19,12 +19,15 @@ use Rattle.fast_check_entries.specs.findings.Yields.{public}
 use Rattle.fast_check_worklists.specs.Demands.{Text}
 use Rattle.fast_check_worklists.specs.Account.{Followed}
 use Rattle.fast_check_worklists.specs.State.{IsGivenAmong}
-use Rattle.fast_check_sources.specs.Sources.{Known, info_at, traced_as, module_at}
-use Rattle.fast_check_turns.specs.Yields.{own_text, gives}
+use Rattle.fast_check_sources.specs.Sources.{Known, named_at, traced_as}
+use Rattle.fast_check_turns.specs.Rules.{own_text, module_of}
+use Rattle.fast_check_turns.specs.Yields.{gives}
 use Rattle.fast_check_turns.specs.contracts.searches.ModuleOfPackageOrd.TheImpl as order
 use Rattle.fast_check_turns.specs.declared.searches.ModuleOfPackage.{ModuleOfPackage}
 use Rattle.fast_check_turns.specs.declared.searches.KeptSearch.{KeptSearch}
 use Rattle.fast_check_turns.specs.declared.searches.KeptSearches.{KeptSearches}
+use Rattle.fast_check_turns.specs.declared.kept.KeptModules.{KeptModules}
+use Rattle.fast_check_turns.specs.Stars.{AreStarsFollowed}
 
 -- nothing, where nothing is kept
 abbrev pub searched_of : Option KeptSearch → List SymbolDemand
@@ -37,7 +40,7 @@ told_of tables (Some kept) = told_ranges tables kept.told
 
 -- this holds of what is kept of the module, for the package
 abbrev pub IsKeptSo : (Option KeptSearch → Type 0) → KeptSearches → Nv → Text → Type 0
-IsKeptSo P s nv t = (m : ModuleOfPackage) × (nv_of m.nv ≡ nv) × (serialize m.specifier ≡ t) ×
+IsKeptSo P s nv t = (m : ModuleOfPackage) × (nv_of m.nv ≡ nv) × (serialize m.specifier.now ≡ t) ×
     P (get order.cmp-value.it s.searches m)
 
 -- a demand is kept that asks for the same
@@ -50,7 +53,7 @@ IsToldAt s nv t tables r = IsKeptSo (λ o. Contains (told_of tables o) r) s nv t
 
 -- one of these traces, of the module for the package, has a demand that asks for the same
 abbrev pub IsFollowedAt : List Followed → Nv → Text → SymbolDemand → Type 0
-IsFollowedAt done nv t d = (x : Followed) × Contains done x × (x.trace.nv ≡ nv) × (x.trace.specifier ≡ t) ×
+IsFollowedAt done nv t d = (x : Followed) × Contains done x × (x.trace.nv ≡ nv) × (x.name ≡ t) ×
     IsAsked x.symbols d
 
 -- one of these traces makes the range of the module public for the package
@@ -60,7 +63,7 @@ IsShownAmong k done nv m r = IsGivenAmong (gives k) done (public nv (own_text m)
 -- the demands that are kept were followed, and the ranges that are told were given
 pub record AreFollowed (k : Known) (done : List Followed) (s : KeptSearches) : Type 0 where
   pub searched : (nv : Nv) (t : Text) (d : SymbolDemand) → IsKeptAt s nv t d → IsFollowedAt done nv t d
-  pub told : (nv : Nv) (t : Text) (m : TracedModule) → module_at k t ≡ Some m → (r : SourceRange) →
+  pub told : (nv : Nv) (t : Text) (m : TracedModule) → module_of k t ≡ Some m → (r : SourceRange) →
       IsToldAt s nv t (own_tables m) r → IsShownAmong k done nv m r
 
 -- where names come from is kept of this module, and its own parts that were asked for are covered by what is kept
@@ -71,10 +74,11 @@ IsKeptFor m (Some kept) = AreOriginsOf m kept.origins × ArePartsOf m kept.told 
 -- what is kept of each module is kept for it
 pub record AreKeptFor (k : Known) (s : KeptSearches) : Type 0 where
   pub says : (m : ModuleOfPackage) (info : AnyModuleInfo) →
-      info_at k.graph k.root_symbol (serialize m.specifier) ≡ Some info →
+      named_at k.root_symbol (serialize m.specifier.now) ≡ Some info →
       IsKeptFor (traced_as k info) (get order.cmp-value.it s.searches m)
 
 -- what is kept was followed and given, and is kept for the right modules
-pub record AreKeptOf (k : Known) (done : List Followed) (s : KeptSearches) : Type 0 where
-  pub followed : AreFollowed k done s
-  pub rightly : AreKeptFor k s
+pub record AreKeptOf (k : Known) (done : List Followed) (s : KeptModules) : Type 0 where
+  pub followed : AreFollowed k done s.searches
+  pub rightly : AreKeptFor k s.searches
+  pub stars : AreStarsFollowed k done s.stars

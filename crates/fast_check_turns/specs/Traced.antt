@@ -13,11 +13,13 @@ use Rattle.fast_check_demands.specs.Noted.{noted_ranges}
 use Rattle.fast_check_demands.specs.Yields.{implementations, Adds, Fault, faults}
 use Rattle.fast_check_entries.specs.findings.declared.finding.FoundModule.{FoundModule}
 use Rattle.fast_check_entries.specs.findings.Faults.{placed_in}
-use Rattle.fast_check_name_demands.specs.Files.{FileDemand, files}
+use Rattle.fast_check_name_demands.specs.Files.{FileDemand}
 use Rattle.fast_check_search.specs.Found.{IsUntold}
+use Rattle.fast_check_search.specs.Led.{files_led}
 use Rattle.fast_check_search.specs.Searched.{IsContinued, IsKeptWith}
 use Rattle.fast_check_traces.specs.declared.modules.TracedModule.{TracedModule}
 use Rattle.fast_check_traces.specs.Modules.{own_tables}
+use Rattle.fast_check_traces.specs.Origins.{own_resolutions}
 use Rattle.fast_check_traces.specs.declared.told.ToldRanges.{ToldRanges}
 use Rattle.fast_check_traces.specs.Roots.{roots}
 use Rattle.fast_check_traces.specs.Told.{told_again}
@@ -27,8 +29,8 @@ use Rattle.fast_check_sources.specs.Sources.{Known}
 use Rattle.fast_check_sources.specs.Wants.{file_wants, left_wants}
 use Rattle.fast_check_turns.specs.Yields.{source_in, placed_all}
 
--- demands of symbols that go on from those of earlier searches, what these ask of files, what names of the module ask
--- of others, and what is found, but for ranges that were told before
+-- demands of symbols that go on from those of earlier searches, what these ask of files by texts that are resolved, what
+-- names of the module ask of others, and what is found, but for ranges that were told before
 pub record IsTraced (k : Known) (nv : Nv) (m : TracedModule) (names : List NameDemand)
     (before after : List SymbolDemand) (was_told is_told : ToldRanges) (wants : List Want) (found : FoundModule) :
     Type 0 where
@@ -36,7 +38,7 @@ pub record IsTraced (k : Known) (nv : Nv) (m : TracedModule) (names : List NameD
   pub continued : IsContinued (own_tables m) (flat_map (roots (own_tables m)) names) before symbols
   pub kept : IsKeptWith before symbols after
   pub asked_files : List FileDemand
-  pub found_files : IsSymbolYield (files (own_tables m)) symbols asked_files
+  pub found_files : IsSymbolYield (files_led (own_resolutions m) (own_tables m)) symbols asked_files
   pub wants_are : Adds (flat_map (file_wants k nv m) asked_files ++ flat_map (left_wants k nv m)
       (flat_map (module_wants m) names)) [] wants
   pub declared : List SourceRange

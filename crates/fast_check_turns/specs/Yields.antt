@@ -26,11 +26,7 @@ use Rattle.fast_check_entries.specs.findings.Yields.{recorded, public, implement
 use Rattle.fast_check_entries.specs.findings.Findings.{faulty_module, entry_fault, placed_yields}
 use Rattle.fast_check_entries.specs.Entries.{Entrance, passed_over, refused, entered, all_faults}
 use Rattle.fast_check_sources.specs.Sources.{Used, Known, module_at, untyped_at}
-use Rattle.fast_check_turns.specs.Rules.{names_wants, symbol_wants, entrance_at}
-
--- the module's own name
-abbrev pub own_text : TracedModule → Text
-own_text m = serialize (specifier_of m.info.now)
+use Rattle.fast_check_turns.specs.Rules.{own_text, module_of, names_wants, symbol_wants, entrance_at}
 
 -- a package that is asked for is a dependency
 abbrev pub dependency_of : Nv → Want → List Yield
@@ -47,9 +43,9 @@ public_at nv m found = map (public nv (own_text m)) found
 abbrev pub implementing_at : Nv → TracedModule → List SourceRange → List Yield
 implementing_at nv m found = map (implementing nv (own_text m)) found
 
-abbrev pub names_yields : Known → Nv → Text → NameDemand → TracedModule → List Yield
-names_yields k nv t d m = recorded nv (own_text m) ∷ (public_at nv m (re_export_ranges m d) ++ dependencies nv
-    (names_wants k nv t d m))
+abbrev pub names_yields : Known → Nv → NameDemand → TracedModule → List Yield
+names_yields k nv d m = recorded nv (own_text m) ∷ (public_at nv m (re_export_ranges m d) ++ dependencies nv
+    (names_wants k nv d m))
 
 -- the source text of a module; one of JSON has none
 abbrev pub text_of : AnyModuleInfo → List ℕ
@@ -73,12 +69,12 @@ fault_yields nv m f = placed_yields nv (own_text m) (option_to_list (placed (sou
 abbrev pub faults_at : Nv → TracedModule → List Fault → List Yield
 faults_at nv m found = flat_map (fault_yields nv m) found
 
-abbrev pub symbol_yields : Known → Nv → Text → SymbolDemand → TracedModule → List Yield
-symbol_yields k nv t s m =
+abbrev pub symbol_yields : Known → Nv → SymbolDemand → TracedModule → List Yield
+symbol_yields k nv s m =
     public_at nv m (ranges (own_tables m) s)
     ++ (implementing_at nv m (implementations (own_tables m) s)
     ++ (faults_at nv m (faults (own_tables m) s)
-    ++ dependencies nv (symbol_wants k nv t s m)))
+    ++ dependencies nv (symbol_wants k nv s m)))
 
 -- an untyped module is recorded under the name by which it was asked for
 abbrev pub untyped_yields : ModuleGraph → Nv → Text → List Yield
@@ -101,5 +97,5 @@ entry_yields g used nv (entered urls) = entered_yields g nv urls (used nv urls)
 
 abbrev pub gives : Known → Demand → List Yield
 gives k (of_package nv) = entry_yields k.graph k.used nv (entrance_at k nv)
-gives k (of_module nv t d) = each_of (names_yields k nv t d) (module_at k t) ++ untyped_yields k.graph nv t
-gives k (of_symbol nv t s) = each_of (symbol_yields k nv t s) (module_at k t)
+gives k (of_module nv t d) = each_of (names_yields k nv d) (module_at k t) ++ untyped_yields k.graph nv t
+gives k (of_symbol nv t s) = each_of (symbol_yields k nv s) (module_of k t)

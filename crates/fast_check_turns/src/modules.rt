@@ -5,8 +5,9 @@ ghost use Rattle.std.specs.List.{flat_map};
 ghost use Rattle.url.specs.Parts.{serialize};
 ghost use Rattle.fast_check_packages.specs.Package.{nv_of};
 ghost use Rattle.fast_check_graph.specs.Root.{specifier_of};
-ghost use Rattle.fast_check_names.specs.declared.lattice.imported_exports.ImportedExports.{ImportedExports};
+ghost use Rattle.fast_check_names.specs.declared.lattice.imported_exports.ImportedExports.{ImportedExports as ExportsSeen};
 ghost use Rattle.fast_check_name_demands.specs.NameDemands.{Holds};
+ghost use Rattle.fast_check_worklists.specs.Demands.{Text};
 ghost use Rattle.fast_check_worklists.specs.Account.{Followed};
 ghost use Rattle.fast_check_worklists.specs.State.{want_of, state_of, trace_of, IsFollowed};
 ghost use Rattle.fast_check_entries.specs.findings.Yields.{dependency};
@@ -17,15 +18,17 @@ ghost use Rattle.fast_check_turns.specs.Searches.{IsKeptFor, AreKeptOf};
 ghost use Rattle.fast_check_turns.specs.Traced.{IsTracedFor};
 ghost use Rattle.fast_check_turns.specs.Yields.{untyped_yields, gives};
 
+use crate::kept::KeptModules;
 use crate::progress::{Progress, push_finding};
-use crate::searches::{KeptSearch, KeptSearches, ModuleOfPackage};
+use crate::searches::{KeptSearch, ModuleOfPackage};
 use crate::traced::{dependencies_of, found_of};
 use fast_check_entries::findings::{Finding, FollowedModule, FoundModule, UntypedModule};
 use fast_check_graph::{AnyModuleInfo, ModuleGraph};
 use fast_check_name_demands::{HeldDemands, hold, name_demands};
+use fast_check_names::ImportedExports;
 use fast_check_packages::{JsrUrlProvider, PackageNv};
 use fast_check_sources::{Asker, MetPackages, Sources, info_of, is_untyped};
-use fast_check_traces::{KeptOrigins, TracedModule, tables_of};
+use fast_check_traces::TracedModule;
 use fast_check_worklists::{OuterWant, PendingTrace};
 use std::alloc::{AllocError, Global};
 use std::rc::Rc;
@@ -50,8 +53,8 @@ fn followed_module<'a>(
 
 /// What is asked of a module: the module and the package, and the names, which are held while their single demands are lent.
 #[derive(Drop)]
-struct AskedNames {
-    followed: ModuleOfPackage,
+struct AskedNames<'m> {
+    followed: ModuleOfPackage<'m>,
     held: HeldDemands,
 }
 
@@ -62,12 +65,12 @@ fn follow_in<'a, 'm: 'a>(
     sources: Sources<'m>,
     provider: &dyn JsrUrlProvider,
     info: &'m AnyModuleInfo,
-    asked: &'a AskedNames,
+    asked: &'a AskedNames<'m>,
     kept: KeptSearch<'m>,
     owners: &mut MetPackages,
 ) -> Result<(KeptSearch<'m>, Vec<OuterWant<'a>>, FoundModule, usize), AllocError>
     ensures traced { let without = known sources.entry (url_of provider.now) (nv_at provider.now) in
-        IfOk result (λ r. (used : Used) (exports : ImportedExports) → Holds exports asked.now.held → let k = with_used used without in
+        IfOk result (λ r. (used : Used) (exports : ExportsSeen) → Holds exports asked.now.held → let k = with_used used without in
         IsKeptFor (traced_as k info.now) (Some kept.entry)
         → IsTracedFor k (nv_of asked.now.followed.nv) (traced_as k info.now) exports kept.entry.searched r.0.searched kept.entry.told r.0.told
         (map want_of r.1.items) r.2) }
@@ -133,29 +136,20 @@ fn leave_out(
     push_finding(found, Finding::Untyped(module))
 }
 
-/// Where a search came to less than so many demands, wants, ranges and faulty demands, and a name that is looked for goes over fewer re-exports of all, it is
-/// as cheap to repeat as to keep.
+/// Where a search came to less than so many demands, wants, ranges and faulty demands, and a name is looked for behind its re-exports of all in fewer steps, it
+/// is as cheap to repeat as to keep.
 const MUCH: usize = 16;
-
-/// How many re-exports of all a look for one more name goes over, where names were looked for behind them. Nothing that is found depends on it.
-fn re_exports_behind(info: &AnyModuleInfo, origins: &KeptOrigins<'_>) -> usize {
-    if origins.looks() == 0 {
-        return 0;
-    }
-    tables_of(info).re_export_all_nodes().len()
-}
 
 /// Whether the searches of a module came to much: the last one, or one before it, which was kept. Nothing that is found depends on it.
 fn is_much(
     was_kept: bool,
-    info: &AnyModuleInfo,
     kept: &KeptSearch<'_>,
     outer: &[OuterWant],
     found: &FoundModule,
     faulty: usize,
 ) -> bool {
     was_kept
-        || re_exports_behind(info, &kept.origins) >= MUCH
+        || kept.origins.steps() >= MUCH
         || kept.searched.len() >= MUCH
         || outer.len() >= MUCH
         || found.ranges.len() >= MUCH
@@ -168,31 +162,26 @@ fn follow_at<'a>(
     sources: Sources<'a>,
     provider: &dyn JsrUrlProvider,
     info: &'a AnyModuleInfo,
-    trace: PendingTrace,
-    searches: &mut KeptSearches<'a>,
+    followed: ModuleOfPackage<'a>,
+    exports: &ImportedExports,
+    kept: &mut KeptModules<'a>,
     progress: &mut Progress<'a>,
 ) -> Result<(), AllocError>
+    requires { followed.specifier.now ≡ specifier_of info.now }
     ensures { let without = known sources.entry (url_of provider.now) (nv_at provider.now) in
-        OnOk result ((used : Used) (earlier : List Followed) → let k = with_used used without in AreKeptOf k earlier searches.old
-        → info_at k.graph k.root_symbol (serialize trace.specifier) ≡ Some info.now
-        → IsFollowed (world k) (gives k) earlier (λ done. AreKeptOf k done searches.new) (trace_of trace)
+        OnOk result ((used : Used) (earlier : List Followed) (t : Text) → let k = with_used used without in AreKeptOf k earlier kept.old
+        → info_at k.graph k.root_symbol t ≡ Some info.now
+        → IsFollowed (world k) (gives k) earlier (λ done. AreKeptOf k done kept.new)
+        (record { nv = nv_of followed.entry.nv; specifier = t; exports = exports.now })
         (state_of progress.old.worklist) (state_of progress.new.worklist)
         (flat_map yields_of progress.old.found.items) (flat_map yields_of progress.new.found.items)) }
 {
-    let held = hold(alloc, &trace.exports_to_trace)?;
-    let PendingTrace {
-        package_nv,
-        specifier,
-        ..
-    } = trace;
-    let followed = ModuleOfPackage {
-        specifier,
-        nv: package_nv,
-    };
-    let was_kept = searches.has(&followed);
-    let before = searches.take(alloc, &followed);
+    sources.root_symbol.own_names_find();
+    let held = hold(alloc, exports)?;
+    let was_kept = kept.searches.has(&followed);
+    let before = kept.searches.take(alloc, &followed);
     let asked = AskedNames { followed, held };
-    let (kept, outer, found, faulty) = follow_in(
+    let (search, outer, found, faulty) = follow_in(
         alloc,
         sources,
         provider,
@@ -201,14 +190,57 @@ fn follow_at<'a>(
         before,
         &mut progress.owners,
     )?;
-    let is_much = is_much(was_kept, info, &kept, outer.as_slice(), &found, faulty);
+    let is_much = is_much(was_kept, &search, outer.as_slice(), &found, faulty);
     let dependencies = dependencies_of(alloc, &asked.followed.nv, outer.as_slice())?;
     progress.worklist.ask_all(alloc, outer)?;
     let AskedNames { followed, .. } = asked;
-    searches.keep(&followed, kept, is_much)?;
+    kept.searches.keep(&followed, search, is_much)?;
+    kept.stars.note(&followed, exports, is_much)?;
     let finding = followed_module(followed.nv, info, found, dependencies);
     push_finding(&mut progress.found, finding)?;
     Ok(())
+}
+
+/// Follows names of a module with tables, unless they are all names of it, and were followed before under another specifier.
+fn follow_module<'a>(
+    alloc: Global,
+    sources: Sources<'a>,
+    provider: &dyn JsrUrlProvider,
+    info: &'a AnyModuleInfo,
+    trace: PendingTrace,
+    kept: &mut KeptModules<'a>,
+    progress: &mut Progress<'a>,
+) -> Result<(), AllocError>
+    ensures { let without = known sources.entry (url_of provider.now) (nv_at provider.now) in
+        OnOk result ((used : Used) (earlier : List Followed) → let k = with_used used without in AreKeptOf k earlier kept.old
+        → info_at k.graph k.root_symbol (serialize trace.specifier) ≡ Some info.now
+        → IsFollowed (world k) (gives k) earlier (λ done. AreKeptOf k done kept.new) (trace_of trace)
+        (state_of progress.old.worklist) (state_of progress.new.worklist)
+        (flat_map yields_of progress.old.found.items) (flat_map yields_of progress.new.found.items)) }
+{
+    sources.root_symbol.own_names_find();
+    let PendingTrace {
+        package_nv,
+        exports_to_trace,
+        ..
+    } = trace;
+    let followed = ModuleOfPackage {
+        specifier: info.specifier(),
+        nv: package_nv,
+    };
+    if kept.stars.has(&followed, &exports_to_trace) {
+        return Ok(());
+    }
+    follow_at(
+        alloc,
+        sources,
+        provider,
+        info,
+        followed,
+        &exports_to_trace,
+        kept,
+        progress,
+    )
 }
 
 /// Follows names of a module, if it is one that is followed: asks for what follows from them, and adds what is found. It is the same whatever
@@ -218,12 +250,12 @@ pub fn follow<'a>(
     sources: Sources<'a>,
     provider: &dyn JsrUrlProvider,
     trace: PendingTrace,
-    searches: &mut KeptSearches<'a>,
+    kept: &mut KeptModules<'a>,
     progress: &mut Progress<'a>,
 ) -> Result<(), AllocError>
     ensures { let without = known sources.entry (url_of provider.now) (nv_at provider.now) in
-        OnOk result ((used : Used) (earlier : List Followed) → let k = with_used used without in AreKeptOf k earlier searches.old
-        → IsFollowed (world k) (gives k) earlier (λ done. AreKeptOf k done searches.new) (trace_of trace)
+        OnOk result ((used : Used) (earlier : List Followed) → let k = with_used used without in AreKeptOf k earlier kept.old
+        → IsFollowed (world k) (gives k) earlier (λ done. AreKeptOf k done kept.new) (trace_of trace)
         (state_of progress.old.worklist) (state_of progress.new.worklist)
         (flat_map yields_of progress.old.found.items) (flat_map yields_of progress.new.found.items)) }
 {
@@ -233,7 +265,7 @@ pub fn follow<'a>(
             Ok(())
         }
         Some(info) => {
-            follow_at(alloc, sources, provider, info, trace, searches, progress)?;
+            follow_module(alloc, sources, provider, info, trace, kept, progress)?;
             Ok(())
         }
     }

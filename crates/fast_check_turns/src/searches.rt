@@ -12,8 +12,8 @@ ghost use Rattle.fast_check_graph.specs.declared.root_symbol.AnyModuleInfo.{AnyM
 ghost use Rattle.fast_check_traces.specs.declared.modules.TracedModule.{TracedModule};
 ghost use Rattle.fast_check_traces.specs.Told.{told_ranges};
 ghost use Rattle.fast_check_worklists.specs.Demands.{Text};
-ghost use Rattle.fast_check_sources.specs.Sources.{Known, info_at, traced_as};
-ghost use Rattle.fast_check_turns.specs.Searches.{IsKeptAt, IsToldAt, IsKeptFor, AreKeptFor, AreKeptOf};
+ghost use Rattle.fast_check_sources.specs.Sources.{Known, named_at, traced_as};
+ghost use Rattle.fast_check_turns.specs.Searches.{IsKeptAt, IsToldAt, IsKeptFor, AreFollowed, AreKeptFor};
 
 use fast_check_packages::PackageNv;
 use fast_check_traces::{KeptOrigins, Searched, ToldRanges};
@@ -23,20 +23,21 @@ use std::collections::BTreeMap;
 use std::mem;
 use url::Url;
 
-/// A module under the specifier by which it is asked for, and the package for which it is followed.
+/// A module by its own name, whatever it was asked for under, and the package for which it is followed.
 #[derive(PartialEq, Eq, PartialOrd, Ord, Drop)]
-pub struct ModuleOfPackage {
-    pub specifier: Url,
+pub struct ModuleOfPackage<'a> {
+    pub specifier: &'a Url,
     pub nv: PackageNv,
 }
 
-impl ModuleOfPackage {
-    fn copied(&self) -> Result<ModuleOfPackage, AllocError>
-        ensures specifier { IfOk result (λ copy. serialize copy.specifier ≡ serialize self.now.specifier) }
+impl<'a> ModuleOfPackage<'a> {
+    /// The same once more.
+    pub fn copied(&self) -> Result<ModuleOfPackage<'a>, AllocError>
+        ensures specifier { IfOk result (λ copy. serialize copy.specifier.now ≡ serialize self.now.specifier.now) }
         ensures nv { IfOk result (λ copy. nv_of copy.nv ≡ nv_of self.now.nv) }
     {
         Ok(ModuleOfPackage {
-            specifier: self.specifier.clone()?,
+            specifier: self.specifier,
             nv: copy_of(&self.nv)?,
         })
     }
@@ -68,13 +69,13 @@ impl<'a> KeptSearch<'a> {
 /// What the searches of modules came to, where that is much.
 #[derive(Drop)]
 pub struct KeptSearches<'a> {
-    searches: BTreeMap<ModuleOfPackage, KeptSearch<'a>>,
+    searches: BTreeMap<ModuleOfPackage<'a>, KeptSearch<'a>>,
 }
 
 impl<'a> KeptSearches<'a> {
     /// Nothing was searched.
     pub fn new(alloc: Global) -> KeptSearches<'a>
-        ensures { (k : Known) → AreKeptOf k [] result }
+        ensures { (k : Known) → AreFollowed k [] result × AreKeptFor k result }
     {
         KeptSearches {
             searches: BTreeMap::new(alloc),
@@ -82,19 +83,19 @@ impl<'a> KeptSearches<'a> {
     }
 
     /// Whether something is kept of a module. Nothing that is found depends on it.
-    pub fn has(&self, followed: &ModuleOfPackage) -> bool {
+    pub fn has(&self, followed: &ModuleOfPackage<'a>) -> bool {
         self.searches.contains_key(followed)
     }
 
     /// Takes what is kept of a module: nothing, where it was not searched or came to little.
-    pub fn take(&mut self, alloc: Global, followed: &ModuleOfPackage) -> KeptSearch<'a>
-        ensures taken { (d : Demand) → IsAsked result.searched d → IsKeptAt self.old (nv_of followed.now.nv) (serialize followed.now.specifier) d }
+    pub fn take(&mut self, alloc: Global, followed: &ModuleOfPackage<'a>) -> KeptSearch<'a>
+        ensures taken { (d : Demand) → IsAsked result.searched d → IsKeptAt self.old (nv_of followed.now.nv) (serialize followed.now.specifier.now) d }
         ensures left { (nv : Nv) (t : Text) (d : Demand) → IsKeptAt self.new nv t d → IsKeptAt self.old nv t d }
         ensures told { (tables : Tables) (r : SourceRange) → Contains (told_ranges tables result.told) r
-            → IsToldAt self.old (nv_of followed.now.nv) (serialize followed.now.specifier) tables r }
+            → IsToldAt self.old (nv_of followed.now.nv) (serialize followed.now.specifier.now) tables r }
         ensures left_told { (nv : Nv) (t : Text) (tables : Tables) (r : SourceRange) → IsToldAt self.new nv t tables r
             → IsToldAt self.old nv t tables r }
-        ensures rightly { (k : Known) (info : AnyModuleInfo) → info_at k.graph k.root_symbol (serialize followed.now.specifier) ≡ Some info
+        ensures rightly { (k : Known) (info : AnyModuleInfo) → named_at k.root_symbol (serialize followed.now.specifier.now) ≡ Some info
             → AreKeptFor k self.old → IsKeptFor (traced_as k info) (Some result) }
         ensures left_rightly { (k : Known) → AreKeptFor k self.old → AreKeptFor k self.new }
     {
@@ -108,17 +109,17 @@ impl<'a> KeptSearches<'a> {
     /// Keeps what the searches of a module came to, and what was told of it, where it is much.
     pub fn keep(
         &mut self,
-        followed: &ModuleOfPackage,
+        followed: &ModuleOfPackage<'a>,
         kept: KeptSearch<'a>,
         is_much: bool,
     ) -> Result<(), AllocError>
         ensures searched { OnOk result ((nv : Nv) (t : Text) (d : Demand) → IsKeptAt self.new nv t d → IsKeptAt self.old nv t d
-            ⊎ ((nv_of followed.now.nv ≡ nv) × (serialize followed.now.specifier ≡ t) × IsAsked kept.entry.searched d)) }
+            ⊎ ((nv_of followed.now.nv ≡ nv) × (serialize followed.now.specifier.now ≡ t) × IsAsked kept.entry.searched d)) }
         ensures told { OnOk result ((nv : Nv) (t : Text) (tables : Tables) (r : SourceRange) → IsToldAt self.new nv t tables r
             → IsToldAt self.old nv t tables r
-            ⊎ ((nv_of followed.now.nv ≡ nv) × (serialize followed.now.specifier ≡ t) × Contains (told_ranges tables kept.entry.told) r)) }
+            ⊎ ((nv_of followed.now.nv ≡ nv) × (serialize followed.now.specifier.now ≡ t) × Contains (told_ranges tables kept.entry.told) r)) }
         ensures rightly { OnOk result ((k : Known) → ((info : AnyModuleInfo)
-            → info_at k.graph k.root_symbol (serialize followed.now.specifier) ≡ Some info → IsKeptFor (traced_as k info) (Some kept.entry))
+            → named_at k.root_symbol (serialize followed.now.specifier.now) ≡ Some info → IsKeptFor (traced_as k info) (Some kept.entry))
             → AreKeptFor k self.old → AreKeptFor k self.new) }
     {
         if !is_much {

@@ -106,10 +106,10 @@ module _ {Y : Type 0} (world : World) (gives : Demand → List Y) (owner : Text 
           let f =
           followed world roots u is gives owner orderly done Holds next a b t.trace old new way t.mid t.waits t.handled t.packages t.followed in
           record {
-            traces = done ++ record { trace = t.trace; symbols = t.followed.symbols } ∷ [];
+            traces = done ++ record { trace = t.trace; name = t.followed.name; symbols = t.followed.symbols } ∷ [];
             next_way =
                 subst (λ (n : ℕ). IsOnTheWay world gives owner roots
-                (done ++ record { trace = t.trace; symbols = t.followed.symbols } ∷ []) n b new)
+                (done ++ record { trace = t.trace; name = t.followed.name; symbols = t.followed.symbols } ∷ []) n b new)
                 (sym t.next_is) f.0;
             still = record { distinct = f.1.distinct (subst (IsDistinct same_nv) (sym t.packages) bounded.distinct) };
             falls = less t f.1;

@@ -27,7 +27,8 @@ use Rattle.fast_check_worklists.specs.Account.{Trace, Followed, Account, HasIn, 
 use Rattle.fast_check_worklists.specs.Account.{IsCovered, IsWidening, IsAccount, IsYield}
 use Rattle.fast_check_worklists.specs.State.{want_of, State, WereAsked, AsksModule, AsksModuleFor, AsksOne, AsksAll, Reached}
 use Rattle.fast_check_worklists.specs.State.{root as reached_root}
-use Rattle.fast_check_worklists.specs.State.{step as reached_step, IsMetAmong, IsSearched, IsOuter, IsGivenAmong, IsFollowed, IsEntered}
+use Rattle.fast_check_worklists.specs.State.{step as reached_step, IsMetAmong, IsSearched, IsOuter, IsNamedAmong, IsWanted, IsGivenAmong}
+use Rattle.fast_check_worklists.specs.State.{IsFollowed, IsEntered}
 use Rattle.fast_check_worklists.specs.Turn.{IsOrderly, handled_at, waiting_of, IsKept, IsAsked, IsMore, IsOnTheWay}
 use Rattle.fast_check_worklists.specs.Measure.{Universe, IsUniverse}
 use Rattle.fast_check_worklists.proofs.Maps.{split_in, first_in, rest_in, none_in, only_in}
@@ -220,12 +221,13 @@ module _ (world : World) (roots : List Nv) (u : Universe) (is_universe : IsUnive
   traces_more done x = map_last (λ (z : Followed). z.trace) done x
 
   -- demands of symbols to which a chained trace leads are chained
-  reached_chained : (x : Trace) → ((d : NameDemand) → asked x.exports d ≡ true → Chained world roots (of_module x.nv x.specifier d)) →
-      (s : SymbolDemand) → Reached world x s → Chained world roots (of_symbol x.nv x.specifier s)
-  reached_chained x mine s (reached_root d _ h c) =
-      step (mine d h) (record { want = to_symbol x.nv x.specifier s; among = c; gives = (refl, refl, refl) })
-  reached_chained x mine s (reached_step e _ r c) =
-      step (reached_chained x mine e r) (record { want = to_symbol x.nv x.specifier s; among = c; gives = (refl, refl, refl) })
+  reached_chained : (x : Trace) (m : Text) →
+      ((d : NameDemand) → asked x.exports d ≡ true → Chained world roots (of_module x.nv x.specifier d)) →
+      (s : SymbolDemand) → Reached world x m s → Chained world roots (of_symbol x.nv m s)
+  reached_chained x m mine s (reached_root d _ h c) =
+      step (mine d h) (record { want = to_symbol x.nv m s; among = c; gives = (refl, refl, refl) })
+  reached_chained x m mine s (reached_step e _ r c) =
+      step (reached_chained x m mine e r) (record { want = to_symbol x.nv m s; among = c; gives = (refl, refl, refl) })
 
   -- each demand of a trace that was searched is chained
   member_chained : (among : List Followed) (x : Followed) → IsSearched world among x →
@@ -237,7 +239,8 @@ module _ (world : World) (roots : List Nv) (u : Universe) (is_universe : IsUnive
       (subst (λ (v : Text). Chained world roots (of_module x.trace.nv v d)) h.1 (mine d h.2))
   member_chained among x searched mine (of_symbol nv t s) h =
       subst (λ (q : Nv). Chained world roots (of_symbol q t s)) h.0
-      (subst (λ (v : Text). Chained world roots (of_symbol x.trace.nv v s)) h.1 (reached_chained x.trace mine s (searched.reached s h.2)))
+      (subst (λ (v : Text). Chained world roots (of_symbol x.trace.nv v s)) h.1
+      (reached_chained x.trace x.name mine s (searched.reached s h.2)))
 
   -- what is met among traces is met among more
   searched_more : (among more : List Followed) (x : Followed) → ((y : Followed) → Contains among y → Contains more y) →
@@ -262,7 +265,7 @@ module _ (world : World) (roots : List Nv) (u : Universe) (is_universe : IsUnive
         (same_packages : mid.packages ≡ a.packages)
         (f : IsFollowed world gives done Holds x mid b found after) where
       abbrev new : Followed
-      new = record { trace = x; symbols = f.symbols }
+      new = record { trace = x; name = f.name; symbols = f.symbols }
 
       abbrev now : List Followed
       now = done ++ new ∷ []
@@ -321,11 +324,15 @@ module _ (world : World) (roots : List Nv) (u : Universe) (is_universe : IsUnive
       closed_new : (d : Demand) → HasIn new d → (e : Demand) → Follows world d e → IsAsked b e
       closed_new d h e g = by_want g.want g.among e g.gives
         where
+          -- by this trace, or by an earlier one
+          asked_by_some : (w : Want) → IsWanted (map want_of f.outer) w ⊎ IsNamedAmong world done w → (e : Demand) → Gives w e →
+              IsAsked b e
+          asked_by_some w o e g = ⊎_elim (λ i. wants_after.asked i.0 i.1 e (i.2 e g))
+              (λ n. asked_more a b more e (way.closed_traces n.0 n.1 n.2 n.3 e (record { want = w; among = n.4; gives = g }))) o
+
           by_want : (w : Want) → Contains (world d) w → (e : Demand) → Gives w e → IsAsked b e
-          by_want (to_package p) c e g =
-              let w = f.wants.complete d (to_package p) h c tt in wants_after.asked w.0 w.1 e (w.2 e g)
-          by_want (to_module p t v) c e g =
-              let w = f.wants.complete d (to_module p t v) h c tt in wants_after.asked w.0 w.1 e (w.2 e g)
+          by_want (to_package p) c e g = asked_by_some (to_package p) (f.wants.complete d (to_package p) h c tt) e g
+          by_want (to_module p t v) c e g = asked_by_some (to_module p t v) (f.wants.complete d (to_module p t v) h c tt) e g
           by_want (to_symbol p t s) c (of_package q) g = absurd g
           by_want (to_symbol p t s) c (of_module q v e) g = absurd g
           by_want (to_symbol p t s) c (of_symbol q v e) g = tt

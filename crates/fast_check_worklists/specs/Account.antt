@@ -18,9 +18,11 @@ pub record Trace : Type 0 where
   pub specifier : Text
   pub exports : ImportedExports
 
--- a trace that was followed, with the demands of symbols to which it led
+-- a trace that was followed, with the own name of the module that its specifier leads to, and the demands of symbols to
+-- which it led
 pub record Followed : Type 0 where
   pub trace : Trace
+  pub name : Text
   pub symbols : List SymbolDemand
 
 pub record Account : Type 0 where
@@ -31,7 +33,7 @@ pub record Account : Type 0 where
 abbrev pub HasIn : Followed → Demand → Type 0
 HasIn x (of_package p) = ⊥
 HasIn x (of_module nv t d) = (x.trace.nv ≡ nv) × (x.trace.specifier ≡ t) × IsTrue (asked x.trace.exports d)
-HasIn x (of_symbol nv t s) = (x.trace.nv ≡ nv) × (x.trace.specifier ≡ t) × Contains x.symbols s
+HasIn x (of_symbol nv t s) = (x.trace.nv ≡ nv) × (x.name ≡ t) × Contains x.symbols s
 
 -- some trace that was followed has the demand
 abbrev pub IsAmong : List Followed → Demand → Type 0
@@ -55,7 +57,7 @@ traces_of followed = map (λ x. x.trace) followed
 
 -- demands of symbols that were searched together meet the demand
 abbrev pub IsSymbolMet : Nv → Text → SymbolDemand → Followed → Type 0
-IsSymbolMet nv t s x = (x.trace.nv ≡ nv) × (x.trace.specifier ≡ t) × (IsSymbolCovered x.symbols s ⊎
+IsSymbolMet nv t s x = (x.trace.nv ≡ nv) × (x.name ≡ t) × (IsSymbolCovered x.symbols s ⊎
     IsTrue (list_any (touches s) x.symbols))
 
 -- A package is covered by itself; a demand of a module by those of its specifier, if there is one; a demand of a symbol

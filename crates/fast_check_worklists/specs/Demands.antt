@@ -65,7 +65,8 @@ asked_by each_name = asked StarWithDefault
 asked_by (subset_at p) = set_demands (touched_path p)
 asked_by (whole_at p) = set_demands (whole_path p)
 
--- a single demand: a package; one thing of a module, for a package; or a demand of a symbol of that module
+-- a single demand: a package; one thing of a module, for a package, under the specifier by which it is asked for; or a
+-- demand of a symbol of a module, for a package, where the module goes by its own name
 pub data Demand : Type 0 where
   of_package : Nv → Demand
   of_module : Nv → Text → NameDemand → Demand

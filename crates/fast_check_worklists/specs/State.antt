@@ -89,12 +89,12 @@ abbrev pub AsksAll : List OuterWant → State → State → Type 0
 AsksAll [] a b = b ≡ a
 AsksAll (s ∷ outer) a b = (mid : State) × AsksOne s a mid × AsksAll outer mid b
 
--- demands of symbols to which a trace leads
-pub data Reached (world : World) (x : Trace) : SymbolDemand → Type 0 where
+-- demands of symbols to which a trace leads, in the module of this name
+pub data Reached (world : World) (x : Trace) (name : Text) : SymbolDemand → Type 0 where
   root : (d : NameDemand) (s : SymbolDemand) → IsTrue (asked x.exports d) →
-      Contains (world (of_module x.nv x.specifier d)) (to_symbol x.nv x.specifier s) → Reached world x s
-  step : (s e : SymbolDemand) → Reached world x s → Contains (world (of_symbol x.nv x.specifier s))
-      (to_symbol x.nv x.specifier e) → Reached world x e
+      Contains (world (of_module x.nv x.specifier d)) (to_symbol x.nv name s) → Reached world x name s
+  step : (s e : SymbolDemand) → Reached world x name s → Contains (world (of_symbol x.nv name s))
+      (to_symbol x.nv name e) → Reached world x name e
 
 -- one of these traces meets the demand
 abbrev pub IsMetAmong : List Followed → Nv → Text → SymbolDemand → Type 0
@@ -102,7 +102,7 @@ IsMetAmong among p t s = (y : Followed) × Contains among y × IsSymbolMet p t s
 
 -- to the demands of symbols of a trace the trace leads, and what they name is met among these
 pub record IsSearched (world : World) (among : List Followed) (x : Followed) : Type 0 where
-  pub reached : (s : SymbolDemand) → Contains x.symbols s → Reached world x.trace s
+  pub reached : (s : SymbolDemand) → Contains x.symbols s → Reached world x.trace x.name s
   pub closed : (d : Demand) → HasIn x d → (p : Nv) (t : Text) (s : SymbolDemand) →
       Contains (world d) (to_symbol p t s) → IsMetAmong among p t s
 
@@ -116,11 +116,19 @@ IsOuter (to_symbol p t s) = ⊥
 abbrev pub IsWithin : Want → Want → Type 0
 IsWithin v w = (e : Demand) → Gives v e → Gives w e
 
--- the wants of a trace that was followed, up to those that are within others
-pub record AreWants (world : World) (x : Followed) (wants : List Want) : Type 0 where
+-- one of these traces names it
+abbrev pub IsNamedAmong : World → List Followed → Want → Type 0
+IsNamedAmong world among w = (x : Followed) × Contains among x × (d : Demand) × HasIn x d × Contains (world d) w
+
+-- the want is within one of these
+abbrev pub IsWanted : List Want → Want → Type 0
+IsWanted wants v = (w : Want) × Contains wants w × IsWithin v w
+
+-- the wants of a trace that was followed, up to those that are within others, but for what earlier ones named
+pub record AreWants (world : World) (earlier : List Followed) (x : Followed) (wants : List Want) : Type 0 where
   pub sound : (w : Want) → Contains wants w → (d : Demand) × HasIn x d × Contains (world d) w
-  pub complete : (d : Demand) (v : Want) → HasIn x d → Contains (world d) v → IsOuter v → (w : Want) ×
-      Contains wants w × IsWithin v w
+  pub complete : (d : Demand) (v : Want) → HasIn x d → Contains (world d) v → IsOuter v → IsWanted wants v ⊎
+      IsNamedAmong world earlier v
 
 -- one of these traces gives it
 abbrev pub IsGivenAmong : {Y : Type 0} → (Demand → List Y) → List Followed → Y → Type 0
@@ -136,16 +144,17 @@ pub record AreGiven {Y : Type 0} (gives : Demand → List Y) (earlier : List Fol
 -- a trace was followed, after earlier ones; and what holds of all that were followed
 pub record IsFollowed {Y : Type 0} (world : World) (gives : Demand → List Y) (earlier : List Followed)
     (Holds : List Followed → Type 0) (trace : Trace) (a b : State) (old new : List Y) : Type 0 where
+  pub name : Text
   pub symbols : List SymbolDemand
   pub outer : List OuterWant
   pub given : List Y
-  pub searched : IsSearched world (earlier ++ (record { trace = trace; symbols = symbols }) ∷ [])
-      (record { trace = trace; symbols = symbols })
-  pub wants : AreWants world (record { trace = trace; symbols = symbols }) (map want_of outer)
-  pub yields : AreGiven gives earlier (record { trace = trace; symbols = symbols }) given
+  pub searched : IsSearched world (earlier ++ (record { trace = trace; name = name; symbols = symbols }) ∷ [])
+      (record { trace = trace; name = name; symbols = symbols })
+  pub wants : AreWants world earlier (record { trace = trace; name = name; symbols = symbols }) (map want_of outer)
+  pub yields : AreGiven gives earlier (record { trace = trace; name = name; symbols = symbols }) given
   pub asks : AsksAll outer a b
   pub new_is : new ≡ old ++ given
-  pub holds : Holds (earlier ++ (record { trace = trace; symbols = symbols }) ∷ [])
+  pub holds : Holds (earlier ++ (record { trace = trace; name = name; symbols = symbols }) ∷ [])
 
 -- the entry points of a package were asked for
 pub record IsEntered {Y : Type 0} (world : World) (gives : Demand → List Y) (nv : Nv) (a b : State)

@@ -8,6 +8,7 @@ ghost use Rattle.fast_check_names.specs.Names.{whole_below, IsAdded};
 ghost use Rattle.fast_check_names.specs.Numbers.{stays, number, rank, is_node, lists_node, moved_entries, AreGone, AreRanks, AreMovedDown, IsWithout};
 
 use crate::lattice::calls::names_of;
+use crate::lattice::gaps::{close_gaps, is_near, nodes_below};
 use crate::lattice::listing::noted_number;
 use crate::lattice::node::{Below, Node, NodeNo};
 use crate::lattice::nodes::place_of;
@@ -207,6 +208,12 @@ pub(crate) fn cover(
     if let Some((end, from)) = end_and_first(nodes.as_slice(), no) {
         take_out(nodes, at, name, no, end, from);
         return Ok(());
+    }
+    if let Some(gone) = nodes_below(alloc, nodes.as_slice(), no)? {
+        if is_near(nodes.as_slice(), no, gone.len()) {
+            close_gaps(nodes, alloc, at, name, gone.as_slice());
+            return Ok(());
+        }
     }
     cover_apart(nodes, alloc, at, name, no)
 }

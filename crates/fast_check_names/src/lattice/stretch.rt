@@ -108,7 +108,12 @@ fn leads_at(names: &[(String, Below)], place: usize, no: usize) -> bool
 }
 
 /// The node and the place that a node notes, where that one stands outside of a stretch and lists it there.
-fn noted_parent(nodes: &[Node], low: usize, high: usize, no: usize) -> Option<(usize, usize)>
+pub(crate) fn noted_parent(
+    nodes: &[Node],
+    low: usize,
+    high: usize,
+    no: usize,
+) -> Option<(usize, usize)>
     ensures { IfSome result (IsParentOutside (listings nodes.now) low high no) }
 {
     let Some(node) = nodes.get(no) else {
@@ -126,7 +131,12 @@ fn noted_parent(nodes: &[Node], low: usize, high: usize, no: usize) -> Option<(u
 }
 
 /// A node outside of a stretch that lists another, and the place: those that are noted, else those that are found.
-fn parent_outside(nodes: &[Node], low: usize, high: usize, no: usize) -> Option<(usize, usize)>
+pub(crate) fn parent_outside(
+    nodes: &[Node],
+    low: usize,
+    high: usize,
+    no: usize,
+) -> Option<(usize, usize)>
     requires order { low ≤ high }
     requires before { high ≤ no }
     ensures { MatchOption result (LacksParentOutside (listings nodes.now) low high no) (IsParentOutside (listings nodes.now) low high no) }
@@ -164,7 +174,7 @@ fn last_block(nodes: &[Node], gone: usize, end: usize) -> Option<usize>
     let mut least = size;
     for behind in 0..most {
         let from = size - 1 - behind;
-        let Some(parent) = parent_outside(nodes, gone, end, from) else {
+        let Some(parent) = noted_parent(nodes, gone, end, from) else {
             return None;
         };
         least = least_behind(least, end, parent.0);
@@ -206,7 +216,7 @@ pub(crate) fn end_and_first(nodes: &[Node], gone: usize) -> Option<(usize, usize
 }
 
 /// Writes the number of a node at a place where a node lists something.
-fn write_number(nodes: &mut Vec<Node>, at: usize, place: usize, no: usize)
+pub(crate) fn write_number(nodes: &mut Vec<Node>, at: usize, place: usize, no: usize)
     requires within { at < vec_len nodes.old }
     requires listed { place < length (get_or (listings nodes.old.items) at []) }
     ensures len { vec_len nodes.new ≡ vec_len nodes.old }

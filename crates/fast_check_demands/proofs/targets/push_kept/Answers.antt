@@ -1,4 +1,4 @@
-use Rattle.std.proofs.Common.{◌∙◌, sym, ap, ◌++◌, map}
+use Rattle.std.proofs.Common.{◌∙◌, sym, ap, [], ◌++◌, map}
 use Rattle.std.specs.Option.{option_copied}
 use Rattle.std.proofs.lemmas.Result.{on_ok_weaker}
 use Rattle.fast_check_names.specs.Names.{path_of}
@@ -6,6 +6,7 @@ use Rattle.fast_check_symbol_demands.specs.symbols.declared.symbol_id.SymbolId.{
 use Rattle.fast_check_symbol_demands.specs.Demands.{Demand}
 use Rattle.fast_check_symbol_demands.specs.Rules.{qualified}
 use Rattle.fast_check_demands.specs.Targets.{targets_at}
+use Rattle.fast_check_demands.specs.Yields.{Adds}
 use Rattle.fast_check_demands.proofs.Adds.{adds_mapped}
 use Rattle.fast_check_demands.proofs.Kept.{kept_more}
 use Rattle.fast_check_demands.proofs.targets.push_kept.Goals as goal
@@ -21,8 +22,8 @@ returns-in-Some-clause-passed c =
     c.push_targets.ensures
 
 pub returns-clause-kept : goal.returns-clause-kept
-returns-clause-kept c = kept_more c.args.tables.now c.args.kept.now c.insert.new.self c.args.demand.symbol c.in_ok-targets.targets
-    c.in_ok-targets.ensures c.in_ok-insert.ensures.updates c.requires
+returns-clause-kept c = kept_more (λ id targets. Adds (targets_at c.args.tables.now id) [] targets.items) c.args.kept.now c.insert.new.self
+    c.args.demand.symbol c.in_ok-targets.targets c.in_ok-targets.ensures c.in_ok-insert.ensures.updates c.requires
 
 pub returns-clause-passed : goal.returns-clause-passed
 returns-clause-passed c =

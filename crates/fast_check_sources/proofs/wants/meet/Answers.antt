@@ -13,5 +13,5 @@ returns-in-Some g c =
     let k = known c.args.asker.sources (m.url_of c.args.provider.now.1) (m.nv_at c.args.provider.now.1) in
     let nv = nv_of c.args.asker.package.now in
     IfOk-weaker c.shared.result (IsSameModule c.in-Some.known.now) _
-    (λ n same. found_met k.owner nv c.args.asker.traced c.args.asking.now c.args.target.now c.in-Some.known.now n
+    (λ n same. found_met k nv c.args.asker.traced c.args.asking.now c.args.target.now c.in-Some.known.now n
     (sym c.module_met.ensures ∙ ap option_copied c.in-Some.is) same c.requires) c.shared.ensures

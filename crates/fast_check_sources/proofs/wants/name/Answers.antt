@@ -13,5 +13,5 @@ returns-in-Some g c =
     let k = known c.args.asker.sources (m.url_of c.args.provider.now.1) (m.nv_at c.args.provider.now.1) in
     let nv = nv_of c.args.asker.package.now in
     IfOk-weaker c.shared_name.result (IsSameFound c.in-Some.named.now) _
-    (λ n same. found_named k.owner nv c.args.asker.traced c.args.asking.now c.args.text.now c.in-Some.named.now n
+    (λ n same. found_named k nv c.args.asker.traced c.args.asking.now c.args.text.now c.in-Some.named.now n
     (sym c.get.ensures.value ∙ ap option_copied c.in-Some.is) same c.requires.asking) c.shared_name.ensures

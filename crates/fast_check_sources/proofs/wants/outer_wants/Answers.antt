@@ -13,14 +13,14 @@ push_files-requires-clause-asking g c =
     let m = goal.JsrUrlProvider-dyn g c.args.provider.now in
     let k = known c.args.asker.sources (m.url_of c.args.provider.now.1) (m.nv_at c.args.provider.now.1) in
     let nv = nv_of c.args.asker.package.now in
-    c.nothing_asked-asking.ensures.asking k.owner nv c.args.asker.traced
+    c.nothing_asked-asking.ensures.asking k nv c.args.asker.traced
 
 pub returns : goal.returns
 returns g c =
     let m = goal.JsrUrlProvider-dyn g c.args.provider.now in
     let k = known c.args.asker.sources (m.url_of c.args.provider.now.1) (m.nv_at c.args.provider.now.1) in
     let nv = nv_of c.args.asker.package.now in
-    outer_asked k.owner nv c.args.asker.traced (file_wants k nv c.args.asker.traced) (left_wants k nv c.args.asker.traced)
+    outer_asked k nv c.args.asker.traced (file_wants k nv c.args.asker.traced) (left_wants k nv c.args.asker.traced)
     c.args.files.now (map file_demand_of c.as_slice-files.result.now) c.args.wants.now (map want_seen c.as_slice-wants.result.now)
     _ _ _ c.nothing_asked-asking.ensures.none
     (rw (c.as_slice-files.ensures.value, ← c.as_slice.ensures)

@@ -13,5 +13,5 @@ returns g c =
     let k = known c.args.asker.sources (m.url_of c.args.provider.now.1) (m.nv_at c.args.provider.now.1) in
     let nv = nv_of c.args.asker.package.now in
     IfOk-weaker c.push_names_behind.result _ _
-    (λ _ is. behind_pushed k.owner nv c.args.asker.traced c.args.target.now c.in_ok-found.found (asked_by (names_of c.args.demand))
-    c.args.asking.now c.meet.new.asking _ c.in_ok-found.ensures refl refl refl refl is) c.push_names_behind.ensures
+    (λ _ is. behind_pushed k nv c.args.asker.traced c.args.target.now c.in_ok-found.found (asked_by (names_of c.args.demand))
+    c.args.asking.now c.meet.new.asking _ c.in_ok-found.ensures refl refl refl refl refl is) c.push_names_behind.ensures

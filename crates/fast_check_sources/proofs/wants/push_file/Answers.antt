@@ -16,7 +16,7 @@ returns-in-Some g c =
     let nv = nv_of c.args.asker.package.now in
     let target = resolved c.args.asker.traced c.args.file.specifier.now in
     IfOk-weaker c.push_names_of_file.result _ _
-    (λ _ is. file_there k.owner nv c.args.asker.traced target c.in-Some.target (asked_by (names_of c.args.file.names))
+    (λ _ is. file_there k nv c.args.asker.traced target c.in-Some.target (asked_by (names_of c.args.file.names))
     c.args.asking.now c.name.new.asking _
-    (subst (Finds k.owner nv c.args.asker.traced target c.args.asking.now c.name.new.asking) c.in-Some.is c.in_ok-name.ensures)
-    refl refl refl refl is) c.push_names_of_file.ensures
+    (subst (Finds k nv c.args.asker.traced target c.args.asking.now c.name.new.asking) c.in-Some.is c.in_ok-name.ensures)
+    refl refl refl refl refl is) c.push_names_of_file.ensures

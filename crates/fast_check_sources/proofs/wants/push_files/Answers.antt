@@ -11,5 +11,5 @@ loop-file-preserved g c =
     let k = known c.args.asker.sources (m.url_of c.args.provider.now.1) (m.nv_at c.args.provider.now.1) in
     let nv = nv_of c.args.asker.package.now in
     let l = c.loop-file in
-    asks_turn k.owner nv c.args.asker.traced (file_wants k nv c.args.asker.traced) file_demand_of c.args.files.now l.file-index
+    asks_turn k nv c.args.asker.traced (file_wants k nv c.args.asker.traced) file_demand_of c.args.files.now l.file-index
     c.file-item.result c.loop-file-test.true c.file-item.is _ _ _ l.invariant c.in_ok-push_file.ensures

@@ -16,7 +16,7 @@ returns-in-Some g c =
     let nv = nv_of c.args.asker.package.now in
     let target = resolved c.args.asker.traced c.args.text.now in
     IfOk-weaker c.push_names_behind.result _ _
-    (λ _ is. behind_there k.owner nv c.args.asker.traced target c.in-Some.target (asked_by names_but_default)
+    (λ _ is. behind_there k nv c.args.asker.traced target c.in-Some.target (asked_by names_but_default)
     c.args.asking.now c.name.new.asking _
-    (subst (Finds k.owner nv c.args.asker.traced target c.args.asking.now c.name.new.asking) c.in-Some.is c.in_ok-name.ensures)
-    refl refl refl refl is) c.push_names_behind.ensures
+    (subst (Finds k nv c.args.asker.traced target c.args.asking.now c.name.new.asking) c.in-Some.is c.in_ok-name.ensures)
+    refl refl refl refl refl is) c.push_names_behind.ensures

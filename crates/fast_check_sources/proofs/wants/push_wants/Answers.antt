@@ -11,5 +11,5 @@ loop-want-preserved g c =
     let k = known c.args.asker.sources (m.url_of c.args.provider.now.1) (m.nv_at c.args.provider.now.1) in
     let nv = nv_of c.args.asker.package.now in
     let l = c.loop-want in
-    asks_turn k.owner nv c.args.asker.traced (left_wants k nv c.args.asker.traced) want_of c.args.wants.now l.want-index
+    asks_turn k nv c.args.asker.traced (left_wants k nv c.args.asker.traced) want_of c.args.wants.now l.want-index
     c.want-item.result c.loop-want-test.true c.want-item.is _ _ _ l.invariant c.in_ok-push_want.ensures

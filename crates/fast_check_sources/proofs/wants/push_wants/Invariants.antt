@@ -12,5 +12,5 @@ invariant-loop-want g l =
     let m = goal.JsrUrlProvider-dyn g l.provider.now in
     let k = known l.asker.sources (m.url_of l.provider.now.1) (m.nv_at l.provider.now.1) in
     let nv = nv_of l.asker.package.now in
-    Asks k.owner nv l.asker.traced (flat_map (left_wants k nv l.asker.traced) (map want_seen (take l.want-index l.wants)))
+    Asks k nv l.asker.traced (flat_map (left_wants k nv l.asker.traced) (map want_seen (take l.want-index l.wants)))
     l.initial.asking l.asking

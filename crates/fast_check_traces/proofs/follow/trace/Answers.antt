@@ -1,5 +1,6 @@
 use Rattle.std.proofs.Common.{◌∙◌, subst, List, map}
 use Rattle.std.specs.List.{flat_map}
+use Rattle.std.specs.Option.{option_copied}
 use Rattle.fast_check_modules.specs.symbols.Tables.{Tables}
 use Rattle.fast_check_demands.specs.Demands.{Demand}
 use Rattle.fast_check_demands.specs.declared.noted.NotedSymbols.{NotedSymbols}
@@ -8,16 +9,18 @@ use Rattle.fast_check_name_demands.specs.Files.{names_of}
 use Rattle.fast_check_search.specs.declared.found.Found.{Found}
 use Rattle.fast_check_search.specs.declared.parts.AskedParts.{AskedParts}
 use Rattle.fast_check_search.specs.Found.{IsFound}
+use Rattle.fast_check_search.specs.Led.{Texts}
 use Rattle.fast_check_search.specs.Parts.{ArePartsCovered}
 use Rattle.fast_check_search.specs.Searched.{IsContinued, IsKeptWith}
+use Rattle.fast_check_traces.specs.Modules.{own_tables as tables_at}
 use Rattle.fast_check_traces.specs.Roots.{roots}
 use Rattle.fast_check_traces.proofs.OwnRanges.{own_re_exports}
 use Rattle.fast_check_traces.proofs.follow.trace.Goals as goal
 
 -- what a search that begins with these demands says
-abbrev Says : Tables → AskedParts → List Demand → List Demand → List Demand → NotedSymbols → NotedSymbols → Found → Type 0
-Says t parts begin before after was_told is_told found = (more : List Demand) × (ArePartsCovered t parts before → IsContinued t begin before more)
-    × IsFound t more (noted_ranges t was_told) (noted_ranges t is_told) found × IsKeptWith before more after
+abbrev Says : Texts → Tables → AskedParts → List Demand → List Demand → List Demand → NotedSymbols → NotedSymbols → Found → Type 0
+Says r t parts begin before after was_told is_told found = (more : List Demand) × (ArePartsCovered t parts before → IsContinued t begin before more)
+    × IsFound r t more (noted_ranges t was_told) (noted_ranges t is_told) found × IsKeptWith before more after
 
 pub returns-clause-continued : goal.returns-clause-continued
 returns-clause-continued c =
@@ -27,10 +30,14 @@ returns-clause-continued c =
     let was_told = c.args.told.now.symbols in
     let is_told = c.search.new.told in
     let found = c.in_ok-searched.found in
-    subst (λ (t : Tables). Says t parts (flat_map (λ d. roots t (names_of d)) c.args.demands.now) before after was_told is_told found)
+    let begin = λ (t : Tables). flat_map (λ d. roots t (names_of d)) c.args.demands.now in
+    subst (λ (r : Texts). Says r (tables_at c.args.traced) parts (begin (tables_at c.args.traced)) before after was_told is_told found)
+    c.own_resolutions.ensures
+    (subst (λ (t : Tables). Says (option_copied c.own_resolutions.result) t parts (begin t) before after was_told is_told found)
     c.own_tables-tables.ensures
-    (subst (λ (ds : List Demand). Says c.own_tables-tables.result.now parts ds before after was_told is_told found)
-    (c.as_slice.ensures ∙ c.in_ok-roots.ensures) c.in_ok-searched.ensures.continued)
+    (subst (λ (ds : List Demand).
+    Says (option_copied c.own_resolutions.result) c.own_tables-tables.result.now parts ds before after was_told is_told found)
+    (c.as_slice.ensures ∙ c.in_ok-roots.ensures) c.in_ok-searched.ensures.continued))
 
 pub returns-clause-parts : goal.returns-clause-parts
 returns-clause-parts c =

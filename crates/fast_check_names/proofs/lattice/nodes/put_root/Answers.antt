@@ -1,16 +1,9 @@
 use Rattle.std.proofs.Common.{arith, ap, List}
 use Rattle.fast_check_names.specs.declared.lattice.node.Node.{Node}
-use Rattle.fast_check_names.specs.Order.{names_in}
 use Rattle.fast_check_names.specs.Graph.{entry, listings}
 use Rattle.fast_check_names.proofs.Puts.{tree_along}
-use Rattle.fast_check_names.proofs.Roots.{none_once, none_sorted, none_there, root_same, root_tree}
+use Rattle.fast_check_names.proofs.Roots.{none_there, root_same, root_tree}
 use Rattle.fast_check_names.proofs.lattice.nodes.put_root.Goals as goal
-
-pub invariant_of-root : goal.invariant_of-root
-invariant_of-root c = record {
-  once = none_once c.new.result.items c.new.ensures.items;
-  order = none_sorted (names_in c.new.result.items) c.new-then-is_empty.result.items c.new-then-is_empty.ensures.items;
-}
 
 pub returns-in_err-push-clause-same : goal.returns-in_err-push-clause-same
 returns-in_err-push-clause-same c = λ k n. ap (λ (ns : List Node). entry ns k n) c.in_err-push.ensures.items
@@ -26,10 +19,10 @@ returns-in_ok-push-clause-some c = omega (arith, c.in_ok-push.ensures.len)
 pub returns-in_ok-push-clause-same : goal.returns-in_ok-push-clause-same
 returns-in_ok-push-clause-same c =
     let none = none_there c.args.nodes.now c.if-is_empty.ensures in
-    root_same c.args.nodes.now.items c.push.new.self.items _ none c.in_ok-push.ensures.items c.new.ensures.items
+    root_same c.args.nodes.now.items c.push.new.self.items _ none c.in_ok-push.ensures.items c.bare_node.ensures
 
 pub returns-in_ok-push-clause-tree : goal.returns-in_ok-push-clause-tree
 returns-in_ok-push-clause-tree c =
     let none = none_there c.args.nodes.now c.if-is_empty.ensures in
-    root_tree c.args.nodes.now.items c.push.new.self.items _ c.push.new.self.len none c.in_ok-push.ensures.items c.new.ensures.items
+    root_tree c.args.nodes.now.items c.push.new.self.items _ c.push.new.self.len none c.in_ok-push.ensures.items c.bare_node.ensures
     (omega (arith, none, c.args.nodes.now.ok.0, c.in_ok-push.ensures.len))

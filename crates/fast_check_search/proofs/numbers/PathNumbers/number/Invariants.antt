@@ -1,7 +1,6 @@
-use Rattle.std.proofs.Common.{◌≡◌, ◌<◌, ◌≤◌, Some, true, length, drop}
+use Rattle.std.proofs.Common.{◌≡◌, ◌≤◌, Some, length, drop}
 use Rattle.fast_check_names.specs.Names.{path_of}
-use Rattle.fast_check_search.specs.Numbers.{blocks, number_of, IsNumbering, Keeps}
-use Rattle.fast_check_search.proofs.Blocks.{is_full}
+use Rattle.fast_check_search.specs.Numbers.{number_of, IsNumbering, Keeps}
 use Rattle.fast_check_search.proofs.numbers.PathNumbers.number.Given as goal
 
 abbrev pub invariant-loop-end : goal.invariant-loop-end
@@ -10,7 +9,6 @@ invariant-loop-end l = record {
   kept : Keeps l.initial.self l.self;
   within : l.end ≤ length l.names;
   number : number_of l.self (drop l.end (path_of l.names)) ≡ Some l.number;
-  full : 0 < l.end → is_full (blocks (drop l.end (path_of l.names))) ≡ true;
 }
 
 abbrev pub decreases-loop-end : goal.decreases-loop-end

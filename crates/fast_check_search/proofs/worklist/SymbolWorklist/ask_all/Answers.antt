@@ -1,9 +1,9 @@
-use Rattle.std.proofs.Common.{◌≡◌, ◌∙◌, sym, ap, subst, ◌++◌, map, get_or}
+use Rattle.std.proofs.Common.{◌≡◌, ◌∙◌, sym, ap, subst, map, get_or}
 use Rattle.std.specs.List.{Contains}
 use Rattle.std.proofs.lemmas.List.{length-map, get_or-map}
 use Rattle.std.proofs.lemmas.List.Elements.{Contains-get_or}
 use Rattle.fast_check_name_demands.specs.demands.Demands.{Demand, demand_of}
-use Rattle.fast_check_search.specs.SymbolWorklist.{asked}
+use Rattle.fast_check_search.specs.SymbolWorklist.{met}
 use Rattle.fast_check_search.proofs.Closure.{asked_more, asked_all}
 use Rattle.fast_check_search.proofs.worklist.SymbolWorklist.ask_all.Goals as goal
 
@@ -22,19 +22,17 @@ pub loop-demand-preserved : goal.loop-demand-preserved
 loop-demand-preserved c =
     let i = c.loop-demand.invariant in
     let e = c.in_ok-ask.ensures in
-    let h = asked_more (map demand_of c.args.demands.now) c.args.before.now (asked c.args.self.now) (asked c.loop-demand.self)
-    (asked c.ask.new.self) c.loop-demand.demand-index (demand_of c.demand-item.result) (rw length-map c.loop-demand-test.true)
+    let h = asked_more (map demand_of c.args.demands.now) c.args.self.now c.loop-demand.self c.ask.new.self c.loop-demand.demand-index
+    (demand_of c.demand-item.result) (rw length-map c.loop-demand-test.true)
     (get_or-map demand_of c.args.demands.now c.loop-demand.demand-index c.demand-item.result
     (demand_of c.demand-item.result) c.loop-demand-test.true ∙ ap demand_of (sym c.demand-item.is)) i.grown i.covered e.grown e.covered in
     record {
       kept = e.kept;
       number = e.number;
-      numbers = λ rest n m t. e.numbers rest n m (i.numbers rest n m t);
       grown = h.0;
       covered = h.1;
     }
 
 pub returns-clause-covered : goal.returns-clause-covered
-returns-clause-covered c = asked_all (map demand_of c.args.demands.now) c.loop-demand.demand-index
-    (c.args.before.now ++ asked c.loop-demand.self)
+returns-clause-covered c = asked_all (map demand_of c.args.demands.now) c.loop-demand.demand-index (met c.loop-demand.self)
     (rw length-map c.loop-demand-test.false) c.loop-demand.invariant.covered
