@@ -7,13 +7,16 @@ usage: edits.py [CRATE..]    status 1 if any does not apply; without a name: all
 import sys
 from pathlib import Path
 
+sys.dont_write_bytecode = True
+from edit_blocks import crates_with_edits, edits_of_crate
+
 TOP = Path(__file__).resolve().parents[2]
 
 
 def wrong(edit, crate):
-    """What is wrong with an edit, None if it applies."""
+    """What is wrong with the text of an edit, None if it applies."""
     texts, file, old = {}, None, None
-    for line in edit.read_text().splitlines():
+    for line in edit.splitlines():
         if line.startswith("file: "):
             file = TOP / "crates" / crate / line.removeprefix("file: ").strip()
             if not file.is_file():
@@ -30,12 +33,20 @@ def wrong(edit, crate):
     return None if texts else "names no file"
 
 
+def all_edits():
+    """The edits of each crate: their names and texts."""
+    for file in sorted(TOP.glob("crates/*/must-fail/*.edit")):
+        yield file.parts[-3], str(file.relative_to(TOP)), file.read_text()
+    for crate in crates_with_edits():
+        for name, text in edits_of_crate(crate).items():
+            yield crate, f"mutants/{crate}.edits: {name}", text
+
+
 def main(crates):
-    found = [(it, it.parts[-3]) for it in TOP.glob("crates/*/must-fail/*.edit")] + [(it, it.parts[-2]) for it in TOP.glob("mutants/*/*.edit")]
-    tried = sorted((it, crate) for it, crate in found if not crates or crate in crates)
-    bad = [(it, why) for it, crate in tried if (why := wrong(it, crate))]
-    for it, why in bad:
-        print(f"{it.relative_to(TOP)}: {why}")
+    tried = [it for it in all_edits() if not crates or it[0] in crates]
+    bad = [(name, why) for crate, name, text in tried if (why := wrong(text, crate))]
+    for name, why in bad:
+        print(f"{name}: {why}")
     print(f"{len(tried)} edits, {len(bad)} of them do not apply")
     return int(bool(bad))
 

@@ -1,7 +1,7 @@
 #!/usr/bin/env python3
-"""Tries edits that the prover has to refuse: those of mutants/CRATE, each of which turns the meaning of a function, a definition or a rule.
+"""Tries edits that the prover has to refuse: those of mutants/CRATE.edits, each of which turns the meaning of a function, a definition or a rule.
 
-usage: mutants.py [CRATE..]            without a name: each crate that has a folder in mutants/
+usage: mutants.py [CRATE..]            without a name: each crate that has a file in mutants/
        mutants.py --changed [COMMIT]   of each of these that changed since the commit, all edits, and of each other those that changed; without
                                        a commit: since the one that mutants/TRIED has for it, and each that it has none for
   --edit NAME       only the edit of this name (may be given several times); then nothing is noted
@@ -20,7 +20,7 @@ Where work was kept from check to check, the crate itself has to be proved over 
 A crate is the same as at a commit if its source, definitions and proofs differ in comments, layout, the grouping of `use` lines and names alone,
 on none of which a verdict rests. Names have to be renamed one to one in the whole crate, and paths with them, where some crate of the repository
 declares the new name in place of the old one; what is local to a file may be renamed in this file alone, one to one too. An edit is the same if
-one of the commit, in mutants/CRATE or in the crate's must-fail/, says the same of the same file under this renaming.
+one of the commit, in mutants/CRATE.edits or in the crate's must-fail/, says the same of the same file under this renaming.
 
 Prints a line for each edit that is not plainly refused (`STANDING`: the crate is still proved; `BY NAME ALONE`: only a proof that names what the
 edit took away fails; `BAD`: it does not apply or cannot be read), and one for each crate. The status is 0 where all were refused. Then
@@ -38,6 +38,7 @@ import shutil
 import subprocess
 import sys
 import tarfile
+import tempfile
 import threading
 import time
 from collections import defaultdict
@@ -46,8 +47,12 @@ from dataclasses import dataclass, field
 from pathlib import Path
 
 sys.dont_write_bytecode = True
+from edit_blocks import crates_with_edits, read_blocks, unpack
+
 TOP = Path(__file__).resolve().parents[2]
 TRIED = TOP / "mutants" / "TRIED"
+# Where the edits of mutants/ are written as files, by the names of their crates, as the kit reads them.
+SCRATCH = tempfile.TemporaryDirectory(prefix="mutants-")
 REFUSED, BY_NAME, STANDING, BAD = "refused", "BY NAME ALONE", "STANDING", "BAD"
 # Comments, strings, characters and lifetimes, words, and any other mark, as the kit reads a source file.
 TOKEN = re.compile(r"//[^\n]*|/\*.*?\*/|b?\"(?:[^\"\\]|\\.)*\"|'(?:\\.[^']*|[^'\\])'|'\w+|\w+|\s+|.", re.S)
@@ -64,7 +69,7 @@ LOOKS = {"data": re.compile(r"\b(search|grind)\b"), "record": re.compile(r"\b(se
 # A proof that only cites another one which was refused.
 CITES = re.compile(r"depends? on `|is not admitted|was not admitted")
 # What of a crate its edits rest on.
-OF_CRATE = re.compile(r"crates/[^/]+/(?:src|specs|proofs|must-fail)/|mutants/[^/]+/")
+OF_CRATE = re.compile(r"crates/[^/]+/(?:src|specs|proofs|must-fail)/|mutants/[^/]+(?:/|\.edits)")
 # A name (but no byte in quotes), and what a text of code is made of: texts in quotes, names, numbers, white space, and every other sign by itself.
 NAMED = re.compile(r"(?!b'.')[A-Za-z_][A-Za-z0-9_']*")
 PART = re.compile(rf"b?\"(?:[^\"\\]|\\.)*\"|b?'(?:\\.[^']*|[^'\\])'|{NAMED.pattern}|\d+|\s+|.", re.S)
@@ -391,7 +396,7 @@ class Crate:
     def settle(self, edit, verdict, why=""):
         self.found[edit.path] = verdict
         if verdict != REFUSED:
-            self.note(f"{verdict} {edit.path.relative_to(TOP)}{': ' + why if why else ''}")
+            self.note(f"{verdict} {label(edit.path)}{': ' + why if why else ''}")
 
     def try_group(self, group):
         """Tries edits at once. Where they reach no verdict, each half of them; what is not refused, alone."""
@@ -507,6 +512,14 @@ def git(*words):
     return subprocess.run(["git", *words], cwd=TOP, stdout=subprocess.PIPE, text=True)
 
 
+def by_edit(texts):
+    """The texts of files, with each edit of a file of mutants/ as if it had a file of its own."""
+    found = {name: text for name, text in texts.items() if not name.endswith(".edits")}
+    for name in texts.keys() - found.keys():
+        found |= {f"{name.removesuffix('.edits')}/{edit}.edit": text for edit, text in read_blocks(texts[name]).items()}
+    return found
+
+
 @functools.lru_cache(maxsize=None)
 def texts_at(commit):
     """The files of all crates and their edits at a commit, by their paths; None if there is no such commit."""
@@ -514,14 +527,14 @@ def texts_at(commit):
     if packed.returncode:
         return None
     with tarfile.open(fileobj=io.BytesIO(packed.stdout)) as files:
-        return {it.name: files.extractfile(it).read().decode(errors="replace") for it in files if it.isfile() and OF_CRATE.match(it.name)}
+        return by_edit({it.name: files.extractfile(it).read().decode(errors="replace") for it in files if it.isfile() and OF_CRATE.match(it.name)})
 
 
 def texts_now(crate="*"):
     """The files of a crate and its edits as they stand, by their paths; without a name those of all crates."""
-    files = [*TOP.glob(f"crates/{crate}/*/**/*"), *TOP.glob(f"mutants/{crate}/*")]
+    files = [*TOP.glob(f"crates/{crate}/*/**/*"), *TOP.glob(f"mutants/{crate}.edits")]
     found = {str(it.relative_to(TOP)): it for it in files if it.is_file()}
-    return {name: it.read_text(errors="replace") for name, it in found.items() if OF_CRATE.match(name)}
+    return by_edit({name: it.read_text(errors="replace") for name, it in found.items() if OF_CRATE.match(name)})
 
 
 def of_crate(texts, crate):
@@ -846,9 +859,17 @@ def note_tried(crate):
             TRIED.write_text("".join(f"{name} {commit}\n" for name, commit in sorted(noted.items())))
 
 
+def label(path):
+    """An edit by the name of its crate and its own."""
+    for folder in (Path(SCRATCH.name), TOP):
+        if path.is_relative_to(folder):
+            return str(path.relative_to(folder))
+    return str(path)
+
+
 def edits_of(crate, words):
     """The files of the edits that are asked for."""
-    found = sorted((TOP / "mutants" / crate).glob("*.edit"))
+    found = sorted(unpack(crate, Path(SCRATCH.name, "mutants", crate)))
     if words.gate:
         found += sorted((TOP / "crates" / crate / "must-fail").glob("*.edit"))
     return [it for it in found if not words.edit or it.stem in words.edit or it.name in words.edit]
@@ -873,7 +894,7 @@ def read_words(argv):
 
 def chosen(words):
     """The edits that are asked for, by their crates: with --changed, all of a crate whose code changed, and of another those that were not there."""
-    names = words.crates or sorted(it.name for it in TOP.glob("mutants/*") if it.is_dir())
+    names = words.crates or crates_with_edits()
     asked = {it: edits_of(it, words) for it in names}
     if words.changed is None:
         return asked
@@ -882,7 +903,7 @@ def chosen(words):
         since = words.changed or commits.get(name)
         why, edits = difference(name, since) if since else ("it was not tried", [])
         if not why:
-            asked[name] = [it for it in asked[name] if str(it.relative_to(TOP)) in edits]
+            asked[name] = [it for it in asked[name] if label(it) in edits]
     return {name: paths for name, paths in asked.items() if paths}
 
 
@@ -890,7 +911,7 @@ def main(argv, prepare=None, is_proved=lambda crate: not crate.is_program and cr
     """Tries the edits that the words ask for. `prepare`, if given, readies the libraries below a crate, and answers whether it could;
     `is_proved` says whether a crate was proved as it stands."""
     words = read_words(argv)
-    words.crates = words.crates or [it.name for it in sorted(TOP.glob("mutants/*")) if it.is_dir()]
+    words.crates = words.crates or crates_with_edits()
     os.chdir(TOP)
     # (the kit sets its signals, which the main thread alone may)
     RT.rtlib.guarded()

@@ -27,6 +27,7 @@ import tempfile
 import time
 
 from fork_server import ForkServer, compile_library
+from program_path import program_path
 
 TOP = os.path.dirname(os.path.dirname(os.path.dirname(os.path.abspath(__file__))))
 DATA = os.path.join(TOP, "crates/fast_check_vectors/data")
@@ -214,13 +215,10 @@ def main(words):
     if not words:
         print(__doc__)
         return 2
-    program, count = os.path.abspath(words[0]), int(words[1]) if len(words) > 1 else 1000
+    program, count = program_path(words[0]), int(words[1]) if len(words) > 1 else 1000
     seed = int(words[2]) if len(words) > 2 else random.randrange(2**32)
     beside = int(words[3]) if len(words) > 3 else os.cpu_count()
     first = int(words[4]) if len(words) > 4 else 0
-    if not os.access(program, os.X_OK):
-        print(f"no program: {words[0]}", file=sys.stderr)
-        return 2
     # also where a shell began this behind another command, and let it ignore interrupts
     signal.signal(signal.SIGINT, signal.default_int_handler)
     print(f"seed={seed}", flush=True)
