@@ -3,17 +3,18 @@
 const fs = require('fs');
 const path = require('path');
 const { build } = require('./program.js');
-const { readText } = require('./files.js');
+const { INTERNAL } = require('./faults.js');
+const { isInside, readText } = require('./files.js');
 const { inputOf } = require('./input.js');
 const { Lines } = require('./lines.js');
-const { version } = require('./typescript.js');
+const { isFrom, version } = require('./typescript.js');
 
 /** A folder that cannot be read; `messages` say why, and `text` says it where there is no place. */
 class ReadError extends Error {
   constructor(text, messages) {
     super(text);
-    this.messages = messages || [];
-    this.status = 2;
+    this.messages = messages;
+    this.status = statusOf(messages) || 2;
   }
 }
 
@@ -23,29 +24,31 @@ function shownName(file, cwd) {
   return relative.startsWith('..') || path.isAbsolute(relative) ? file : relative || '.';
 }
 
+const CONFIGURATION = /\.jsonc?$/;
+
 /** The code of an error of reading: of a folder, of its configuration, or of a source. */
 function codeOf(error) {
   if (error.code) return error.code;
-  if (/\.jsonc?$/.test(error.path)) return 'bad-configuration';
+  if (CONFIGURATION.test(error.path)) return 'bad-configuration';
   return !fs.existsSync(error.path) || fs.statSync(error.path).isDirectory() ? 'no-entry-point' : 'syntax-error';
 }
 
 /** The text of a configuration with its lines, of which no module is made. */
 function configSource(error) {
-  if (!error.line || codeOf(error) !== 'bad-configuration') return null;
+  if (!error.line || !CONFIGURATION.test(error.path)) return null;
   const { text } = readText(error.path);
   return { text, lines: new Lines(text) };
 }
 
 /** The message for an error of reading, with its place where it has one. */
 function readMessage(error, cwd, sources) {
-  const message = { level: 'Error', code: codeOf(error), message: error.message, info: [], hint: error.hint || null };
+  const message = { level: error.level || 'Error', code: codeOf(error), message: error.message, info: [], hint: error.hint || null };
   if (error.path) message.file = shownName(error.path, cwd);
   const source = sources.get(error.path) || configSource(error);
   if (!source || !error.line) return message;
   const line = Math.min(error.line, source.lines.starts.length) - 1;
   const start = Math.min(source.lines.starts[line] + Math.max(0, (error.column || 1) - 1), source.text.length);
-  return { ...message, lines: source.lines, start, end: start };
+  return { ...message, lines: source.lines, start, end: Math.min(start + (error.length || 0), source.text.length) };
 }
 
 /** The folder's modules by their specifiers: the path, the name from the folder, the text with its lines. */
@@ -88,18 +91,6 @@ function part(answers, world, cwd) {
   return { skeletons, messages: [...messages.values()].map((each) => messageOf(each, world, cwd)) };
 }
 
-/** The messages of modules that are nested deeper than the program reads. */
-function deepMessages(deep, files, cwd) {
-  return deep.map(({ specifier, span }) => {
-    const file = files.get(specifier);
-    const message = { level: 'Error', code: 'nested-too-deep', message: 'this is nested deeper than the program reads', info: [] };
-    message.hint = 'give a part of it a name of its own';
-    if (!file) return { ...message, file: specifier };
-    const start = file.lines.offset(span[0]);
-    return { ...message, file: shownName(file.path, cwd), lines: file.lines, start, end: Math.min(file.lines.offset(span[1]), start + 1) };
-  });
-}
-
 /** The imports that lead to no file of the folder, as messages. */
 function missingMessages(info, files, cwd) {
   const byPath = new Map([...files.values()].map((file) => [file.path, file]));
@@ -109,38 +100,80 @@ function missingMessages(info, files, cwd) {
       ? [`the module '${text}' lies outside of the folder`, 'give the path of a file of the package, or name another package']
       : [`there is no module '${text}'`, 'give the path of a file that is there'];
     const info = ['what is asked of this module is not followed'];
-    return { level: 'Warning', code: 'missing-module', message, hint, info, specifier, file: shownName(at, cwd), lines, start: offset, end: offset + text.length + 2 };
+    const place = { file: shownName(at, cwd), lines, start: offset, end: offset + text.length + 2 };
+    return { level: 'Warning', code: 'missing-module', message, hint, info, specifier, ...place };
   });
 }
 
-/** Reads a folder: its request for the program, and what is known of its files. */
+/** The imports that nothing explains, as messages: each name once, at its first place. */
+function unresolvedMessages(info, files, cwd) {
+  const byPath = new Map([...files.values()].map((file) => [file.path, file]));
+  const first = new Map();
+  for (const each of info.externals) if (!each.isExplained && !first.has(each.name)) first.set(each.name, each);
+  return [...first.values()].map(({ path: at, offset, text, name }) => {
+    const { lines, specifier } = byPath.get(at);
+    return {
+      level: 'Warning', code: 'unresolved-import', message: `nothing says what '${name}' is`,
+      specifier, file: shownName(at, cwd), lines, start: offset, end: offset + text.length + 2,
+      hint: 'name it among the dependencies, in the map of imports, or in `paths` of tsconfig.json',
+      info: ['what is asked of it is not followed'],
+    };
+  });
+}
+
+/** Where an older compiler finds an error in a source, the first of them says how a newer one is had. */
+function withNewer(messages) {
+  const first = messages.find((each) => each.code === 'syntax-error');
+  if (!first || isFrom(5, 2)) return messages;
+  const more = `TypeScript ${version} reads this; a newer one reads newer forms: \`export TYPESCRIPT=$(tools/typescript/newest.sh FOLDER)\` fetches it`;
+  return messages.map((each) => (each === first ? { ...each, info: [...each.info, more] } : each));
+}
+
+/** Reads a folder: its request for the program, what is known of its files, and why packages of it cannot be read, which is an error where none can. */
 function read(dir, options, { cwd, progress }) {
   progress.begin(`reading ${shownName(dir, cwd)}`);
   const onModule = (name, count) => progress.tell(`reading ${name} (${count})`);
-  const { request, info } = inputOf(dir, { ...options, onModule, times: progress.times });
+  const { request, info } = inputOf(dir, { ...options, onModule });
   const files = filesOf(info, dir);
   const sources = new Map([...files.values()].map((file) => [file.path, file]));
-  if (info.errors.length) {
-    const messages = info.errors.map((error) => readMessage(error, cwd, sources));
-    const reader = messages.some((each) => each.code === 'syntax-error') ? ` by TypeScript ${version}` : '';
-    throw new ReadError(`${shownName(dir, cwd)} cannot be read${reader}`, messages);
+  const broken = withNewer(info.errors.map((error) => readMessage(error, cwd, sources)));
+  if (request === null) {
+    const reader = broken.some((each) => each.code === 'syntax-error') ? ` by TypeScript ${version}` : '';
+    throw new ReadError(`${shownName(dir, cwd)} cannot be read${reader}`, broken);
   }
-  return { dir, request, info, files, warnings: missingMessages(info, files, cwd) };
+  const faults = info.faults.map((error) => readMessage(error, cwd, sources));
+  const warnings = [...missingMessages(info, files, cwd), ...unresolvedMessages(info, files, cwd)];
+  return { dir, request, info, files, warnings, broken, faults };
 }
 
-/** Reads a folder and runs the program on it. */
+/** The package of a module, or of a file of the folder, by its folder: the innermost one. */
+function packageOf(info, file) {
+  const around = info.packages.filter(({ dir }) => dir === file || isInside(dir, file));
+  return around.sort((a, b) => b.dir.length - a.dir.length)[0];
+}
+
+/** Takes the skeletons of packages of which something is wrong that the program does not know. */
+function withoutFaulty({ info, files, skeletons }) {
+  const faulty = new Set(info.faults.filter((each) => each.level !== 'Warning').map((each) => packageOf(info, each.path)).filter(Boolean));
+  if (!faulty.size) return skeletons;
+  return new Map([...skeletons].filter(([specifier]) => !files.has(specifier) || !faulty.has(packageOf(info, files.get(specifier).path))));
+}
+
+/** Reads a folder and runs the program on it. `broken` says why packages of it cannot be read; `messages` are of the others. */
 async function analyse(dir, options, context) {
   const { cwd, progress, environment } = context;
   const world = read(dir, options, context);
   const tell = (line) => progress.line(line);
-  try {
-    const stage = 'the program is at work';
-    const answers = await progress.during(stage, build(world.request, { unproved: options.unproved, environment, tell }));
-    return { ...world, answers, ...part(answers, world, cwd) };
-  } catch (error) {
-    if (error.deep) throw new ReadError(`${shownName(dir, cwd)} cannot be read`, deepMessages(error.deep, world.files, cwd));
-    throw error;
-  }
+  const stage = 'the program is at work';
+  const answers = await progress.during(stage, build(world.request, { unproved: options.unproved, environment, tell }));
+  const { skeletons, messages } = part(answers, world, cwd);
+  return { ...world, answers, skeletons: withoutFaulty({ ...world, skeletons }), messages: [...world.faults, ...messages] };
 }
 
-module.exports = { ReadError, analyse, filesOf, part, read, shownName };
+/** The status of messages that say why something cannot be read. */
+function statusOf(broken) {
+  if (broken.some((each) => each.code === 'internal-error')) return INTERNAL;
+  return broken.length ? 2 : 0;
+}
+
+module.exports = { analyse, filesOf, part, read, shownName, statusOf };

@@ -3,6 +3,8 @@
 // The command line of fast-check-ts: from a folder of TypeScript to messages, skeletons, differences and a page.
 const fs = require('fs');
 const path = require('path');
+const { lookIn } = require('./compiler.js');
+const { INTERNAL, internalText, isKnown } = require('./faults.js');
 const { UsageError, USAGE, parse } = require('./words.js');
 const { Progress } = require('./progress.js');
 
@@ -45,17 +47,56 @@ function writeMessages(messages, options, { out, paint }) {
   }
 }
 
-/** The last line of a check: how many files were read, how many of their modules are public, what was told, and the time. */
+/** The last line of a check: how many files were read, how many of their modules are public, what was not followed, what was told, and the time. */
 function summary(world, told, context) {
   const files = count(world.files.size, 'file');
   const shown = world.skeletons.size ? `, ${count(world.skeletons.size, 'public module')}` : '';
-  return `${files}${shown}, ${count(told, 'message')}, ${seconds(context)}\n`;
+  const { externals } = world.info;
+  const names = new Set(externals.map((each) => each.name));
+  const outside = names.size ? `, ${count(externals.length, 'import')} of ${count(names.size, 'package')} not followed` : '';
+  return `${files}${shown}${outside}, ${count(told, 'message')}, ${seconds(context)}`;
+}
+
+/** The imports that were not followed, a line for each package: its name, and where it is imported. */
+function writeExternals(world, options, { out, cwd }) {
+  const { shownName } = require('./analysis.js');
+  const byPath = new Map([...world.files.values()].map((file) => [file.path, file]));
+  const places = new Map();
+  for (const { path: at, offset, text, name } of world.info.externals) {
+    const { line, column } = byPath.get(at).lines.shown(offset);
+    places.set(name, [...(places.get(name) || []), { text, file: shownName(at, cwd), line, column }]);
+  }
+  for (const [external, imports] of [...places].sort(([a], [b]) => (a < b ? -1 : 1))) {
+    if (options.json) out.write(`${JSON.stringify({ external, imports })}\n`);
+    else out.write(`not followed: ${external} (${imports.map(({ file, line }) => `${file}:${line}`).join(', ')})\n`);
+  }
+}
+
+/** Which entry points were taken in place of those that are written. */
+function writeTaken({ info }, options, { out, cwd }) {
+  const { shownName } = require('./analysis.js');
+  for (const { written, dir, file } of info.taken) {
+    const [entry, taken] = [written, shownName(file, cwd)];
+    if (options.json) out.write(`${JSON.stringify({ entry, package: shownName(dir, cwd), taken })}\n`);
+    else out.write(`${taken} is taken for the entry point ${entry}\n`);
+  }
+}
+
+/** All that is told of a folder before its skeletons are looked at. */
+function messagesOf(world) {
+  return [...world.warnings, ...world.broken, ...world.messages];
+}
+
+/** The status of a folder that was analysed, by what is told of it. */
+function statusOf(world, told) {
+  const { statusOf: statusOfBroken } = require('./analysis.js');
+  return statusOfBroken(world.broken) || (told.length ? 1 : 0);
 }
 
 async function check([word], options, context) {
   const { analyse } = require('./analysis.js');
   const world = await analyse(folderOf(word, context), options, context);
-  const messages = [...world.warnings, ...world.messages];
+  const messages = messagesOf(world);
   if (options.verify && world.skeletons.size) {
     const { verify } = require('./verify.js');
     context.progress.begin("TypeScript's compiler checks the skeletons");
@@ -63,8 +104,14 @@ async function check([word], options, context) {
   }
   context.progress.end();
   writeMessages(messages, options, context);
-  if (!options.json) context.out.write(summary(world, messages.length, context));
-  return messages.length ? 1 : 0;
+  if (options.externals) writeExternals(world, options, context);
+  writeTaken(world, options, context);
+  if (!options.json) {
+    const { mayTellMore } = require('./apart.js');
+    const more = !options.verify && mayTellMore(world) ? '; --verify may tell more' : '';
+    context.out.write(`${summary(world, messages.length, context)}${more}\n`);
+  }
+  return statusOf(world, messages);
 }
 
 /** The printed skeletons of a folder; its messages go to standard error. */
@@ -75,7 +122,7 @@ async function skeletonsOf(word, options, context) {
   context.progress.begin('printing');
   const skeletons = printed(world);
   context.progress.end();
-  writeMessages([...world.warnings, ...world.messages], {}, { out: context.err, paint: context.paintErrors });
+  writeMessages(messagesOf(world), {}, { out: context.err, paint: context.paintErrors });
   return { world, skeletons };
 }
 
@@ -86,32 +133,104 @@ async function skeleton([word, out], options, context) {
   const { world, skeletons } = await skeletonsOf(word, options, context);
   if (folder === null) context.out.write(joined(skeletons));
   else write(folder, skeletons);
-  return world.messages.length ? 1 : 0;
+  return statusOf(world, world.messages);
+}
+
+/** The changes of texts as a unified diff. */
+function writeDiff(texts, { out, paint, cwd }) {
+  const { unified } = require('./difference.js');
+  const { readText } = require('./files.js');
+  for (const [file, text] of [...texts].sort(([a], [b]) => (a < b ? -1 : 1))) {
+    for (const line of unified(path.relative(cwd, file), readText(file).text, text)) out.write(`${paint(COLOURS[line[0]] || 'bold', line)}\n`);
+  }
+}
+
+async function fix([word], options, context) {
+  const { fix: fixed } = require('./fix.js');
+  const { world, texts, count: types } = await fixed(folderOf(word, context), options, context);
+  context.progress.end();
+  if (options.dry) writeDiff(texts, context);
+  else for (const [file, text] of texts) fs.writeFileSync(file, text);
+  const told = messagesOf(world);
+  writeMessages(told, options, options.dry ? { out: context.err, paint: context.paintErrors } : context);
+  const summary = `${count(types, 'type')} written in ${count(texts.size, 'file')}, ${count(told.length, 'message')} left, ${seconds(context)}\n`;
+  (options.dry ? context.err : context.out).write(summary);
+  return statusOf(world, told);
 }
 
 async function input([word], options, context) {
   const { read } = require('./analysis.js');
-  const { request } = read(folderOf(word, context), options, context);
+  const { request, broken } = read(folderOf(word, context), options, context);
   context.progress.end();
+  writeMessages(broken, {}, { out: context.err, paint: context.paintErrors });
   context.out.write(`${JSON.stringify(request)}\n`);
-  return 0;
+  return statusOf({ broken }, []);
+}
+
+/** Calls back with the folder of a word: one that is there, or a revision of the repository that the other folder lies in, in a folder of its own. */
+async function withFolder(word, beside, context, call) {
+  const { unpacked } = require('./revision.js');
+  if (fs.existsSync(path.resolve(context.cwd, word))) return call(folderOf(word, context));
+  const folder = unpacked(word, folderOf(beside, context));
+  if (!folder) throw new UsageError(`there is no folder and no revision ${word}`);
+  try {
+    return await call(folder);
+  } finally {
+    fs.rmSync(folder, { recursive: true, force: true });
+  }
+}
+
+/** The public names of a folder, and its messages, which go to standard error. */
+async function namesOf(folder, options, context) {
+  const { analyse } = require('./analysis.js');
+  const { publicNames } = require('./public_names.js');
+  const world = await analyse(folder, options, context);
+  context.progress.end();
+  writeMessages(messagesOf(world), {}, { out: context.err, paint: context.paintErrors });
+  return world.broken.length || world.messages.length ? null : publicNames(world);
+}
+
+const REASONS = {
+  major: 'a public name is gone, or is declared otherwise',
+  minor: 'there is a new public name, and the others are declared as they were',
+  patch: 'each public name is declared as it was: an edit of what is hidden changes no skeleton, by the theorem in docs/PROVED.md',
+};
+
+/** One change as lines. */
+function writeChange({ name, module, change, parts }, { out, paint }) {
+  out.write(`${paint('bold', `${change} ${name}`)} (${module})\n`);
+  for (const part of parts) {
+    if (part.name !== null) out.write(`  by ${part.name} (${part.module})${part.lines.length ? '' : ', as above'}\n`);
+    for (const line of part.lines) out.write(line === null ? '    ..\n' : `${paint(COLOURS[line[0]], `  ${line[0]} ${line[1]}`.trimEnd())}\n`);
+  }
+}
+
+/** All changes as a text for a pull request. */
+function writeMarkdown(changes, advice, { out }) {
+  out.write(`**${advice}**: ${REASONS[advice]}\n`);
+  for (const { name, module, change, parts } of changes) {
+    const by = parts.filter((part) => part.name !== null).map((part) => `\`${part.name}\` (${part.module})`);
+    out.write(`\n- ${change} \`${name}\` (${module})${by.length ? ` by ${by.join(', ')}` : ''}\n`);
+    const lines = parts.flatMap((part) => part.lines).map((line) => (line === null ? ' ..' : `${line[0]} ${line[1]}`));
+    if (lines.length) out.write(`\n  \`\`\`diff\n${lines.map((it) => `  ${it}`).join('\n')}\n  \`\`\`\n`);
+  }
 }
 
 async function diff([old, now], options, context) {
-  const { difference } = require('./difference.js');
-  const [before, after] = [await skeletonsOf(old, options, context), await skeletonsOf(now, options, context)];
-  if (before.world.messages.length || after.world.messages.length) {
+  const { adviceFor, nameChanges } = require('./difference.js');
+  const before = await withFolder(old, now, context, (folder) => namesOf(folder, options, context));
+  const after = await withFolder(now, old, context, (folder) => namesOf(folder, options, context));
+  if (!before || !after) {
     context.err.write('fast-check-ts: a package with messages has no skeletons to compare\n');
     return 2;
   }
-  const changes = difference(before.skeletons, after.skeletons);
-  for (const { name, change, lines } of changes) {
-    if (options.json) {
-      context.out.write(`${JSON.stringify({ name, change })}\n`);
-      continue;
-    }
-    context.out.write(`${context.paint('bold', `${change} ${name}`)}\n`);
-    for (const line of lines) context.out.write(line === null ? '    ..\n' : `${context.paint(COLOURS[line[0]], `  ${line[0]} ${line[1]}`.trimEnd())}\n`);
+  const changes = nameChanges(before, after);
+  const advice = adviceFor(changes);
+  if (options.markdown) writeMarkdown(changes, advice, context);
+  else if (options.json) for (const each of [...changes, { advice, reason: REASONS[advice] }]) context.out.write(`${JSON.stringify(each)}\n`);
+  else {
+    for (const each of changes) writeChange(each, context);
+    context.out.write(`${context.paint('bold', advice)}: ${REASONS[advice]}\n`);
   }
   return changes.length ? 1 : 0;
 }
@@ -125,21 +244,23 @@ async function report([word, file], options, context) {
   context.progress.begin('writing the page');
   fs.writeFileSync(path.resolve(context.cwd, file), page(world));
   context.progress.end();
-  context.out.write(`${file}: ${summary(world, world.warnings.length + world.messages.length, context)}`);
-  return world.messages.length ? 1 : 0;
+  context.out.write(`${file}: ${summary(world, messagesOf(world).length, context)}\n`);
+  return statusOf(world, world.messages);
 }
 
-const RUN = { check, skeleton, input, diff, report };
+const RUN = { check, fix, skeleton, input, diff, report };
+
+/** What is told of an exception that is no refusal: a fault of this tool. */
+function fault(error) {
+  const message = { level: 'Error', code: 'internal-error', message: internalText(error, error.module), info: [] };
+  return { messages: [message], status: INTERNAL, message: 'nothing more is answered' };
+}
 
 /** Tells why a command could not be done, and answers its status. */
-function refuse(error, options, context) {
-  const known = error instanceof UsageError || error.status !== undefined;
-  if (error.messages && error.messages.length) {
-    const to = options.json ? context : { out: context.err, paint: context.paintErrors };
-    writeMessages(error.messages, options, to);
-  }
-  const text = known || error.code ? error.message : error.stack;
-  context.err.write(`fast-check-ts: ${text}\n`);
+function refuse(thrown, options, context) {
+  const error = thrown instanceof UsageError || isKnown(thrown) ? thrown : fault(thrown);
+  if (error.messages) writeMessages(error.messages, options, options.json ? context : { out: context.err, paint: context.paintErrors });
+  context.err.write(`fast-check-ts: ${error.message}\n`);
   if (error instanceof UsageError && !options.command) context.err.write('fast-check-ts --help says what there is\n');
   return error.status || 2;
 }
@@ -155,6 +276,7 @@ async function main(words, io) {
       io.out.write(USAGE);
       return 0;
     }
+    if (!asked.options.noOwnCompiler) lookIn(path.resolve(io.cwd, asked.rest[asked.command === 'diff' ? 1 : 0]));
     return await RUN[asked.command](asked.rest, asked.options, context);
   } catch (error) {
     context.progress.end();

@@ -3,8 +3,8 @@
 
 const fs = require('fs');
 const path = require('path');
-const { readText } = require('./files');
-const { LINE_END } = require('./lines');
+const { isInside, mediaTypeOf, readText } = require('./files');
+const { placeAt } = require('./lines');
 const { ts } = require('./typescript');
 
 const NAMES = ['deno.json', 'deno.jsonc', 'jsr.json', 'jsr.jsonc', 'package.json'];
@@ -22,17 +22,21 @@ const WANTED = [
   ['exports', 'a path or a map', (value) => isText(value) || value === null || typeof value === 'object'],
   ['imports', 'a map', isMap],
   ['workspace', 'a list of paths', (value) => areTexts(value) || (isMap(value) && (value.members === undefined || areTexts(value.members)))],
+  ['workspaces', 'a list of paths', (value) => areTexts(value) || (isMap(value) && (value.packages === undefined || areTexts(value.packages)))],
 ];
 
 /** A configuration file, which may have comments; null where it is not there. */
-function readConfig(file, errors) {
-  const found = fs.statSync(file, { throwIfNoEntry: false });
-  if (!found || !found.isFile()) return null;
+function readConfig(file, files, errors) {
+  if (!files.isFile(file)) return null;
+  const refusal = files.refusal(file);
+  if (refusal) {
+    errors.push({ path: file, code: 'refused-file', message: refusal });
+    return null;
+  }
   const { text, wrong } = readText(file);
   const { config, error } = ts.parseConfigFileTextToJson(file, text);
   const refuse = (offset, message) => {
-    const before = text.slice(0, offset).split(LINE_END);
-    errors.push({ path: file, line: before.length, column: before[before.length - 1].length + 1, message });
+    errors.push({ path: file, ...placeAt(text, offset), message });
     return null;
   };
   if (wrong >= 0) return refuse(wrong, 'the file is no UTF-8 from here on');
@@ -42,14 +46,30 @@ function readConfig(file, errors) {
   return key === undefined ? config : refuse(Math.max(0, text.indexOf(`"${key}"`)), `\`${key}\` has to be ${wanted}`);
 }
 
-/** All configuration files of a folder in one: of each member that of the first file that has it. */
-function configOf(dir, errors) {
+/** The configuration files of a folder in one: of each member that of the first file that has it, and of `imports` each name so. `read` are the files. */
+function configOf(dir, files, errors) {
   const merged = {};
+  const read = [];
   for (const name of NAMES) {
-    const found = readConfig(path.join(dir, name), errors);
-    for (const key of Object.keys(found || {})) if (!(key in merged)) merged[key] = found[key];
+    const file = path.join(dir, name);
+    const found = readConfig(file, files, errors);
+    if (!found) continue;
+    read.push(file);
+    if (found.imports) merged.imports = { ...found.imports, ...merged.imports };
+    for (const key of Object.keys(found)) if (!(key in merged)) merged[key] = found[key];
   }
-  return merged;
+  return { ...merged, read };
+}
+
+const NAMING_ENTRIES = new Set(['exports', 'types', 'typings']);
+
+/** Where the path of an entry point is written in a configuration file, as an offset of its text; undefined where it is not. */
+function placeOfPath(file, text, wanted) {
+  const source = ts.parseJsonText(file, text);
+  const root = source.statements.length ? source.statements[0].expression : {};
+  const entries = (root.properties || []).filter((it) => it.name && NAMING_ENTRIES.has(it.name.text) && it.initializer);
+  const find = (node) => (ts.isStringLiteral(node) && node.text === wanted ? node.getStart(source) : ts.forEachChild(node, find));
+  return entries.map((it) => find(it.initializer)).find((it) => it !== undefined);
 }
 
 /** The path that an entry of `exports` has: a text, or the first condition that leads to one. */
@@ -91,74 +111,155 @@ function expanded(dir, [key, written]) {
   const [before, after] = written.replace(/^\.\//, '').split('*');
   return filesBelow(dir)
     .map((it) => path.relative(dir, it))
-    .filter((it) => it.startsWith(before) && it.endsWith(after) && it.length > before.length + after.length)
+    .filter((it) => it.startsWith(before) && it.endsWith(after) && it.length > before.length + after.length && mediaTypeOf(it) !== 'Unknown')
     .sort()
     .map((it) => [key.replace('*', it.slice(before.length, it.length - after.length)), `./${it}`]);
 }
 
-/** The entry points of a package: `[key, path]`. */
-function entryPoints(dir, config, given, files, errors) {
+const ABSENT = { message: 'is not there', more: { hint: 'give the path of a file that is there' } };
+const NO_MODULE = { message: 'is no module, and is passed over', more: { level: 'Warning' } };
+
+/** What is wrong with an entry point, where its path is written. */
+function faultOf(text, wrong, dir, config, given) {
+  const fault = { path: dir, code: 'no-entry-point', message: `the entry point ${text} ${wrong.message}`, ...wrong.more };
+  for (const file of given === undefined ? config.read : []) {
+    const source = readText(file).text;
+    const offset = placeOfPath(file, source, text);
+    if (offset !== undefined) return { ...fault, path: file, ...placeAt(source, offset), length: text.length + 2 };
+  }
+  return fault;
+}
+
+/** The written entry points that are modules, as `[key, path]`, what is wrong with the others, and which are taken in place of those that are written. */
+function modulesOf(dir, written, { config, given, files, aliases, errors }) {
+  const [found, wrong, taken] = [[], [], []];
+  const refuse = (text, how) => wrong.push(faultOf(text, how, dir, config, given));
+  for (const [key, text] of written.flatMap((it) => expanded(dir, it))) {
+    const wanted = path.resolve(dir, text);
+    const source = isInside(dir, wanted) ? aliases.sourceOf(dir, wanted) : null;
+    const file = source || files.find(wanted);
+    if (source) taken.push({ written: text, dir, file });
+    const isOutside = path.isAbsolute(text) || !isInside(dir, wanted);
+    if (isOutside) errors.push({ path: dir, message: `the entry point ${text} lies outside of the package` });
+    else if (!file) refuse(text, ABSENT);
+    else if (mediaTypeOf(file) === 'Unknown') refuse(text, NO_MODULE);
+    else if (!file.endsWith('.json') || given !== undefined) found.push([key, file]);
+  }
+  return { found, wrong, taken };
+}
+
+/** The entry point of a package in whose configuration none is there, or null. */
+function usualEntry(dir, config, files) {
+  const written = [config.module, config.main].filter(isText);
+  const usual = USUAL.find((it) => files.isFile(path.join(dir, it))) || written.find((it) => files.find(path.join(dir, it)));
+  return usual ? files.find(path.join(dir, usual)) : null;
+}
+
+/** The entry points of a package: `[key, path]`. What is wrong with some of them goes to `faults` where others are there, else to `errors`. */
+function entryPoints(dir, config, given, context) {
+  const { files, errors, faults } = context;
   const written = writtenExports(given === undefined ? config.exports : given);
   const types = config.types || config.typings;
   if (written.length === 0 && typeof types === 'string') written.push(['.', types]);
-  const found = [];
-  const missing = [];
-  for (const [key, text] of written.flatMap((it) => expanded(dir, it))) {
-    if (path.isAbsolute(text) || path.relative(dir, path.resolve(dir, text)).startsWith('..')) {
-      errors.push({ path: dir, message: `the entry point ${text} lies outside of the package` });
-      continue;
-    }
-    const file = files.find(path.resolve(dir, text));
-    if (!file) missing.push([key, path.resolve(dir, text), text]);
-    else if (!file.endsWith('.json') || given !== undefined) found.push([key, file]);
+  const { found, wrong, taken } = modulesOf(dir, written, { ...context, config, given });
+  if (found.length) {
+    faults.push(...wrong);
+    context.taken.push(...taken);
+    return found;
   }
-  if (found.length === 0 && (given === undefined || missing.length === 0)) {
-    const usual = USUAL.find((it) => files.isFile(path.join(dir, it))) || [config.module, config.main].filter(isText).find((it) => files.find(path.join(dir, it)));
-    if (usual) return [['.', files.find(path.join(dir, usual))]];
+  const usual = given === undefined || wrong.length === 0 ? usualEntry(dir, config, files) : null;
+  if (usual) {
+    context.taken.push(...written.slice(0, 1).map(([, text]) => ({ written: text, dir, file: usual })));
+    return [['.', usual]];
   }
-  if (found.length === 0 && errors.some((it) => it.path === dir)) return [];
-  if (found.length === 0) {
-    for (const [, , text] of missing) errors.push({ path: dir, message: `the entry point ${text} is not there` });
-    if (missing.length === 0) errors.push({ path: dir, message: 'no entry point: neither `exports`, nor mod.ts, index.ts or src/index.ts' });
-    return [];
-  }
-  // Where some are there, the program says of the others that they are not found.
-  return [...found, ...missing.map(([key, file]) => [key, file])];
+  errors.push(...wrong);
+  const isTold = wrong.length > 0 || errors.some((it) => it.path === dir);
+  if (!isTold) errors.push({ path: dir, message: 'no entry point: neither `exports`, nor mod.ts, index.ts or src/index.ts' });
+  return [];
 }
 
-/** The folders of a workspace's members. */
+/** The folders that a path of a workspace stands for: itself, of one with a star those below that have a configuration. */
+function foldersBehind(dir, text) {
+  const [, above, stars] = /^(.*?)\/?(\*\*?(?:\/\*)?)?\/?$/s.exec(text);
+  const folder = path.resolve(dir, above);
+  if (!stars) return [folder];
+  const inside = fs.existsSync(folder) ? fs.readdirSync(folder, { withFileTypes: true }).filter((it) => it.isDirectory() && it.name !== 'node_modules') : [];
+  const below = inside.map((it) => path.join(folder, it.name)).sort();
+  const deep = stars.length > 1 ? below.flatMap((it) => foldersBehind(it, stars)) : [];
+  return [...below.filter((it) => NAMES.some((name) => fs.existsSync(path.join(it, name)))), ...deep];
+}
+
+/** The folders of a workspace's members, of deno's (`workspace`) and of npm's (`workspaces`), in which a path behind `!` is left out. */
 function membersOf(dir, config) {
-  const listed = Array.isArray(config.workspace) ? config.workspace : (config.workspace && config.workspace.members) || [];
-  return listed.flatMap((it) => {
-    const folder = path.resolve(dir, it.replace(/\/?\*$/, ''));
-    if (!it.endsWith('*')) return [folder];
-    const inside = fs.existsSync(folder) ? fs.readdirSync(folder, { withFileTypes: true }) : [];
-    const isMember = (each) => each.isDirectory() && NAMES.some((name) => fs.existsSync(path.join(folder, each.name, name)));
-    return inside.filter(isMember).map((each) => path.join(folder, each.name)).sort();
-  });
+  const listed = (value, name) => (Array.isArray(value) ? value : (value && value[name]) || []);
+  const texts = [...listed(config.workspace, 'members'), ...listed(config.workspaces, 'packages')];
+  const without = new Set(texts.filter((it) => it.startsWith('!')).flatMap((it) => foldersBehind(dir, it.slice(1))));
+  const folders = texts.filter((it) => !it.startsWith('!')).flatMap((it) => foldersBehind(dir, it));
+  return [...new Set(folders)].filter((it) => !without.has(it));
 }
 
-/** The map of imports of a folder, as far as it leads to files: `[text, path]`. A key that ends with `/` stands for what begins so. */
+/**
+ * The map of imports of a folder: for each name the path of a file, which may have a `*`, or null where it leads elsewhere. A key that ends with `/` stands
+ * for what begins so.
+ */
 function importsOf(dir, config) {
   const made = {};
-  for (const [key, target] of Object.entries(config.imports || {})) {
-    if (typeof target === 'string' && /^\.{1,2}\//.test(target)) made[key] = path.resolve(dir, target);
+  for (const [key, entry] of Object.entries(config.imports || {})) {
+    const target = pathOf(entry);
+    if (target) made[key] = /^\.{1,2}\//.test(target) ? path.resolve(dir, target) + (target.endsWith('/') ? path.sep : '') : null;
   }
   return made;
 }
 
+const DEPENDENCIES = ['dependencies', 'devDependencies', 'peerDependencies', 'optionalDependencies'];
+
+/** The names of the packages that a configuration depends on; those that have their types in a package of their own too. */
+function dependenciesOf(config) {
+  const names = DEPENDENCIES.flatMap((it) => (isMap(config[it]) ? Object.keys(config[it]) : []));
+  const typed = names.filter((it) => it.startsWith('@types/')).map((it) => it.slice('@types/'.length));
+  return [...names, ...typed, ...typed.map((it) => it.replace(/^(.+)__/, '@$1/'))];
+}
+
 const VERSION = /^\d+\.\d+\.\d+(-[0-9A-Za-z.-]+)?(\+[0-9A-Za-z.-]+)?$/;
 
-/** The packages of a folder: itself where it has entry points, and the members of its workspace. */
-function packagesOf(dir, options, files, errors) {
-  const config = configOf(dir, errors);
-  if (errors.length) return [];
+/** The folders of a folder's packages: itself where it has entry points, and the members of its workspace, which have to lie within it. */
+function foldersOf(dir, config, options, { errors, faults }) {
   const members = options.exports === undefined ? membersOf(dir, config) : [];
-  for (const folder of members) if (!fs.existsSync(folder)) errors.push({ path: folder, message: 'this member of the workspace is not there' });
+  const isThere = (folder) => fs.existsSync(folder);
+  for (const folder of members) {
+    if (!isInside(dir, folder)) errors.push({ path: folder, code: 'no-entry-point', message: 'this member of the workspace lies outside of the folder' });
+    else if (!isThere(folder)) {
+      const absence = { path: folder, code: 'no-entry-point', message: 'this member of the workspace is not there' };
+      if (config.workspace) errors.push(absence);
+      else faults.push({ ...absence, level: 'Warning' });
+    }
+  }
+  const present = members.filter(isThere);
+  return members.length && config.exports === undefined ? present : [...present, dir];
+}
+
+/** Whether a member of npm's workspace, which may be anything, has no module to look at. */
+function isNoPackage({ dir, exports }, root, config, { errors, faults }) {
+  if (exports.length || dir === root || !config.workspaces) return false;
+  const own = errors.filter((it) => it.code === 'no-entry-point' || it.path === dir);
+  for (const it of own.filter((each) => isInside(root, each.path) && (each.path === dir || path.dirname(each.path) === dir))) {
+    errors.splice(errors.indexOf(it), 1);
+    faults.push({ ...it, code: 'no-entry-point', level: 'Warning', message: `${it.message}: this member of the workspace is passed over`, hint: null });
+  }
+  return true;
+}
+
+/**
+ * The packages of a folder. `context` has `files` and `aliases`, and lists that are filled: what keeps a package from being read (`errors`), what is wrong with
+ * one that is read (`faults`), and which entry points are taken in place of those that are written (`taken`).
+ */
+function packagesOf(dir, options, context) {
+  const { files, errors } = context;
+  const config = configOf(dir, files, errors);
+  const folders = errors.length ? [] : foldersOf(dir, config, options, context);
   if (errors.length) return [];
-  const folders = members.length && config.exports === undefined ? members : [...members, dir];
-  return folders.map((folder) => {
-    const own = folder === dir ? config : configOf(folder, errors);
+  const found = folders.map((folder) => {
+    const own = folder === dir ? config : configOf(folder, files, errors);
     const given = folder === dir ? options : {};
     const version = given.version || own.version;
     return {
@@ -166,9 +267,11 @@ function packagesOf(dir, options, files, errors) {
       version: VERSION.test(version) ? version : '0.0.0',
       dir: folder,
       imports: { ...importsOf(dir, config), ...importsOf(folder, own) },
-      exports: entryPoints(folder, own, given.exports, files, errors),
+      dependencies: new Set([...dependenciesOf(config), ...dependenciesOf(own)]),
+      exports: entryPoints(folder, own, given.exports, context),
     };
   });
+  return found.filter((it) => !isNoPackage(it, dir, config, context));
 }
 
 module.exports = { packagesOf, readConfig };

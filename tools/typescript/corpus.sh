@@ -1,25 +1,64 @@
 #!/usr/bin/env bash
-# Fetches Debian packages that carry TypeScript, sources or declarations, into a folder outside of the repository:
+# Fetches Debian packages that carry TypeScript into a folder outside of the repository: packages as they are installed, with sources or declarations, and
+# source packages, monorepos among them:
 #
 #   tools/typescript/corpus.sh FOLDER
-#   FAST_CHECK=PROGRAM node tools/typescript/judge.js FOLDER [--modules]
+#   FAST_CHECK=PROGRAM node tools/typescript/sweep.js FOLDER [--verify]       what `check` says of each
+#   FAST_CHECK=PROGRAM node tools/typescript/judge.js FOLDER [--modules]      whether the skeletons declare what the sources do
 #
-# Nothing is installed, and the machine's package lists are those of the last `apt-get update`.
+# Nothing is installed. The installed packages are those of the machine's own lists, as of the last `apt-get update`; for source packages apt works with lists of
+# its own below FOLDER. Of each the first suite counts whose archive is there. What is not fetched is told.
 set -u
 folder=${1:?usage: corpus.sh FOLDER}
 packages="node-lumino node-jose node-inquirer node-recast node-ast-types jest node-graphql node-dom-helpers node-yaml node-undici
   node-postcss node-parse5 node-cheerio node-chart.js node-memfs node-mqtt node-domutils node-domhandler node-entities node-css-select
   node-css-what node-htmlparser2 node-ip-address node-cronstrue node-socks node-got node-agent-base ts-node node-js-sdsl rollup"
-mkdir -p "$folder/archives"
+sources="node-jest node-babel7 node-parse5 node-xterm node-js-sdsl node-rollup node-cheerio node-yaml node-graphql node-mqtt node-inquirer ts-jest
+  node-typestyle node-sinclair-typebox node-chart.js node-got node-jose node-dom-helpers node-webpack node-playwright"
+suites="bookworm trixie unstable"
+mkdir -p "$folder/archives" "$folder/apt/sources" "$folder/apt/lists/partial" "$folder/apt/cache/archives/partial"
+folder=$(cd "$folder" && pwd)
 cd "$folder" || exit 1
+
+count() { find "$@" -type f | wc -l; }
+tell() { echo "$1: $(count "$2" -name '*.ts' ! -name '*.d.ts') sources, $(count "$2" -name '*.d.ts') declaration files, $(count "$2" -name package.json) package.json"; }
+
 for package in $packages; do
   [ -d "$package" ] && continue
   if (cd archives && apt-get -q download "$package" > /dev/null 2>&1) && dpkg -x archives/"${package}"_*.deb "$package.part"; then
     mv "$package.part" "$package"
-    count() { find "$package" -type f "$@" | wc -l; }
-    echo "$package: $(count -name '*.ts' ! -name '*.d.ts') sources, $(count -name '*.d.ts') declaration files"
+    tell "$package" "$package"
   else
     rm -rf "$package.part"
     echo "$package: not fetched"
   fi
+done
+
+# Unpacks the archives of a source package of a suite into a folder, each in a part of its own.
+unpack() {
+  mkdir -p "$2.part"
+  (cd "$2.part" && "${apt[@]}" source --download-only --tar-only "$1" >> "$folder/log" 2>&1)
+  for archive in "$2.part"/*.orig*.tar.*; do
+    [ -e "$archive" ] || continue
+    part=${archive##*.orig}
+    mkdir -p "$2.part/src${part%%.tar*}"
+    tar xf "$archive" -C "$2.part/src${part%%.tar*}" --no-same-owner 2>> "$folder/log"
+    rm "$archive"
+  done
+  [ -d "$2.part/src" ] && mv "$2.part" "$2" || { rm -rf "$2.part"; false; }
+}
+
+mirror=$(apt-get indextargets --format '$(REPO_URI)' 'Identifier: Packages' 'Origin: Debian' 'Component: main' | grep -v security | sort -u | head -n 1)
+keys=/usr/share/keyrings/debian-archive-keyring.gpg
+printf 'Types: deb-src\nURIs: %s\nSuites: %s\nComponents: main\nSigned-By: %s\n' "$mirror" "$suites" "$keys" > apt/sources/sources.sources
+apt=(apt-get -q -o Dir::Etc::sourcelist=/dev/null -o Dir::Etc::sourceparts="$folder/apt/sources" -o Dir::State::lists="$folder/apt/lists"
+  -o Dir::Cache="$folder/apt/cache" -o APT::Sandbox::User=root)
+"${apt[@]}" update > log 2>&1 || echo "corpus.sh: the lists of sources were not fetched: $folder/log says why"
+mkdir -p sources
+for package in $sources; do
+  [ -d "sources/$package" ] && continue
+  for suite in $suites; do
+    unpack "$package/$suite" "sources/$package" && break
+  done
+  if [ -d "sources/$package" ]; then tell "$package ($suite)" "sources/$package"; else echo "$package: no source archive is there"; fi
 done

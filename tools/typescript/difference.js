@@ -51,19 +51,62 @@ function hunks(lines) {
   return out;
 }
 
-/** The modules that differ between two lists of printed skeletons: `{name, change, lines}`, in the order of the names. */
-function difference(before, after) {
-  const old = new Map(before.map((each) => [each.name, each.text]));
-  const now = new Map(after.map((each) => [each.name, each.text]));
-  const names = [...new Set([...old.keys(), ...now.keys()])].sort();
-  const changes = [];
-  for (const name of names) {
-    if (old.get(name) === now.get(name)) continue;
-    const change = !old.has(name) ? 'added' : !now.has(name) ? 'removed' : 'changed';
-    const lines = change === 'changed' ? hunks(lineDifference(old.get(name), now.get(name))) : [];
-    changes.push({ name, change, lines });
-  }
-  return changes;
+/** Where the changed parts of a list of lines begin and end, with three lines around each: parts that are near are one. */
+function parts(lines) {
+  const found = [];
+  lines.forEach(([kind], at) => {
+    if (kind === ' ') return;
+    const last = found[found.length - 1];
+    if (last && at - 3 <= last.end) last.end = Math.min(lines.length, at + 4);
+    else found.push({ start: Math.max(0, at - 3), end: Math.min(lines.length, at + 4) });
+  });
+  return found;
 }
 
-module.exports = { difference };
+/** The lines of a unified diff of a file. */
+function unified(name, before, after) {
+  const lines = lineDifference(before, after);
+  const count = (part, kind) => part.filter(([each]) => each !== kind).length;
+  const out = [`--- a/${name}`, `+++ b/${name}`];
+  for (const { start, end } of parts(lines)) {
+    const [above, inside] = [lines.slice(0, start), lines.slice(start, end)];
+    const [old, now] = ['+', '-'].map((kind) => `${count(above, kind) + 1},${count(inside, kind)}`);
+    out.push(`@@ -${old} +${now} @@`, ...inside.map(([kind, line]) => kind + line));
+  }
+  return out;
+}
+
+const textsIn = (closure) => [...closure.values()].sort().join('\n');
+
+/** The declarations of a name that differ: where each stands, and its lines. Of those that are told already the lines are left out. */
+function changedParts(old, now, told) {
+  const keys = [...new Set([...old.closure.keys(), ...now.closure.keys()])].filter((key) => old.closure.get(key) !== now.closure.get(key));
+  return keys.map((key) => {
+    const [specifier, name] = key.split('\n');
+    const isOwn = key === now.target.join('\n');
+    const part = { name: isOwn ? null : name, module: specifier.replace(/^file:\/\/\//, ''), lines: [] };
+    if (told.has(key)) return part;
+    told.add(key);
+    const before = (old.closure.get(key) || '').trimEnd();
+    return { ...part, lines: hunks(lineDifference(before, (now.closure.get(key) || '').trimEnd())).filter((line) => line === null || line[1] !== '') };
+  });
+}
+
+/** The public names that differ, each `{name, module, change, parts}`: names that are gone first, then those that changed, then those that are new. */
+function nameChanges(before, after) {
+  const told = new Set();
+  const only = (some, others, change) => [...some].filter(([name]) => !others.has(name)).map(([name, { module }]) => ({ name, module, change, parts: [] }));
+  const differing = [...after].filter(([name, now]) => before.has(name) && textsIn(before.get(name).closure) !== textsIn(now.closure));
+  const isOwn = ([name, { target, closure }]) => before.get(name).closure.get(target.join('\n')) !== closure.get(target.join('\n'));
+  const both = [...differing.filter(isOwn), ...differing.filter((it) => !isOwn(it))];
+  const changed = both.map(([name, now]) => ({ name, module: now.module, change: 'changed', parts: changedParts(before.get(name), now, told) }));
+  return [...only(before, after, 'removed'), ...changed, ...only(after, before, 'added')];
+}
+
+/** The part of a version number that some changes raise. */
+function adviceFor(changes) {
+  if (changes.some(({ change }) => change !== 'added')) return 'major';
+  return changes.length ? 'minor' : 'patch';
+}
+
+module.exports = { adviceFor, nameChanges, unified };

@@ -54,9 +54,20 @@ function firstWrong(bytes, text) {
   return Math.min(again.subarray(0, at).toString().replace(/\ufffd$/, '').length, text.length);
 }
 
+/** The bytes of a regular file. What is none, as a pipe, is an error: it is not waited for. */
+function bytesOf(file) {
+  const opened = fs.openSync(file, fs.constants.O_RDONLY | fs.constants.O_NONBLOCK);
+  try {
+    if (!fs.fstatSync(opened).isFile()) throw Object.assign(new Error(`${file} is no regular file`), { code: 'EINVAL' });
+    return fs.readFileSync(opened);
+  } finally {
+    fs.closeSync(opened);
+  }
+}
+
 /** The text of a file without its mark of byte order, and where it is no text (`wrong`, else -1). Beside UTF-8 the compiler reads UTF-16 with its mark. */
 function readText(file) {
-  const bytes = fs.readFileSync(file);
+  const bytes = bytesOf(file);
   const isBig = bytes[0] === 0xfe && bytes[1] === 0xff;
   if (isBig || (bytes[0] === 0xff && bytes[1] === 0xfe)) {
     const even = bytes.subarray(2, bytes.length - (bytes.length % 2));
@@ -68,9 +79,17 @@ function readText(file) {
   return { text: text.slice(mark), wrong: wrong < 0 ? wrong : wrong - mark };
 }
 
-/** Looks files up, each once. */
+/** Whether a path lies below a folder. */
+function isInside(root, file) {
+  const inside = path.relative(root, file);
+  return inside !== '' && inside !== '..' && !inside.startsWith(`..${path.sep}`) && !path.isAbsolute(inside);
+}
+
+/** Looks files of a folder up, each once, and says which are not read. */
 class Files {
-  constructor() {
+  constructor(root) {
+    this.root = root;
+    this.realRoot = fs.realpathSync(root);
     this.kinds = new Map();
   }
 
@@ -78,14 +97,22 @@ class Files {
     let kind = this.kinds.get(file);
     if (kind === undefined) {
       const found = statOf(file);
-      kind = !found ? 'none' : found.isDirectory() ? 'folder' : 'file';
+      kind = !found ? 'none' : found.isDirectory() ? 'folder' : found.isFile() ? 'file' : 'other';
       this.kinds.set(file, kind);
     }
     return kind;
   }
 
+  /** Whether a file stands there, whatever may be in it. */
   isFile(file) {
-    return this.kind(file) === 'file';
+    return this.kind(file) === 'file' || this.kind(file) === 'other';
+  }
+
+  /** Why a file that is there is not read: it is no regular file, or lies elsewhere, as behind a link that leads out of the folder. Else null. */
+  refusal(file) {
+    if (this.kind(file) === 'other') return 'this is no regular file';
+    if (isInside(this.realRoot, fs.realpathSync(file))) return null;
+    return isInside(this.root, file) ? 'this link leads out of the folder' : 'this file lies outside of the folder';
   }
 
   firstOf(stem, endings) {
@@ -123,4 +150,4 @@ function selfTypes(text) {
   return null;
 }
 
-module.exports = { Files, readText, mediaTypeOf, isDeclarationFile, isJavaScript, namedTypes, selfTypes };
+module.exports = { Files, isInside, readText, mediaTypeOf, isDeclarationFile, isJavaScript, namedTypes, selfTypes };

@@ -3,10 +3,10 @@
 //
 //   node tools/typescript/hidden.js FOLDER ..
 //
-// Each FOLDER is a package, of which the sources are taken where it has both sources and declarations. Types that it leaves to inference are written first, in a
-// copy, as the compiler finds them, so that there are skeletons. Of each kind of edit up to ten modules are edited, all at once, in a second copy: the bodies of
-// functions with a written return type, private members, and values behind a written type. The skeletons have to stay byte for byte, and `diff` has to be silent;
-// of a package that still has messages these have to stay, but for their places.
+// Each FOLDER is a package, of which the sources are taken where it has both sources and declarations. Types that it leaves to inference are written first, in
+// a copy, as the compiler finds them, so that there are skeletons. Of each kind of edit up to ten modules are edited, all at once, in a second copy: the bodies
+// of functions with a written return type, private members, and values behind a written type. The skeletons have to stay byte for byte, and `diff` has to be
+// silent; of a package that still has messages these have to stay, but for their places.
 const fs = require('fs');
 const os = require('os');
 const path = require('path');
@@ -93,7 +93,7 @@ async function judgeKind(kind, { folder, words, names, before }, copy) {
   let isSame = (await said(copy, words)).text === before.text;
   if (isSame && before.status === 0) {
     const { status, text } = await run(copy, ['diff', folder, '.', ...words]);
-    isSame = status === 0 && text === '';
+    isSame = status === 0 && text.startsWith('patch: ');
   }
   return { edited, line: `${kind} in ${edited} modules ${isSame ? 'stays' : 'DIFFERS'}`, isSame };
 }
@@ -103,7 +103,7 @@ async function judge(dir, work) {
   if (!entry) return { line: `${dir}: no entry point`, failed: 0, counts: {} };
   const { folder } = copied(dir, entry, work);
   const exports = { '.': `./${entry.replace(/^\.\//, '')}` };
-  const { written } = typed(folder, exports, work);
+  const { written } = await typed(folder, exports, work);
   const words = ['--exports', JSON.stringify(exports)];
   const before = await said(folder, words);
   const names = inputOf(folder, { exports }).info.modules.map((module) => path.relative(folder, module.path));

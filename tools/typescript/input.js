@@ -1,18 +1,67 @@
 'use strict';
 // The input of `fast-check build` for a folder (docs/FORMATS.md), and what messages need of it.
 
+const { placeAt } = require('./lines');
 const { readPackage } = require('./package');
 const { ownTables, jsonTables, tablesOf, World } = require('./symbols');
+
+// The levels of JSON that the program reads.
+const MOST_LEVELS = 127;
+// The levels around the program of a module: the request, its list, its pair, its choice, itself and its source.
+const AROUND = 7;
 
 function elapsed(since) {
   return Number(process.hrtime.bigint() - since) / 1e6;
 }
 
-/** The tables of all modules. */
+/** The place of the innermost node around the first value that is nested too deep for the program, in the tree of a module; null where none is. */
+function tooDeep(program) {
+  let span = null;
+  const walk = (at, depth, around) => {
+    if (at === null || typeof at !== 'object') return false;
+    if (depth > MOST_LEVELS) {
+      span = around;
+      return true;
+    }
+    const here = Array.isArray(at.span) && at.span[0] > 0 ? at.span : around;
+    return Object.values(at).some((each) => walk(each, depth + 1, here));
+  };
+  return walk(program, AROUND, null) ? span || [1, 1] : null;
+}
+
+/** The error of a module that is nested too deep for the program. */
+function deepError(module, span) {
+  const place = placeAt(module.text, module.tree.offsets.offsetOf(span[0]));
+  const hint = 'give a part of it a name of its own';
+  return { path: module.path, ...place, length: 1, code: 'nested-too-deep', message: 'this is nested deeper than the program reads', hint };
+}
+
+/** What is found of the packages that can be read: without the others, and without what leads to a module that cannot be read. */
+function readable(found) {
+  if (!found.errors.length) return found;
+  const broken = new Set(found.errors.map((it) => found.dirOf(it.path)));
+  const wrong = new Set(found.errors.map((it) => it.path));
+  const modules = found.modules.filter((it) => !wrong.has(it.path) && it.tree.program);
+  const there = new Set([...modules, ...found.scripts, ...found.jsonModules].map((it) => it.specifier));
+  const resolutions = found.resolutions.filter(([, , to]) => there.has(to) || !to.startsWith('file:'));
+  // An error that lies in none of the packages is one of all.
+  const packages = broken.has(null) ? [] : found.packages.filter((it) => !broken.has(it.dir));
+  return { ...found, modules, resolutions, packages };
+}
+
+/** The tables of all modules that have some. A module whose tables cannot be made, or that the program does not read, is an error. */
 function tablesOfAll(found) {
   const targets = new Map(found.resolutions.map(([from, text, to]) => [`${from}\n${text}`, to]));
   const world = new World((from, text) => targets.get(`${from}\n${text}`));
-  for (const it of found.modules) world.add(it.specifier, ownTables(it));
+  for (const it of found.modules) {
+    try {
+      world.add(it.specifier, ownTables(it));
+      const span = tooDeep(it.tree.program);
+      if (span) found.errors.push(deepError(it, span));
+    } catch (error) {
+      found.caught(it.path, error);
+    }
+  }
   for (const it of found.jsonModules) world.add(it.specifier, jsonTables(Buffer.byteLength(it.text)));
   return world;
 }
@@ -30,7 +79,7 @@ function graphOf(found) {
       ...found.modules.map(js),
       ...found.scripts.map(js),
       ...found.jsonModules.map((it) => [it.specifier, { Json: {} }]),
-      ...[...new Set(found.externals)].filter((it) => /^[a-z]+:\S+$/.test(it)).map((it) => [it, 'External']),
+      ...[...new Set(found.externals.map((it) => it.specifier))].filter((it) => /^[a-z]+:\S+$/.test(it)).map((it) => [it, 'External']),
     ],
     resolutions: found.resolutions,
     packages: [],
@@ -53,30 +102,28 @@ function requestOf(found, world) {
   };
 }
 
+/** The request of what can be read, or null where that is no package. Making the tables may find further errors. */
+function readableRequest(found) {
+  const world = tablesOfAll(readable(found));
+  const now = readable(found);
+  return now.packages.length ? requestOf(now, world) : null;
+}
+
 /**
  * The input of `fast-check build` for the packages of a folder.
  *
- * `request` is the JSON, or null where something cannot be read: then `info.errors` says what. `info` has beside it the
- * packages, the modules with their paths and texts, the entry points, and where the time went.
+ * `request` is the JSON of the packages that can be read, null where none can: `info.errors` says what keeps the others from it, and `info.faults` what is
+ * wrong with those that are read. `info` has beside them the packages, the modules with their paths and texts, the entry points, and where the time went.
  */
 function inputOf(dir, options = {}) {
   const found = readPackage(dir, options);
-  const info = {
-    packages: found.packages,
-    entryPoints: found.packages.flatMap((it) => it.entryPoints),
-    modules: found.modules,
-    scripts: found.scripts,
-    jsonModules: found.jsonModules,
-    externals: found.externals,
-    missing: found.missing,
-    errors: found.errors,
-    times: found.times,
-  };
-  if (found.errors.length) return { request: null, info };
   const began = process.hrtime.bigint();
-  const request = requestOf(found, tablesOfAll(found));
-  info.times.tables = elapsed(began);
-  return { request, info };
+  const request = readableRequest(found);
+  const { packages } = readable(found);
+  const { modules, scripts, jsonModules, externals, missing, errors, faults, taken, times } = found;
+  times.tables = elapsed(began);
+  const entryPoints = packages.flatMap((it) => it.entryPoints);
+  return { request, info: { packages, entryPoints, modules, scripts, jsonModules, externals, missing, errors, faults, taken, times } };
 }
 
 module.exports = { inputOf };

@@ -13,14 +13,15 @@ const fs = require('fs');
 const os = require('os');
 const path = require('path');
 const { ts } = require('./typescript');
+const { fix } = require('./fix');
 const { inputOf } = require('./input');
 const { print } = require('./print');
+const { Progress } = require('./progress');
+const { packagesBelow } = require('./sweep');
 const { parse } = require('./tree');
-const { programOf, emitted, surfaceOf, takeLooseTypes } = require('./judge_surface');
-const { withTypes } = require('./judge_types');
+const { programOf, resolverOf, declarationName, emitted, surfaceOf, compared, errorsIn, takeLooseTypes } = require('./judge_surface');
 
 const TOP = path.resolve(__dirname, '../..');
-const ROUNDS = 8;
 
 function command(file) {
   return process.env.FAST_CHECK ? [process.env.FAST_CHECK, 'build', file] : [path.join(TOP, 'fast-check'), 'build', file];
@@ -74,35 +75,30 @@ function ask(dir, exports, work) {
   const { request, info } = inputOf(dir, { exports });
   if (!request) throw new Error(`${info.errors[0].path}: ${info.errors[0].message}`);
   const answers = build(request, work);
-  return { info, answers, messages: messagesOf(answers) };
+  const world = { request, info, files: new Map(info.modules.map((it) => [it.specifier, it])) };
+  return { info, answers, messages: messagesOf(answers), programOf: (texts) => programOf(texts, resolverOf(world, texts)) };
 }
 
 function textsOf(info) {
   return new Map([...info.modules, ...info.jsonModules].map((it) => [it.path, it.text]));
 }
 
-/** Writes missing types until there is no message, or none that a type answers. */
-function typed(dir, exports, work) {
-  let asked = ask(dir, exports, work);
-  let written = 0;
-  for (let round = 0; round < ROUNDS && asked.messages.length; round++) {
-    const texts = textsOf(asked.info);
-    const made = withTypes(programOf(texts), texts, asked.info.modules, asked.messages);
-    if (made.count === 0) break;
-    written += made.count;
-    writeTexts(made.texts);
-    asked = ask(dir, exports, work);
-  }
-  return { ...asked, written };
+/** Writes missing types into the files of a folder, as `fix` does. */
+async function typed(dir, exports, work) {
+  const context = { cwd: dir, environment: process.env, progress: new Progress({ write() {} }, false) };
+  const { texts, count } = await fix(dir, { exports }, context);
+  writeTexts(texts);
+  return { ...ask(dir, exports, work), written: count };
 }
 
 /** The package of the declarations that the compiler emits. */
-function declared(info, exports, root, work) {
-  const texts = textsOf(info);
+function declared(asked, exports, root, work) {
+  const texts = textsOf(asked.info);
   const folder = path.join(work, 'declarations');
-  const made = [...emitted(programOf(texts), texts)].map(([file, text]) => [path.join(folder, path.relative(root, file)), text]);
+  writeTexts(configsOf(root, folder));
+  const made = [...emitted(asked.programOf(texts), texts)].map(([file, text]) => [path.join(folder, path.relative(root, file)), text]);
   writeTexts(made);
-  const entries = Object.entries(exports).map(([key, it]) => [key, it.replace(/(\.d)?\.([cm]?)tsx?$/, '.d.$2ts')]);
+  const entries = Object.entries(exports).map(([key, it]) => [key, declarationName(it)]);
   return ask(folder, Object.fromEntries(entries), work);
 }
 
@@ -119,14 +115,7 @@ function skeletonTexts(asked) {
 
 /** What the compiler finds wrong in the files of a program: `code message` by file. */
 function errorsOf(program, files) {
-  const found = new Map();
-  for (const name of files) {
-    const file = program.getSourceFile(name);
-    if (!file) continue;
-    const all = [...program.getSyntacticDiagnostics(file), ...program.getSemanticDiagnostics(file)];
-    found.set(name, all.map((it) => `${it.code} ${ts.flattenDiagnosticMessageText(it.messageText, ' ')}`));
-  }
-  return found;
+  return new Map(files.map((name) => [name, errorsIn(program, name).map((it) => `${it.code} ${it.text}`)]));
 }
 
 /** The compiler's errors in skeletons that the source does not have. */
@@ -138,57 +127,23 @@ function newErrors(source, skeleton, names) {
   return found;
 }
 
-const PATTERN = /([(,] ?|\.\.\.)(\{[^{}]*\}|\[[^[\]]*\])(?=\??: )/g;
-
-// Differences that a rule of docs/RULES.md makes, each with how a text looks without it.
-const RULES = [
-  ['a default class of a declaration file loses the types of private members and the contents of patterns', (text) => (
-    /default (abstract )?class/.test(text)
-      ? text.replace(/(private [^;:(]*): any(?=[; ])/g, '$1').replace(/#private!: unknown/, '#private').replace(/\{[^{}]*\}(?=\??:)/g, '{}')
-      : text)],
-  ['a pattern loses its contents', (text) => text.replace(PATTERN, (all, before, it) => before + (it[0] === '{' ? '{}' : '[]'))],
-];
-
-/** The rule by which two texts differ, or null. */
-function ruleOf(source, skeleton) {
-  let [before, after] = [source, skeleton];
-  for (const [rule, without] of RULES) {
-    [before, after] = [without(before), without(after)];
-    if (before === after) return rule;
-  }
-  return null;
-}
-
-function differenceOf(name, texts, others) {
-  if (!others) return { kind: 'lost', name, source: [...texts][0] };
-  const missing = [...texts].filter((it) => !others.has(it)).sort();
-  const added = [...others].filter((it) => !texts.has(it)).sort();
-  if (missing.length === 0 && added.length === 0) return null;
-  const [source, skeleton] = [missing.join(' // '), added.join(' // ')];
-  const rule = ruleOf(source, skeleton);
-  return rule ? { kind: 'by a rule', name, rule } : { kind: 'differs', name, source, skeleton };
-}
-
 /** The differences of two surfaces. */
-function differences(source, skeleton) {
-  const found = [];
-  for (const [key, texts] of source.shown) {
-    const it = differenceOf(key.replace(/^.*\//, ''), texts, skeleton.shown.get(key));
-    if (it) found.push(it);
-  }
-  for (const key of skeleton.shown.keys()) {
-    if (!source.shown.has(key)) found.push({ kind: 'added', name: key.replace(/^.*\//, ''), skeleton: [...skeleton.shown.get(key)][0] });
-  }
-  return found;
+function differences(before, after) {
+  return compared(before, after).map(({ key, missing, added, isLost, isNew }) => {
+    const name = key.replace(/^.*\//, '');
+    if (isLost) return { kind: 'lost', name, source: missing[0] };
+    if (isNew) return { kind: 'added', name, skeleton: added[0] };
+    return { kind: 'differs', name, source: missing.join(' // '), skeleton: added.join(' // ') };
+  });
 }
 
 /** Judges one package whose files lie in a folder of their own. */
-function judge(dir, exports, work) {
-  const began = typed(dir, exports, work);
+async function judge(dir, exports, work) {
+  const began = await typed(dir, exports, work);
   let asked = began;
   let way = began.written ? `types written: ${began.written}` : 'as it is';
   if (asked.messages.length) {
-    asked = declared(began.info, exports, dir, work);
+    asked = declared(began, exports, dir, work);
     way = 'declarations';
   }
   const codes = [...new Set(began.messages.map((it) => it.code))];
@@ -197,13 +152,12 @@ function judge(dir, exports, work) {
   }
   const sourceTexts = textsOf(asked.info);
   const skeletons = skeletonTexts(asked);
-  const [source, skeleton] = [programOf(sourceTexts), programOf(skeletons)];
+  const [source, skeleton] = [asked.programOf(sourceTexts), asked.programOf(skeletons)];
   const entries = asked.info.packages.flatMap((it) => it.exports.map(([, file]) => path.resolve(it.dir, file)));
   const shown = (program, texts) => {
     const isDeclared = [...texts.keys()].every((it) => /\.d\.[cm]?ts$/.test(it));
     const made = isDeclared ? texts : emitted(program, texts);
-    const names = entries.map((it) => it.replace(/(\.d)?\.([cm]?)tsx?$/, '.d.$2ts'));
-    return surfaceOf(isDeclared ? program : programOf(made), made, names);
+    return surfaceOf(isDeclared ? program : asked.programOf(made), made, entries.map(declarationName));
   };
   const [before, after] = [shown(source, sourceTexts), shown(skeleton, skeletons)];
   return {
@@ -220,16 +174,6 @@ function judge(dir, exports, work) {
 }
 
 // ---- which packages
-
-function foldersWithConfig(root, found = []) {
-  for (const it of fs.readdirSync(root, { withFileTypes: true })) {
-    if (!it.isDirectory() || it.name === 'node_modules') continue;
-    const dir = path.join(root, it.name);
-    if (fs.existsSync(path.join(dir, 'package.json'))) found.push(dir);
-    foldersWithConfig(dir, found);
-  }
-  return found;
-}
 
 const SOURCES = ['src/index.ts', 'dist/deno/index.ts', 'index.ts', 'mod.ts', 'lib/index.ts', 'main.ts', 'src/main.ts'];
 
@@ -249,11 +193,18 @@ function withoutGlobals(file, text) {
   return { text: made, count: found.length };
 }
 
+/** The configurations of a folder that say what its imports stand for, at their paths in another one. */
+function configsOf(dir, folder) {
+  const names = fs.readdirSync(dir).filter((it) => /^(package|deno|jsr|tsconfig.*)\.jsonc?$/.test(it));
+  return names.map((it) => [path.join(folder, it), fs.readFileSync(path.join(dir, it), 'utf8')]);
+}
+
 /** A copy of the modules of a package, in a folder of its own, without augmentations of the global scope. */
 function copied(dir, entry, work) {
   const { info } = inputOf(dir, { exports: { '.': `./${entry.replace(/^\.\//, '')}` } });
   if (info.errors.length) throw new Error(`${info.errors[0].path}: ${info.errors[0].message}`);
   const folder = path.join(work, 'package');
+  writeTexts(configsOf(dir, folder));
   let globals = 0;
   for (const [file, text] of textsOf(info)) {
     const kept = withoutGlobals(file, text);
@@ -263,10 +214,10 @@ function copied(dir, entry, work) {
   return { folder, count: info.modules.length, globals };
 }
 
-function withWork(call) {
+async function withWork(call) {
   const work = fs.mkdtempSync(path.join(os.tmpdir(), 'judge-'));
   try {
-    return call(work);
+    return await call(work);
   } finally {
     fs.rmSync(work, { recursive: true, force: true });
   }
@@ -276,16 +227,17 @@ function tell(name, result) {
   console.log(JSON.stringify({ name, ...result }));
 }
 
-function judgePackages(root) {
-  for (const dir of foldersWithConfig(root)) {
+async function judgePackages(root) {
+  for (const dir of packagesBelow(path.resolve(root))) {
     const entry = entryOf(dir);
     if (!entry) continue;
-    withWork((work) => {
+    await withWork(async (work) => {
       try {
         const { folder, count, globals } = copied(dir, entry, work);
-        if (count >= 2) tell(path.relative(root, dir), { entry, globals, ...judge(folder, { '.': `./${entry.replace(/^\.\//, '')}` }, work) });
+        const exports = { '.': `./${entry.replace(/^\.\//, '')}` };
+        if (count >= 2) tell(path.relative(path.resolve(root), dir), { entry, globals, ...await judge(folder, exports, work) });
       } catch (error) {
-        tell(path.relative(root, dir), { entry, failed: error.message });
+        tell(path.relative(path.resolve(root), dir), { entry, failed: error.message });
       }
     });
   }
@@ -300,15 +252,15 @@ function modulesBelow(root, found = []) {
   return found.sort();
 }
 
-function judgeModules(root) {
+async function judgeModules(root) {
   takeLooseTypes();
   for (const file of modulesBelow(root)) {
-    withWork((work) => {
+    await withWork(async (work) => {
       try {
         const folder = path.join(work, 'package');
         const name = path.basename(file);
         writeTexts([[path.join(folder, name), fs.readFileSync(file, 'utf8').replace(/^\ufeff/, '')]]);
-        tell(path.relative(root, file), judge(folder, { '.': `./${name}` }, work));
+        tell(path.relative(root, file), await judge(folder, { '.': `./${name}` }, work));
       } catch (error) {
         tell(path.relative(root, file), { failed: error.message });
       }

@@ -4,6 +4,7 @@
 
 const path = require('path');
 const { ts } = require('./typescript');
+const { resolver } = require('./ways');
 
 const { SyntaxKind: K } = ts;
 
@@ -11,7 +12,7 @@ const OPTIONS = {
   declaration: true,
   emitDeclarationOnly: true,
   noEmitOnError: false,
-  skipLibCheck: false,
+  skipDefaultLibCheck: true,
   strict: true,
   strictPropertyInitialization: false,
   noImplicitAny: false,
@@ -21,11 +22,13 @@ const OPTIONS = {
   jsx: ts.JsxEmit.Preserve,
   resolveJsonModule: true,
   experimentalDecorators: true,
+  allowImportingTsExtensions: true,
   esModuleInterop: true,
   lib: ['lib.esnext.d.ts', 'lib.dom.d.ts', 'lib.dom.iterable.d.ts'],
   types: [],
 };
 
+const LIBRARIES = path.dirname(ts.getDefaultLibFilePath(OPTIONS));
 const libraries = new Map();
 const ENDINGS = ['', '.ts', '.tsx', '.d.ts', '.mts', '.d.mts', '.cts', '.json', '/index.ts', '/index.tsx', '/index.d.ts'];
 
@@ -54,6 +57,8 @@ function hostOf(texts, resolve) {
     directoryExists: () => true,
     getSourceFile(name, target) {
       if (texts.has(name)) return ts.createSourceFile(name, texts.get(name), target, true);
+      // What a comment refers to is not read.
+      if (path.dirname(name) !== LIBRARIES) return undefined;
       if (!libraries.has(name)) libraries.set(name, base.getSourceFile(name, target));
       return libraries.get(name);
     },
@@ -66,7 +71,7 @@ function hostOf(texts, resolve) {
 }
 
 /** A compiler's program over texts by their paths. */
-function programOf(texts, resolve = (from, text) => resolveIn(texts, from, text)) {
+function programOf(texts, resolve) {
   const roots = [...texts.keys()].filter((it) => !it.endsWith('.json'));
   return ts.createProgram(roots, OPTIONS, hostOf(texts, resolve));
 }
@@ -88,10 +93,81 @@ function emitted(program, texts) {
 
 // ---- declarations in one form
 
+const isPrivate = (node) => node.name.kind === K.PrivateIdentifier || (node.modifiers || []).some((it) => it.kind === K.PrivateKeyword);
+
+const PRINTER = ts.createPrinter({ removeComments: true, omitTrailingSemicolon: true });
+
+/** The members of a union, each once, in the order of their texts. */
+function unionOf(types, file) {
+  const members = types.flatMap((it) => (it.kind === K.UnionType ? [...it.types] : [it]));
+  const byText = new Map(members.map((it) => [PRINTER.printNode(ts.EmitHint.Unspecified, it, file), it]));
+  const sorted = [...byText].sort(([a], [b]) => (a < b ? -1 : 1)).map(([, it]) => it);
+  return sorted.length === 1 ? sorted[0] : ts.factory.createUnionTypeNode(sorted);
+}
+
+/** `T[]` for `Array<T>`, and so on. */
+function arrayOf(node) {
+  const [element, ...more] = node.typeArguments || [];
+  if (!element || more.length || node.typeName.kind !== K.Identifier) return node;
+  const array = ts.factory.createArrayTypeNode(element);
+  if (node.typeName.text === 'Array') return array;
+  return node.typeName.text === 'ReadonlyArray' ? ts.factory.createTypeOperatorNode(K.ReadonlyKeyword, array) : node;
+}
+
+/** A statement; of one with several variables a statement for each. */
+function eachVariable(node) {
+  if (node.kind !== K.VariableStatement || node.declarationList.declarations.length < 2) return [node];
+  const list = (it) => ts.factory.createVariableDeclarationList([it], node.declarationList.flags);
+  return node.declarationList.declarations.map((it) => ts.factory.createVariableStatement(node.modifiers, list(it)));
+}
+
+/**
+ * A node in one form, without what says nothing in a declaration: names in patterns and types of private members, which no skeleton has, parentheses, which the
+ * printer writes again where they are needed, and the order of a union.
+ */
+function plainly(node) {
+  const file = node.getSourceFile();
+  const visit = (context) => (at) => {
+    if (at.kind === K.ObjectBindingPattern) return ts.factory.createObjectBindingPattern([]);
+    if (at.kind === K.ArrayBindingPattern) return ts.factory.createArrayBindingPattern([]);
+    if (MEMBERS.has(at.kind) && isPrivate(at)) return withoutType(at);
+    if (at.kind === K.ParenthesizedType) return visit(context)(at.type);
+    // Literals by their values, however they are written.
+    if (at.kind === K.StringLiteral) return ts.factory.createStringLiteral(at.text);
+    if (at.kind === K.NumericLiteral) return ts.factory.createNumericLiteral(at.text);
+    if (at.kind === K.ModuleBlock) return ts.factory.createModuleBlock(at.statements.flatMap(eachVariable).map(visit(context)));
+    const made = ts.visitEachChild(at, visit(context), context);
+    if (made.kind === K.UnionType) return unionOf(made.types, file);
+    if (ts.isClassDeclaration(made)) return withoutTwice(made, file);
+    return made.kind === K.TypeReference ? arrayOf(made) : made;
+  };
+  return ts.transform(node, [visit]).transformed[0];
+}
+
+const MEMBERS = new Set([K.PropertyDeclaration, K.MethodDeclaration, K.GetAccessor, K.SetAccessor]);
+
+/** A private member as a property with its accessibility and its name alone. */
+function withoutType({ name, modifiers }) {
+  const kept = (modifiers || []).filter((it) => it.kind === K.PrivateKeyword || it.kind === K.StaticKeyword);
+  return ts.factory.createPropertyDeclaration(kept, name);
+}
+
+/** A class in which no private member stands twice, as a getter and its setter. */
+function withoutTwice(node, file) {
+  const seen = new Set();
+  const members = node.members.filter((it) => {
+    const text = PRINTER.printNode(ts.EmitHint.Unspecified, it, file);
+    const isSeen = it.kind === K.PropertyDeclaration && isPrivate(it) && seen.has(text);
+    seen.add(text);
+    return !isSeen;
+  });
+  const { modifiers, name, typeParameters, heritageClauses } = node;
+  return ts.factory.updateClassDeclaration(node, modifiers, name, typeParameters, heritageClauses, members);
+}
+
 /** The text of a node without comments and line breaks. */
 function textOf(node) {
-  const printer = ts.createPrinter({ removeComments: true, omitTrailingSemicolon: true });
-  return printer.printNode(ts.EmitHint.Unspecified, node, node.getSourceFile()).replace(/\s+/g, ' ');
+  return PRINTER.printNode(ts.EmitHint.Unspecified, plainly(node), node.getSourceFile()).replace(/\s+/g, ' ');
 }
 
 /** Types as written, but for quotes, endings of relative sources, `x = 1` for `x: 1`, and `undefined` of what may be left out. */
@@ -100,6 +176,7 @@ function normalise(text) {
     .replace(/'((?:[^'\\"]|\\.)*)'/g, '"$1"')
     .replace(/\b((?:readonly|const) [\w$]+) = ("(?:[^"\\]|\\.)*"|-?[\d.]\w*|true|false)/g, '$1: $2')
     .replace(/"(\.{1,2}\/[^"]*?)(\.d)?\.[cm]?[jt]sx?"/g, '"$1"')
+    .replace(/"(\.{1,2}\/[^"]*)\/index"/g, '"$1"')
     .replace(/\b(export|declare) /g, '')
     .replace(/(\?: )([^,;(){}=>]+?) \| undefined(?=[,;)])/g, '$1$2')
     .replace(/(\?: )\(((?:[^()]|\([^()]*\))*)\) \| undefined(?=[,;)])/g, '$1$2')
@@ -241,4 +318,40 @@ function surfaceOf(program, texts, entries) {
   return surface;
 }
 
-module.exports = { programOf, emitted, surfaceOf, normalise, takeLooseTypes };
+/** Where the texts of imports lead among some texts: as the graph resolves them, to a module or to its declarations. */
+function resolverOf(world, texts) {
+  const resolve = resolver(world);
+  const known = [...world.files.values(), ...(world.info.jsonModules || [])];
+  const paths = new Map(known.map((it) => [it.specifier, it.path]));
+  const specifiers = new Map(known.flatMap((it) => [[declarationName(it.path), it.specifier], [it.path, it.specifier]]));
+  return (from, text) => {
+    const to = paths.get(resolve(specifiers.get(from), text));
+    const names = to ? [to, declarationName(to)] : [];
+    return names.find((it) => texts.has(it)) || resolveIn(texts, from, text);
+  };
+}
+
+/** The name of the declarations of a module. */
+function declarationName(name) {
+  return name.replace(/(\.d)?\.([cm]?)tsx?$/, '.d.$2ts');
+}
+
+/** Where two surfaces differ: the key of each declaration with the texts that the one has and the other has not. */
+function compared(source, skeleton) {
+  const nothing = new Set();
+  const keys = [...new Set([...source.shown.keys(), ...skeleton.shown.keys()])];
+  return keys.map((key) => {
+    const [texts, others] = [source.shown.get(key) || nothing, skeleton.shown.get(key) || nothing];
+    const [missing, added] = [[...texts].filter((it) => !others.has(it)).sort(), [...others].filter((it) => !texts.has(it)).sort()];
+    return { key, missing, added, isLost: !others.size, isNew: !texts.size };
+  }).filter(({ missing, added }) => missing.length || added.length);
+}
+
+/** What the compiler finds wrong in a file of a program: `{code, start, end, text}`. */
+function errorsIn(program, name) {
+  const file = program.getSourceFile(name);
+  const found = file ? [...program.getSyntacticDiagnostics(file), ...program.getSemanticDiagnostics(file)] : [];
+  return found.map((it) => ({ code: it.code, start: it.start, end: it.start + it.length, text: ts.flattenDiagnosticMessageText(it.messageText, ' ') }));
+}
+
+module.exports = { programOf, resolverOf, declarationName, emitted, surfaceOf, compared, errorsIn, normalise, takeLooseTypes };

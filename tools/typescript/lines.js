@@ -5,6 +5,12 @@ const { Offsets } = require('./offsets.js');
 // What ends a line: also a carriage return by itself, as the compiler and editors take it.
 const LINE_END = /\r\n|\n|\r/g;
 
+/** The line and the column of an offset of a text, both from 1, in UTF-16 units. */
+function placeAt(text, offset) {
+  const before = text.slice(0, offset).split(LINE_END);
+  return { line: before.length, column: before[before.length - 1].length + 1 };
+}
+
 /** A text with its lines. */
 class Lines {
   constructor(text) {
@@ -68,4 +74,4 @@ function blank(text) {
   return [...text].map((each) => (each === '\t' ? '\t' : ' '.repeat(width(each)))).join('');
 }
 
-module.exports = { LINE_END, Lines, blank, visible, width };
+module.exports = { Lines, blank, placeAt, visible, width };

@@ -19,7 +19,7 @@ class Marks {
     this.kept = places(skeleton.body);
     this.marks = new Uint8Array(length + 2);
     const root = Object.values(program)[0];
-    for (const item of root.body) this.paint(item);
+    for (const item of root.body || []) this.paint(item);
   }
 
   paint(node) {

@@ -2,12 +2,18 @@
 // Reads a package: its entry points, and all modules that they lead to inside of the folder.
 
 const fs = require('fs');
+const { builtinModules } = require('module');
 const path = require('path');
-const { Files, readText, mediaTypeOf, isDeclarationFile, isJavaScript, namedTypes, selfTypes } = require('./files');
+const { Aliases, bestKey } = require('./aliases');
+const { Files, isInside, readText, mediaTypeOf, isDeclarationFile, isJavaScript, namedTypes, selfTypes } = require('./files');
 const { packagesOf } = require('./config');
+const { internalText, isKnown, isTooDeep } = require('./faults');
 const { toTree, parse } = require('./tree');
 const { writeExports } = require('./ambient');
-const { LINE_END } = require('./lines');
+const { placeAt } = require('./lines');
+
+const RELATIVE = /^\.{1,2}(\/|$)/;
+const SCHEME = /^[a-z][a-z0-9+.-]*:/i;
 
 /** The URL of a file: its path below the folder that was named. */
 function urlOf(root, file) {
@@ -19,23 +25,30 @@ function urlPath(folder, file) {
   return path.relative(folder, file).split(path.sep).map(encodeURIComponent).join('/').replace(/%40/g, '@');
 }
 
-function isInside(root, file) {
-  const inside = path.relative(root, file);
-  return inside !== '' && !inside.startsWith('..') && !path.isAbsolute(inside);
+/** The name of the package that a source text begins with, as `@scope/name` or `npm:name`; of `@/x` and `#x/y` the part before the stroke. */
+function packageName(text) {
+  const [, scheme, rest] = /^((?:npm|jsr):\/?|)(.*)$/s.exec(text);
+  if (!scheme && SCHEME.test(text)) return text;
+  const [first, second] = rest.split('/');
+  const name = first.length > 1 && first.startsWith('@') && second ? `${first}/${second}` : first;
+  return scheme.replace('/', '') + (scheme ? name.replace(/(.)@.*/s, '$1') : name);
 }
 
 class Reader {
   constructor(dir, options) {
     this.root = path.resolve(dir);
-    this.realRoot = fs.realpathSync(this.root);
     this.options = options;
-    this.files = new Files();
+    this.files = new Files(this.root);
+    this.aliases = new Aliases(this.root, this.files);
     this.errors = [];
-    this.packages = packagesOf(this.root, options, this.files, this.errors);
+    this.faults = [];
+    this.taken = [];
+    this.packages = packagesOf(this.root, options, this);
     this.modules = new Map();
     this.scripts = new Map();
     this.jsonModules = new Map();
-    this.externals = new Map();
+    this.refused = new Set();
+    this.externals = [];
     this.resolutions = [];
     this.missing = [];
     this.times = { parse: 0, tree: 0 };
@@ -48,8 +61,8 @@ class Reader {
 
   /** The file behind links, as the compiler finds it, if it lies in the folder; else the file as it is named. */
   behindLinks(file) {
-    const real = fs.realpathSync(file);
-    return isInside(this.realRoot, real) ? path.join(this.root, path.relative(this.realRoot, real)) : file;
+    if (this.files.refusal(file)) return file;
+    return path.join(this.root, path.relative(this.files.realRoot, fs.realpathSync(file)));
   }
 
   /** The declaration file of JavaScript, or the file itself. */
@@ -57,27 +70,28 @@ class Reader {
     if (!isJavaScript(mediaTypeOf(file))) return file;
     const beside = this.files.find(file.replace(/\.jsx$/, '.js'));
     if (beside && isDeclarationFile(mediaTypeOf(beside))) return beside;
-    const named = selfTypes(readText(file).text);
+    const named = this.files.refusal(file) ? null : selfTypes(readText(file).text);
     const found = named && named.startsWith('.') ? this.files.find(path.resolve(path.dirname(file), named)) : null;
     return found || file;
   }
 
-  /** The entry points of a package as URLs. */
+  /** The entry points of a package: the key and the file of each. */
   entriesOf(it) {
     return it.exports.map(([key, file]) => {
-      if (!this.files.isFile(file)) return [key, file];
       const behind = this.behindLinks(file);
       return [key, this.typed(isInside(it.dir, behind) ? behind : file)];
     });
   }
 
-  /** A bare text that stands for a file of the folder: by the map of imports, or by a package's name. */
+  /** The paths that a text which is no relative path may stand for: by the map of imports, by an alias of tsconfig.json, or by a package's name. */
   mapped(from, text) {
     const { imports } = this.packageAt(from) || { imports: {} };
-    const keys = Object.keys(imports).sort((a, b) => b.length - a.length);
-    const key = keys.find((it) => it === text || (it.endsWith('/') && text.startsWith(it)));
-    if (key !== undefined) return path.join(imports[key], text.slice(key.length));
-    return this.ofPackage(text.replace(/^(jsr|npm):\/?/, ''));
+    const best = bestKey(imports, text);
+    if (best) return imports[best.key] === null ? [] : [imports[best.key].replace('*', () => best.rest)];
+    const folder = Object.keys(imports).filter((it) => it.endsWith('/') && text.startsWith(it)).sort((a, b) => b.length - a.length)[0];
+    if (folder !== undefined) return imports[folder] === null ? [] : [path.join(imports[folder], text.slice(folder.length))];
+    const own = this.ofPackage(text.replace(/^(jsr|npm):\/?/, ''));
+    return [...this.aliases.paths(from, text), ...(own ? [own] : [])];
   }
 
   ofPackage(text) {
@@ -97,32 +111,56 @@ class Reader {
       const found = this.files.find(path.resolve(path.dirname(from), named));
       if (found) return found;
     }
-    const isRelative = /^\.{1,2}(\/|$)/.test(text);
-    const wanted = isRelative ? path.resolve(path.dirname(from), text) : this.mapped(from, text);
-    if (!wanted) return null;
-    const found = this.files.find(wanted);
-    return found && isInside(this.root, found) ? this.typed(this.behindLinks(found)) : null;
+    const wanted = RELATIVE.test(text) ? [path.resolve(path.dirname(from), text)] : this.mapped(from, text);
+    for (const each of wanted) {
+      const found = this.files.find(each);
+      if (found && isInside(this.root, found)) return this.typed(this.behindLinks(found));
+    }
+    return null;
+  }
+
+  /** Whether a package, an import map or the system explains a text that leads out of the folder. */
+  isExplained(from, text) {
+    if (SCHEME.test(text) || builtinModules.includes(text)) return true;
+    const { imports, dependencies } = this.packageAt(from) || { imports: {}, dependencies: new Set() };
+    const name = packageName(text);
+    const isMapped = [text, name].some((it) => imports[it] === null) || Object.keys(imports).some((it) => imports[it] === null && bestKey({ [it]: 1 }, text));
+    return isMapped || dependencies.has(name) || this.isInstalled(path.dirname(from), name);
+  }
+
+  /** Whether a package lies in a `node_modules` of the folder, above a file. */
+  isInstalled(folder, name) {
+    if (name === '' || name.startsWith('#')) return false;
+    if (this.files.kind(path.join(folder, 'node_modules', name)) === 'folder') return true;
+    return folder !== this.root && isInside(this.root, folder) && this.isInstalled(path.dirname(folder), name);
   }
 
   follow(module, source) {
-    const file = this.resolve(module.path, source.text, source.comment);
+    const { text, offset } = source;
+    const file = this.resolve(module.path, text, source.comment);
     if (file) {
-      this.resolutions.push([module.specifier, source.text, urlOf(this.root, file)]);
+      this.resolutions.push([module.specifier, text, urlOf(this.root, file)]);
       this.waiting.push(file);
-    } else if (/^\.{1,2}(\/|$)/.test(source.text)) {
-      const outside = this.files.find(path.resolve(path.dirname(module.path), source.text));
-      this.missing.push({ path: module.path, offset: source.offset, text: source.text, isOutside: outside !== null });
+    } else if (RELATIVE.test(text)) {
+      const outside = this.files.find(path.resolve(path.dirname(module.path), text));
+      this.missing.push({ path: module.path, offset, text, isOutside: outside !== null });
     } else {
-      const specifier = /^[a-z]+:/.test(source.text) ? source.text : `npm:${source.text}`;
-      this.externals.set(source.text, specifier);
-      this.resolutions.push([module.specifier, source.text, specifier]);
+      const specifier = SCHEME.test(text) ? text : `npm:${text}`;
+      this.externals.push({ path: module.path, offset, text, specifier, name: packageName(text), isExplained: this.isExplained(module.path, text) });
+      this.resolutions.push([module.specifier, text, specifier]);
     }
   }
 
-  /** An error at a place of a text. */
-  errorAt(file, text, { offset, message }) {
-    const before = text.slice(0, offset).split(LINE_END);
-    this.errors.push({ path: file, line: before.length, column: before[before.length - 1].length + 1, message });
+  /** An error that keeps a file from being read, at a place of its text. */
+  errorAt(file, text, { offset, message, code }) {
+    this.errors.push({ path: file, ...placeAt(text, offset), message, code });
+  }
+
+  /** What an exception at a file says: of a system call, of a stack that did not suffice, or of a fault of this tool. */
+  caught(file, error) {
+    if (isKnown(error)) this.errors.push({ path: file, code: 'refused-file', message: error.message });
+    else if (isTooDeep(error)) this.errors.push({ path: file, code: 'nested-too-deep', message: 'this is nested deeper than can be read' });
+    else this.errors.push({ path: file, code: 'internal-error', message: internalText(error, path.relative(this.root, file)) });
   }
 
   readModule(file, mediaType, text) {
@@ -142,11 +180,23 @@ class Reader {
     if (this.options.onModule) this.options.onModule(path.relative(this.root, file), this.modules.size);
   }
 
+  /** The text of a file, or the one that is given in its place. */
+  textOf(file) {
+    const given = this.options.texts && this.options.texts.get(file);
+    return given === undefined ? readText(file) : { text: given, wrong: -1 };
+  }
+
   readFile(file) {
     const specifier = urlOf(this.root, file);
-    if (this.modules.has(specifier) || this.scripts.has(specifier) || this.jsonModules.has(specifier)) return;
+    if (this.modules.has(specifier) || this.scripts.has(specifier) || this.jsonModules.has(specifier) || this.refused.has(file)) return;
+    const refusal = this.files.refusal(file);
+    if (refusal) {
+      this.refused.add(file);
+      this.errors.push({ path: file, code: 'refused-file', message: refusal });
+      return;
+    }
     const mediaType = mediaTypeOf(file);
-    const { text, wrong } = readText(file);
+    const { text, wrong } = this.textOf(file);
     if (wrong >= 0 && mediaType !== 'Unknown') this.errorAt(file, text, { offset: wrong, message: 'the file is no UTF-8 from here on' });
     if (mediaType === 'Json') this.jsonModules.set(specifier, { specifier, path: file, text });
     else if (isJavaScript(mediaType)) this.scripts.set(specifier, { specifier, path: file, mediaType, text });
@@ -155,8 +205,16 @@ class Reader {
 
   read() {
     const entries = this.packages.flatMap((it) => this.entriesOf(it).map(([, file]) => file));
-    this.waiting = entries.filter((it) => this.files.isFile(it)).reverse();
-    while (this.waiting.length) this.readFile(this.waiting.pop());
+    this.waiting = entries.reverse();
+    while (this.waiting.length) {
+      const file = this.waiting.pop();
+      try {
+        this.readFile(file);
+      } catch (error) {
+        this.refused.add(file);
+        this.caught(file, error);
+      }
+    }
   }
 }
 
@@ -164,7 +222,9 @@ class Reader {
  * Reads the packages of a folder with all modules that their entry points lead to.
  *
  * Options: `name`, `version`, `exports` (a text or a map), `short` (cut away what no rule looks at; it is the default),
- * `keepSourceFiles`, and `onModule(name, count)`.
+ * `keepSourceFiles`, `texts` (texts by their paths, in place of those of the files), and `onModule(name, count)`.
+ *
+ * `errors` are what keeps a package from being read, `faults` what is wrong with one that is read; `caught(file, error)` adds the error of an exception.
  */
 function readPackage(dir, options = {}) {
   const reader = new Reader(dir, options);
@@ -179,15 +239,18 @@ function readPackage(dir, options = {}) {
   }));
   return {
     packages,
-    packageUrls: packages.map((it) => [`${it.name}@${it.version}`, it.url]),
     modules: [...reader.modules.values()],
     scripts: [...reader.scripts.values()],
     jsonModules: [...reader.jsonModules.values()],
-    externals: [...reader.externals.values()],
+    externals: reader.externals,
     resolutions: reader.resolutions,
     missing: reader.missing,
     errors: reader.errors,
+    faults: reader.faults,
+    taken: reader.taken,
     times: reader.times,
+    dirOf: (file) => (reader.packageAt(file) || { dir: null }).dir,
+    caught: (file, error) => reader.caught(file, error),
   };
 }
 

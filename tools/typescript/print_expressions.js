@@ -66,7 +66,7 @@ function property(w, choice) {
 function object(w, node) {
   const props = node.props || [];
   if (props.length === 0) w.write('{}');
-  else if (t.isWide(node) || props.some((it) => w.hasLeading((t.spanOf(it) || [0])[0]))) t.listed(w, props, '{', '}', true, property);
+  else if (t.isWide(w, node) || props.some((it) => w.hasLeading((t.spanOf(it) || [0])[0]))) t.listed(w, props, '{', '}', true, property);
   else {
     w.write('{ ');
     t.separated(w, props, ', ', property);
@@ -82,7 +82,7 @@ function argument(w, node) {
 }
 
 function args(w, list, node) {
-  t.listed(w, list || [], '(', ')', t.isWide(node) && (list || []).length > 1, argument);
+  t.listed(w, list || [], '(', ')', t.isWide(w, node) && (list || []).length > 1, argument);
 }
 
 /** Behind a dot or in brackets; `optional` is what stands before it. */
@@ -149,9 +149,17 @@ function unary(w, node) {
   expression(w, node.arg);
 }
 
+/** Whether a value begins with the `<` of an assertion. */
+function beginsWithAngle(choice) {
+  let at = choice;
+  while (at.Bin) at = at.Bin.left;
+  return Boolean(at.TsTypeAssertion);
+}
+
 function binary(w, node) {
   expression(w, node.left);
-  w.write(` ${node.op} `);
+  // Behind `<< ` a parser would take the `<` of an assertion for that of a type parameter.
+  w.write(node.op === '<<' && beginsWithAngle(node.right) ? ' <<' : ` ${node.op} `);
   expression(w, node.right);
 }
 
@@ -221,7 +229,7 @@ function tpl(w, node) {
 
 function array(w, node) {
   const elems = node.elems || [];
-  if (t.isWide(node) && elems.every(Boolean)) {
+  if (t.isWide(w, node) && elems.every(Boolean)) {
     t.listed(w, elems, '[', ']', true, argument);
     return;
   }

@@ -56,7 +56,7 @@ function head(w, word, node, field) {
 function variables(w, node) {
   const word = node.kind ? node.kind.toLowerCase() : node.is_await ? 'await using' : 'using';
   w.write(`${node.declare ? 'declare ' : ''}${word} `);
-  const broken = t.isWide(node) && (node.decls || []).length > 1;
+  const broken = t.isWide(w, node) && (node.decls || []).length > 1;
   if (!broken) {
     t.separated(w, node.decls, ', ', declarator);
     return;
@@ -289,7 +289,7 @@ function constructor(w, node) {
   e.propName(w, node.key);
   const params = node.params || [];
   const spans = params.map((it) => t.spanOf(it)).filter((it) => it && it[0]);
-  const isWide = spans.length > 1 && spans[spans.length - 1][1] - spans[0][0] > 80;
+  const isWide = !w.isHeld() && spans.length > 1 && spans[spans.length - 1][1] - spans[0][0] > 80;
   t.listed(w, params, '(', ')', isWide || spans.some((it) => w.hasLeading(it[0])), constructorParam, t.afterLast(params));
   e.body(w, node.body);
 }
@@ -489,7 +489,7 @@ function named(w, node) {
 }
 
 function namedList(w, list, node) {
-  if (t.isWide(node) || list.some((it) => w.hasLeading(it.span[0]))) t.listed(w, list, '{', '}', true, named);
+  if (t.isWide(w, node) || list.some((it) => w.hasLeading(it.span[0]))) t.listed(w, list, '{', '}', true, named);
   else {
     w.write('{ ');
     t.separated(w, list, ', ', named);
@@ -502,7 +502,7 @@ function importDeclaration(w, node) {
   if (node.type_only) w.write('type ');
   if (node.phase === 'defer') w.write('defer ');
   const list = node.specifiers || [];
-  if (list.length === 0) {
+  if (list.length === 0 && !node.type_only) {
     t.str(w, node.src);
     fromSource(w, { with: node.with });
     return;
@@ -519,6 +519,7 @@ function importDeclaration(w, node) {
   }
   const names = list.filter((it) => it.Named).map((it) => it.Named);
   if (names.length) parts.push(() => namedList(w, names, node));
+  if (list.length === 0) w.write('{}');
   t.separated(w, parts, ', ', (_, part) => part());
   fromSource(w, node);
 }

@@ -20,8 +20,9 @@ function at(w, node, call) {
   w.trailing(span[1]);
 }
 
-function isWide(node) {
-  return Boolean(node.span) && node.span[1] - node.span[0] > WIDE;
+/** Whether a node is broken into lines. */
+function isWide(w, node) {
+  return !w.isHeld() && Boolean(node.span) && node.span[1] - node.span[0] > WIDE;
 }
 
 function separated(w, list, between, call) {
@@ -161,7 +162,7 @@ function parameters(w, list) {
   const spans = params.map((it) => spanOf(it)).filter((it) => it && it[0]);
   const width = spans.length ? spans[spans.length - 1][1] - spans[0][0] : 0;
   const hasComments = spans.some((it) => w.hasLeading(it[0]));
-  listed(w, params, '(', ')', width > WIDE || hasComments, pattern, afterLast(params));
+  listed(w, params, '(', ')', (width > WIDE && !w.isHeld()) || hasComments, pattern, afterLast(params));
 }
 
 /** What stands after the last of several lines of parameters: no comma may follow a rest. */
@@ -204,7 +205,7 @@ function union(w, choice) {
   const sign = variant === 'TsUnionType' ? '|' : '&';
   const loose = variant === 'TsUnionType' ? LOOSE : [...LOOSE, 'TsUnionType'];
   at(w, node, () => {
-    if (!isWide(node)) {
+    if (!isWide(w, node)) {
       separated(w, node.types, ` ${sign} `, (w_, it) => closer(w_, it, loose));
       return;
     }
@@ -249,10 +250,10 @@ function conditional(w, node) {
   w.write(' extends ');
   closer(w, node.extends_type, ['TsConditionalType']);
   const branches = () => {
-    separatedBranch(w, isWide(node), '? ', node.true_type);
-    separatedBranch(w, isWide(node), ': ', node.false_type);
+    separatedBranch(w, isWide(w, node), '? ', node.true_type);
+    separatedBranch(w, isWide(w, node), ': ', node.false_type);
   };
-  if (isWide(node)) w.indented(branches);
+  if (isWide(w, node)) w.indented(branches);
   else branches();
 }
 
@@ -318,7 +319,7 @@ const TYPES = {
     closer(w, node.elem_type, POSTFIX.slice(0, -1));
     w.write('[]');
   },
-  TsTupleType: (w, node) => listed(w, node.elem_types || [], '[', ']', isWide(node), tupleElement),
+  TsTupleType: (w, node) => listed(w, node.elem_types || [], '[', ']', isWide(w, node), tupleElement),
   TsOptionalType: (w, node) => {
     closer(w, node.type_ann, POSTFIX);
     w.write('?');
@@ -428,7 +429,7 @@ function member(w, choice, end) {
 
 /** Members in braces, on one line where they are few and short. */
 function members(w, list, node) {
-  const wide = isWide(node) || list.some((it) => w.hasLeading(spanOf(it)[0]));
+  const wide = isWide(w, node) || list.some((it) => w.hasLeading(spanOf(it)[0]));
   if (!wide && list.length) {
     w.write('{ ');
     list.forEach((it, place) => {

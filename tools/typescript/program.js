@@ -6,8 +6,6 @@ const os = require('os');
 const path = require('path');
 
 const TOP = path.resolve(__dirname, '../..');
-// The levels of JSON that the program reads.
-const MOST_LEVELS = 127;
 
 /** What the program refuses, or that it is not there. `status` is the status that the command ends with. */
 class ProgramError extends Error {
@@ -48,30 +46,14 @@ function run(words, tell) {
   });
 }
 
-/** The innermost node with a place that stands around the first value which is nested too deep, in the JSON of a module. */
-function tooDeep(value, levels) {
-  let span = null;
-  const walk = (at, depth, around) => {
-    if (at === null || typeof at !== 'object') return false;
-    if (depth > MOST_LEVELS) {
-      span = around;
-      return true;
-    }
-    const here = Array.isArray(at.span) && at.span[0] > 0 ? at.span : around;
-    return Object.values(at).some((each) => walk(each, depth + 1, here));
-  };
-  return walk(value, levels, null) ? span || [1, 1] : null;
-}
-
-/** Why the program takes the request for no JSON: the modules that are nested too deep, each with the place. */
-function deepModules(request) {
-  const found = [];
-  // A module stands within the request, its list, its pair, its choice and itself.
-  for (const [specifier, module] of request.modules) {
-    const span = tooDeep(Object.values(module)[0], 5);
-    if (span) found.push({ specifier, span });
+/** The request as JSON, which Node may not hold in one text. */
+function textOf(request) {
+  try {
+    return JSON.stringify(request);
+  } catch (error) {
+    if (error instanceof RangeError && /string length/.test(error.message)) throw new ProgramError('out of memory: the input is longer than a text may be', 3);
+    throw error;
   }
-  return found;
 }
 
 /** The answers of the program to a request: a list of `[specifier, {Ok | Err}]`. */
@@ -85,14 +67,10 @@ async function build(request, { unproved, environment, tell }) {
   for (const signal of ['SIGINT', 'SIGTERM', 'SIGHUP']) process.once(signal, stop);
   try {
     const file = path.join(folder, 'input.json');
-    fs.writeFileSync(file, JSON.stringify(request));
+    fs.writeFileSync(file, textOf(request));
     const words = command({ unproved, environment });
     const { status, out, said, signal } = await run([...words, file], tell);
     if (status === 0 || status === 1) return JSON.parse(out);
-    if (said === 'error: input refused: not-json') {
-      const deep = deepModules(request);
-      if (deep.length) throw Object.assign(new ProgramError('nested too deep', 2), { deep });
-    }
     const why = said || (signal ? `it was stopped by ${signal}` : `it ended with status ${status}`);
     throw new ProgramError(`the program did not answer: ${why.replace(/^error: /, '')}`, status <= 5 ? status : 5);
   } finally {

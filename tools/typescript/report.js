@@ -131,7 +131,7 @@ const LEGEND = '<p class="legend"><span class="kept">public</span><span class="g
 
 /** The page of a folder that was analysed. */
 function page(analysed) {
-  const world = { ...analysed, messages: [...analysed.warnings, ...analysed.messages] };
+  const world = { ...analysed, messages: [...analysed.warnings, ...analysed.broken, ...analysed.messages] };
   const skeletons = new Map(printed(world).map((each) => [each.specifier, each]));
   const known = ways(world);
   const files = [...world.files.values()].sort((a, b) => (a.name < b.name ? -1 : 1));

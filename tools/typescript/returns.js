@@ -43,13 +43,16 @@ function namingArgument(node) {
 
 // ---- and the type that it asserts, in the tree of a module
 
+// An empty list is left out of a tree.
+const stmtsOf = (block) => (block && block.stmts) || [];
+
 const STATEMENTS = {
-  Block: (node) => node.stmts,
+  Block: stmtsOf,
   With: (node) => [node.body],
   Labeled: (node) => [node.body],
   If: (node) => [node.cons, node.alt],
-  Switch: (node) => node.cases.flatMap((each) => each.cons),
-  Try: (node) => [node.block, node.handler && node.handler.body, node.finalizer].flatMap((block) => (block ? block.stmts : [])),
+  Switch: (node) => (node.cases || []).flatMap((each) => each.cons || []),
+  Try: (node) => [node.block, node.handler && node.handler.body, node.finalizer].flatMap(stmtsOf),
   While: (node) => [node.body],
   DoWhile: (node) => [node.body],
   For: (node) => [node.body],
@@ -66,6 +69,7 @@ function countReturns(stmts) {
   }, 0);
 }
 
+/** The type that a value asserts, or null. */
 function assertedType(value) {
   const [variant] = Object.keys(value);
   if (variant === 'Paren' || variant === 'TsSatisfies') return assertedType(value[variant].expr);
@@ -74,10 +78,10 @@ function assertedType(value) {
 
 /** The type that the only return of a function or an arrow asserts, where that is its last statement; else null. */
 function typeNamedBy(node) {
-  const block = node.body && (node.body.stmts ? node.body : node.body.BlockStmt);
-  const last = block && block.stmts[block.stmts.length - 1];
-  if (node.is_generator || !last || !last.Return || !last.Return.arg || countReturns(block.stmts) !== 1) return null;
+  const stmts = stmtsOf(node.body && (node.body.BlockStmt || node.body));
+  const last = stmts[stmts.length - 1];
+  if (node.is_generator || !last || !last.Return || !last.Return.arg || countReturns(stmts) !== 1) return null;
   return assertedType(last.Return.arg);
 }
 
-module.exports = { returnsOf, namingArgument, typeNamedBy };
+module.exports = { assertedType, returnsOf, namingArgument, typeNamedBy };

@@ -4,13 +4,22 @@ const fs = require('fs');
 const path = require('path');
 const { print } = require('./print.js');
 
+/** The text of a skeleton. An exception has the name of the module. */
+function printedModule(name, { program, comments }, isDeclaration) {
+  try {
+    return print({ Module: program }, comments, { isDeclaration });
+  } catch (error) {
+    throw Object.assign(error, { module: name });
+  }
+}
+
 /** The printed skeletons of a folder, in the order of their names: `{specifier, name, text}`. */
 function printed(world) {
   const made = [];
   for (const [specifier, skeleton] of world.skeletons) {
     const file = world.files.get(specifier);
-    const isDeclaration = /\.d\.[cm]?ts$/.test(specifier);
-    made.push({ specifier, name: file ? file.name : specifier, text: print({ Module: skeleton.program }, skeleton.comments, { isDeclaration }) });
+    const name = file ? file.name : specifier;
+    made.push({ specifier, name, text: printedModule(name, skeleton, /\.d\.[cm]?ts$/.test(specifier)) });
   }
   return made.sort((a, b) => (a.name < b.name ? -1 : a.name > b.name ? 1 : 0));
 }

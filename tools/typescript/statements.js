@@ -8,7 +8,7 @@ const names = require('./names');
 const patterns = require('./patterns');
 const types = require('./types');
 const { expression } = require('./expressions');
-const { returnsOf, namingArgument } = require('./returns');
+const { assertedType, returnsOf, namingArgument } = require('./returns');
 
 const { SyntaxKind: K } = ts;
 
@@ -25,6 +25,21 @@ function noType(c, node) {
   return { This: { span: c.span(node) } };
 }
 
+/** Whether a tree has a name of a scope. */
+function hasNameOf(scope, tree) {
+  if (tree === null || typeof tree !== 'object') return false;
+  return (tree.sym !== undefined && tree.ctxt === scope.number) || Object.values(tree).some((it) => hasNameOf(scope, it));
+}
+
+/** The value by which a body names its return type; null where the type has a name that the body declares, which no skeleton could say. */
+function namedBy(c, body, value) {
+  return c.within((scope) => {
+    bindBody(scope, body.statements);
+    const made = expression(c, value);
+    return hasNameOf(scope, assertedType(made)) ? null : made;
+  });
+}
+
 /** What a body that is cut short keeps, where no return type is written: how it returns, and the value by which it names the type. */
 function shortBody(c, node) {
   const { body } = node;
@@ -32,8 +47,7 @@ function shortBody(c, node) {
   const returns = returnsOf(body);
   if (returns.length === 0) return [{ Empty: { span: c.span(body.statements[0]) } }];
   const naming = namingArgument(node);
-  if (naming) bindBody(c.scope, body.statements);
-  const argument = (value) => (value === naming ? expression(c, value) : noType(c, value));
+  const argument = (value) => (value === naming && namedBy(c, body, naming)) || noType(c, value);
   return returns.map((it) => ({
     Return: form({ span: c.span(it), arg: it.expression && argument(it.expression) }),
   }));

@@ -42,6 +42,24 @@ class Tables {
     return symbol;
   }
 
+  /** The symbol of what is exported as default without a name, as overloads of a function. */
+  unnamedDefault(parent) {
+    if (!parent.unnamed) Object.defineProperty(parent, 'unnamed', { value: this.newSymbol(parent, 'default', qualify(parent, 'default')) });
+    return parent.unnamed;
+  }
+
+  /** Exports a symbol as default. Beside another one, as a function beside an interface, both stand behind one symbol. */
+  exportDefault(parent, symbol) {
+    const before = this.symbols[parent.exports.get('default')];
+    if (!before || before === symbol) {
+      parent.exports.set('default', symbol.id);
+      return;
+    }
+    const both = this.unnamedDefault(parent);
+    for (const each of [before, symbol]) if (each.ident && each !== both) this.alias(both, each.decls[each.decls.length - 1].range, { Target: each.ident });
+    parent.exports.set('default', both.id);
+  }
+
   dependencies() {
     return new Dependencies(this.unresolved);
   }
@@ -109,7 +127,7 @@ function variables(t, node, parent, flags) {
 
 /** A declared function. Overloads are told when all of them are known. */
 function functionDeclaration(t, ident, node, range, parent, flags) {
-  const symbol = ident ? t.symbolOf(ident, parent) : t.newSymbol(parent, 'default', qualify(parent, 'default'));
+  const symbol = ident ? t.symbolOf(ident, parent) : t.unnamedDefault(parent);
   const marks = { has_body: Boolean(node.body) };
   t.define(symbol, range, VALUE, { ...flags, is_function: true }, (d) => deps.signature(d, node), marks);
   t.functions.add(symbol);
@@ -117,7 +135,7 @@ function functionDeclaration(t, ident, node, range, parent, flags) {
 }
 
 function classDeclaration(t, ident, node, range, parent, flags, isAmbient) {
-  const symbol = ident ? t.symbolOf(ident, parent) : t.newSymbol(parent, 'default', qualify(parent, 'default'));
+  const symbol = ident ? t.symbolOf(ident, parent) : t.unnamedDefault(parent);
   const decl = t.define(symbol, range, BOTH, { ...flags, is_class: true }, (d) => {
     deps.walk(d, node.type_params);
     deps.superClass(d, node);
@@ -146,11 +164,20 @@ function typeAlias(t, node, range, parent, flags) {
   return symbol;
 }
 
+/** An enum, whose members are exports of it. */
 function enumDeclaration(t, node, range, parent, flags) {
   const symbol = t.symbolOf(node.id, parent);
   t.define(symbol, range, BOTH, flags, (d) => {
     for (const it of node.members || []) if (it.init) deps.walk(d, it.init);
   });
+  for (const it of node.members || []) {
+    const name = it.id.Ident ? it.id.Ident.sym : it.id.Str.value;
+    if (symbol.exports.has(name)) continue;
+    const member = t.newSymbol(symbol, name, qualify(symbol, name));
+    t.define(member, it.span, BOTH, {}, () => {});
+    member.enum = symbol;
+    symbol.exports.set(name, member.id);
+  }
   return symbol;
 }
 
@@ -255,17 +282,17 @@ function defaultDeclaration(t, node, parent) {
   if (Class) symbol = classDeclaration(t, Class.ident, Class.class, node.span, parent, {}, false);
   else if (Fn) symbol = functionDeclaration(t, Fn.ident, Fn.function, node.span, parent, {});
   else symbol = interfaceDeclaration(t, TsInterfaceDecl, node.span, parent, {});
-  parent.exports.set('default', symbol.id);
+  t.exportDefault(parent, symbol);
 }
 
 function defaultExpression(t, node, parent) {
-  const symbol = t.newSymbol(parent, 'default', qualify(parent, 'default'));
+  const symbol = t.unnamedDefault(parent);
   if (node.expr.Ident) t.alias(symbol, node.span, { Target: [node.expr.Ident.sym, node.expr.Ident.ctxt || 0] });
   else {
     const flags = node.expr.Class ? { is_default_class_expr: true } : {};
     t.define(symbol, node.span, BOTH, flags, (d) => deps.value(d, node.expr));
   }
-  parent.exports.set('default', symbol.id);
+  t.exportDefault(parent, symbol);
 }
 
 const MODULE_DECLARATIONS = {
@@ -318,21 +345,42 @@ function markOverloads(symbol) {
   for (const it of functions) it.has_overloads = isOverloaded;
 }
 
-/** Dependencies on what has no symbol, as a type parameter, ask for nothing. */
+/** The symbol of an id, or undefined. */
+function symbolOfId(t, id) {
+  return t.byIdent.get(`${id[1]} ${id[0]}`);
+}
+
+/** Whether whoever reaches a symbol by its value has its type too: a class, whose interface of the same name adds members to it, or an alias of one. */
+function isClass(t, symbol, seen = new Set()) {
+  if (!symbol || seen.has(symbol)) return false;
+  seen.add(symbol);
+  return symbol.decls.some(({ kind }) => (kind.Definition ? kind.Definition.is_class : kind.Target && isClass(t, symbolOfId(t, kind.Target), seen)));
+}
+
+/** Dependencies on what has no symbol, as a type parameter, ask for nothing. Those on the value of a class ask for its type too. */
 function pruned(t, list) {
-  return list.filter(([dep]) => {
-    const id = dep.Id || (dep.QualifiedId && dep.QualifiedId[0]);
-    return !id || t.byIdent.has(`${id[1]} ${id[0]}`);
-  });
+  const idOf = (dep) => dep.Id || (dep.QualifiedId && dep.QualifiedId[0]);
+  const made = t.dependencies();
+  for (const [dep, namespace] of list) {
+    const id = idOf(dep);
+    const symbol = id && symbolOfId(t, id);
+    if (!id || symbol) made.add(dep, dep.Id && isClass(t, symbol) ? 'Both' : namespace);
+  }
+  return made.list();
+}
+
+/** What the blocks of an enum refer to: whoever asks for a member has all of them. */
+function depsOfEnum(symbol) {
+  return symbol.decls.flatMap((it) => (it.kind.Definition && it.kind.Definition.deps) || []);
 }
 
 function finished(t, symbol) {
   markOverloads(symbol);
   for (const it of symbol.decls) {
     const node = it.kind.Definition;
-    if (node) node.deps = pruned(t, node.deps);
+    if (node) node.deps = pruned(t, symbol.enum ? depsOfEnum(symbol.enum) : node.deps);
   }
-  const { ident, exports, ...rest } = symbol;
+  const { ident, exports, enum: around, ...rest } = symbol;
   const made = { ...rest, exports: [...exports] };
   if (made.members.length === 0) delete made.members;
   if (made.exports.length === 0) delete made.exports;
@@ -344,7 +392,7 @@ function finished(t, symbol) {
 function withoutTargets(t, symbol) {
   return symbol.decls.some((it) => {
     const id = it.kind.Target || (it.kind.QualifiedTarget && it.kind.QualifiedTarget[0]);
-    return id && !t.byIdent.has(`${id[1]} ${id[0]}`);
+    return id && !symbolOfId(t, id);
   });
 }
 

@@ -8,10 +8,10 @@ const { commentsOf } = require('./comments');
 
 const { SyntaxKind: K } = ts;
 
-/** Whether a file is a module: it imports, exports, or has `import.meta` or an `await` that stands in no function. */
+/** Whether a file is a module: it imports, exports, is a namespace to others, or has `import.meta` or an `await` that stands in no function. */
 function isModule(sourceFile) {
   if (sourceFile.externalModuleIndicator) return true;
-  if (sourceFile.statements.some((it) => it.kind === K.ImportEqualsDeclaration)) return true;
+  if (sourceFile.statements.some((it) => it.kind === K.ImportEqualsDeclaration || it.kind === K.NamespaceExportDeclaration)) return true;
   return hasTopLevelAwait(sourceFile);
 }
 

@@ -1,31 +1,13 @@
 'use strict';
-// Finds TypeScript's compiler API: that of Debian's `node-typescript`, or any that Node finds itself.
+// TypeScript's compiler API, as `compiler.js` finds it.
 
-const DEBIAN = '/usr/share/nodejs/typescript';
+const { isVersionFrom, loadCompiler } = require('./compiler');
 
-/** Loads the compiler API, or throws an error that says how to get it. */
-function loadTypeScript() {
-  const names = [process.env.TYPESCRIPT, 'typescript', DEBIAN].filter(Boolean);
-  for (const name of names) {
-    try {
-      return require(name);
-    } catch (error) {
-      if (error.code !== 'MODULE_NOT_FOUND') throw error;
-    }
-  }
-  const error = new Error('TypeScript is missing: install it, as by `apt-get install node-typescript`');
-  error.code = 'NO_TYPESCRIPT';
-  throw error;
-}
-
-const ts = loadTypeScript();
-const [MAJOR, MINOR] = ts.version.split('.').map(Number);
+const ts = loadCompiler();
 
 /** Whether the compiler is of this version or a newer one. */
 function isFrom(major, minor) {
-  return MAJOR > major || (MAJOR === major && MINOR >= minor);
+  return isVersionFrom(ts.version, major, minor);
 }
-
-if (!isFrom(4, 8)) throw new Error(`TypeScript ${ts.version} is too old: 4.8 or newer is needed`);
 
 module.exports = { ts, version: ts.version, isFrom };

@@ -1,76 +1,41 @@
 'use strict';
-// Has TypeScript's compiler check the skeletons beside the sources, and tells what it finds in the skeletons alone.
-const { Lines } = require('./lines.js');
+// Has TypeScript's compiler check the skeletons beside the sources: what it finds wrong in the skeletons alone is told, and each public declaration of which it
+// declares another type, module by module.
 const { shownName } = require('./analysis.js');
+const { programOf, resolverOf, declarationName, emitted, surfaceOf, compared, errorsIn } = require('./judge_surface.js');
+const { Lines } = require('./lines.js');
 const { printed } = require('./skeletons.js');
 const { ts } = require('./typescript.js');
-const { resolver, told, ways } = require('./ways.js');
-
-const OPTIONS = {
-  noEmit: true, strict: true, noImplicitAny: false, target: ts.ScriptTarget.ESNext, module: ts.ModuleKind.ESNext, moduleResolution: ts.ModuleResolutionKind.NodeJs,
-  jsx: ts.JsxEmit.Preserve, resolveJsonModule: true, experimentalDecorators: true, allowImportingTsExtensions: true, types: [],
-};
+const { told, ways } = require('./ways.js');
 
 /** What is to be done about errors that come of a reference which the skeletons do not answer. */
 const LOST = new Set([2304, 2305, 2307, 2339, 2503, 2552, 2614, 2694, 2724, 4023, 4033]);
 const HINT = 'refer to what is meant by a name of its own; docs/TYPESCRIPT.md lists where the rules part from TypeScript';
+const TYPE_HINT = 'write the type; docs/TYPESCRIPT.md says what to write where the rules part from TypeScript';
+const LONGEST = 200;
 
-/** The paths that the imports of a module lead to. */
-function pathOf(world) {
-  const resolve = resolver(world);
-  const paths = new Map([...world.files.values()].map((file) => [file.specifier, file.path]));
-  for (const each of world.info.jsonModules || []) paths.set(each.specifier, each.path);
-  return (from, text) => paths.get(resolve(from, text));
-}
-
-/** A compiler over the texts of one world, by their paths. Library files are kept between the worlds. */
-class World {
-  constructor(world, texts, kept) {
+/** The compiler's view of the modules of a folder, as sources or as skeletons. `texts` are by their paths. */
+class Side {
+  constructor(world, texts) {
+    this.world = world;
     this.texts = texts;
-    this.kept = kept;
-    this.resolve = pathOf(world);
-    this.specifiers = new Map([...world.files.values()].map((file) => [file.path, file.specifier]));
-    this.program = ts.createProgram([...texts.keys()].filter((name) => !name.endsWith('.json')), OPTIONS, this.host());
+    this.program = programOf(texts, resolverOf(world, texts));
   }
 
-  host() {
-    const base = ts.createCompilerHost(OPTIONS, true);
-    return {
-      ...base,
-      fileExists: (name) => this.texts.has(name) || base.fileExists(name),
-      readFile: (name) => this.texts.get(name) ?? base.readFile(name),
-      getSourceFile: (name, target) => this.sourceFile(base, name, target),
-      resolveModuleNames: (texts, from) => texts.map((text) => this.module(text, from)),
-      resolveTypeReferenceDirectives: (names) => names.map(() => undefined),
-    };
+  /** What the compiler declares for all that these entry points lead to. */
+  surface(entries) {
+    const made = emitted(this.program, this.texts);
+    this.declared = new Set(made.keys());
+    for (const [name, text] of this.texts) if (name.endsWith('.json')) made.set(name, text);
+    return surfaceOf(programOf(made, resolverOf(this.world, made)), made, entries.map(declarationName));
   }
 
-  sourceFile(base, name, target) {
-    if (this.texts.has(name)) return ts.createSourceFile(name, this.texts.get(name), target, true);
-    if (!this.kept.has(name)) this.kept.set(name, base.getSourceFile(name, target));
-    return this.kept.get(name);
-  }
-
-  module(text, from) {
-    const specifier = this.specifiers.get(from);
-    const name = specifier && this.resolve(specifier, text);
-    if (!name || !this.texts.has(name)) return undefined;
-    const extension = /\.d\.[cm]?ts$|\.[a-z]+$/.exec(name)[0];
-    return { resolvedFileName: name, extension, isExternalLibraryImport: false };
-  }
-
-  /** What the compiler finds in a file: `{code, start, end, text}`. */
-  errors(name) {
-    const file = this.program.getSourceFile(name);
-    if (!file) return [];
-    const found = [...this.program.getSyntacticDiagnostics(file), ...this.program.getSemanticDiagnostics(file)];
-    return found.map((each) => ({
-      code: each.code, start: each.start, end: each.start + each.length, text: ts.flattenDiagnosticMessageText(each.messageText, ' '),
-    }));
+  file(name) {
+    return this.program.getSourceFile(name);
   }
 }
 
-/** The name of the declaration of a file, at its top, that a place lies in. */
+/** The statement of a file, at its top, that a place lies in, and what it declares there. */
 function declarationAt(file, offset) {
   const statement = file.statements.find((each) => each.getStart(file) <= offset && offset < each.end);
   if (!statement) return null;
@@ -79,41 +44,165 @@ function declarationAt(file, offset) {
   return statement.getText(file).startsWith('export default') ? 'default' : null;
 }
 
-/** One error of a skeleton as a message, with the way that it comes from. */
-function messageOf(error, module, { world, skeleton, found, context }) {
-  const name = declarationAt(skeleton.program.getSourceFile(module.path), error.start);
+/** Where a name is declared at the top of a file: the start and the end of the name, or of the first statement where it is not found. */
+function placeOf(file, name) {
+  const all = file.statements.flatMap((each) => (each.declarationList ? [...each.declarationList.declarations] : [each]));
+  const isMarked = (each) => (each.modifiers || []).some((it) => it.kind === ts.SyntaxKind.DefaultKeyword);
+  const isDefault = (each) => name === 'default' && (each.isExportEquals === false || isMarked(each));
+  const found = all.find((each) => each.name && each.name.getText(file) === name) || all.find(isDefault);
+  if (!found) return { start: 0, end: 0 };
+  const start = (found.name || found).getStart(file);
+  return { start, end: found.name ? found.name.end : Math.min(found.end, start + 'export default'.length) };
+}
+
+/** The way to a declaration, as lines that say more. */
+function wayTo(module, name, { world, found }) {
   const way = name ? told(world, found, `${module.specifier}\n${name}`) : '';
-  const info = [`TypeScript's compiler finds this in the skeleton of ${module.name}, and not in its source`];
-  if (way) info.push(`the way to it: ${way}`);
-  else if (world.info.entryPoints.includes(module.specifier)) info.push(`${module.name} is an entry point`);
+  if (way) return [`the way to it: ${way}`];
+  return world.info.entryPoints.includes(module.specifier) ? [`${module.name} is an entry point`] : [];
+}
+
+/** One error of a skeleton as a message, with the way that it comes from. */
+function errorMessage(error, module, view) {
+  const name = declarationAt(view.skeletons.file(module.path), error.start);
+  const info = [`TypeScript's compiler finds this in the skeleton of ${module.name}, and not in its source`, ...wayTo(module, name, view)];
   return {
-    level: 'Error', code: `typescript-${error.code}`, message: error.text.split(`${world.dir}/`).join(''), info, hint: LOST.has(error.code) ? HINT : null,
-    file: `${shownName(module.path, context.cwd)} (skeleton)`, lines: new Lines(module.text), start: error.start, end: error.end,
+    level: 'Error', code: `typescript-${error.code}`, message: error.text.split(`${view.world.dir}/`).join(''), info, hint: LOST.has(error.code) ? HINT : null,
+    file: `${shownName(module.path, view.cwd)} (skeleton)`, lines: new Lines(module.text), start: error.start, end: error.end,
   };
 }
 
-/** What the compiler finds in the skeletons and not in the sources, as messages. */
-function verify(world, context) {
-  const kept = new Map();
-  const modules = printed(world).map((each) => ({ ...each, path: world.files.get(each.specifier).path }));
-  const data = (world.info.jsonModules || []).map((each) => [each.path, each.text]);
-  const sources = new World(world, new Map([...[...world.files.values()].map((file) => [file.path, file.text]), ...data]), kept);
-  const skeleton = new World(world, new Map([...modules.map((each) => [each.path, each.text]), ...data]), kept);
-  const { found } = ways(world);
-  const messages = [];
-  for (const module of modules) {
-    const errors = skeleton.errors(module.path);
-    if (!errors.length) continue;
-    const known = new Set(sources.errors(module.path).map((each) => `${each.code} ${each.text}`));
-    const told = new Set();
-    for (const error of errors) {
-      const key = `${error.code} ${error.text} ${error.start}`;
-      if (known.has(`${error.code} ${error.text}`) || told.has(key)) continue;
-      told.add(key);
-      messages.push(messageOf(error, module, { world, skeleton, found, context }));
+/** What the compiler finds wrong in the skeletons and not in the sources, each once. */
+function errorMessages(view) {
+  return view.modules.flatMap((module) => {
+    const errors = errorsIn(view.skeletons.program, module.path);
+    const known = new Set((errors.length ? errorsIn(view.sources.program, module.path) : []).map((each) => `${each.code} ${each.text}`));
+    const others = errors.filter((each) => !known.has(`${each.code} ${each.text}`));
+    return [...new Map(others.map((each) => [`${each.code} ${each.text} ${each.start}`, each])).values()].map((each) => errorMessage(each, module, view));
+  });
+}
+
+/** The path of a module without its ending, as the key of a declaration begins. */
+function stemOf(file) {
+  return declarationName(file).replace(/\.d\.[cm]?ts$/, '');
+}
+
+/** A text as it is shown: nothing of none, of a long one the beginning. */
+function cut(text) {
+  const made = text.trim().replace(/^[;,]\s*/, '');
+  return !made ? 'nothing' : made.length > LONGEST ? `${made.slice(0, LONGEST)} ..` : made;
+}
+
+/** Where two texts differ: each without the words that both begin and end with. */
+function apart(one, other) {
+  const words = (text) => text.match(/[\w$]+|\s+|[^\w$\s]/g) || [];
+  const [a, b] = [words(one), words(other)];
+  let [first, last] = [0, 0];
+  while (first < Math.min(a.length, b.length) && a[first] === b[first]) first += 1;
+  while (last < Math.min(a.length, b.length) - first && a[a.length - 1 - last] === b[b.length - 1 - last]) last += 1;
+  // Of `symbol` and `unique symbol` the word is shown that follows.
+  const isOneEmpty = first + last === Math.min(a.length, b.length);
+  if (isOneEmpty && last > 0 && /^[\w$]/.test(a[a.length - last])) last -= 1;
+  return [a, b].map((it) => cut(it.slice(first, it.length - last).join('')));
+}
+
+/** How a declaration differs, in words. */
+function differenceText({ missing, added, isLost, isNew }) {
+  if (isLost) return 'declared in the source, and not in the skeletons';
+  if (isNew) return 'declared in the skeletons, and not in the source';
+  const [before, after] = apart(missing.join('; '), added.join('; '));
+  return `${before} in the source, ${after} in the skeleton`;
+}
+
+/** A declaration of another type as a message. */
+function differenceMessage(found, view) {
+  const { key } = found;
+  const [stem, names] = [key.slice(0, key.lastIndexOf('#')), key.slice(key.lastIndexOf('#') + 1)];
+  const file = [...view.world.files.values()].find((each) => stemOf(each.path) === stem);
+  const [first] = /^"[^"]*"|^[^.]*/.exec(names);
+  const place = { file: shownName(file.path, view.cwd), lines: file.lines, ...placeOf(view.sources.file(file.path), first) };
+  const name = names === '*' ? 'the exports' : names;
+  const info = ["TypeScript's compiler declares this otherwise for the skeleton than for the source", ...(names === '*' ? [] : wayTo(file, first, view))];
+  return { level: 'Error', code: 'declared-otherwise', message: `${name}: ${differenceText(found)}`, info, hint: TYPE_HINT, ...place };
+}
+
+/** A skeleton of which the compiler makes no declarations, though it does of the source, as a message. */
+function undeclaredMessage(module, { skeletons, cwd }) {
+  const [first] = skeletons.program.getDeclarationDiagnostics(skeletons.file(module.path));
+  const why = first ? `: ${ts.flattenDiagnosticMessageText(first.messageText, ' ')}` : '';
+  const [start, length] = first ? [first.start, first.length] : [0, 0];
+  return {
+    level: 'Error', code: 'declared-otherwise', message: `TypeScript's compiler makes no declarations of the skeleton${why}`, info: [], hint: HINT,
+    file: `${shownName(module.path, cwd)} (skeleton)`, lines: new Lines(module.text), start, end: start + length,
+  };
+}
+
+const hasItems = ({ tree }) => Boolean((tree.program.Script.body || []).length);
+
+/** A script that is an entry point, as a message: what it declares is declared for all, and no module exports it. */
+function scriptMessage(module, { world, cwd }) {
+  const { lines } = world.files.get(module.specifier);
+  return {
+    level: 'Error', code: 'declared-otherwise', message: 'this file is no module, and what it declares stands in no skeleton', info: [],
+    hint: 'export what is public',
+    file: shownName(module.path, cwd), lines, start: 0, end: 0,
+  };
+}
+
+/** The public declarations of which the compiler declares another type, in modules of which it declares something. `wrong` are the files of the errors. */
+function differenceMessages(view, wrong) {
+  const { world, sources, skeletons } = view;
+  const entries = world.info.entryPoints.filter((it) => world.skeletons.has(it)).map((it) => world.files.get(it).path);
+  const found = compared(sources.surface(entries), skeletons.surface(entries));
+  const isDeclared = (side, module) => side.declared.has(declarationName(module.path));
+  const without = view.modules.filter((module) => !isDeclared(sources, module) || !isDeclared(skeletons, module));
+  const scripts = world.info.modules.filter((module) => entries.includes(module.path) && module.tree.program.Script);
+  const stems = new Set([...without, ...scripts].map((module) => stemOf(module.path)));
+  const silent = without.filter((module) => isDeclared(sources, module) && !wrong.has(`${shownName(module.path, view.cwd)} (skeleton)`));
+  const undeclared = silent.map((module) => undeclaredMessage(module, view));
+  const differing = found.filter(({ key }) => !stems.has(key.slice(0, key.lastIndexOf('#'))));
+  const emptied = scripts.filter(hasItems).map((module) => scriptMessage(module, view));
+  return [...undeclared, ...emptied, ...differing.map((each) => differenceMessage(each, view))];
+}
+
+const DIRECTIVES = ['referencedFiles', 'typeReferenceDirectives', 'libReferenceDirectives'];
+
+/** The `/// <reference>` comments of public modules, none of which stays: each once, at its first place. */
+function referenceMessages(view) {
+  const first = new Map();
+  for (const module of view.modules) {
+    const file = view.sources.file(module.path);
+    for (const { fileName, pos, end } of DIRECTIVES.flatMap((it) => file[it] || [])) {
+      if (!first.has(fileName)) first.set(fileName, { module, pos, end, count: 0 });
+      first.get(fileName).count += 1;
     }
   }
-  return messages;
+  return [...first].map(([name, { module, pos, end, count }]) => ({
+    level: 'Warning', code: 'declared-otherwise', message: `the reference to '${name}' stands in ${count} source${count === 1 ? '' : 's'}, and in no skeleton`,
+    hint: 'import what is needed of it', info: ['what it declares is not there for whoever reads the skeleton alone'], file: shownName(module.path, view.cwd),
+    lines: view.world.files.get(module.specifier).lines, start: pos, end,
+  }));
+}
+
+/** The texts of the skeletons; of a package without skeletons, since it has messages, the sources stand. */
+function skeletonTexts(world, modules) {
+  const shown = new Set(modules.map((each) => each.specifier));
+  const around = (file) => world.info.packages.filter(({ url }) => file.specifier.startsWith(url)).sort((a, b) => b.url.length - a.url.length)[0];
+  const answered = new Set(modules.map((each) => around(world.files.get(each.specifier))));
+  const others = [...world.files.values()].filter((file) => !shown.has(file.specifier) && !answered.has(around(file)));
+  return [...modules.map((each) => [each.path, each.text]), ...others.map((file) => [file.path, file.text])];
+}
+
+/** What the compiler finds in the skeletons, or declares for them, and not in and for the sources, as messages. */
+function verify(world, { cwd }) {
+  const modules = printed(world).map((each) => ({ ...each, path: world.files.get(each.specifier).path }));
+  const data = (world.info.jsonModules || []).map((each) => [each.path, each.text]);
+  const isTyped = ([name]) => !/\.[cm]?jsx?$/.test(name);
+  const sources = new Side(world, new Map([...[...world.files.values()].map((file) => [file.path, file.text]), ...data].filter(isTyped)));
+  const skeletons = new Side(world, new Map([...skeletonTexts(world, modules), ...data].filter(isTyped)));
+  const view = { world, cwd, modules, sources, skeletons, found: ways(world).found };
+  const errors = errorMessages(view);
+  return [...errors, ...differenceMessages(view, new Set(errors.map((each) => each.file))), ...referenceMessages(view)];
 }
 
 module.exports = { verify };

@@ -212,4 +212,4 @@ function told(world, found, key) {
   return steps.join(' -> ');
 }
 
-module.exports = { resolver, told, ways };
+module.exports = { Names, mentioned, resolver, told, ways };

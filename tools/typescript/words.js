@@ -4,9 +4,10 @@
 const USAGE = `usage: fast-check-ts COMMAND ..
 
   check DIR              messages for the package in the folder DIR
+  fix DIR                writes the types that messages ask for, as TypeScript's compiler infers them
   skeleton DIR [OUT]     the skeletons of its public modules as TypeScript, in the folder OUT or on standard output
   input DIR              the input of \`fast-check build\`, as JSON
-  diff OLD NEW           which public modules have other skeletons in NEW than in OLD
+  diff OLD NEW           which public names are gone, new or declared otherwise in NEW, and what a version number wants
   report DIR OUT.html    a page to look at: source beside skeleton, with the messages
 
 options:
@@ -14,21 +15,31 @@ options:
   --version VERSION      its version
   --exports EXPORTS      its entry points: a path, or a map as JSON, as {".": "./mod.ts", "./cli": "./cli.ts"}
   --json                 check and diff: one object a line
+  --markdown             diff: a text for a pull request
+  --dry                  fix: show the changes, and write nothing
+  --list-externals       check: say which imports lead out of the folder, and are not followed
   --verify               check: have TypeScript's compiler check the skeletons, and tell what it finds there and not in the source
   --unproved             run the program without any proof
+  --no-own-compiler      pass over the compiler in the folder's node_modules, whose code would be run
   --no-color             no colours on a terminal
   --help                 these lines
 
 It ends with 0 where there is nothing to tell, 1 where there are messages or differences, 2 where something cannot be read,
-3 where memory ran out, and 5 where the program is not there.
+3 where memory ran out, 5 where the program is not there, and 70 where this tool itself is at fault.
+
+TypeScript's compiler is that of the folder's node_modules, else the one that the variable TYPESCRIPT names (a folder), else the system's.
+The variable FAST_CHECK names a program to run in place of ./fast-check, which is proved and built at the first run.
 `;
 
 // The commands, with the least and the most words behind them.
-const COMMANDS = { check: [1, 1], skeleton: [1, 2], input: [1, 1], diff: [2, 2], report: [2, 2] };
-const FLAGS = { '--json': 'json', '--verify': 'verify', '--unproved': 'unproved', '--no-color': 'plain', '--help': 'help', '-h': 'help' };
+const COMMANDS = { check: [1, 1], fix: [1, 1], skeleton: [1, 2], input: [1, 1], diff: [2, 2], report: [2, 2] };
+const FLAGS = {
+  '--json': 'json', '--verify': 'verify', '--list-externals': 'externals', '--dry': 'dry', '--markdown': 'markdown', '--unproved': 'unproved',
+  '--no-color': 'plain', '--no-own-compiler': 'noOwnCompiler', '--help': 'help', '-h': 'help',
+};
 const VALUES = { '--name': 'name', '--version': 'version', '--exports': 'exports' };
 // The flags that only some commands take.
-const ONLY = { json: ['check', 'diff'], verify: ['check'] };
+const ONLY = { '--json': ['check', 'diff'], '--verify': ['check'], '--list-externals': ['check'], '--dry': ['fix'], '--markdown': ['diff'] };
 
 class UsageError extends Error {}
 
@@ -64,8 +75,8 @@ function parse(words) {
   const [least, most] = COMMANDS[command];
   if (rest.length < least) throw new UsageError(`${command} wants ${least === 1 ? 'a folder' : 'two words'}`);
   if (rest.length > most) throw new UsageError(`${command} does not take the word ${rest[most]}`);
-  for (const [name, commands] of Object.entries(ONLY)) {
-    if (options[name] && !commands.includes(command)) throw new UsageError(`--${name} is not for ${command}`);
+  for (const [flag, commands] of Object.entries(ONLY)) {
+    if (options[FLAGS[flag]] && !commands.includes(command)) throw new UsageError(`${flag} is not for ${command}`);
   }
   if (options.exports !== undefined) options.exports = exportsOf(options.exports);
   return { command, rest, options };

@@ -20,6 +20,7 @@ class Writer {
     this.indent = '';
     this.isLineStart = true;
     this.wantsLine = false;
+    this.held = 0;
     this.isAmbient = false;
     this.asWritten = false;
     this.leadingAt = byPosition(comments && comments.leading);
@@ -41,8 +42,16 @@ class Writer {
 
   line() {
     this.wantsLine = false;
-    if (!this.isLineStart) this.pieces.push('\n');
+    if (!this.isLineStart) {
+      this.pieces.push('\n');
+      this.held -= 1;
+    }
     this.isLineStart = true;
+  }
+
+  /** Whether the line stands behind a comment that has the compiler pass over the errors of one line. */
+  isHeld() {
+    return this.held === 1;
   }
 
   /** What is written in the call stands further to the right. */
@@ -54,6 +63,7 @@ class Writer {
   }
 
   comment(comment) {
+    if (/@ts-(ignore|expect-error)/.test(comment.text)) this.held = 2;
     if (comment.kind === 'Line') this.write(`//${comment.text}`);
     else this.write(`/*${moved(comment.text, this.indent)}*/`);
   }

@@ -1,5 +1,6 @@
 'use strict';
 // Folders as they come: bytes that are no text, odd names, links, configurations that say something else, entry points that lead elsewhere.
+const childProcess = require('child_process');
 const fs = require('fs');
 const path = require('path');
 
@@ -22,6 +23,16 @@ const FOLDERS = [
   ['names that objects have', { '__proto__.ts': 'export const toString: 1 = 1;', 'mod.ts': 'export * from "./__proto__.ts"; export class constructor {} export const __proto__: 1 = 1;' }, 0, ['2 public']],
   ['a link in a circle', { 'mod.ts': { linkTo: 'mod.ts' } }, 2, ['the entry point ./mod.ts is not there']],
   ['a folder that has itself', { 'mod.ts': 'export * from "./self/self/mod.ts"; export const a: 1 = 1;', self: { linkTo: '.' } }, 0, ['1 file, 1 public']],
+  ['a link that leads out', { 'mod.ts': 'export * from "./a.ts";', 'a.ts': { linkTo: '/etc/hostname' } }, 2, ['error[refused-file]: this link leads out of the folder', '--> a.ts', '!localhost']],
+  ['an entry point behind a link that leads out', { 'mod.ts': { linkTo: '/etc/passwd' } }, 2, ['this link leads out of the folder', '--> mod.ts', '!root']],
+  ['a folder behind a link that leads out', { 'mod.ts': 'export * from "./etc/passwd";', etc: { linkTo: '/etc' } }, 2, ['this link leads out of the folder', '!root']],
+  ['a configuration behind a link that leads out', { 'deno.json': { linkTo: '/etc/passwd' }, 'mod.ts': '' }, 2, ['this link leads out of the folder', '--> deno.json', '!root']],
+  ['aliases behind a link that leads out', { 'mod.ts': 'import "@/a"; export {};', 'tsconfig.json': { linkTo: '/etc/passwd' } }, 1, ["nothing says what '@' is", '!root']],
+  ['a pipe that nobody writes to', { 'mod.ts': 'export * from "./a.ts";', 'a.ts': { pipe: true } }, 2, ['error[refused-file]: this is no regular file', '--> a.ts']],
+  ['an entry point that is a pipe', { 'mod.ts': { pipe: true } }, 2, ['this is no regular file', '--> mod.ts']],
+  ['a configuration that is a pipe', { 'deno.json': { pipe: true }, 'mod.ts': '' }, 2, ['this is no regular file', '--> deno.json']],
+  ['JavaScript that is a pipe', { 'mod.ts': 'export * from "./a.js";', 'a.js': { pipe: true } }, 2, ['this is no regular file', '--> a.js']],
+  ['a device', { 'mod.ts': { linkTo: '/dev/zero' } }, 2, ['this is no regular file', '--> mod.ts']],
   ['two names of a file', { 'mod.ts': 'export * from "./a.ts"; export * from "./b.ts";', 'a.ts': 'export const a: 1 = 1;', 'b.ts': { linkTo: 'a.ts' } }, 0, ['2 files, 2 public']],
   ['a folder in the place of a file', { 'mod.ts/a.ts': '' }, 2, ['the entry point ./mod.ts is not there']],
   ['nothing at all', { 'deno.json': null }, 2, ['no entry point']],
@@ -36,6 +47,18 @@ const FOLDERS = [
   ['exports that are a number', { 'deno.json': '{ "exports": 5 }', 'mod.ts': '' }, 2, ['`exports` has to be a path or a map']],
   ['a workspace of numbers', { 'deno.json': '{ "workspace": [1] }', 'mod.ts': '' }, 2, ['`workspace` has to be a list of paths']],
   ['a member that is not there', { 'deno.json': '{ "workspace": ["./a"] }' }, 2, ['this member of the workspace is not there', 'no-entry-point']],
+  ['a member elsewhere', { 'deno.json': '{ "workspace": ["../a"] }' }, 2, ['this member of the workspace lies outside of the folder']],
+  ['a member that cannot be read', {
+    'deno.json': '{ "workspace": ["./a", "./b", "./c"] }', 'a/deno.json': CONFIG, 'a/mod.ts': 'export const a = ;', 'b/deno.json': CONFIG.replace('odd', 'b'),
+    'b/mod.ts': `import { a } from "@test/odd"; export const c: typeof a = a; ${UNTYPED}`, 'c/deno.json': '{ "name": 1 }', 'c/mod.ts': '',
+  }, 2, ['a/mod.ts:1:18', 'error[bad-configuration]', '--> c/deno.json', 'error[missing-explicit-return-type]', '--> b/mod.ts', '!no-entry-point', '3 messages']],
+  ['a member that is nested too deep', {
+    'deno.json': '{ "workspace": ["./a", "./b"] }', 'a/deno.json': CONFIG, 'a/mod.ts': `export const a = ${'['.repeat(70)}${']'.repeat(70)};`, 'b/deno.json': CONFIG.replace('odd', 'b'),
+    'b/mod.ts': UNTYPED,
+  }, 2, ['error[nested-too-deep]', '--> a/mod.ts', 'error[missing-explicit-return-type]', '--> b/mod.ts']],
+  ['an entry point of several that is not there', { 'deno.json': '{ "name": "a", "exports": {\n ".": "./mod.ts",\n "./b": "./b.ts" } }', 'mod.ts': UNTYPED }, 1, ['deno.json:3:9', '^^^^^^^^', 'the entry point ./b.ts is not there', 'missing-explicit-return-type']],
+  ['types that are not there', { 'deno.json': null, 'package.json': '{ "name": "a",\n "types": "./b.d.ts" }' }, 2, ['the entry point ./b.d.ts is not there', 'package.json:2:11']],
+  ['deeper than a parser goes', { 'mod.ts': `export const a = ${'('.repeat(20000)}1${')'.repeat(20000)};` }, 2, ['nested-too-deep']],
   ['members by a star', { 'deno.json': '{ "workspace": ["./*"] }', 'a/deno.json': CONFIG, 'a/mod.ts': 'export {};', 'docs/page.txt': '' }, 0, ['1 file, 1 public']],
   ['conditions', {
     'deno.json': null,
@@ -54,6 +77,7 @@ function write(folder, files) {
     const file = path.join(folder, name);
     fs.mkdirSync(path.dirname(file), { recursive: true });
     if (content.linkTo) fs.symlinkSync(content.linkTo, file);
+    else if (content.pipe) childProcess.execFileSync('mkfifo', [file]);
     else fs.writeFileSync(file, content);
   }
 }
@@ -70,4 +94,22 @@ function tests({ run, withFolder, same, holds }) {
   return FOLDERS.map(checked);
 }
 
-module.exports = { tests, write };
+/** Calls back while the tree of the first package of a workspace cannot be made, by an exception that is no refusal. */
+async function withFault(folder, call) {
+  const { Converter } = require('../converter.js');
+  const { start } = Converter.prototype;
+  write(folder, {
+    'deno.json': '{ "workspace": ["./a", "./b"] }', 'a/deno.json': CONFIG, 'a/mod.ts': 'export const fault = 1;', 'b/deno.json': CONFIG.replace('odd', 'b'), 'b/mod.ts': UNTYPED,
+  });
+  Converter.prototype.start = function wrong(node) {
+    if (this.text.includes('fault')) throw new TypeError('no such form');
+    return start.call(this, node);
+  };
+  try {
+    await call();
+  } finally {
+    Converter.prototype.start = start;
+  }
+}
+
+module.exports = { tests, withFault, write };

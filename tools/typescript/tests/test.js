@@ -9,12 +9,19 @@ const { ts, isFrom } = require('../typescript.js');
 
 const PACKAGES = path.join(__dirname, 'packages');
 const EXPECTED = path.join(__dirname, 'expected');
+// Where the compiler of these tests lies.
+const COMPILER = Object.keys(require.cache).find((name) => require.cache[name].exports === ts);
 const LAUNCHER = path.resolve(__dirname, '../../../fast-check-ts');
 // Packages with forms that TypeScript 4.8 does not read. What it says instead is stored, and what a compiler says that reads them all, which
 // is compared by those alone (newest.sh fetches one).
-const NEWER = ['using', 'quoted-names', 'newer-forms', 'newer-classes', 'newer-modules'];
+const NEWER = [
+  'using', 'quoted-names', 'newer-forms', 'newer-classes', 'newer-modules', 'apart-accessor', 'apart-enum-constant', 'apart-const-enum', 'instead-const-enum',
+];
 const READS_ALL = isFrom(5, 9);
 const READS_NONE = !isFrom(4, 9);
+
+// What an older compiler says besides of the first syntax error.
+const NEWER_COMPILER = /  info: TypeScript \S+ reads this; a newer one .*\n\n?/;
 
 let passed = 0;
 const failed = [];
@@ -28,7 +35,8 @@ function keeper(isTTY = false) {
 async function run(words, { cwd = PACKAGES, environment = {}, isTTY = false } = {}) {
   const io = { cwd, environment: { FAST_CHECK: process.env.FAST_CHECK || '', ...environment }, out: keeper(isTTY), err: keeper() };
   const status = await main(words, io);
-  return { status, out: io.out.text.replace(/, \d+\.\d\d s\n/g, ', 0.00 s\n'), err: io.err.text };
+  const untimed = (text) => text.replace(/, \d+\.\d\d s(?=\n|;)/g, ', 0.00 s');
+  return { status, out: untimed(io.out.text), err: untimed(io.err.text) };
 }
 
 /** One test: passed where it throws nothing. */
@@ -60,11 +68,11 @@ function holds(value, what) {
  * what can be written instead, what the compiler finds in the skeletons too. */
 async function said(name) {
   const parts = [];
-  const commands = [['check'], ['skeleton'], ...(/^(apart|instead)-/.test(name) ? [['check', '--verify']] : [])];
+  const commands = [['check'], ['skeleton'], ...(/^(apart|instead)-/.test(name) ? [['check', '--verify']] : []), ...(name === 'fixed' ? [['fix', '--dry']] : [])];
   for (const words of commands) {
     const { status, out, err: told } = await run([...words, '.'], { cwd: path.join(PACKAGES, name) });
-    const err = told.replace(ts.version, 'VERSION');
-    parts.push(`$ ${words.join(' ')}: status ${status}\n${out}${err && words[0] === 'check' ? `$ standard error\n${err}` : ''}`);
+    const err = told.replace(NEWER_COMPILER, '').replace(ts.version, 'VERSION');
+    parts.push(`$ ${words.join(' ')}: status ${status}\n${out}${err && words[0] !== 'skeleton' ? `$ standard error\n${err}` : ''}`);
   }
   return parts.join('\n');
 }
@@ -110,7 +118,7 @@ const CODES = [
   'not-found-reference', 'missing-explicit-type', 'missing-explicit-return-type', 'unsupported-ambient-module', 'unsupported-complex-reference',
   'unsupported-default-export-expr', 'unsupported-destructuring', 'unsupported-expando-property', 'unsupported-global-module', 'unsupported-require',
   'unsupported-private-member-reference', 'unsupported-super-class-expr', 'unsupported-ts-export-assignment', 'unsupported-ts-namespace-export',
-  'unsupported-nested-javascript', 'unsupported-javascript-entrypoint', 'export-not-found',
+  'unsupported-nested-javascript', 'unsupported-javascript-entrypoint',
 ];
 
 async function everyDiagnostic(names) {
@@ -137,9 +145,10 @@ const EDITS = [
   ['overloads', 'mod.ts', 'return strict ? null : {};', 'return null;'],
 ];
 const SHOWN = [
-  ['variables', 'mod.ts', 'text = "a"', 'text = "b"', 'changed mod.ts'],
-  ['re-exports', 'shapes.ts', 'x: number;', 'x: string;', 'changed shapes.ts'],
-  ['re-export-all', 'mod.ts', 'export * from "./b.ts";\n', '', 'removed b.ts'],
+  ['variables', 'mod.ts', 'text = "a"', 'text = "b"', ['changed text (mod.ts)\n', 'major: ']],
+  ['re-exports', 'shapes.ts', 'x: number;', 'x: string;', ['changed Point (shapes.ts)\n', 'changed areaOf (shapes.ts)\n  by Point (shapes.ts), as above\n', 'major: ']],
+  ['re-export-all', 'mod.ts', 'export * from "./b.ts";\n', '', ['removed b (b.ts)\n', 'major: ']],
+  ['variables', 'mod.ts', 'const hidden', 'export const added = 1;\nconst hidden', ['added added (mod.ts)\nminor: ']],
 ];
 
 /** A copy of a package with an edit. */
@@ -167,7 +176,7 @@ async function edits() {
       const before = await run(['skeleton', path.join(PACKAGES, name)]);
       same((await run(['skeleton', folder])).out, before.out, 'the skeleton');
       const { status, out, err } = await run(['diff', path.join(PACKAGES, name), folder]);
-      same(`${status}${out}${err}`, '0', 'diff');
+      same(`${status}${out.split(':')[0]}${err}`, '0patch', 'diff');
     }));
   }
   for (const [name, file, old, now, wanted] of SHOWN) {
@@ -175,9 +184,30 @@ async function edits() {
       edited(folder, name, file, old, now);
       const { status, out } = await run(['diff', path.join(PACKAGES, name), folder]);
       same(status, 1, 'the status');
-      holds(out.includes(wanted), `'${wanted}' is told, and this was: ${out}`);
+      for (const each of wanted) holds(out.includes(each), `'${each}' is told, and this was: ${out}`);
     }));
   }
+}
+
+async function revisions() {
+  await test('diff with a revision of the repository', () => withFolder(async (folder) => {
+    const git = (...words) => childProcess.execFileSync('git', ['-c', 'user.name=a', '-c', 'user.email=a@host.example', ...words], { cwd: folder, stdio: 'ignore' });
+    fs.mkdirSync(path.join(folder, 'packages'));
+    const dir = path.join(folder, 'packages/a');
+    fs.cpSync(path.join(PACKAGES, 'variables'), dir, { recursive: true });
+    git('init', '-q');
+    git('add', '-A');
+    git('commit', '-qm', 'first');
+    fs.appendFileSync(path.join(dir, 'mod.ts'), 'export const added = 1;\n');
+    const { status, out } = await run(['diff', 'HEAD', '.'], { cwd: dir });
+    same(`${status} ${out.split(':')[0]}`, '1 added added (mod.ts)\nminor');
+    const json = await run(['diff', '--json', 'HEAD', '.'], { cwd: dir });
+    same(JSON.parse(json.out.trim().split('\n').pop()).advice, 'minor');
+    const markdown = await run(['diff', '--markdown', 'HEAD', 'HEAD'], { cwd: dir });
+    same(markdown.status, 2, 'the status where neither is a folder');
+    holds((await run(['diff', '--markdown', '.', 'HEAD'], { cwd: dir })).out.startsWith('**major**: '), 'the other way round a name is gone');
+    same((await run(['diff', 'nowhere', '.'], { cwd: dir })).status, 2, 'the status of a revision that is not there');
+  }));
 }
 
 // ---- the command line
@@ -192,6 +222,7 @@ const WRONG = [
   [['check', '--fast', 'variables'], 'there is no option --fast'],
   [['check', 'variables', '--name'], '--name wants a value'],
   [['skeleton', '--verify', 'variables'], '--verify is not for skeleton'],
+  [['skeleton', '--list-externals', 'variables'], '--list-externals is not for skeleton'],
   [['check', '--exports', '{', 'variables'], '--exports is no JSON'],
   [['skeleton', 'variables', 'variables'], 'variables is the package itself'],
   [['diff', 'variables'], 'diff wants two words'],
@@ -217,6 +248,12 @@ async function commandLine() {
     const { status, out } = await run(['check', '--json', 'syntax-error']);
     same(status, 2, 'the status');
     same(JSON.parse(out.split('\n')[0]).code, 'syntax-error');
+  });
+  await test('--list-externals names what is not followed', async () => {
+    const { out } = await run(['check', '--list-externals', 'outside-names']);
+    holds(out.includes('not followed: node:events (outside-names/mod.ts:1)\nnot followed: side-effect (outside-names/mod.ts:3)\nnot followed: zod (outside-names/mod.ts:2)\n'), out);
+    const json = await run(['check', '--json', '--list-externals', 'outside-names']);
+    same(json.out.split('\n')[0], '{"external":"node:events","imports":[{"text":"node:events","file":"outside-names/mod.ts","line":1,"column":30}]}');
   });
   await test('colours on a terminal, and none where they are not wanted', async () => {
     const escape = '\x1b[';
@@ -256,6 +293,26 @@ const PROGRAMS = [
   ['kill -9 $$', 5, 'SIGKILL'],
   ['exit 5', 5, 'status 5'],
 ];
+
+/** A folder whose second package the parser of this tool fails at, as an error in it would. */
+async function faults() {
+  const { withFault } = require('./odd.js');
+  await test('a fault of the tool takes no other messages away', () => withFolder((folder) => withFault(folder, async () => {
+    const { status, out, err } = await run(['check', '.'], { cwd: folder });
+    same(status, 70, 'the status');
+    const text = out + err;
+    for (const each of ['error[internal-error]: internal error in odd.js:', '(module a/mod.ts): no such form, please report it', '--> b/mod.ts', '1 file, 2 messages']) holds(text.includes(each), text);
+    const json = await run(['check', '--json', '.'], { cwd: folder });
+    same(json.status, 70, 'the status');
+    const codes = json.out.trim().split('\n').map((line) => JSON.parse(line).code).sort();
+    same(codes.join(' '), 'internal-error missing-explicit-return-type');
+  })));
+  await test('a fault of the tool in a package alone', () => withFolder((folder) => withFault(folder, async () => {
+    const { status, out } = await run(['check', '--json', 'a'], { cwd: folder });
+    same(status, 70, 'the status');
+    same(JSON.parse(out).code, 'internal-error');
+  })));
+}
 
 async function programs() {
   for (const [body, wanted, text] of PROGRAMS) {
@@ -308,6 +365,62 @@ async function verified() {
   }
 }
 
+/** Which compiler is taken: each run in a process of its own, since a process has one. */
+async function compilers() {
+  const from = (folder, words, environment = {}) => {
+    const options = { encoding: 'utf8', input: '', env: { ...process.env, ...environment } };
+    return childProcess.spawnSync(LAUNCHER, ['check', ...words, folder], options);
+  };
+  await test('the compiler of the package comes first', () => withFolder(async (folder) => {
+    fs.cpSync(path.join(PACKAGES, 'syntax-error'), folder, { recursive: true });
+    const own = path.join(folder, 'node_modules/typescript');
+    fs.mkdirSync(own, { recursive: true });
+    fs.writeFileSync(path.join(own, 'index.js'), `module.exports = { ...require(${JSON.stringify(COMPILER)}), version: "5.1.99-own" };`);
+    holds(from(folder, []).stderr.includes('by TypeScript 5.1.99-own'), 'its version is told');
+    same(from(folder, []).stderr.split('newest.sh').length, 2, 'how often a newer compiler is named');
+    holds(!from(folder, ['--no-own-compiler']).stderr.includes('5.1.99-own'), '--no-own-compiler is obeyed');
+    fs.writeFileSync(path.join(own, 'index.js'), 'module.exports = { version: "4.7.4" };');
+    holds(from(folder, []).stderr.includes(`by TypeScript ${ts.version}`), 'one that does not serve is passed over');
+  }));
+  await test('a compiler that does not serve', () => withFolder(async (folder) => {
+    fs.writeFileSync(path.join(folder, 'index.js'), 'module.exports = { version: "4.7.4" };');
+    const { status, stderr } = from(path.join(PACKAGES, 'variables'), [], { TYPESCRIPT: folder });
+    same(status, 2, 'the status');
+    holds(stderr.includes('TypeScript 4.7.4 does not serve'), stderr);
+  }));
+}
+
+/** Types that are written into a copy of a package: what is left is told, the rest is clean, and a second run changes nothing. */
+async function fixes() {
+  await test('fix --dry writes nothing', async () => {
+    const file = path.join(PACKAGES, 'fixed/mod.ts');
+    const before = fs.readFileSync(file, 'utf8');
+    const { out } = await run(['fix', '--dry', 'fixed']);
+    same(fs.readFileSync(file, 'utf8'), before, 'the source');
+    holds(out.includes('\n+import type { Shape } from "./shapes.ts";\n'), out);
+  });
+  for (const [name, wanted] of [['fixed', 1], ['missing-return-type', 0], ['workspace-messages', 0], ['default-export-value', 0], ['empty-bodies-untyped', 0]]) {
+    await test(`fix of ${name}`, () => withFolder(async (folder) => {
+      fs.cpSync(path.join(PACKAGES, name), folder, { recursive: true });
+      const first = await run(['fix', '.'], { cwd: folder });
+      same(first.status, wanted, `the status of\n${first.out}${first.err}\nthat`);
+      same((await run(['check', '.'], { cwd: folder })).status, wanted, 'the status of check');
+      const again = await run(['fix', '--dry', '.'], { cwd: folder });
+      same(again.out, '', 'what a second run changes');
+    }));
+  }
+}
+
+/** Random modules, and those of the stored packages with edits. */
+async function fuzzed() {
+  const { MODULES, fuzz } = require('../fuzz.js');
+  await test('300 random and edited modules', async () => {
+    const told = [];
+    await fuzz(300 / MODULES, 1, [__dirname], (line) => told.push(line));
+    holds(!told.length, told.join('\n'));
+  });
+}
+
 /** Folders as they come. */
 async function oddFolders() {
   for (const [name, body] of require('./odd.js').tests({ run, withFolder, same, holds })) await test(name, body);
@@ -327,7 +440,7 @@ async function all(words) {
     return;
   }
   await storedPackages(names);
-  if (!asked.length) for (const part of [trees, () => everyDiagnostic(names), edits, commandLine, oddFolders, programs, pages, verified]) await part();
+  if (!asked.length) for (const part of [trees, () => everyDiagnostic(names), edits, revisions, commandLine, oddFolders, faults, compilers, fixes, fuzzed, programs, pages, verified]) await part();
   const not = names.filter((name) => !isCompared(name));
   if (not.length) console.log(`not compared under TypeScript ${ts.version}: ${not.join(', ')}`);
   console.log(`${passed} passed, ${failed.length} failed`);

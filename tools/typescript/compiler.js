@@ -1,0 +1,43 @@
+'use strict';
+// Which compiler is taken: that of the package, that of the variable TYPESCRIPT, or that of the system.
+const path = require('path');
+
+const DEBIAN = '/usr/share/nodejs/typescript';
+const chosen = { own: null };
+
+/** Has the compiler looked for in a folder's `node_modules` first. Its code is run. */
+function lookIn(folder) {
+  chosen.own = path.join(folder, 'node_modules', 'typescript');
+}
+
+/** Whether a compiler is of a version or a newer one. */
+function isVersionFrom(version, major, minor) {
+  const [ownMajor, ownMinor] = version.split('.').map(Number);
+  return ownMajor > major || (ownMajor === major && ownMinor >= minor);
+}
+
+/** Whether a compiler has what is asked of it here. */
+function isUsable(ts) {
+  return typeof ts.version === 'string' && typeof ts.createSourceFile === 'function' && isVersionFrom(ts.version, 4, 8);
+}
+
+function loaded(name) {
+  try {
+    return require(name);
+  } catch (error) {
+    if (error.code !== 'MODULE_NOT_FOUND') throw error;
+    return null;
+  }
+}
+
+/** The compiler, or an error that says how to get one. One of the package that does not serve is passed over. */
+function loadCompiler() {
+  const own = chosen.own && loaded(chosen.own);
+  if (own && isUsable(own)) return own;
+  const [ts] = [process.env.TYPESCRIPT, 'typescript', DEBIAN].filter(Boolean).map(loaded).filter(Boolean);
+  const lacks = !ts ? 'TypeScript is missing' : !isUsable(ts) ? `TypeScript ${ts.version} does not serve: 4.8 or newer is needed` : null;
+  if (lacks) throw Object.assign(new Error(`${lacks}; on Debian: apt-get install -y node-typescript`), { status: 2 });
+  return ts;
+}
+
+module.exports = { isVersionFrom, loadCompiler, lookIn };

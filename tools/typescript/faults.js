@@ -1,0 +1,30 @@
+'use strict';
+// What goes wrong with the tool itself, which is no refusal: told with its place, and a status of its own.
+const path = require('path');
+
+/** The status of a run in which the tool itself is at fault. */
+const INTERNAL = 70;
+
+/** Whether an error says by itself what is wrong: that of a system call, or one with a status. */
+function isKnown(error) {
+  return error.status !== undefined || (error.syscall !== undefined && error.code !== undefined);
+}
+
+/** Whether the stack did not suffice for the levels of a source. */
+function isTooDeep(error) {
+  return error instanceof RangeError && /call stack/.test(error.message);
+}
+
+/** The file and the line that an error comes from, as `returns.js:77`. */
+function placeOf(error) {
+  const frame = /\n\s+at (?:.*\()?(?:file:\/\/)?(\/[^\n]*?):(\d+):\d+\)?/.exec(error.stack || '');
+  return frame ? `${path.basename(frame[1])}:${frame[2]}` : 'fast-check-ts';
+}
+
+/** What is told of a fault of the tool, with the module that it was at, where that is known. */
+function internalText(error, module) {
+  const [first] = String((error && error.message) || error).split('\n');
+  return `internal error in ${placeOf(error || {})}${module ? ` (module ${module})` : ''}: ${first}, please report it`;
+}
+
+module.exports = { INTERNAL, internalText, isKnown, isTooDeep };

@@ -1,0 +1,1 @@
+export interface Base { size: number }

@@ -1,0 +1,1 @@
+export function exact() { return Math.max(1); }

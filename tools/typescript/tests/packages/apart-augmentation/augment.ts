@@ -1,0 +1,6 @@
+declare module "./options.ts" {
+  interface Options {
+    added: number;
+  }
+}
+export {};

@@ -1,0 +1,2 @@
+import "./augment.ts";
+export type { Options } from "./options.ts";

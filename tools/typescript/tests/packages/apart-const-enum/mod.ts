@@ -1,0 +1,4 @@
+const base = 4;
+export const enum Level {
+  Low = base,
+}

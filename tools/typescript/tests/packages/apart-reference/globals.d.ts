@@ -1,0 +1,3 @@
+interface GlobalSettings {
+  name: string;
+}

@@ -1,0 +1,3 @@
+/// <reference path="./globals.d.ts" />
+export const settings: GlobalSettings = read();
+declare function read(): GlobalSettings;

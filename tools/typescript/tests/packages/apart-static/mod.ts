@@ -1,0 +1,5 @@
+class Base {
+  static part: { size: number } = { size: 1 };
+}
+class Derived extends Base {}
+export type Part = typeof Derived.part;

@@ -1,0 +1,6 @@
+export interface Options {
+  name: string;
+}
+export interface Options {
+  added: number;
+}

@@ -1,0 +1,3 @@
+export const enum Level {
+  Low = 4,
+}

@@ -1,0 +1,4 @@
+export enum Level {
+  Low = 4,
+  High = Low << 1,
+}

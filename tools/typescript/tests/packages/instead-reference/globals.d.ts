@@ -1,0 +1,3 @@
+export interface GlobalSettings {
+  name: string;
+}

@@ -1,0 +1,3 @@
+import type { GlobalSettings } from "./globals.d.ts";
+export const settings: GlobalSettings = read();
+declare function read(): GlobalSettings;

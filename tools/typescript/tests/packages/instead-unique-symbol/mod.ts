@@ -1,0 +1,1 @@
+export let mark: symbol = Symbol("mark");

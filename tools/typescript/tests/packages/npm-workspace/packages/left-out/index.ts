@@ -1,0 +1,1 @@
+export function untyped() { return Math.max(1); }

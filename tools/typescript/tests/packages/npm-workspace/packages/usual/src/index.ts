@@ -1,0 +1,2 @@
+import type { Shape } from "@test/core/shapes";
+export type Shapes = Shape[];

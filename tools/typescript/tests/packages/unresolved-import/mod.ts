@@ -1,0 +1,11 @@
+import type { Base } from "@/container/base";
+import type { Hash } from "@/container/hash";
+import type { Known } from "@scope/known/deep";
+import type { Typed } from "@scope/typed";
+import type { Gone } from "#there/gone";
+import type { Away } from "#away";
+import type { Other } from "other-package/part";
+import { readFileSync } from "fs";
+import "https://host.example/mod.ts";
+export type All = Base | Hash | Known | Typed | Gone | Away | Other;
+export const read: typeof readFileSync = readFileSync;
