@@ -1,0 +1,122 @@
+#!/usr/bin/env bash
+# Makes the Debian package of fast-check and fast-check-ts, and prints its path:
+#
+#   tools/debian/build.sh [--reproducible] [FOLDER]
+#
+# It is FOLDER/nagdrez_VERSION_amd64.deb; FOLDER is tools/debian/out where none is given. ./fast-check-build proves and builds the program first, where it is
+# not built. The variable FAST_CHECK may name a program that is packed in its place. It counts as proved where it is the one that `rt ci` or ./fast-check-build
+# has left here, in crates/fast_check_cli/out/fast_check_cli, and no source is newer; with any other the version ends with `~unproved`.
+#
+# With --reproducible all dates are that of the commit, and changes that are not committed are refused: two packages of one commit and one program are the same,
+# byte for byte. Else the dates are that of the variable SOURCE_DATE_EPOCH, or of now.
+#
+# The changelog of the package has the commit and the hash of the program. Needs Debian's dpkg-dev, binutils, nodejs and git.
+set -eu
+umask 022
+export LC_ALL=C TZ=UTC
+here=$(cd "$(dirname "$(readlink -f "${BASH_SOURCE[0]}")")" && pwd)
+top=$(cd "$here/../.." && pwd)
+built="$top/crates/fast_check_cli/out/fast_check_cli"
+
+fail() {
+  echo "build.sh: $2" >&2
+  exit "$1"
+}
+
+# Whether the program is the one that was proved here, of the sources as they are.
+is_proved() {
+  [ "$program" -ef "$built" ] && [ -z "$(find "$top/crates.txt" "$top"/crates/*/{src,specs,proofs} -newer "$built" -print -quit 2> /dev/null)" ]
+}
+
+# Makes the changelog, whose one entry says what the package is made of.
+write_changelog() {
+  echo "nagdrez ($version) unstable; urgency=medium"
+  echo
+  echo "  * Commit $commit${changes:+, with changes}."
+  echo "  * SHA-256 of /usr/lib/nagdrez/fast-check:"
+  echo "    $(sha256sum < "$root/usr/lib/nagdrez/fast-check" | cut -d ' ' -f 1)"
+  echo "  * SHA-256 of the same program as it was built, with its symbols:"
+  echo "    $(sha256sum < "$program" | cut -d ' ' -f 1)"
+  echo "  * $proof"
+  echo
+  echo " -- $(sed -n 's/^Maintainer: //p' "$here/control")  $(date -R -d "@$SOURCE_DATE_EPOCH")"
+}
+
+# Lays out the files as they are installed. Below /usr/lib/nagdrez they lie as in the repository.
+lay_out() {
+  local lib="$root/usr/lib/nagdrez" doc="$root/usr/share/doc/nagdrez" man="$root/usr/share/man/man1" completions="$root/usr/share/bash-completion/completions"
+  install -d "$root/DEBIAN" "$root/usr/bin" "$lib/tools/typescript" "$doc/examples" "$man" "$completions"
+  install "$here"/bin/* "$root/usr/bin"
+  install "$program" "$lib/fast-check"
+  strip --remove-section=.comment --remove-section=.note "$lib/fast-check"
+  install "$top/fast-check-ts" "$lib"
+  echo "$version" > "$lib/VERSION"
+  install -m 644 "$top"/tools/typescript/*.{js,css} "$lib/tools/typescript"
+  # What only tests the others.
+  rm -f "$lib"/tools/typescript/{fuzz,fuzz_modules,hidden,judge,judge_types,roundtrip,speed,sweep}.js
+  chmod +x "$lib/tools/typescript/cli.js"
+  install -m 644 "$here/completion.bash" "$completions/fast-check-ts"
+  ln -s fast-check-ts "$completions/fast-check"
+  install -m 644 "$top/LICENSE" "$doc/copyright"
+  install -m 644 "$top"/docs/{FORMATS,RULES,TYPESCRIPT}.md "$doc"
+  cp -r "$top"/examples/{package,first.json,build_hello.json,pair.json} "$doc/examples"
+  for page in fast-check fast-check-ts; do
+    node "$here/manual.js" "$here/$page.1" "$version" "$(date -d "@$SOURCE_DATE_EPOCH" +%F)" | gzip -9n > "$man/$page.1.gz"
+  done
+  write_changelog > "$made/debian/changelog"
+  gzip -9n < "$made/debian/changelog" > "$doc/changelog.gz"
+}
+
+# Makes the control file and the sums, as Debian's own tools do.
+write_control() {
+  cp "$here/control" "$made/debian/control"
+  cd "$made"
+  { dpkg-shlibdeps -O -e "$root/usr/lib/nagdrez/fast-check" && echo "Proof=$proof"; } > debian/substvars
+  dpkg-gencontrol -pnagdrez -P"$root" -O > "$root/DEBIAN/control"
+  (cd "$root" && find usr -type f -print0 | sort -z | xargs -0 md5sum > DEBIAN/md5sums)
+  chmod -R u=rwX,go=rX "$root"
+  find "$root" -exec touch -h -d "@$SOURCE_DATE_EPOCH" {} +
+}
+
+reproducible=
+if [ "${1-}" = --reproducible ]; then
+  reproducible=yes
+  shift
+fi
+[[ $# -le 1 && ${1-} != -* ]] || fail 2 "usage: tools/debian/build.sh [--reproducible] [FOLDER]"
+for tool in dpkg-shlibdeps strip node git; do
+  command -v "$tool" > /dev/null || fail 5 "$tool is not there; on Debian: apt-get install -y dpkg-dev binutils nodejs git"
+done
+read -r commit committed < <(git -C "$top" log -1 --format='%H %ct') || fail 1 "there is no commit"
+changes=$(git -C "$top" status --porcelain)
+export SOURCE_DATE_EPOCH=${SOURCE_DATE_EPOCH:-$(date +%s)}
+if [ "$reproducible" ]; then
+  [ -z "$changes" ] || fail 1 "there are changes that are not committed, and the package would not be that of a commit"
+  SOURCE_DATE_EPOCH=$committed
+fi
+
+program=${FAST_CHECK-}
+version=$(< "$top/VERSION")
+proof="Every function of the program is proved to meet its contract."
+if [ -z "$program" ]; then
+  program=$built
+  "$top/fast-check-build" fast_check_cli >&2 || fail 5 "the program is not built"
+elif ! is_proved; then
+  version+="~unproved"
+  proof="Nothing is proved of the program in this package."
+  echo "build.sh: $program was not proved here, or of other sources: the version is $version" >&2
+fi
+[[ -f $program && -x $program ]] || fail 5 "there is no program $program"
+program=$(readlink -f "$program")
+
+folder=${1:-$here/out}
+mkdir -p "$folder"
+folder=$(cd "$folder" && pwd)
+made=$(mktemp -d)
+trap 'rm -rf "$made"' EXIT
+root="$made/nagdrez"
+mkdir "$made/debian"
+lay_out
+write_control
+dpkg-deb --root-owner-group --build "$root" "$folder" >&2
+echo "$folder/nagdrez_${version}_amd64.deb"
