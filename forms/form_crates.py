@@ -70,39 +70,33 @@ def form_making(form):
 def form_impls(form):
     read, made = parameters(form, "Part<'a>", "&'a str"), parameters(form, "Tree", "Atom")
     lines = [("impl<'a> " if read else "impl ") + form.name + read + " {"] + form_reading(form)
-    if form.made and read:
-        lines += ["}", "", f"impl {form.name}{made} {{"] + form_making(form)
-    elif form.made:
-        lines += [""] + form_making(form)
-    return lines + ["}"]
+    between = ["}", "", f"impl {form.name}{made} {{"] if read else [""]
+    return lines + between + form_making(form) + ["}"]
 
 
 def form_code(table, file):
     """`src/FILE.rt` of a crate of forms."""
     forms = table.forms_of(file)
-    made = [form for form in forms if form.made]
-    cited = [name for form in forms for name in cited_of(form)]
+    cited = [name for form in forms for name in ("Reads" + form.name, maker(form))]
     lines = [f"//! {file.doc} Each form with its fields by their names.", ""]
-    lines += ["ghost use Rattle.std.specs.Prelude.{◌≡◌, IfOk};"] if made else []
-    lines.append("ghost use Rattle.fast_check_syntax.specs.Part.{seen};")
+    lines += [
+        "ghost use Rattle.std.specs.Prelude.{◌≡◌, IfOk};",
+        "ghost use Rattle.fast_check_syntax.specs.Part.{seen};",
+    ]
     lines += ghost_use(f"Rattle.fast_check_{file.crate}.specs.{camel(file.name)}", cited)
     taken = [
-        ("Atom", any(form.has("text") for form in made)),
-        ("Kind", made),
+        ("Atom", any(form.has("text") for form in forms)),
+        ("Kind", True),
         ("Part", True),
         ("SourceRange", any(form.has("range") for form in forms)),
         ("SyntaxContext", any(form.has("scope") for form in forms)),
-        ("Tree", made),
+        ("Tree", True),
     ]
     lines += ["", "use fast_check_syntax::{" + ", ".join(name for name, is_taken in taken if is_taken) + "};"]
-    lines += ["use std::alloc::{AllocError, Global};"] if made else []
+    lines += ["use std::alloc::{AllocError, Global};"]
     for form in forms:
         lines += [""] + form_struct(form) + [""] + form_impls(form)
     return lines
-
-
-def cited_of(form):
-    return ["Reads" + form.name] + ([maker(form)] if form.made else [])
 
 
 GIVES = {"flag": "Bool", "scope": "SyntaxContext", "text": "List ℕ", "range": "SourceRange", None: "Tree"}
@@ -114,10 +108,10 @@ PRELUDE_TYPES = {"Bool"}
 def form_definitions(table, file):
     """`specs/FILE.antt` of a crate of forms."""
     forms = table.forms_of(file)
-    lines = [f"-- {file.doc}", "-- Each form has its fields by their names, and what it holds once it reads a node."]
-    if any(form.made for form in forms):
-        lines[-1] = lines[-1][:-1] + ";"
-        lines.append("-- where it is made, the node of its fields.")
+    lines = [
+        f"-- {file.doc}",
+        "-- Each form has its fields by their names, what it holds once it reads a node, and the node of its fields.",
+    ]
     lines += form_imports(file, forms)
     for form in forms:
         lines += [""] + form_definition(form)
@@ -125,18 +119,16 @@ def form_definitions(table, file):
 
 
 def form_imports(file, forms):
-    made = [form for form in forms if form.made]
     has = {leaf: any(form.has(leaf) for form in forms) for leaf in LEAVES + (None,)}
-    makes = {leaf: any(form.has(leaf) for form in made) for leaf in LEAVES}
     pick = lambda pairs: ", ".join(name for name, is_used in pairs if is_used)
     syntax = "use Rattle.fast_check_syntax.specs."
-    prelude = [("◌≡◌", True), ("Bool", has["flag"]), ("ℕ, List", has["text"]), ("[], ◌∷◌", made)]
-    nodes = [("Tree", True)] + [(NODES[leaf].strip(), makes[leaf]) for leaf in ("range", "flag", "scope", "text")]
-    shape = [("node", made), ("part", True)] + [(ASKS[leaf], has[leaf]) for leaf in ("range", "text", "flag", "scope")]
+    prelude = [("◌≡◌", True), ("Bool", has["flag"]), ("ℕ, List", has["text"]), ("[], ◌∷◌", True)]
+    nodes = [("Tree", True)] + [(NODES[leaf].strip(), has[leaf]) for leaf in ("range", "flag", "scope", "text")]
+    shape = [("node", True), ("part", True)] + [(ASKS[leaf], has[leaf]) for leaf in ("range", "text", "flag", "scope")]
     lines = [
         ("use Rattle.std.specs.Prelude.{" + pick(prelude) + "}", True),
         ("use Rattle.std.specs.Borrow.{Bor}", has["text"]),
-        (syntax + "declared.kind.Kind.TheVariants as kinds", made),
+        (syntax + "declared.kind.Kind.TheVariants as kinds", True),
         (syntax + "declared.part.Part.{Part}", has[None]),
         (syntax + "declared.source.SourceRange.{SourceRange}", has["range"]),
         (syntax + "declared.source.SyntaxContext.{SyntaxContext}", has["scope"]),
@@ -163,7 +155,7 @@ def form_definition(form):
     for field in form.fields:
         before, behind = {None: ("seen ", ""), "text": ("", ".now")}.get(field.leaf, ("", ""))
         lines.append(f"  pub {field.name} : {before}form.{field.name}{behind} ≡ {form.name}-{field.name} t")
-    return lines + ([""] + form_node(form) if form.made else [])
+    return lines + [""] + form_node(form)
 
 
 def form_node(form):

@@ -20,8 +20,8 @@ def forms_of(table):
 
 
 def constants(table):
-    """The rows of `src/rules.rt`, behind the bracket of the table above them."""
-    lines, note = ["];"], " A row has a slot for each field of its form, in their order."
+    """The rows of `src/rules.rt`, behind the last kind of the function above them."""
+    lines, note = ["    )", "}"], " A row has a slot for each field of its form, in their order."
     for row in table.rows:
         slots = ", ".join(f"Slot::{slot}" for slot in row.slots)
         lines += ["", f"/// {row.doc}{note}", f"pub const {row.name}: [Slot; {len(row.slots)}] = [{slots}];"]
@@ -113,14 +113,14 @@ def write_rules(table, out):
     """The rows, and what is said by the kind of an expression."""
     forms, names = [form for _, form, _ in forms_of(table)], [row.name for row in table.rows]
     path = SIGNATURES + "src/rules.rt"
-    out.as_it_stands(path, "    Kind::Tpl,", "/// A function expression.", constants(table))
+    out.as_it_stands(path, "            | Kind::Tpl", "/// A function expression.", constants(table))
     path = SIGNATURES + "specs/Expressions.antt"
     kinds = [f"kinds.{form} ∷" for form in forms + ["FnExpr", "ArrowExpr"]]
     kinds = fill(["other_kinds ="] + kinds + ["[]"], 0, WIDTH - 4, first=WIDTH)
     out.as_it_stands(path, "abbrev pub other_kinds : List Kind", "", kinds[:1] + indented(kinds[1:], 4))
     rules = [f"other_rule kinds.{form} known = slotted {row.name}" for row, form, _ in forms_of(table)]
     out.as_it_stands(path, "abbrev pub other_rule : Kind → Bool → Rule", "other_rule kinds.CallExpr true = slotted FREEZE", rules)
-    out.imported(path, ROWS, ["PLAIN_KINDS", "COMPOUND_KINDS"] + names + ["FN_EXPR", "FREEZE", "NEW"], WIDTH)
+    out.imported(path, ROWS, names + ["FN_EXPR", "FREEZE", "NEW"], WIDTH)
     rows = [f"        {' | '.join('Kind::' + form for form, _ in row.forms)} => Some(&{row.name})," for row in table.rows]
     out.as_it_stands("crates/fast_check_bindings/src/rows.rt", "    match kind {", "        Kind::FnExpr => Some(&FN_EXPR),", rows)
 

@@ -25,8 +25,8 @@ class Field:
 class Form:
     """A form, or a mark: a node that stands round what it holds, and has no fields in JSON."""
 
-    def __init__(self, name, fields, made, mark, doc, chapter, file):
-        self.name, self.fields, self.made, self.mark = name, fields, made, mark
+    def __init__(self, name, fields, mark, doc, chapter, file):
+        self.name, self.fields, self.mark = name, fields, mark
         self.doc, self.chapter, self.file = doc, chapter, file
 
     def has(self, leaf):
@@ -102,14 +102,14 @@ class Table:
             self.fields[name] = (type, doc)
 
     def read_form(self, line):
-        pattern = r"(mark )?(\w+)(°?)(?: \{ (.*?) \})?( made)? -- (.*)"
-        mark, name, bare, fields, made, doc = parts(pattern, line)
+        pattern = r"(mark )?(\w+)(°?)(?: \{ (.*?) \})? -- (.*)"
+        mark, name, bare, fields, doc = parts(pattern, line)
         self.see_new(name)
         fields = [self.field(field) for field in fields.split(", ")] if fields else []
         if not bare:
             fields.insert(0, Field("span", "range", "", None))
         chapter = self.chapters[-1].name
-        self.last = self.forms[name] = Form(name, fields, bool(made), bool(mark), doc, chapter, self.file)
+        self.last = self.forms[name] = Form(name, fields, bool(mark), doc, chapter, self.file)
 
     def field(self, text):
         name, type, count = parts(r"(\w+)(?:: (\w+))?([?*]*)", text)

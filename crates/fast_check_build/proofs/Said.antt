@@ -1,12 +1,11 @@
 -- What findings say is what their yields say.
-use Rattle.std.proofs.Common.{◌≡◌, ◌∙◌, sym, true, List, Option, Some, None, ⊎_elim}
+use Rattle.std.proofs.Common.{◌≡◌, ◌∙◌, sym, subst, true, List, Option, Some, None, ⊎_elim}
 use Rattle.std.specs.Prelude.{⊤, ℕ, MatchOption}
 use Rattle.std.specs.List.{flat_map}
 use Rattle.std.specs.BTreeMap.{BTreeMap}
 use Rattle.std.proofs.lemmas.Bool.{cases_Bool, false≢true}
 use Rattle.fast_check_packages.specs.Package.{Nv}
 use Rattle.fast_check_packages.specs.declared.package.PackageNv.{PackageNv}
-use Rattle.fast_check_cache.specs.Cache.{IsSeed}
 use Rattle.fast_check_cache.specs.declared.package_ranges.PackagePublicRanges.{PackagePublicRanges}
 use Rattle.fast_check_worklists.specs.Account.{Account, IsAccount, IsYield}
 use Rattle.fast_check_package_ranges.specs.findings.Findings.{yields_of}
@@ -22,7 +21,7 @@ use Rattle.fast_check_finder.specs.turns.Rules.{world}
 use Rattle.fast_check_finder.specs.turns.Yields.{gives}
 use Rattle.fast_check_finder.specs.Refusals.{JoinAll}
 use Rattle.fast_check_graph.specs.Root.{AreFoundByOwnNames}
-use Rattle.fast_check_build.specs.Found.{IsFound, WithSeed}
+use Rattle.fast_check_build.specs.Found.{IsFound}
 use Rattle.fast_check_build.proofs.OwnRanges.{own_public, own_implementing}
 
 -- what is answered of a module is said
@@ -51,10 +50,10 @@ found_public k roots found answers a says named = record {
       own_implementing k a.0 (flat_map yields_of found) a.2 named nv t r (said_about found answers says nv t (whether_implementing r) tt h);
 }
 
--- what holds of the items that a lent cache gives holds without a cache, or for the seed of that cache
+-- what holds of the items that a lent cache gives holds without a cache, or by the seed of that cache
 pub with_lent : {C : Type 0} (lent : Option C) (own : C → List ℕ) (by : C → List ℕ → Used) (seed : List ℕ) (k : Known)
     (So : Known → Type 0) →
-    MatchOption lent ⊤ (λ c. IsSeed (own c) seed) → So (with_used (used_of lent (λ c. by c seed)) k) →
-    MatchOption lent (So (with_used none_used k)) (λ c. WithSeed (own c) (λ s. So (with_used (by c s) k)))
+    MatchOption lent ⊤ (λ c. seed ≡ own c) → So (with_used (used_of lent (λ c. by c seed)) k) →
+    MatchOption lent (So (with_used none_used k)) (λ c. So (with_used (by c (own c)) k))
 with_lent None own by seed k So h so = so
-with_lent (Some c) own by seed k So h so = (seed, h, so)
+with_lent (Some c) own by seed k So h so = subst (λ (s : List ℕ). So (with_used (by c s) k)) h so

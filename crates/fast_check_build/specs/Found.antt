@@ -8,7 +8,6 @@ use Rattle.url.specs.Parts.{Parts}
 use Rattle.fast_check_packages.specs.declared.package.WorkspaceMember.{WorkspaceMember}
 use Rattle.fast_check_graph.specs.declared.graph.ModuleGraph.{ModuleGraph}
 use Rattle.fast_check_graph.specs.declared.root_symbol.RootSymbol.{RootSymbol}
-use Rattle.fast_check_cache.specs.Cache.{IsSeed}
 use Rattle.fast_check_cache.specs.declared.package_ranges.PackagePublicRanges.{PackagePublicRanges}
 use Rattle.fast_check_worklists.specs.Demands.{Text}
 use Rattle.fast_check_worklists.specs.Account.{Account, IsAccount, IsYield}
@@ -47,7 +46,3 @@ pub record IsFound (k : Known) (roots : List Nv) (answers : BTreeMap PackageNv P
   pub own_implementations : (nv : Nv) (t : Text) (r : SourceRange) →
       answer answers nv (about t (whether_implementing r)) ≡ true →
       IsOwnRange (named_at k.root_symbol t) r
-
--- it is so for one seed, that of the rules or the cache's own
-abbrev pub WithSeed : List ℕ → (List ℕ → Type 0) → Type 0
-WithSeed own so = (seed : List ℕ) × IsSeed own seed × so seed

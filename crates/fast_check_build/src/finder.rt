@@ -3,12 +3,11 @@
 ghost use Rattle.std.specs.Prelude.{◌≡◌, ⊤, map, MatchOption, IfOk, IfErr};
 ghost use Rattle.fast_check_packages.specs.Package.{nv_of};
 ghost use Rattle.fast_check_packages.specs.MembersIn.{members_in};
-ghost use Rattle.fast_check_cache.specs.Cache.{IsSeed};
 ghost use Rattle.fast_check_cache.specs.CachedPackages.{used_item};
 ghost use Rattle.fast_check_finder.specs.turns.wants.Sources.{with_used};
 ghost use Rattle.fast_check_finder.specs.turns.Lent.{used_of};
 ghost use Rattle.fast_check_finder.specs.Refusals.{IsRefusal};
-ghost use Rattle.fast_check_build.specs.Found.{known_of, IsFound, WithSeed};
+ghost use Rattle.fast_check_build.specs.Found.{known_of, IsFound};
 
 use fast_check_cache::{FastCheckCache, PackagePublicRanges};
 use fast_check_finder::{FinderInput, Sources, find_all};
@@ -20,7 +19,7 @@ use std::collections::{BTreeMap, VecDeque};
 
 /// The seed of the keys, where a cache is lent. It is asked once.
 fn seed_of(cache: Option<&dyn FastCheckCache>) -> &'static str
-    ensures { MatchOption cache.entry ⊤ (λ c. IsSeed (seed_text c.now) result.now) }
+    ensures { MatchOption cache.entry ⊤ (λ c. result.now ≡ seed_text c.now) }
 {
     match cache {
         Some(cache) => cache.hash_seed(),
@@ -69,11 +68,11 @@ pub fn find_public_ranges<'a>(
     pending_nvs: VecDeque<PackageNv>,
 ) -> Result<BTreeMap<PackageNv, PackagePublicRanges>, BuildFault>
     ensures found { let k = known_of graph.now root_symbol.now workspace_members.now (url_of jsr_url_provider.now) (nv_at jsr_url_provider.now) in
-        IfOk result (λ answers. MatchOption cache.entry (IsFound k (map nv_of pending_nvs.items) answers) (λ c. WithSeed (seed_text c.now) (λ seed.
-        IsFound (with_used (used_item (hash_of c.now seed) (stored c.now) graph.now) k) (map nv_of pending_nvs.items) answers))) }
+        IfOk result (λ answers. MatchOption cache.entry (IsFound k (map nv_of pending_nvs.items) answers) (λ c.
+        IsFound (with_used (used_item (hash_of c.now (seed_text c.now)) (stored c.now) graph.now) k) (map nv_of pending_nvs.items) answers)) }
     ensures refused { let k = known_of graph.now root_symbol.now workspace_members.now (url_of jsr_url_provider.now) (nv_at jsr_url_provider.now) in
-        IfErr result (λ fault. MatchOption cache.entry (IsRefusal k (map nv_of pending_nvs.items) fault) (λ c. WithSeed (seed_text c.now) (λ seed.
-        IsRefusal (with_used (used_item (hash_of c.now seed) (stored c.now) graph.now) k) (map nv_of pending_nvs.items) fault))) }
+        IfErr result (λ fault. MatchOption cache.entry (IsRefusal k (map nv_of pending_nvs.items) fault) (λ c.
+        IsRefusal (with_used (used_item (hash_of c.now (seed_text c.now)) (stored c.now) graph.now) k) (map nv_of pending_nvs.items) fault)) }
 {
     let seed = seed_of(cache);
     let members = IndexedMembers::new(alloc, workspace_members)?;
@@ -127,12 +126,12 @@ impl<'a> PublicRangeFinder<'a> {
     ) -> Result<BTreeMap<PackageNv, PackagePublicRanges>, BuildFault>
         ensures found { let f = finder_of self.entry in
             let k = known_of f.graph f.root_symbol f.workspace_members (url_of jsr_url_provider.now) (nv_at jsr_url_provider.now) in
-            IfOk result (λ answers. MatchOption cache.entry (IsFound k (map nv_of f.pending_nvs) answers) (λ c. WithSeed (seed_text c.now) (λ seed.
-            IsFound (with_used (used_item (hash_of c.now seed) (stored c.now) f.graph) k) (map nv_of f.pending_nvs) answers))) }
+            IfOk result (λ answers. MatchOption cache.entry (IsFound k (map nv_of f.pending_nvs) answers) (λ c.
+            IsFound (with_used (used_item (hash_of c.now (seed_text c.now)) (stored c.now) f.graph) k) (map nv_of f.pending_nvs) answers)) }
         ensures refused { let f = finder_of self.entry in
             let k = known_of f.graph f.root_symbol f.workspace_members (url_of jsr_url_provider.now) (nv_at jsr_url_provider.now) in
-            IfErr result (λ fault. MatchOption cache.entry (IsRefusal k (map nv_of f.pending_nvs) fault) (λ c. WithSeed (seed_text c.now) (λ seed.
-            IsRefusal (with_used (used_item (hash_of c.now seed) (stored c.now) f.graph) k) (map nv_of f.pending_nvs) fault))) }
+            IfErr result (λ fault. MatchOption cache.entry (IsRefusal k (map nv_of f.pending_nvs) fault) (λ c.
+            IsRefusal (with_used (used_item (hash_of c.now (seed_text c.now)) (stored c.now) f.graph) k) (map nv_of f.pending_nvs) fault)) }
     {
         let PublicRangeFinder {
             graph,

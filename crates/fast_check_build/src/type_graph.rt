@@ -1,10 +1,10 @@
 //! The skeletons of packages, or what is wrong with them: `build_fast_check_type_graph`.
-ghost use Rattle.std.specs.Prelude.{⊤, map, MatchOption, IfOk, IfErr};
+ghost use Rattle.std.specs.Prelude.{◌≡◌, ⊤, map, MatchOption, IfOk, IfErr};
 ghost use Rattle.fast_check_packages.specs.Package.{nv_of};
 ghost use Rattle.fast_check_cache.specs.CachedPackages.{used_item};
 ghost use Rattle.fast_check_finder.specs.turns.wants.Sources.{with_used};
 ghost use Rattle.fast_check_finder.specs.Refusals.{IsRefusal};
-ghost use Rattle.fast_check_build.specs.Found.{known_of, WithSeed};
+ghost use Rattle.fast_check_build.specs.Found.{known_of};
 ghost use Rattle.fast_check_build.specs.Build.{IsBuilt, IsBuiltWith, IsStopped};
 ghost use Rattle.fast_check_build.specs.Lent.{OldNew};
 
@@ -18,26 +18,28 @@ use fast_check_packages::{BuildFault, IndexedMembers, JsrUrlProvider, PackageNv}
 use std::alloc::Global;
 use std::collections::VecDeque;
 
-/// The build where a cache is lent. Its seed is asked once, and all its items are looked up before the first is set.
-fn build_with(
+/// The build where a cache is lent, by keys of this seed. All its items are looked up before the first is set.
+fn build_seeded(
     alloc: Global,
     cache: &mut dyn FastCheckCache,
+    seed: &str,
     jsr_url_provider: &dyn JsrUrlProvider,
     input: BuildInput<'_>,
     pending_nvs: VecDeque<PackageNv>,
 ) -> Result<Vec<ModuleAnswer>, BuildFault>
     ensures built { let i = input.entry in
         let k = known_of i.graph.now i.root_symbol.now i.options.now.workspace_members.items (url_of jsr_url_provider.now) (nv_at jsr_url_provider.now) in
-        IfOk result (λ answers. WithSeed (seed_text cache.old) (λ seed.
-        IsBuiltWith (with_used (used_item (hash_of cache.old seed) (stored cache.old) i.graph.now) k) (map nv_of pending_nvs.items)
-        i.options.now.should_error_on_first_diagnostic (hash_of cache.old seed) (stored cache.old) (stored cache.new) answers.items)) }
+        IfOk result (λ answers.
+        IsBuiltWith (with_used (used_item (hash_of cache.old seed.now) (stored cache.old) i.graph.now) k) (map nv_of pending_nvs.items)
+        i.options.now.should_error_on_first_diagnostic (hash_of cache.old seed.now) (stored cache.old) (stored cache.new) answers.items) }
     ensures stopped { let i = input.entry in
         let k = known_of i.graph.now i.root_symbol.now i.options.now.workspace_members.items (url_of jsr_url_provider.now) (nv_at jsr_url_provider.now) in
-        IfErr result (λ fault. WithSeed (seed_text cache.old) (λ seed.
-        IsStopped (with_used (used_item (hash_of cache.old seed) (stored cache.old) i.graph.now) k) (map nv_of pending_nvs.items)
-        i.options.now.should_error_on_first_diagnostic (hash_of cache.old seed) (stored cache.old) (stored cache.new) fault)) }
+        IfErr result (λ fault.
+        IsStopped (with_used (used_item (hash_of cache.old seed.now) (stored cache.old) i.graph.now) k) (map nv_of pending_nvs.items)
+        i.options.now.should_error_on_first_diagnostic (hash_of cache.old seed.now) (stored cache.old) (stored cache.new) fault) }
+    ensures seed { seed_text cache.new ≡ seed_text cache.old }
+    ensures hash { hash_of cache.new ≡ hash_of cache.old }
 {
-    let seed = cache.hash_seed();
     let members = IndexedMembers::new(alloc, input.options.workspace_members.as_slice())?;
     let sources = Sources {
         graph: input.graph,
@@ -50,6 +52,31 @@ fn build_with(
     let _ = ranges.len();
     let answers = answer_and_set_all(alloc, cache, seed, input, ranges)?;
     Ok(answers)
+}
+
+/// The same by the seed of the cache, which is asked once.
+fn build_with(
+    alloc: Global,
+    cache: &mut dyn FastCheckCache,
+    jsr_url_provider: &dyn JsrUrlProvider,
+    input: BuildInput<'_>,
+    pending_nvs: VecDeque<PackageNv>,
+) -> Result<Vec<ModuleAnswer>, BuildFault>
+    ensures built { let i = input.entry in
+        let k = known_of i.graph.now i.root_symbol.now i.options.now.workspace_members.items (url_of jsr_url_provider.now) (nv_at jsr_url_provider.now) in
+        IfOk result (λ answers.
+        IsBuiltWith (with_used (used_item (hash_of cache.old (seed_text cache.old)) (stored cache.old) i.graph.now) k) (map nv_of pending_nvs.items)
+        i.options.now.should_error_on_first_diagnostic (hash_of cache.old (seed_text cache.old)) (stored cache.old) (stored cache.new) answers.items) }
+    ensures stopped { let i = input.entry in
+        let k = known_of i.graph.now i.root_symbol.now i.options.now.workspace_members.items (url_of jsr_url_provider.now) (nv_at jsr_url_provider.now) in
+        IfErr result (λ fault.
+        IsStopped (with_used (used_item (hash_of cache.old (seed_text cache.old)) (stored cache.old) i.graph.now) k) (map nv_of pending_nvs.items)
+        i.options.now.should_error_on_first_diagnostic (hash_of cache.old (seed_text cache.old)) (stored cache.old) (stored cache.new) fault) }
+    ensures seed { seed_text cache.new ≡ seed_text cache.old }
+    ensures hash { hash_of cache.new ≡ hash_of cache.old }
+{
+    let seed = cache.hash_seed();
+    build_seeded(alloc, cache, seed, jsr_url_provider, input, pending_nvs)
 }
 
 /// The build where no cache is lent.
@@ -109,13 +136,17 @@ pub fn build_fast_check_type_graph(
         (nv_at jsr_url_provider.now) in
         MatchOption cache.entry (IfErr result (IsRefusal k (map nv_of pending_nvs.items))) (λ _. ⊤) }
     ensures built_with { let k = known_of graph.now root_symbol.now options.now.workspace_members.items (url_of jsr_url_provider.now) (nv_at jsr_url_provider.now) in
-        OldNew (λ old new. IfOk result (λ answers. WithSeed (seed_text old) (λ seed.
-        IsBuiltWith (with_used (used_item (hash_of old seed) (stored old) graph.now) k) (map nv_of pending_nvs.items)
-        options.now.should_error_on_first_diagnostic (hash_of old seed) (stored old) (stored new) answers.items))) cache.entry cache.exit }
+        OldNew (λ old new. IfOk result (λ answers.
+        IsBuiltWith (with_used (used_item (hash_of old (seed_text old)) (stored old) graph.now) k) (map nv_of pending_nvs.items)
+        options.now.should_error_on_first_diagnostic (hash_of old (seed_text old)) (stored old) (stored new) answers.items)) cache.entry cache.exit }
     ensures stopped { let k = known_of graph.now root_symbol.now options.now.workspace_members.items (url_of jsr_url_provider.now) (nv_at jsr_url_provider.now) in
-        OldNew (λ old new. IfErr result (λ fault. WithSeed (seed_text old) (λ seed.
-        IsStopped (with_used (used_item (hash_of old seed) (stored old) graph.now) k) (map nv_of pending_nvs.items)
-        options.now.should_error_on_first_diagnostic (hash_of old seed) (stored old) (stored new) fault))) cache.entry cache.exit }
+        OldNew (λ old new. IfErr result (λ fault.
+        IsStopped (with_used (used_item (hash_of old (seed_text old)) (stored old) graph.now) k) (map nv_of pending_nvs.items)
+        options.now.should_error_on_first_diagnostic (hash_of old (seed_text old)) (stored old) (stored new) fault)) cache.entry cache.exit }
+
+    // The cache has the seed and the hash that it had.
+    ensures seed { OldNew (λ old new. seed_text new ≡ seed_text old) cache.entry cache.exit }
+    ensures hash { OldNew (λ old new. hash_of new ≡ hash_of old) cache.entry cache.exit }
 {
     let input = BuildInput {
         graph,

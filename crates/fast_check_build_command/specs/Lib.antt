@@ -2,6 +2,6 @@ pub use Rattle.fast_check_requests.specs.Refusal
 pub use Rattle.fast_check_requests.specs.Run
 pub use Rattle.fast_check_build_requests.specs.Input
 pub use Rattle.fast_check_build_requests.specs.Request
-pub use Rattle.fast_check_write.specs.Answers
+pub use Rattle.fast_check_print.specs.Answers
 pub mod Build
 pub mod Line

@@ -3,7 +3,7 @@ use Rattle.std.specs.Prelude.{◌≡◌, ℕ, List, ◌++◌, Bool, true, false,
 use Rattle.std.specs.List.{list_any}
 use Rattle.serde_json.specs.Written.{compact_text}
 use Rattle.fast_check_requests.specs.Refusal.{line_end}
-use Rattle.fast_check_write.specs.Answers.{answers_data}
+use Rattle.fast_check_print.specs.Answers.{answers_data}
 use Rattle.fast_check_build.specs.package_answers.PackageAnswer.{Answer}
 
 -- a line of the compact JSON of the answers, in their order

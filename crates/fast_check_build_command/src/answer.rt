@@ -5,8 +5,8 @@ ghost use Rattle.std.specs.List.{list_any};
 ghost use Rattle.fast_check_build_command.specs.Line.{line_of, status_of, has_diagnostics, IsLineOf};
 
 use fast_check_build::package_answers::ModuleAnswer;
+use fast_check_print::print_answers;
 use fast_check_requests::Answer;
-use fast_check_write::write_answers;
 use json::Writer;
 use std::alloc::{AllocError, Global};
 
@@ -15,7 +15,7 @@ fn line_of_answers(alloc: Global, answers: Vec<ModuleAnswer>) -> Result<Vec<u8>,
     ensures { IfOk result (λ line. line.items ≡ line_of answers.items) }
 {
     let mut out = Writer::new(Vec::new(alloc));
-    write_answers(alloc, &mut out, answers)?;
+    print_answers(alloc, &mut out, answers)?;
     let mut line = out.into_inner();
     line.push(b'\n')?;
     Ok(line)

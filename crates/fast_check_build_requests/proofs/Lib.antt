@@ -1,3 +1,4 @@
 mod Seen
 mod Named
 mod Turns
+mod LastRows

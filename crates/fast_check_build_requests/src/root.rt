@@ -20,7 +20,8 @@ fn modules_by_name(
 ) -> Result<BTreeMap<Url, AnyModuleInfo>, AllocError>
     ensures { IfOk result (IsFromIterResult url_cmp modules.items) }
 {
-    modules.into_iter().collect(alloc)
+    let by_name = map_of(alloc, modules)?;
+    Ok(by_name)
 }
 
 /// The modules of these parts, and the names that stand for others. The modules are made in order, and of entries with one name the last counts.

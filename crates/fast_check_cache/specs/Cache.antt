@@ -1,5 +1,5 @@
 -- What contracts see of a cache: a map from keys to items, a seed and a function that hashes.
-use Rattle.std.specs.Prelude.{◌≡◌, ◌⊎◌, ℕ, List, map, ◌==◌, Option, Some, codes, if◌then◌else◌}
+use Rattle.std.specs.Prelude.{ℕ, List, map, ◌==◌, Option, Some, if◌then◌else◌}
 use Rattle.url.specs.Parts.{Parts}
 use Rattle.fast_check_syntax.specs.declared.tree.Tree.{Tree}
 use Rattle.fast_check_comments.specs.declared.comments.Comments.{Comments}
@@ -32,7 +32,3 @@ item_of i = (map nv_of i.dependencies.keys, map (λ e. (e.0, module_of e.1)) i.m
 -- the map with an item at a key
 unfoldable pub with_item : ℕ → ItemView → (ℕ → Option ItemView) → ℕ → Option ItemView
 with_item key item old k = if k == key then Some item else old k
-
--- the seed is that of the rules, or the cache's own
-abbrev pub IsSeed : List ℕ → List ℕ → Type 0
-IsSeed own seed = (seed ≡ codes "0.111.1-single-return") ⊎ (seed ≡ own)

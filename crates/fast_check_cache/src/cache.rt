@@ -2,7 +2,7 @@
 ghost use Rattle.std.specs.Prelude.{◌≡◌, ℕ, List, map, Option, option_map, codes, IfOk, OnOk, OnErr};
 ghost use Rattle.url.specs.Parts.{serialize};
 ghost use Rattle.fast_check_packages.specs.Package.{Nv, nv_of};
-ghost use Rattle.fast_check_cache.specs.Cache.{ItemView, IsSeed, item_of, with_item};
+ghost use Rattle.fast_check_cache.specs.Cache.{ItemView, item_of, with_item};
 
 use crate::item::FastCheckCacheItem;
 use fast_check_packages::PackageNv;
@@ -47,23 +47,23 @@ impl FastCheckCacheKey {
     }
 }
 
+/// The seed of the rules: a text that changes with them. `hash_seed` of a cache that has no seed of its own answers it.
+pub const HASH_SEED: &str = "0.111.1-single-return";
+
 /// A cache that a caller lends: a map from keys to items, a seed, and a function that hashes.
 pub trait FastCheckCache {
     /// The items by their keys.
     ghost stored: { Self → ℕ → Option ItemView };
 
-    /// A seed of its own.
-    ghost seed_text: { Self → List ℕ };
+    /// The seed: that of the rules, unless an `impl` says another.
+    ghost seed_text: { Self → List ℕ } = { λ _. codes "0.111.1-single-return" };
 
     /// The hash of a seed, a package and the texts of its entry points, in order and each once.
     ghost hash_of: { Self → List ℕ → Nv → List (List ℕ) → ℕ };
 
-    /// What hashes start from: a text that changes with the rules of fast check.
+    /// What hashes start from: `HASH_SEED`, or a seed of its own.
     fn hash_seed(&self) -> &'static str
-        ensures { IsSeed (seed_text self.now) result.now }
-    {
-        "0.111.1-single-return"
-    }
+        ensures { result.now ≡ seed_text self.now };
 
     /// The hash that the item of a package is kept under.
     fn key_hash(&self, seed: &str, package_nv: &PackageNv, entrypoints: &BTreeSet<Url>) -> u64

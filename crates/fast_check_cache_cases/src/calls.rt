@@ -1,15 +1,14 @@
 //! Under which keys caches are asked, and what they answer.
 
-ghost use Rattle.std.specs.Prelude.{map};
+ghost use Rattle.std.specs.Prelude.{◌≡◌, map};
 ghost use Rattle.url.specs.Parts.{serialize};
 ghost use Rattle.fast_check_packages.specs.Package.{nv_of};
-ghost use Rattle.fast_check_cache_cases.specs.Memory.{IsKey};
 
 use crate::memory::{MemoryCache, SeededCache};
 use crate::said_answers::kind_of;
 use fast_check_cache::{
     FastCheckCache, FastCheckCacheItem, FastCheckCacheKey, FastCheckCacheModuleItem,
-    FastCheckCacheModuleItemDiagnostic, FastCheckCacheModuleItemInfo,
+    FastCheckCacheModuleItemDiagnostic, FastCheckCacheModuleItemInfo, HASH_SEED,
 };
 use fast_check_cases::Said;
 use fast_check_comments::Comments;
@@ -22,13 +21,13 @@ use std::collections::BTreeSet;
 use std::io;
 use url::Url;
 
-/// The key of a package: the hash of it and of its entry points under the seed that the cache gives.
+/// The key of a package: the hash of it and of its entry points under the seed of the cache.
 fn key_of(
     cache: &dyn FastCheckCache,
     package_nv: &PackageNv,
     entrypoints: &BTreeSet<Url>,
 ) -> FastCheckCacheKey
-    ensures { IsKey (seed_text cache.now) (hash_of cache.now) (nv_of package_nv.now) (map serialize entrypoints.now.keys) result }
+    ensures { result ≡ hash_of cache.now (seed_text cache.now) (nv_of package_nv.now) (map serialize entrypoints.now.keys) }
 {
     let seed = cache.hash_seed();
     FastCheckCacheKey::build(cache.key_hash(seed, package_nv, entrypoints))
@@ -165,7 +164,7 @@ fn say_key(
         cache.hash_seed(),
         key.as_u64()
     ));
-    for seed in ["0.111.1-single-return", "example 1"] {
+    for seed in [HASH_SEED, "example 1"] {
         let is_key = cache.key_hash(seed, nv, entrypoints) == key.as_u64();
         said.say_path("    is the hash under ", seed, ": ");
         said.say_flag(is_key);

@@ -1,12 +1,12 @@
 //! Caches in memory, as a caller lends them: one with the seed of the rules, and one with a seed of its own.
 
-ghost use Rattle.std.specs.Prelude.{◌≡◌, codes};
+ghost use Rattle.std.specs.Prelude.{◌≡◌};
 ghost use Rattle.fast_check_cache_cases.specs.Memory.{items_at, HasNothing};
 ghost use Rattle.fast_check_cache_cases.specs.Hash.{hash_package};
 
 use crate::hash::package_hash;
 use crate::items::Items;
-use fast_check_cache::{FastCheckCache, FastCheckCacheItem, FastCheckCacheKey};
+use fast_check_cache::{FastCheckCache, FastCheckCacheItem, FastCheckCacheKey, HASH_SEED};
 use fast_check_packages::PackageNv;
 use std::alloc::{AllocError, Global};
 use std::collections::BTreeSet;
@@ -32,9 +32,11 @@ impl MemoryCache {
 impl FastCheckCache for MemoryCache {
     ghost stored = { λ cache. items_at cache.items };
 
-    ghost seed_text = { λ _. codes "0.111.1-single-return" };
-
     ghost hash_of = { λ _. hash_package };
+
+    fn hash_seed(&self) -> &'static str {
+        HASH_SEED
+    }
 
     fn key_hash(&self, seed: &str, package_nv: &PackageNv, entrypoints: &BTreeSet<Url>) -> u64 {
         package_hash(seed, package_nv, entrypoints)

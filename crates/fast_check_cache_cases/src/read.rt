@@ -1,7 +1,7 @@
 //! What is read of a run of builds beside its requests.
 
 use crate::run_cache::{RunCache, Traits};
-use fast_check_cache::FastCheckCacheItem;
+use fast_check_cache::{FastCheckCacheItem, HASH_SEED};
 use fast_check_cases::Said;
 use fast_check_packages::PackageNv;
 use fast_check_read::{ReadError, read_array, read_optional_flag, read_text};
@@ -37,11 +37,7 @@ fn ordered<T: Ord + Drop>(alloc: Global, items: Vec<T>, said: &mut Said) -> BTre
 fn read_traits(alloc: Global, value: &Value) -> Result<Traits, ReadError> {
     let has_own_seed = read_optional_flag(value.get("own_seed"))?;
     Ok(Traits {
-        seed: if has_own_seed {
-            "example 1"
-        } else {
-            "0.111.1-single-return"
-        },
+        seed: if has_own_seed { "example 1" } else { HASH_SEED },
         has_one_key: read_optional_flag(value.get("one_key"))?,
         refused_get: read_option(alloc, value, "refused_get")?,
         refused_set: read_option(alloc, value, "refused_set")?,

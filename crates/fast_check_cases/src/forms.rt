@@ -3,10 +3,12 @@
 //! - `print FORM JSON` reads the value where the form stands, and prints the tree again.
 //! - `odd NAME` prints a tree that no JSON is read as.
 //! - `make NAME` prints what a call makes that no transform calls.
+//! - `form NAME` says the fields of a form that is made, each of which tells its place.
 //! - `returns JSON` says how the block of statements returns.
 //!
 //! What is not of its form is `refused`.
 mod cases;
+mod every;
 mod made;
 mod names;
 mod odd;

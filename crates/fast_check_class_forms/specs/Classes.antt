@@ -1,7 +1,6 @@
 -- Written by forms/write.py from forms/forms.txt.
 -- Classes, constructors and the rarer members.
--- Each form has its fields by their names, and what it holds once it reads a node;
--- where it is made, the node of its fields.
+-- Each form has its fields by their names, what it holds once it reads a node, and the node of its fields.
 use Rattle.std.specs.Prelude.{◌≡◌, Bool, [], ◌∷◌}
 use Rattle.fast_check_syntax.specs.declared.kind.Kind.TheVariants as kinds
 use Rattle.fast_check_syntax.specs.declared.part.Part.{Part}
@@ -123,6 +122,11 @@ pub record ReadsTsParamProp (form : TsParamProp Part) (t : Tree) : Type 0 where
   pub readonly : form.readonly ≡ TsParamProp-readonly t
   pub param : seen form.param ≡ TsParamProp-param t
 
+abbrev pub ts_param_prop : SourceRange → Tree → Tree → Bool → Bool → Tree → Tree
+ts_param_prop span decorators accessibility is_override readonly param =
+    node kinds.TsParamProp (Range span ∷ decorators ∷ accessibility ∷ Flag is_override ∷ Flag readonly ∷
+    param ∷ [])
+
 -- `static body`.
 abbrev pub StaticBlock-span : Tree → SourceRange
 StaticBlock-span t = range_of (part 0 t)
@@ -133,6 +137,9 @@ StaticBlock-body t = part 1 t
 pub record ReadsStaticBlock (form : StaticBlock Part) (t : Tree) : Type 0 where
   pub span : form.span ≡ StaticBlock-span t
   pub body : seen form.body ≡ StaticBlock-body t
+
+abbrev pub static_block : SourceRange → Tree → Tree
+static_block span body = node kinds.StaticBlock (Range span ∷ body ∷ [])
 
 -- `[params]: type_ann`, in a class, an interface or a type literal.
 abbrev pub TsIndexSignature-span : Tree → SourceRange
@@ -156,3 +163,7 @@ pub record ReadsTsIndexSignature (form : TsIndexSignature Part) (t : Tree) : Typ
   pub type_ann : seen form.type_ann ≡ TsIndexSignature-type_ann t
   pub readonly : form.readonly ≡ TsIndexSignature-readonly t
   pub is_static : form.is_static ≡ TsIndexSignature-is_static t
+
+abbrev pub ts_index_signature : SourceRange → Tree → Tree → Bool → Bool → Tree
+ts_index_signature span params type_ann readonly is_static =
+    node kinds.TsIndexSignature (Range span ∷ params ∷ type_ann ∷ Flag readonly ∷ Flag is_static ∷ [])

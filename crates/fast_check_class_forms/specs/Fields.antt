@@ -1,7 +1,6 @@
 -- Written by forms/write.py from forms/forms.txt.
 -- Properties and accessors of a class.
--- Each form has its fields by their names, and what it holds once it reads a node;
--- where it is made, the node of its fields.
+-- Each form has its fields by their names, what it holds once it reads a node, and the node of its fields.
 use Rattle.std.specs.Prelude.{◌≡◌, Bool, [], ◌∷◌}
 use Rattle.fast_check_syntax.specs.declared.kind.Kind.TheVariants as kinds
 use Rattle.fast_check_syntax.specs.declared.part.Part.{Part}
@@ -176,3 +175,8 @@ pub record ReadsAutoAccessor (form : AutoAccessor Part) (t : Tree) : Type 0 wher
   pub is_abstract : form.is_abstract ≡ AutoAccessor-is_abstract t
   pub is_override : form.is_override ≡ AutoAccessor-is_override t
   pub definite : form.definite ≡ AutoAccessor-definite t
+
+abbrev pub auto_accessor : SourceRange → Tree → Tree → Tree → Bool → Tree → Tree → Bool → Bool → Bool → Tree
+auto_accessor span key value type_ann is_static decorators accessibility is_abstract is_override definite =
+    node kinds.AutoAccessor (Range span ∷ key ∷ value ∷ type_ann ∷ Flag is_static ∷ decorators ∷
+    accessibility ∷ Flag is_abstract ∷ Flag is_override ∷ Flag definite ∷ [])

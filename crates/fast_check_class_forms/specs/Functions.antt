@@ -1,7 +1,6 @@
 -- Written by forms/write.py from forms/forms.txt.
 -- Functions, their parameters, and decorators.
--- Each form has its fields by their names, and what it holds once it reads a node;
--- where it is made, the node of its fields.
+-- Each form has its fields by their names, what it holds once it reads a node, and the node of its fields.
 use Rattle.std.specs.Prelude.{◌≡◌, Bool, [], ◌∷◌}
 use Rattle.fast_check_syntax.specs.declared.kind.Kind.TheVariants as kinds
 use Rattle.fast_check_syntax.specs.declared.part.Part.{Part}
@@ -86,3 +85,6 @@ Decorator-expr t = part 1 t
 pub record ReadsDecorator (form : Decorator Part) (t : Tree) : Type 0 where
   pub span : form.span ≡ Decorator-span t
   pub expr : seen form.expr ≡ Decorator-expr t
+
+abbrev pub decorator : SourceRange → Tree → Tree
+decorator span expr = node kinds.Decorator (Range span ∷ expr ∷ [])

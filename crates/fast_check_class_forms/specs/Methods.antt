@@ -1,7 +1,6 @@
 -- Written by forms/write.py from forms/forms.txt.
 -- Methods of a class.
--- Each form has its fields by their names, and what it holds once it reads a node;
--- where it is made, the node of its fields.
+-- Each form has its fields by their names, what it holds once it reads a node, and the node of its fields.
 use Rattle.std.specs.Prelude.{◌≡◌, Bool, [], ◌∷◌}
 use Rattle.fast_check_syntax.specs.declared.kind.Kind.TheVariants as kinds
 use Rattle.fast_check_syntax.specs.declared.part.Part.{Part}
@@ -94,3 +93,8 @@ pub record ReadsPrivateMethod (form : PrivateMethod Part) (t : Tree) : Type 0 wh
   pub is_abstract : form.is_abstract ≡ PrivateMethod-is_abstract t
   pub is_optional : form.is_optional ≡ PrivateMethod-is_optional t
   pub is_override : form.is_override ≡ PrivateMethod-is_override t
+
+abbrev pub private_method : SourceRange → Tree → Tree → Tree → Bool → Tree → Bool → Bool → Bool → Tree
+private_method span key function kind is_static accessibility is_abstract is_optional is_override =
+    node kinds.PrivateMethod (Range span ∷ key ∷ function ∷ kind ∷ Flag is_static ∷ accessibility ∷
+    Flag is_abstract ∷ Flag is_optional ∷ Flag is_override ∷ [])

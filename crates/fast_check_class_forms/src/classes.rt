@@ -9,8 +9,11 @@ ghost use Rattle.fast_check_class_forms.specs.Classes.{
   ReadsConstructor,
   constructor,
   ReadsTsParamProp,
+  ts_param_prop,
   ReadsStaticBlock,
+  static_block,
   ReadsTsIndexSignature,
+  ts_index_signature,
 };
 
 use fast_check_syntax::{Kind, Part, SourceRange, SyntaxContext, Tree};
@@ -189,6 +192,36 @@ impl<'a> TsParamProp<Part<'a>> {
     }
 }
 
+impl TsParamProp<Tree> {
+    /// The node of these fields.
+    pub fn into_tree(self, alloc: Global) -> Result<Tree, AllocError>
+        ensures { IfOk result (λ tree. tree ≡
+            ts_param_prop self.span self.decorators self.accessibility self.is_override
+            self.readonly self.param) }
+    {
+        let TsParamProp {
+            span,
+            decorators,
+            accessibility,
+            is_override,
+            readonly,
+            param,
+        } = self;
+        Tree::node(
+            alloc,
+            Kind::TsParamProp,
+            [
+                Tree::Range(span),
+                decorators,
+                accessibility,
+                Tree::Flag(is_override),
+                Tree::Flag(readonly),
+                param,
+            ],
+        )
+    }
+}
+
 /// `static body`.
 #[derive(Drop)]
 pub struct StaticBlock<N> {
@@ -206,6 +239,16 @@ impl<'a> StaticBlock<Part<'a>> {
             span: node.part(0).range(),
             body: node.part(1),
         }
+    }
+}
+
+impl StaticBlock<Tree> {
+    /// The node of these fields.
+    pub fn into_tree(self, alloc: Global) -> Result<Tree, AllocError>
+        ensures { IfOk result (λ tree. tree ≡ static_block self.span self.body) }
+    {
+        let StaticBlock { span, body } = self;
+        Tree::node(alloc, Kind::StaticBlock, [Tree::Range(span), body])
     }
 }
 
@@ -233,5 +276,32 @@ impl<'a> TsIndexSignature<Part<'a>> {
             readonly: node.part(3).flag(),
             is_static: node.part(4).flag(),
         }
+    }
+}
+
+impl TsIndexSignature<Tree> {
+    /// The node of these fields.
+    pub fn into_tree(self, alloc: Global) -> Result<Tree, AllocError>
+        ensures { IfOk result (λ tree. tree ≡
+            ts_index_signature self.span self.params self.type_ann self.readonly self.is_static) }
+    {
+        let TsIndexSignature {
+            span,
+            params,
+            type_ann,
+            readonly,
+            is_static,
+        } = self;
+        Tree::node(
+            alloc,
+            Kind::TsIndexSignature,
+            [
+                Tree::Range(span),
+                params,
+                type_ann,
+                Tree::Flag(readonly),
+                Tree::Flag(is_static),
+            ],
+        )
     }
 }

@@ -9,6 +9,7 @@ ghost use Rattle.fast_check_class_forms.specs.Fields.{
   ReadsPrivateProp,
   private_prop,
   ReadsAutoAccessor,
+  auto_accessor,
 };
 
 use fast_check_syntax::{Kind, Part, SourceRange, SyntaxContext, Tree};
@@ -235,5 +236,44 @@ impl<'a> AutoAccessor<Part<'a>> {
             is_override: node.part(8).flag(),
             definite: node.part(9).flag(),
         }
+    }
+}
+
+impl AutoAccessor<Tree> {
+    /// The node of these fields.
+    pub fn into_tree(self, alloc: Global) -> Result<Tree, AllocError>
+        ensures { IfOk result (λ tree. tree ≡
+            auto_accessor self.span self.key self.value self.type_ann self.is_static
+            self.decorators self.accessibility self.is_abstract self.is_override
+            self.definite) }
+    {
+        let AutoAccessor {
+            span,
+            key,
+            value,
+            type_ann,
+            is_static,
+            decorators,
+            accessibility,
+            is_abstract,
+            is_override,
+            definite,
+        } = self;
+        Tree::node(
+            alloc,
+            Kind::AutoAccessor,
+            [
+                Tree::Range(span),
+                key,
+                value,
+                type_ann,
+                Tree::Flag(is_static),
+                decorators,
+                accessibility,
+                Tree::Flag(is_abstract),
+                Tree::Flag(is_override),
+                Tree::Flag(definite),
+            ],
+        )
     }
 }

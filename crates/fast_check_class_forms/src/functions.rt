@@ -9,6 +9,7 @@ ghost use Rattle.fast_check_class_forms.specs.Functions.{
   ReadsParam,
   param,
   ReadsDecorator,
+  decorator,
 };
 
 use fast_check_syntax::{Kind, Part, SourceRange, SyntaxContext, Tree};
@@ -145,5 +146,15 @@ impl<'a> Decorator<Part<'a>> {
             span: node.part(0).range(),
             expr: node.part(1),
         }
+    }
+}
+
+impl Decorator<Tree> {
+    /// The node of these fields.
+    pub fn into_tree(self, alloc: Global) -> Result<Tree, AllocError>
+        ensures { IfOk result (λ tree. tree ≡ decorator self.span self.expr) }
+    {
+        let Decorator { span, expr } = self;
+        Tree::node(alloc, Kind::Decorator, [Tree::Range(span), expr])
     }
 }

@@ -7,6 +7,7 @@ ghost use Rattle.fast_check_class_forms.specs.Methods.{
   ReadsClassMethod,
   class_method,
   ReadsPrivateMethod,
+  private_method,
 };
 
 use fast_check_syntax::{Kind, Part, SourceRange, Tree};
@@ -121,5 +122,41 @@ impl<'a> PrivateMethod<Part<'a>> {
             is_optional: node.part(7).flag(),
             is_override: node.part(8).flag(),
         }
+    }
+}
+
+impl PrivateMethod<Tree> {
+    /// The node of these fields.
+    pub fn into_tree(self, alloc: Global) -> Result<Tree, AllocError>
+        ensures { IfOk result (λ tree. tree ≡
+            private_method self.span self.key self.function self.kind self.is_static
+            self.accessibility self.is_abstract self.is_optional self.is_override) }
+    {
+        let PrivateMethod {
+            span,
+            key,
+            function,
+            kind,
+            is_static,
+            accessibility,
+            is_abstract,
+            is_optional,
+            is_override,
+        } = self;
+        Tree::node(
+            alloc,
+            Kind::PrivateMethod,
+            [
+                Tree::Range(span),
+                key,
+                function,
+                kind,
+                Tree::Flag(is_static),
+                accessibility,
+                Tree::Flag(is_abstract),
+                Tree::Flag(is_optional),
+                Tree::Flag(is_override),
+            ],
+        )
     }
 }

@@ -1,5 +1,5 @@
 -- The commands of the program `fast-check`, and what it does with its words and its file.
-use Rattle.std.specs.Prelude.{◌≡◌, ℕ, List, codes, if◌then◌else◌, Option, Some, None}
+use Rattle.std.specs.Prelude.{◌≡◌, ℕ, Bool, List, codes, if◌then◌else◌, Option, Some, None}
 use Rattle.std.specs.Str.{bytes_eq}
 use Rattle.fast_check_requests.specs.declared.ending.Ending.{Ending}
 use Rattle.fast_check_requests.specs.declared.refusal.Refusal.{Refusal}
@@ -48,9 +48,11 @@ RefusesCall = run.RefusesCall command_named RefusesBytes
 abbrev pub AnswersCall : List (List ℕ) → File → List ℕ → ℕ → Type 0
 AnswersCall = run.AnswersCall command_named AnswersBytes
 
-abbrev pub HasAnswer : List (List ℕ) → File → Type 0
-HasAnswer = run.HasAnswer command_named AnswersBytes
+-- its line is taken
+abbrev pub IsAnswered : {S : Type 0} → (S → List ℕ → Bool → S → Type 0) → List (List ℕ) → File → S → S → Ending →
+    Type 0
+IsAnswered takes = run.IsAnswered command_named AnswersBytes takes
 
--- the line of an answer is what is written: of the bytes that a stream held and holds then, what is known
-abbrev pub IsAnswered : List (List ℕ) → File → Option (List ℕ) → Option (List ℕ) → Ending → Type 0
-IsAnswered = run.IsAnswered command_named AnswersBytes
+-- it was tried, and is not taken
+abbrev pub IsRefusedAnswer : {S : Type 0} → (S → List ℕ → Bool → S → Type 0) → List (List ℕ) → File → S → S → Type 0
+IsRefusedAnswer takes = run.IsRefusedAnswer command_named AnswersBytes takes

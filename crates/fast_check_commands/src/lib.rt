@@ -5,5 +5,5 @@ mod command;
 mod program;
 
 pub use command::AnyCommand;
-pub use fast_check_requests::{Ending, Refusal, read_call};
+pub use fast_check_requests::{Ending, LineWriter, Lines, Refusal, read_call, run_commands};
 pub use program::run;

@@ -3,7 +3,7 @@
 use Rattle.std.specs.Prelude.{Bool, true, false, ◌&&◌, ◌||◌, List, [], ◌∷◌, IsTrue}
 use Rattle.std.specs.List.{list_any, Contains}
 use Rattle.std.specs.Str.{bytes_eq}
-use Rattle.fast_check_names.specs.Names.{Path}
+use Rattle.fast_check_lattice.specs.Names.{Path}
 use Rattle.fast_check_symbol_demands.specs.symbols.Tables.{Tables}
 use Rattle.fast_check_symbol_demands.specs.symbols.declared.symbol_id.SymbolId.{SymbolId}
 use Rattle.fast_check_symbol_demands.specs.declared.demand.Namespace.{Namespace}

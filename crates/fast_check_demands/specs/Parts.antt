@@ -4,7 +4,7 @@
 use Rattle.std.specs.Prelude.{cond, List, [], ◌∷◌, map, String, string_bytes}
 use Rattle.std.specs.List.{flat_map}
 use Rattle.std.specs.declared.alloc.Global.{Global}
-use Rattle.fast_check_names.specs.Names.{Path}
+use Rattle.fast_check_lattice.specs.Names.{Path}
 use Rattle.fast_check_symbol_demands.specs.symbols.Symbols.{symbol_of}
 use Rattle.fast_check_symbol_demands.specs.symbols.Tables.{Tables}
 use Rattle.fast_check_symbol_demands.specs.symbols.declared.symbol_id.SymbolId.{SymbolId}

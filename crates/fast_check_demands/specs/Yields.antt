@@ -2,7 +2,7 @@
 use Rattle.std.specs.Prelude.{◌≡◌, Bool, false, cond, not, ◌&&◌, List, [], ◌∷◌, ◌++◌, map, Option, Some, None, length}
 use Rattle.std.specs.Prelude.{take, option_to_list, leb, ◌⊎◌}
 use Rattle.std.specs.List.{Contains, flat_map, filter, list_any}
-use Rattle.fast_check_names.specs.Names.{Name, Path, path_of}
+use Rattle.fast_check_lattice.specs.Names.{Name, Path, path_of}
 use Rattle.fast_check_syntax.specs.declared.source.SourceRange.{SourceRange}
 use Rattle.fast_check_symbol_demands.specs.symbols.declared.symbol_id.SymbolId.{SymbolId}
 use Rattle.fast_check_symbol_demands.specs.symbols.declared.symbol.Symbol.{Symbol}

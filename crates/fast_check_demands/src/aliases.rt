@@ -2,7 +2,7 @@
 ghost use Rattle.std.specs.Prelude.{◌≡◌, ◌∷◌, [], ◌++◌, OnOk, cond, string_bytes};
 ghost use Rattle.std.specs.List.{flat_map};
 ghost use Rattle.std.specs.Option.{option_copied};
-ghost use Rattle.fast_check_names.specs.Names.{path_of};
+ghost use Rattle.fast_check_lattice.specs.Names.{path_of};
 ghost use Rattle.fast_check_symbol_demands.specs.symbols.Symbols.{symbol_of};
 ghost use Rattle.fast_check_symbol_demands.specs.Demands.{demand_of};
 ghost use Rattle.fast_check_symbol_demands.specs.Rules.{each_of, qualified, member_names, prototype_names, export_names, first_names};

@@ -1,6 +1,6 @@
 //! Members by their names, and where a qualified name begins.
 ghost use Rattle.std.specs.Prelude.{◌≡◌, string_bytes, take, ◌<◌, length};
-ghost use Rattle.fast_check_names.specs.Names.{path_of};
+ghost use Rattle.fast_check_lattice.specs.Names.{path_of};
 ghost use Rattle.fast_check_symbol_demands.specs.Rules.{is_prototype};
 
 use fast_check_symbol_demands::symbols::SymbolDecls;

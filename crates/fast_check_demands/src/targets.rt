@@ -2,7 +2,7 @@
 //! paths that are asked of the symbol, whoever asks.
 ghost use Rattle.std.specs.Prelude.{◌≡◌, [], ◌∷◌, ◌++◌, map, option_to_list, IfOk, OnOk};
 ghost use Rattle.std.specs.Option.{option_copied};
-ghost use Rattle.fast_check_names.specs.Names.{path_of};
+ghost use Rattle.fast_check_lattice.specs.Names.{path_of};
 ghost use Rattle.fast_check_symbol_demands.specs.Rules.{each_of, qualified};
 ghost use Rattle.fast_check_demands.specs.Parts.{own_parts};
 ghost use Rattle.fast_check_demands.specs.Targets.{kind_targets, decl_targets, targets_at, AreListed, AreKept};

@@ -1,7 +1,6 @@
 -- Written by forms/write.py from forms/forms.txt.
 -- TypeScript's own expressions.
--- Each form has its fields by their names, and what it holds once it reads a node;
--- where it is made, the node of its fields.
+-- Each form has its fields by their names, what it holds once it reads a node, and the node of its fields.
 use Rattle.std.specs.Prelude.{◌≡◌, [], ◌∷◌}
 use Rattle.fast_check_syntax.specs.declared.kind.Kind.TheVariants as kinds
 use Rattle.fast_check_syntax.specs.declared.part.Part.{Part}
@@ -81,6 +80,9 @@ pub record ReadsTsConstAssertion (form : TsConstAssertion Part) (t : Tree) : Typ
   pub span : form.span ≡ TsConstAssertion-span t
   pub expr : seen form.expr ≡ TsConstAssertion-expr t
 
+abbrev pub ts_const_assertion : SourceRange → Tree → Tree
+ts_const_assertion span expr = node kinds.TsConstAssertion (Range span ∷ expr ∷ [])
+
 -- `expr!`.
 abbrev pub TsNonNullExpr-span : Tree → SourceRange
 TsNonNullExpr-span t = range_of (part 0 t)
@@ -91,6 +93,9 @@ TsNonNullExpr-expr t = part 1 t
 pub record ReadsTsNonNullExpr (form : TsNonNullExpr Part) (t : Tree) : Type 0 where
   pub span : form.span ≡ TsNonNullExpr-span t
   pub expr : seen form.expr ≡ TsNonNullExpr-expr t
+
+abbrev pub ts_non_null_expr : SourceRange → Tree → Tree
+ts_non_null_expr span expr = node kinds.TsNonNullExpr (Range span ∷ expr ∷ [])
 
 -- `expr<type_args>`, with no call behind it.
 abbrev pub TsInstantiation-span : Tree → SourceRange
@@ -106,3 +111,6 @@ pub record ReadsTsInstantiation (form : TsInstantiation Part) (t : Tree) : Type 
   pub span : form.span ≡ TsInstantiation-span t
   pub expr : seen form.expr ≡ TsInstantiation-expr t
   pub type_args : seen form.type_args ≡ TsInstantiation-type_args t
+
+abbrev pub ts_instantiation : SourceRange → Tree → Tree → Tree
+ts_instantiation span expr type_args = node kinds.TsInstantiation (Range span ∷ expr ∷ type_args ∷ [])

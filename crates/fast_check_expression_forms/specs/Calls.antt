@@ -1,14 +1,13 @@
 -- Written by forms/write.py from forms/forms.txt.
 -- Members and calls.
--- Each form has its fields by their names, and what it holds once it reads a node;
--- where it is made, the node of its fields.
+-- Each form has its fields by their names, what it holds once it reads a node, and the node of its fields.
 use Rattle.std.specs.Prelude.{◌≡◌, Bool, ℕ, List, [], ◌∷◌}
 use Rattle.std.specs.Borrow.{Bor}
 use Rattle.fast_check_syntax.specs.declared.kind.Kind.TheVariants as kinds
 use Rattle.fast_check_syntax.specs.declared.part.Part.{Part}
 use Rattle.fast_check_syntax.specs.declared.source.SourceRange.{SourceRange}
 use Rattle.fast_check_syntax.specs.declared.source.SyntaxContext.{SyntaxContext}
-use Rattle.fast_check_syntax.specs.declared.tree.Tree.{Tree, Range, Context}
+use Rattle.fast_check_syntax.specs.declared.tree.Tree.{Tree, Range, Flag, Context, Text}
 use Rattle.fast_check_syntax.specs.Part.{seen}
 use Rattle.fast_check_syntax.specs.Shape.{node, part, range_of, text_of, flag_of, context_of}
 use Rattle.fast_check_expression_forms.specs.declared.calls.MemberExpr.{MemberExpr}
@@ -35,6 +34,9 @@ pub record ReadsMemberExpr (form : MemberExpr Part) (t : Tree) : Type 0 where
   pub obj : seen form.obj ≡ MemberExpr-obj t
   pub prop : seen form.prop ≡ MemberExpr-prop t
 
+abbrev pub member_expr : SourceRange → Tree → Tree → Tree
+member_expr span obj prop = node kinds.MemberExpr (Range span ∷ obj ∷ prop ∷ [])
+
 -- `super.prop` or `super[prop]`.
 abbrev pub SuperPropExpr-span : Tree → SourceRange
 SuperPropExpr-span t = range_of (part 0 t)
@@ -45,6 +47,9 @@ SuperPropExpr-prop t = part 1 t
 pub record ReadsSuperPropExpr (form : SuperPropExpr Part) (t : Tree) : Type 0 where
   pub span : form.span ≡ SuperPropExpr-span t
   pub prop : seen form.prop ≡ SuperPropExpr-prop t
+
+abbrev pub super_prop_expr : SourceRange → Tree → Tree
+super_prop_expr span prop = node kinds.SuperPropExpr (Range span ∷ prop ∷ [])
 
 -- `callee<type_args>(args)`.
 abbrev pub CallExpr-span : Tree → SourceRange
@@ -80,6 +85,9 @@ Super-span t = range_of (part 0 t)
 pub record ReadsSuper (form : Super) (t : Tree) : Type 0 where
   pub span : form.span ≡ Super-span t
 
+abbrev pub super : SourceRange → Tree
+super span = node kinds.Super (Range span ∷ [])
+
 -- `import`, as what is called.
 abbrev pub Import-span : Tree → SourceRange
 Import-span t = range_of (part 0 t)
@@ -90,6 +98,9 @@ Import-phase t = text_of (part 1 t)
 pub record ReadsImport (form : Import (Bor (List ℕ))) (t : Tree) : Type 0 where
   pub span : form.span ≡ Import-span t
   pub phase : form.phase.now ≡ Import-phase t
+
+abbrev pub import : SourceRange → List ℕ → Tree
+import span phase = node kinds.Import (Range span ∷ Text phase ∷ [])
 
 -- `new callee<type_args>(args)`.
 abbrev pub NewExpr-span : Tree → SourceRange
@@ -114,6 +125,10 @@ pub record ReadsNewExpr (form : NewExpr Part) (t : Tree) : Type 0 where
   pub args : seen form.args ≡ NewExpr-args t
   pub type_args : seen form.type_args ≡ NewExpr-type_args t
 
+abbrev pub new_expr : SourceRange → SyntaxContext → Tree → Tree → Tree → Tree
+new_expr span ctxt callee args type_args =
+    node kinds.NewExpr (Range span ∷ Context ctxt ∷ callee ∷ args ∷ type_args ∷ [])
+
 -- `base` with a `?.` in it, as `a?.b` or `a?.b()`.
 abbrev pub OptChainExpr-span : Tree → SourceRange
 OptChainExpr-span t = range_of (part 0 t)
@@ -128,6 +143,9 @@ pub record ReadsOptChainExpr (form : OptChainExpr Part) (t : Tree) : Type 0 wher
   pub span : form.span ≡ OptChainExpr-span t
   pub optional : form.optional ≡ OptChainExpr-optional t
   pub base : seen form.base ≡ OptChainExpr-base t
+
+abbrev pub opt_chain_expr : SourceRange → Bool → Tree → Tree
+opt_chain_expr span optional base = node kinds.OptChainExpr (Range span ∷ Flag optional ∷ base ∷ [])
 
 -- A call in an optional chain: `callee?.<type_args>(args)`.
 abbrev pub OptCall-span : Tree → SourceRange
@@ -151,3 +169,7 @@ pub record ReadsOptCall (form : OptCall Part) (t : Tree) : Type 0 where
   pub callee : seen form.callee ≡ OptCall-callee t
   pub args : seen form.args ≡ OptCall-args t
   pub type_args : seen form.type_args ≡ OptCall-type_args t
+
+abbrev pub opt_call : SourceRange → SyntaxContext → Tree → Tree → Tree → Tree
+opt_call span ctxt callee args type_args =
+    node kinds.OptCall (Range span ∷ Context ctxt ∷ callee ∷ args ∷ type_args ∷ [])

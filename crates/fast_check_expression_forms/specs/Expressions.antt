@@ -1,14 +1,13 @@
 -- Written by forms/write.py from forms/forms.txt.
 -- Expressions.
--- Each form has its fields by their names, and what it holds once it reads a node;
--- where it is made, the node of its fields.
+-- Each form has its fields by their names, what it holds once it reads a node, and the node of its fields.
 use Rattle.std.specs.Prelude.{◌≡◌, Bool, ℕ, List, [], ◌∷◌}
 use Rattle.std.specs.Borrow.{Bor}
 use Rattle.fast_check_syntax.specs.declared.kind.Kind.TheVariants as kinds
 use Rattle.fast_check_syntax.specs.declared.part.Part.{Part}
 use Rattle.fast_check_syntax.specs.declared.source.SourceRange.{SourceRange}
 use Rattle.fast_check_syntax.specs.declared.source.SyntaxContext.{SyntaxContext}
-use Rattle.fast_check_syntax.specs.declared.tree.Tree.{Tree, Range, Flag, Context}
+use Rattle.fast_check_syntax.specs.declared.tree.Tree.{Tree, Range, Flag, Context, Text}
 use Rattle.fast_check_syntax.specs.Part.{seen}
 use Rattle.fast_check_syntax.specs.Shape.{node, part, range_of, text_of, flag_of, context_of}
 use Rattle.fast_check_expression_forms.specs.declared.expressions.ThisExpr.{ThisExpr}
@@ -31,6 +30,9 @@ ThisExpr-span t = range_of (part 0 t)
 
 pub record ReadsThisExpr (form : ThisExpr) (t : Tree) : Type 0 where
   pub span : form.span ≡ ThisExpr-span t
+
+abbrev pub this_expr : SourceRange → Tree
+this_expr span = node kinds.ThisExpr (Range span ∷ [])
 
 -- `[elems]`.
 abbrev pub ArrayLit-span : Tree → SourceRange
@@ -153,6 +155,9 @@ pub record ReadsSeqExpr (form : SeqExpr Part) (t : Tree) : Type 0 where
   pub span : form.span ≡ SeqExpr-span t
   pub exprs : seen form.exprs ≡ SeqExpr-exprs t
 
+abbrev pub seq_expr : SourceRange → Tree → Tree
+seq_expr span exprs = node kinds.SeqExpr (Range span ∷ exprs ∷ [])
+
 -- `(expr)`.
 abbrev pub ParenExpr-span : Tree → SourceRange
 ParenExpr-span t = range_of (part 0 t)
@@ -182,6 +187,9 @@ pub record ReadsYieldExpr (form : YieldExpr Part) (t : Tree) : Type 0 where
   pub arg : seen form.arg ≡ YieldExpr-arg t
   pub delegate : form.delegate ≡ YieldExpr-delegate t
 
+abbrev pub yield_expr : SourceRange → Tree → Bool → Tree
+yield_expr span arg delegate = node kinds.YieldExpr (Range span ∷ arg ∷ Flag delegate ∷ [])
+
 -- `await arg`.
 abbrev pub AwaitExpr-span : Tree → SourceRange
 AwaitExpr-span t = range_of (part 0 t)
@@ -192,6 +200,9 @@ AwaitExpr-arg t = part 1 t
 pub record ReadsAwaitExpr (form : AwaitExpr Part) (t : Tree) : Type 0 where
   pub span : form.span ≡ AwaitExpr-span t
   pub arg : seen form.arg ≡ AwaitExpr-arg t
+
+abbrev pub await_expr : SourceRange → Tree → Tree
+await_expr span arg = node kinds.AwaitExpr (Range span ∷ arg ∷ [])
 
 -- `new.target` or `import.meta`.
 abbrev pub MetaPropExpr-span : Tree → SourceRange
@@ -204,9 +215,15 @@ pub record ReadsMetaPropExpr (form : MetaPropExpr (Bor (List ℕ))) (t : Tree) :
   pub span : form.span ≡ MetaPropExpr-span t
   pub kind : form.kind.now ≡ MetaPropExpr-kind t
 
+abbrev pub meta_prop_expr : SourceRange → List ℕ → Tree
+meta_prop_expr span kind = node kinds.MetaPropExpr (Range span ∷ Text kind ∷ [])
+
 -- What could not be read, as an expression or a pattern.
 abbrev pub Invalid-span : Tree → SourceRange
 Invalid-span t = range_of (part 0 t)
 
 pub record ReadsInvalid (form : Invalid) (t : Tree) : Type 0 where
   pub span : form.span ≡ Invalid-span t
+
+abbrev pub invalid : SourceRange → Tree
+invalid span = node kinds.Invalid (Range span ∷ [])

@@ -1,7 +1,6 @@
 -- Written by forms/write.py from forms/forms.txt.
 -- Patterns.
--- Each form has its fields by their names, and what it holds once it reads a node;
--- where it is made, the node of its fields.
+-- Each form has its fields by their names, what it holds once it reads a node, and the node of its fields.
 use Rattle.std.specs.Prelude.{◌≡◌, Bool, [], ◌∷◌}
 use Rattle.fast_check_syntax.specs.declared.kind.Kind.TheVariants as kinds
 use Rattle.fast_check_syntax.specs.declared.part.Part.{Part}
@@ -113,6 +112,9 @@ pub record ReadsKeyValuePatProp (form : KeyValuePatProp Part) (t : Tree) : Type 
   pub key : seen form.key ≡ KeyValuePatProp-key t
   pub value : seen form.value ≡ KeyValuePatProp-value t
 
+abbrev pub key_value_pat_prop : Tree → Tree → Tree
+key_value_pat_prop key value = node kinds.KeyValuePatProp (key ∷ value ∷ [])
+
 -- `key = value` in an object pattern, or `key` alone.
 abbrev pub AssignPatProp-span : Tree → SourceRange
 AssignPatProp-span t = range_of (part 0 t)
@@ -127,6 +129,9 @@ pub record ReadsAssignPatProp (form : AssignPatProp Part) (t : Tree) : Type 0 wh
   pub span : form.span ≡ AssignPatProp-span t
   pub key : seen form.key ≡ AssignPatProp-key t
   pub value : seen form.value ≡ AssignPatProp-value t
+
+abbrev pub assign_pat_prop : SourceRange → Tree → Tree → Tree
+assign_pat_prop span key value = node kinds.AssignPatProp (Range span ∷ key ∷ value ∷ [])
 
 -- An expression where a pattern stands, as `a.b` in `[a.b] = c`.
 abbrev pub PatExpr-expr : Tree → Tree
@@ -144,3 +149,6 @@ TargetPat-pat t = part 0 t
 
 pub record ReadsTargetPat (form : TargetPat Part) (t : Tree) : Type 0 where
   pub pat : seen form.pat ≡ TargetPat-pat t
+
+abbrev pub target_pat : Tree → Tree
+target_pat pat = node kinds.TargetPat (pat ∷ [])

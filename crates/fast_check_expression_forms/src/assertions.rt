@@ -11,8 +11,11 @@ ghost use Rattle.fast_check_expression_forms.specs.Assertions.{
   ReadsTsSatisfiesExpr,
   ts_satisfies_expr,
   ReadsTsConstAssertion,
+  ts_const_assertion,
   ReadsTsNonNullExpr,
+  ts_non_null_expr,
   ReadsTsInstantiation,
+  ts_instantiation,
 };
 
 use fast_check_syntax::{Kind, Part, SourceRange, Tree};
@@ -159,6 +162,16 @@ impl<'a> TsConstAssertion<Part<'a>> {
     }
 }
 
+impl TsConstAssertion<Tree> {
+    /// The node of these fields.
+    pub fn into_tree(self, alloc: Global) -> Result<Tree, AllocError>
+        ensures { IfOk result (λ tree. tree ≡ ts_const_assertion self.span self.expr) }
+    {
+        let TsConstAssertion { span, expr } = self;
+        Tree::node(alloc, Kind::TsConstAssertion, [Tree::Range(span), expr])
+    }
+}
+
 /// `expr!`.
 #[derive(Drop)]
 pub struct TsNonNullExpr<N> {
@@ -176,6 +189,16 @@ impl<'a> TsNonNullExpr<Part<'a>> {
             span: node.part(0).range(),
             expr: node.part(1),
         }
+    }
+}
+
+impl TsNonNullExpr<Tree> {
+    /// The node of these fields.
+    pub fn into_tree(self, alloc: Global) -> Result<Tree, AllocError>
+        ensures { IfOk result (λ tree. tree ≡ ts_non_null_expr self.span self.expr) }
+    {
+        let TsNonNullExpr { span, expr } = self;
+        Tree::node(alloc, Kind::TsNonNullExpr, [Tree::Range(span), expr])
     }
 }
 
@@ -199,5 +222,24 @@ impl<'a> TsInstantiation<Part<'a>> {
             expr: node.part(1),
             type_args: node.part(2),
         }
+    }
+}
+
+impl TsInstantiation<Tree> {
+    /// The node of these fields.
+    pub fn into_tree(self, alloc: Global) -> Result<Tree, AllocError>
+        ensures { IfOk result (λ tree. tree ≡
+            ts_instantiation self.span self.expr self.type_args) }
+    {
+        let TsInstantiation {
+            span,
+            expr,
+            type_args,
+        } = self;
+        Tree::node(
+            alloc,
+            Kind::TsInstantiation,
+            [Tree::Range(span), expr, type_args],
+        )
     }
 }

@@ -5,17 +5,24 @@ ghost use Rattle.std.specs.Prelude.{◌≡◌, IfOk};
 ghost use Rattle.fast_check_syntax.specs.Part.{seen};
 ghost use Rattle.fast_check_expression_forms.specs.Calls.{
   ReadsMemberExpr,
+  member_expr,
   ReadsSuperPropExpr,
+  super_prop_expr,
   ReadsCallExpr,
   call_expr,
   ReadsSuper,
+  super,
   ReadsImport,
+  import,
   ReadsNewExpr,
+  new_expr,
   ReadsOptChainExpr,
+  opt_chain_expr,
   ReadsOptCall,
+  opt_call,
 };
 
-use fast_check_syntax::{Kind, Part, SourceRange, SyntaxContext, Tree};
+use fast_check_syntax::{Atom, Kind, Part, SourceRange, SyntaxContext, Tree};
 use std::alloc::{AllocError, Global};
 
 /// `obj.prop`, `obj.#prop` or `obj[prop]`.
@@ -41,6 +48,16 @@ impl<'a> MemberExpr<Part<'a>> {
     }
 }
 
+impl MemberExpr<Tree> {
+    /// The node of these fields.
+    pub fn into_tree(self, alloc: Global) -> Result<Tree, AllocError>
+        ensures { IfOk result (λ tree. tree ≡ member_expr self.span self.obj self.prop) }
+    {
+        let MemberExpr { span, obj, prop } = self;
+        Tree::node(alloc, Kind::MemberExpr, [Tree::Range(span), obj, prop])
+    }
+}
+
 /// `super.prop` or `super[prop]`.
 #[derive(Drop)]
 pub struct SuperPropExpr<N> {
@@ -58,6 +75,16 @@ impl<'a> SuperPropExpr<Part<'a>> {
             span: node.part(0).range(),
             prop: node.part(1),
         }
+    }
+}
+
+impl SuperPropExpr<Tree> {
+    /// The node of these fields.
+    pub fn into_tree(self, alloc: Global) -> Result<Tree, AllocError>
+        ensures { IfOk result (λ tree. tree ≡ super_prop_expr self.span self.prop) }
+    {
+        let SuperPropExpr { span, prop } = self;
+        Tree::node(alloc, Kind::SuperPropExpr, [Tree::Range(span), prop])
     }
 }
 
@@ -131,6 +158,14 @@ impl Super {
             span: node.part(0).range(),
         }
     }
+
+    /// The node of these fields.
+    pub fn into_tree(self, alloc: Global) -> Result<Tree, AllocError>
+        ensures { IfOk result (λ tree. tree ≡ super self.span) }
+    {
+        let Super { span } = self;
+        Tree::node(alloc, Kind::Super, [Tree::Range(span)])
+    }
 }
 
 /// `import`, as what is called.
@@ -150,6 +185,16 @@ impl<'a> Import<&'a str> {
             span: node.part(0).range(),
             phase: node.part(1).text(),
         }
+    }
+}
+
+impl Import<Atom> {
+    /// The node of these fields.
+    pub fn into_tree(self, alloc: Global) -> Result<Tree, AllocError>
+        ensures { IfOk result (λ tree. tree ≡ import self.span self.phase) }
+    {
+        let Import { span, phase } = self;
+        Tree::node(alloc, Kind::Import, [Tree::Range(span), Tree::Text(phase)])
     }
 }
 
@@ -181,6 +226,33 @@ impl<'a> NewExpr<Part<'a>> {
     }
 }
 
+impl NewExpr<Tree> {
+    /// The node of these fields.
+    pub fn into_tree(self, alloc: Global) -> Result<Tree, AllocError>
+        ensures { IfOk result (λ tree. tree ≡
+            new_expr self.span self.ctxt self.callee self.args self.type_args) }
+    {
+        let NewExpr {
+            span,
+            ctxt,
+            callee,
+            args,
+            type_args,
+        } = self;
+        Tree::node(
+            alloc,
+            Kind::NewExpr,
+            [
+                Tree::Range(span),
+                Tree::Context(ctxt),
+                callee,
+                args,
+                type_args,
+            ],
+        )
+    }
+}
+
 /// `base` with a `?.` in it, as `a?.b` or `a?.b()`.
 #[derive(Drop)]
 pub struct OptChainExpr<N> {
@@ -201,6 +273,24 @@ impl<'a> OptChainExpr<Part<'a>> {
             optional: node.part(1).flag(),
             base: node.part(2),
         }
+    }
+}
+
+impl OptChainExpr<Tree> {
+    /// The node of these fields.
+    pub fn into_tree(self, alloc: Global) -> Result<Tree, AllocError>
+        ensures { IfOk result (λ tree. tree ≡ opt_chain_expr self.span self.optional self.base) }
+    {
+        let OptChainExpr {
+            span,
+            optional,
+            base,
+        } = self;
+        Tree::node(
+            alloc,
+            Kind::OptChainExpr,
+            [Tree::Range(span), Tree::Flag(optional), base],
+        )
     }
 }
 
@@ -229,5 +319,32 @@ impl<'a> OptCall<Part<'a>> {
             args: node.part(3),
             type_args: node.part(4),
         }
+    }
+}
+
+impl OptCall<Tree> {
+    /// The node of these fields.
+    pub fn into_tree(self, alloc: Global) -> Result<Tree, AllocError>
+        ensures { IfOk result (λ tree. tree ≡
+            opt_call self.span self.ctxt self.callee self.args self.type_args) }
+    {
+        let OptCall {
+            span,
+            ctxt,
+            callee,
+            args,
+            type_args,
+        } = self;
+        Tree::node(
+            alloc,
+            Kind::OptCall,
+            [
+                Tree::Range(span),
+                Tree::Context(ctxt),
+                callee,
+                args,
+                type_args,
+            ],
+        )
     }
 }

@@ -5,6 +5,7 @@ ghost use Rattle.std.specs.Prelude.{◌≡◌, IfOk};
 ghost use Rattle.fast_check_syntax.specs.Part.{seen};
 ghost use Rattle.fast_check_expression_forms.specs.Expressions.{
   ReadsThisExpr,
+  this_expr,
   ReadsArrayLit,
   array_lit,
   ReadsExprOrSpread,
@@ -18,15 +19,20 @@ ghost use Rattle.fast_check_expression_forms.specs.Expressions.{
   ReadsArrowExpr,
   arrow_expr,
   ReadsSeqExpr,
+  seq_expr,
   ReadsParenExpr,
   paren_expr,
   ReadsYieldExpr,
+  yield_expr,
   ReadsAwaitExpr,
+  await_expr,
   ReadsMetaPropExpr,
+  meta_prop_expr,
   ReadsInvalid,
+  invalid,
 };
 
-use fast_check_syntax::{Kind, Part, SourceRange, SyntaxContext, Tree};
+use fast_check_syntax::{Atom, Kind, Part, SourceRange, SyntaxContext, Tree};
 use std::alloc::{AllocError, Global};
 
 /// `this`.
@@ -43,6 +49,14 @@ impl ThisExpr {
         ThisExpr {
             span: node.part(0).range(),
         }
+    }
+
+    /// The node of these fields.
+    pub fn into_tree(self, alloc: Global) -> Result<Tree, AllocError>
+        ensures { IfOk result (λ tree. tree ≡ this_expr self.span) }
+    {
+        let ThisExpr { span } = self;
+        Tree::node(alloc, Kind::ThisExpr, [Tree::Range(span)])
     }
 }
 
@@ -289,6 +303,16 @@ impl<'a> SeqExpr<Part<'a>> {
     }
 }
 
+impl SeqExpr<Tree> {
+    /// The node of these fields.
+    pub fn into_tree(self, alloc: Global) -> Result<Tree, AllocError>
+        ensures { IfOk result (λ tree. tree ≡ seq_expr self.span self.exprs) }
+    {
+        let SeqExpr { span, exprs } = self;
+        Tree::node(alloc, Kind::SeqExpr, [Tree::Range(span), exprs])
+    }
+}
+
 /// `(expr)`.
 #[derive(Drop)]
 pub struct ParenExpr<N> {
@@ -342,6 +366,24 @@ impl<'a> YieldExpr<Part<'a>> {
     }
 }
 
+impl YieldExpr<Tree> {
+    /// The node of these fields.
+    pub fn into_tree(self, alloc: Global) -> Result<Tree, AllocError>
+        ensures { IfOk result (λ tree. tree ≡ yield_expr self.span self.arg self.delegate) }
+    {
+        let YieldExpr {
+            span,
+            arg,
+            delegate,
+        } = self;
+        Tree::node(
+            alloc,
+            Kind::YieldExpr,
+            [Tree::Range(span), arg, Tree::Flag(delegate)],
+        )
+    }
+}
+
 /// `await arg`.
 #[derive(Drop)]
 pub struct AwaitExpr<N> {
@@ -359,6 +401,16 @@ impl<'a> AwaitExpr<Part<'a>> {
             span: node.part(0).range(),
             arg: node.part(1),
         }
+    }
+}
+
+impl AwaitExpr<Tree> {
+    /// The node of these fields.
+    pub fn into_tree(self, alloc: Global) -> Result<Tree, AllocError>
+        ensures { IfOk result (λ tree. tree ≡ await_expr self.span self.arg) }
+    {
+        let AwaitExpr { span, arg } = self;
+        Tree::node(alloc, Kind::AwaitExpr, [Tree::Range(span), arg])
     }
 }
 
@@ -382,6 +434,20 @@ impl<'a> MetaPropExpr<&'a str> {
     }
 }
 
+impl MetaPropExpr<Atom> {
+    /// The node of these fields.
+    pub fn into_tree(self, alloc: Global) -> Result<Tree, AllocError>
+        ensures { IfOk result (λ tree. tree ≡ meta_prop_expr self.span self.kind) }
+    {
+        let MetaPropExpr { span, kind } = self;
+        Tree::node(
+            alloc,
+            Kind::MetaPropExpr,
+            [Tree::Range(span), Tree::Text(kind)],
+        )
+    }
+}
+
 /// What could not be read, as an expression or a pattern.
 #[derive(Drop)]
 pub struct Invalid {
@@ -396,5 +462,13 @@ impl Invalid {
         Invalid {
             span: node.part(0).range(),
         }
+    }
+
+    /// The node of these fields.
+    pub fn into_tree(self, alloc: Global) -> Result<Tree, AllocError>
+        ensures { IfOk result (λ tree. tree ≡ invalid self.span) }
+    {
+        let Invalid { span } = self;
+        Tree::node(alloc, Kind::Invalid, [Tree::Range(span)])
     }
 }

@@ -1,16 +1,23 @@
 //! JSX, held as it is written. Each form with its fields by their names.
 // Written by forms/write.py from forms/forms.txt.
 
+ghost use Rattle.std.specs.Prelude.{◌≡◌, IfOk};
 ghost use Rattle.fast_check_syntax.specs.Part.{seen};
 ghost use Rattle.fast_check_expression_forms.specs.Jsx.{
   ReadsJSXMember,
+  jsx_member,
   ReadsJSXNamespacedName,
+  jsx_namespaced_name,
   ReadsJSXEmpty,
+  jsx_empty,
   ReadsJSXElement,
+  jsx_element,
   ReadsJSXFragment,
+  jsx_fragment,
 };
 
-use fast_check_syntax::{Part, SourceRange};
+use fast_check_syntax::{Atom, Kind, Part, SourceRange, Tree};
+use std::alloc::{AllocError, Global};
 
 /// `a.b` as the name of a JSX tag.
 #[derive(Drop)]
@@ -29,6 +36,16 @@ impl<'a> JSXMember<&'a str> {
             span: node.part(0).range(),
             raw: node.part(1).text(),
         }
+    }
+}
+
+impl JSXMember<Atom> {
+    /// The node of these fields.
+    pub fn into_tree(self, alloc: Global) -> Result<Tree, AllocError>
+        ensures { IfOk result (λ tree. tree ≡ jsx_member self.span self.raw) }
+    {
+        let JSXMember { span, raw } = self;
+        Tree::node(alloc, Kind::JSXMember, [Tree::Range(span), Tree::Text(raw)])
     }
 }
 
@@ -52,6 +69,20 @@ impl<'a> JSXNamespacedName<&'a str> {
     }
 }
 
+impl JSXNamespacedName<Atom> {
+    /// The node of these fields.
+    pub fn into_tree(self, alloc: Global) -> Result<Tree, AllocError>
+        ensures { IfOk result (λ tree. tree ≡ jsx_namespaced_name self.span self.raw) }
+    {
+        let JSXNamespacedName { span, raw } = self;
+        Tree::node(
+            alloc,
+            Kind::JSXNamespacedName,
+            [Tree::Range(span), Tree::Text(raw)],
+        )
+    }
+}
+
 /// What stands between the braces of `{}` in JSX.
 #[derive(Drop)]
 pub struct JSXEmpty<T> {
@@ -69,6 +100,16 @@ impl<'a> JSXEmpty<&'a str> {
             span: node.part(0).range(),
             raw: node.part(1).text(),
         }
+    }
+}
+
+impl JSXEmpty<Atom> {
+    /// The node of these fields.
+    pub fn into_tree(self, alloc: Global) -> Result<Tree, AllocError>
+        ensures { IfOk result (λ tree. tree ≡ jsx_empty self.span self.raw) }
+    {
+        let JSXEmpty { span, raw } = self;
+        Tree::node(alloc, Kind::JSXEmpty, [Tree::Range(span), Tree::Text(raw)])
     }
 }
 
@@ -92,6 +133,20 @@ impl<'a> JSXElement<&'a str> {
     }
 }
 
+impl JSXElement<Atom> {
+    /// The node of these fields.
+    pub fn into_tree(self, alloc: Global) -> Result<Tree, AllocError>
+        ensures { IfOk result (λ tree. tree ≡ jsx_element self.span self.raw) }
+    {
+        let JSXElement { span, raw } = self;
+        Tree::node(
+            alloc,
+            Kind::JSXElement,
+            [Tree::Range(span), Tree::Text(raw)],
+        )
+    }
+}
+
 /// `<>..</>`.
 #[derive(Drop)]
 pub struct JSXFragment<T> {
@@ -109,5 +164,19 @@ impl<'a> JSXFragment<&'a str> {
             span: node.part(0).range(),
             raw: node.part(1).text(),
         }
+    }
+}
+
+impl JSXFragment<Atom> {
+    /// The node of these fields.
+    pub fn into_tree(self, alloc: Global) -> Result<Tree, AllocError>
+        ensures { IfOk result (λ tree. tree ≡ jsx_fragment self.span self.raw) }
+    {
+        let JSXFragment { span, raw } = self;
+        Tree::node(
+            alloc,
+            Kind::JSXFragment,
+            [Tree::Range(span), Tree::Text(raw)],
+        )
     }
 }

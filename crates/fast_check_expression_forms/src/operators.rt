@@ -1,16 +1,23 @@
 //! Operators. Each form with its fields by their names.
 // Written by forms/write.py from forms/forms.txt.
 
+ghost use Rattle.std.specs.Prelude.{◌≡◌, IfOk};
 ghost use Rattle.fast_check_syntax.specs.Part.{seen};
 ghost use Rattle.fast_check_expression_forms.specs.Operators.{
   ReadsUnaryExpr,
+  unary_expr,
   ReadsUpdateExpr,
+  update_expr,
   ReadsBinExpr,
+  bin_expr,
   ReadsAssignExpr,
+  assign_expr,
   ReadsCondExpr,
+  cond_expr,
 };
 
-use fast_check_syntax::{Part, SourceRange};
+use fast_check_syntax::{Atom, Kind, Part, SourceRange, Tree};
+use std::alloc::{AllocError, Global};
 
 /// `op arg`, as `!a` or `typeof a`.
 #[derive(Drop)]
@@ -32,6 +39,20 @@ impl<'a> UnaryExpr<Part<'a>, &'a str> {
             op: node.part(1).text(),
             arg: node.part(2),
         }
+    }
+}
+
+impl UnaryExpr<Tree, Atom> {
+    /// The node of these fields.
+    pub fn into_tree(self, alloc: Global) -> Result<Tree, AllocError>
+        ensures { IfOk result (λ tree. tree ≡ unary_expr self.span self.op self.arg) }
+    {
+        let UnaryExpr { span, op, arg } = self;
+        Tree::node(
+            alloc,
+            Kind::UnaryExpr,
+            [Tree::Range(span), Tree::Text(op), arg],
+        )
     }
 }
 
@@ -61,6 +82,25 @@ impl<'a> UpdateExpr<Part<'a>, &'a str> {
     }
 }
 
+impl UpdateExpr<Tree, Atom> {
+    /// The node of these fields.
+    pub fn into_tree(self, alloc: Global) -> Result<Tree, AllocError>
+        ensures { IfOk result (λ tree. tree ≡ update_expr self.span self.op self.prefix self.arg) }
+    {
+        let UpdateExpr {
+            span,
+            op,
+            prefix,
+            arg,
+        } = self;
+        Tree::node(
+            alloc,
+            Kind::UpdateExpr,
+            [Tree::Range(span), Tree::Text(op), Tree::Flag(prefix), arg],
+        )
+    }
+}
+
 /// `left op right`, as `a + b`.
 #[derive(Drop)]
 pub struct BinExpr<N, T> {
@@ -84,6 +124,25 @@ impl<'a> BinExpr<Part<'a>, &'a str> {
             left: node.part(2),
             right: node.part(3),
         }
+    }
+}
+
+impl BinExpr<Tree, Atom> {
+    /// The node of these fields.
+    pub fn into_tree(self, alloc: Global) -> Result<Tree, AllocError>
+        ensures { IfOk result (λ tree. tree ≡ bin_expr self.span self.op self.left self.right) }
+    {
+        let BinExpr {
+            span,
+            op,
+            left,
+            right,
+        } = self;
+        Tree::node(
+            alloc,
+            Kind::BinExpr,
+            [Tree::Range(span), Tree::Text(op), left, right],
+        )
     }
 }
 
@@ -113,6 +172,25 @@ impl<'a> AssignExpr<Part<'a>, &'a str> {
     }
 }
 
+impl AssignExpr<Tree, Atom> {
+    /// The node of these fields.
+    pub fn into_tree(self, alloc: Global) -> Result<Tree, AllocError>
+        ensures { IfOk result (λ tree. tree ≡ assign_expr self.span self.op self.left self.right) }
+    {
+        let AssignExpr {
+            span,
+            op,
+            left,
+            right,
+        } = self;
+        Tree::node(
+            alloc,
+            Kind::AssignExpr,
+            [Tree::Range(span), Tree::Text(op), left, right],
+        )
+    }
+}
+
 /// `test ? cons : alt`.
 #[derive(Drop)]
 pub struct CondExpr<N> {
@@ -136,5 +214,20 @@ impl<'a> CondExpr<Part<'a>> {
             cons: node.part(2),
             alt: node.part(3),
         }
+    }
+}
+
+impl CondExpr<Tree> {
+    /// The node of these fields.
+    pub fn into_tree(self, alloc: Global) -> Result<Tree, AllocError>
+        ensures { IfOk result (λ tree. tree ≡ cond_expr self.span self.test self.cons self.alt) }
+    {
+        let CondExpr {
+            span,
+            test,
+            cons,
+            alt,
+        } = self;
+        Tree::node(alloc, Kind::CondExpr, [Tree::Range(span), test, cons, alt])
     }
 }

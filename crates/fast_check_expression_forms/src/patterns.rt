@@ -13,10 +13,13 @@ ghost use Rattle.fast_check_expression_forms.specs.Patterns.{
   ReadsAssignPat,
   assign_pat,
   ReadsKeyValuePatProp,
+  key_value_pat_prop,
   ReadsAssignPatProp,
+  assign_pat_prop,
   ReadsPatExpr,
   pat_expr,
   ReadsTargetPat,
+  target_pat,
 };
 
 use fast_check_syntax::{Kind, Part, SourceRange, Tree};
@@ -214,6 +217,16 @@ impl<'a> KeyValuePatProp<Part<'a>> {
     }
 }
 
+impl KeyValuePatProp<Tree> {
+    /// The node of these fields.
+    pub fn into_tree(self, alloc: Global) -> Result<Tree, AllocError>
+        ensures { IfOk result (λ tree. tree ≡ key_value_pat_prop self.key self.value) }
+    {
+        let KeyValuePatProp { key, value } = self;
+        Tree::node(alloc, Kind::KeyValuePatProp, [key, value])
+    }
+}
+
 /// `key = value` in an object pattern, or `key` alone.
 #[derive(Drop)]
 pub struct AssignPatProp<N> {
@@ -234,6 +247,16 @@ impl<'a> AssignPatProp<Part<'a>> {
             key: node.part(1),
             value: node.part(2),
         }
+    }
+}
+
+impl AssignPatProp<Tree> {
+    /// The node of these fields.
+    pub fn into_tree(self, alloc: Global) -> Result<Tree, AllocError>
+        ensures { IfOk result (λ tree. tree ≡ assign_pat_prop self.span self.key self.value) }
+    {
+        let AssignPatProp { span, key, value } = self;
+        Tree::node(alloc, Kind::AssignPatProp, [Tree::Range(span), key, value])
     }
 }
 
@@ -276,5 +299,15 @@ impl<'a> TargetPat<Part<'a>> {
         ensures { ReadsTargetPat result (seen node.entry) }
     {
         TargetPat { pat: node.part(0) }
+    }
+}
+
+impl TargetPat<Tree> {
+    /// The node of these fields.
+    pub fn into_tree(self, alloc: Global) -> Result<Tree, AllocError>
+        ensures { IfOk result (λ tree. tree ≡ target_pat self.pat) }
+    {
+        let TargetPat { pat } = self;
+        Tree::node(alloc, Kind::TargetPat, [pat])
     }
 }

@@ -1,18 +1,27 @@
 //! What stands in an object's braces. Each form with its fields by their names.
 // Written by forms/write.py from forms/forms.txt.
 
+ghost use Rattle.std.specs.Prelude.{◌≡◌, IfOk};
 ghost use Rattle.fast_check_syntax.specs.Part.{seen};
 ghost use Rattle.fast_check_expression_forms.specs.Properties.{
   ReadsSpreadElement,
+  spread_element,
   ReadsKeyValueProp,
+  key_value_prop,
   ReadsAssignProp,
+  assign_prop,
   ReadsGetterProp,
+  getter_prop,
   ReadsSetterProp,
+  setter_prop,
   ReadsMethodProp,
+  method_prop,
   ReadsComputedPropName,
+  computed_prop_name,
 };
 
-use fast_check_syntax::{Part, SourceRange};
+use fast_check_syntax::{Kind, Part, SourceRange, Tree};
+use std::alloc::{AllocError, Global};
 
 /// `...expr` in an object.
 #[derive(Drop)]
@@ -32,6 +41,16 @@ impl<'a> SpreadElement<Part<'a>> {
             dot3_token: node.part(0).range(),
             expr: node.part(1),
         }
+    }
+}
+
+impl SpreadElement<Tree> {
+    /// The node of these fields.
+    pub fn into_tree(self, alloc: Global) -> Result<Tree, AllocError>
+        ensures { IfOk result (λ tree. tree ≡ spread_element self.dot3_token self.expr) }
+    {
+        let SpreadElement { dot3_token, expr } = self;
+        Tree::node(alloc, Kind::SpreadElement, [Tree::Range(dot3_token), expr])
     }
 }
 
@@ -56,6 +75,16 @@ impl<'a> KeyValueProp<Part<'a>> {
     }
 }
 
+impl KeyValueProp<Tree> {
+    /// The node of these fields.
+    pub fn into_tree(self, alloc: Global) -> Result<Tree, AllocError>
+        ensures { IfOk result (λ tree. tree ≡ key_value_prop self.key self.value) }
+    {
+        let KeyValueProp { key, value } = self;
+        Tree::node(alloc, Kind::KeyValueProp, [key, value])
+    }
+}
+
 /// `key = value`, which stands only in what is then read as a pattern.
 #[derive(Drop)]
 pub struct AssignProp<N> {
@@ -76,6 +105,16 @@ impl<'a> AssignProp<Part<'a>> {
             key: node.part(1),
             value: node.part(2),
         }
+    }
+}
+
+impl AssignProp<Tree> {
+    /// The node of these fields.
+    pub fn into_tree(self, alloc: Global) -> Result<Tree, AllocError>
+        ensures { IfOk result (λ tree. tree ≡ assign_prop self.span self.key self.value) }
+    {
+        let AssignProp { span, key, value } = self;
+        Tree::node(alloc, Kind::AssignProp, [Tree::Range(span), key, value])
     }
 }
 
@@ -105,6 +144,26 @@ impl<'a> GetterProp<Part<'a>> {
     }
 }
 
+impl GetterProp<Tree> {
+    /// The node of these fields.
+    pub fn into_tree(self, alloc: Global) -> Result<Tree, AllocError>
+        ensures { IfOk result (λ tree. tree ≡
+            getter_prop self.span self.key self.type_ann self.body) }
+    {
+        let GetterProp {
+            span,
+            key,
+            type_ann,
+            body,
+        } = self;
+        Tree::node(
+            alloc,
+            Kind::GetterProp,
+            [Tree::Range(span), key, type_ann, body],
+        )
+    }
+}
+
 /// `set key(param) body`.
 #[derive(Drop)]
 pub struct SetterProp<N> {
@@ -131,6 +190,26 @@ impl<'a> SetterProp<Part<'a>> {
     }
 }
 
+impl SetterProp<Tree> {
+    /// The node of these fields.
+    pub fn into_tree(self, alloc: Global) -> Result<Tree, AllocError>
+        ensures { IfOk result (λ tree. tree ≡
+            setter_prop self.span self.key self.param self.body) }
+    {
+        let SetterProp {
+            span,
+            key,
+            param,
+            body,
+        } = self;
+        Tree::node(
+            alloc,
+            Kind::SetterProp,
+            [Tree::Range(span), key, param, body],
+        )
+    }
+}
+
 /// `key(..) ..`, with the rest in `function`.
 #[derive(Drop)]
 pub struct MethodProp<N> {
@@ -152,6 +231,16 @@ impl<'a> MethodProp<Part<'a>> {
     }
 }
 
+impl MethodProp<Tree> {
+    /// The node of these fields.
+    pub fn into_tree(self, alloc: Global) -> Result<Tree, AllocError>
+        ensures { IfOk result (λ tree. tree ≡ method_prop self.key self.function) }
+    {
+        let MethodProp { key, function } = self;
+        Tree::node(alloc, Kind::MethodProp, [key, function])
+    }
+}
+
 /// `[expr]`, as the name of a property.
 #[derive(Drop)]
 pub struct ComputedPropName<N> {
@@ -169,5 +258,15 @@ impl<'a> ComputedPropName<Part<'a>> {
             span: node.part(0).range(),
             expr: node.part(1),
         }
+    }
+}
+
+impl ComputedPropName<Tree> {
+    /// The node of these fields.
+    pub fn into_tree(self, alloc: Global) -> Result<Tree, AllocError>
+        ensures { IfOk result (λ tree. tree ≡ computed_prop_name self.span self.expr) }
+    {
+        let ComputedPropName { span, expr } = self;
+        Tree::node(alloc, Kind::ComputedPropName, [Tree::Range(span), expr])
     }
 }

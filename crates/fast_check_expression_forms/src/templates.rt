@@ -1,14 +1,19 @@
 //! Templates. Each form with its fields by their names.
 // Written by forms/write.py from forms/forms.txt.
 
+ghost use Rattle.std.specs.Prelude.{◌≡◌, IfOk};
 ghost use Rattle.fast_check_syntax.specs.Part.{seen};
 ghost use Rattle.fast_check_expression_forms.specs.Templates.{
   ReadsTpl,
+  tpl,
   ReadsTplElement,
+  tpl_element,
   ReadsTaggedTpl,
+  tagged_tpl,
 };
 
-use fast_check_syntax::{Part, SourceRange, SyntaxContext};
+use fast_check_syntax::{Atom, Kind, Part, SourceRange, SyntaxContext, Tree};
+use std::alloc::{AllocError, Global};
 
 /// A template, its substitutions `exprs` between its texts `quasis`.
 #[derive(Drop)]
@@ -30,6 +35,20 @@ impl<'a> Tpl<Part<'a>> {
             exprs: node.part(1),
             quasis: node.part(2),
         }
+    }
+}
+
+impl Tpl<Tree> {
+    /// The node of these fields.
+    pub fn into_tree(self, alloc: Global) -> Result<Tree, AllocError>
+        ensures { IfOk result (λ tree. tree ≡ tpl self.span self.exprs self.quasis) }
+    {
+        let Tpl {
+            span,
+            exprs,
+            quasis,
+        } = self;
+        Tree::node(alloc, Kind::Tpl, [Tree::Range(span), exprs, quasis])
     }
 }
 
@@ -59,6 +78,26 @@ impl<'a> TplElement<Part<'a>, &'a str> {
     }
 }
 
+impl TplElement<Tree, Atom> {
+    /// The node of these fields.
+    pub fn into_tree(self, alloc: Global) -> Result<Tree, AllocError>
+        ensures { IfOk result (λ tree. tree ≡
+            tpl_element self.span self.tail self.cooked self.raw) }
+    {
+        let TplElement {
+            span,
+            tail,
+            cooked,
+            raw,
+        } = self;
+        Tree::node(
+            alloc,
+            Kind::TplElement,
+            [Tree::Range(span), Tree::Flag(tail), cooked, Tree::Text(raw)],
+        )
+    }
+}
+
 /// A template behind a function: `tag<type_params>tpl`.
 #[derive(Drop)]
 pub struct TaggedTpl<N> {
@@ -84,5 +123,32 @@ impl<'a> TaggedTpl<Part<'a>> {
             type_params: node.part(3),
             tpl: node.part(4),
         }
+    }
+}
+
+impl TaggedTpl<Tree> {
+    /// The node of these fields.
+    pub fn into_tree(self, alloc: Global) -> Result<Tree, AllocError>
+        ensures { IfOk result (λ tree. tree ≡
+            tagged_tpl self.span self.ctxt self.tag self.type_params self.tpl) }
+    {
+        let TaggedTpl {
+            span,
+            ctxt,
+            tag,
+            type_params,
+            tpl,
+        } = self;
+        Tree::node(
+            alloc,
+            Kind::TaggedTpl,
+            [
+                Tree::Range(span),
+                Tree::Context(ctxt),
+                tag,
+                type_params,
+                tpl,
+            ],
+        )
     }
 }

@@ -5,10 +5,10 @@ use Rattle.std.specs.List.{Contains, flat_map}
 use Rattle.std.specs.Str.{bytes_eq}
 use Rattle.std.proofs.lemmas.Bool.{cases_Bool, false≢true, and_parts, and_from}
 use Rattle.std.proofs.lemmas.Slice.Eq.{bytes_eq-Decides}
-use Rattle.fast_check_names.specs.Names.{Name, Path, Touched, Covered, whole_below, whole_path, has_subset, has_whole}
-use Rattle.fast_check_names.specs.Imports.{NameDemand, names_but_default, each_name, subset_at, whole_at}
-use Rattle.fast_check_names.specs.declared.lattice.imported_exports.ImportedExports.TheVariants.{Star, StarWithDefault}
-use Rattle.fast_check_names.proofs.Sets.{same_whole}
+use Rattle.fast_check_lattice.specs.Names.{Name, Path, Touched, Covered, whole_below, whole_path, has_subset, has_whole}
+use Rattle.fast_check_lattice.specs.Imports.{NameDemand, names_but_default, each_name, subset_at, whole_at}
+use Rattle.fast_check_lattice.specs.declared.lattice.imported_exports.ImportedExports.TheVariants.{Star, StarWithDefault}
+use Rattle.fast_check_lattice.proofs.Sets.{same_whole}
 use Rattle.fast_check_search.specs.Universe.{suffixes, pieces}
 use Rattle.fast_check_search.proofs.Each.{Contains_none, Contains_first, Contains_later, Contains_only, Contains_cases, contains_map}
 use Rattle.fast_check_search.proofs.Each.{contains_flat_map, Each, each_nil, each_append, each_map}

@@ -11,8 +11,8 @@ use Rattle.std.proofs.lemmas.List.Elements.{Contains-append_left, Contains-appen
 use Rattle.url.specs.Parts.{Parts, serialize}
 use Rattle.fast_check_packages.specs.Package.{Nv}
 use Rattle.fast_check_cache.specs.Cache.{ItemView}
-use Rattle.fast_check_names.specs.Names.{Name, Path, path_of}
-use Rattle.fast_check_names.specs.Imports.{default_name, NameDemand, names_but_default, each_name, subset_at, whole_at}
+use Rattle.fast_check_lattice.specs.Names.{Name, Path, path_of}
+use Rattle.fast_check_lattice.specs.Imports.{default_name, NameDemand, names_but_default, each_name, subset_at, whole_at}
 use Rattle.fast_check_symbols.specs.declared.file_dep_name.FileDepName.TheVariants.{Star, Name as Named}
 use Rattle.fast_check_symbols.specs.declared.symbol_id.SymbolId.{SymbolId}
 use Rattle.fast_check_symbols.specs.declared.symbol.Symbol.{Symbol}

@@ -1,11 +1,11 @@
 -- A turn in which a trace is followed.
 use Rattle.std.proofs.Common.{ℕ, inl, ◌≡◌, ◌∙◌, sym, ap, refl, subst, List, [], ◌∷◌, ◌++◌, Option, Some, map}
 use Rattle.url.specs.Parts.{Parts}
-use Rattle.fast_check_names.specs.declared.lattice.imported_exports.ImportedExports.{ImportedExports}
+use Rattle.fast_check_lattice.specs.declared.lattice.imported_exports.ImportedExports.{ImportedExports}
 use Rattle.fast_check_packages.specs.Package.{Nv}
 use Rattle.fast_check_packages.specs.declared.package.PackageNv.{PackageNv}
-use Rattle.fast_check_worklists.specs.declared.module_maps.PendingTrace.{PendingTrace}
-use Rattle.fast_check_worklists.specs.Traces.{entry_of}
+use Rattle.fast_check_lattice.specs.declared.module_maps.PendingTrace.{PendingTrace}
+use Rattle.fast_check_lattice.specs.Traces.{entry_of}
 use Rattle.fast_check_worklists.proofs.Asks.{map_last}
 use Rattle.fast_check_worklists.specs.Account.{Followed}
 use Rattle.fast_check_worklists.specs.State.{trace_of, State, IsFollowed}

@@ -6,8 +6,8 @@ use Rattle.std.specs.List.{flat_map}
 use Rattle.url.specs.Parts.{Parts, serialize}
 use Rattle.fast_check_packages.specs.Package.{Nv}
 use Rattle.fast_check_cache.specs.Cache.{ItemView}
-use Rattle.fast_check_names.specs.Names.{Name, Path, path_of}
-use Rattle.fast_check_names.specs.Imports.{default_name}
+use Rattle.fast_check_lattice.specs.Names.{Name, Path, path_of}
+use Rattle.fast_check_lattice.specs.Imports.{default_name}
 use Rattle.fast_check_symbols.specs.declared.file_dep_name.FileDepName.{FileDepName}
 use Rattle.fast_check_symbols.specs.declared.file_dep_name.FileDepName.TheVariants.{Star, Name as Named}
 use Rattle.fast_check_symbols.specs.declared.symbol.Symbol.{Symbol}

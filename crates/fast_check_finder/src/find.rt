@@ -5,7 +5,7 @@ ghost use Rattle.std.specs.List.{flat_map};
 ghost use Rattle.fast_check_packages.specs.Package.{nv_of};
 ghost use Rattle.fast_check_packages.specs.MembersIn.{members_in};
 ghost use Rattle.fast_check_cache.specs.CachedPackages.{used_item};
-ghost use Rattle.fast_check_worklists.specs.Traces.{pending};
+ghost use Rattle.fast_check_lattice.specs.Traces.{pending};
 ghost use Rattle.fast_check_worklists.specs.Account.{Followed, Account, IsAccount, IsYield};
 ghost use Rattle.fast_check_worklists.specs.State.{state_of};
 ghost use Rattle.fast_check_worklists.specs.Turn.{IsEntryTurn, IsTurn};

@@ -11,10 +11,10 @@ use fast_check_module_transform::{TransformOptions, transform};
 use fast_check_modules::diagnostics::ModulePublicRanges;
 use fast_check_modules::{EsModuleInfo, TableFault};
 use fast_check_parsed_source::ParsedSource;
+use fast_check_print::print_tree;
 use fast_check_requests::{EsModuleParts, Refusal, TransformRequest, read_request};
 use fast_check_schema::Form;
 use fast_check_syntax::{Kind, Tree, clone_tree};
-use fast_check_write::write_tree;
 use json::Writer;
 use std::alloc::Global;
 use std::{fs, io};
@@ -42,7 +42,7 @@ fn say_copy(alloc: Global, program: &Tree, said: &mut Said) {
 
 fn say_skeleton(alloc: Global, program: &Tree, said: &mut Said) {
     let mut out = Writer::new(Vec::new(alloc));
-    let done = write_tree(&mut out, program, Form::Struct(Kind::Module));
+    let done = print_tree(&mut out, program, Form::Struct(Kind::Module));
     say_written(out, done, said);
     said.say("\n    its copy is equal to it: ");
     say_copy(alloc, program, said);

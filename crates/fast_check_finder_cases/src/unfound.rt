@@ -4,7 +4,7 @@ use crate::said_answers::say_diagnostic;
 use crate::written::say_written;
 use fast_check_cases::Said;
 use fast_check_diagnostics::FastCheckDiagnostic;
-use fast_check_write::write_diagnostics;
+use fast_check_print::print_diagnostics;
 use json::Writer;
 use std::alloc::{AllocError, Global};
 use std::{array, io};
@@ -31,7 +31,7 @@ fn say_json(alloc: Global, copy: &Result<FastCheckDiagnostic, AllocError>, said:
     match copy {
         Ok(copy) => {
             let mut out = Writer::new(Vec::new(alloc));
-            let done = write_diagnostics(alloc, &mut out, array::from_ref(copy));
+            let done = print_diagnostics(alloc, &mut out, array::from_ref(copy));
             say_written(out, done, said);
         }
         Err(_) => said.lack(),

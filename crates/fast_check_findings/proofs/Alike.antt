@@ -11,7 +11,7 @@ use Rattle.std.proofs.lemmas.Bool.{false≢true}
 use Rattle.fast_check_syntax.specs.contracts.source.SourceRangeOrd.TheImpl as range_order
 use Rattle.fast_check_syntax.specs.declared.source.SourcePos.{SourcePos}
 use Rattle.fast_check_syntax.specs.declared.source.SourceRange.{SourceRange}
-use Rattle.fast_check_names.specs.Names.{path_of}
+use Rattle.fast_check_lattice.specs.Names.{path_of}
 use Rattle.fast_check_symbols.specs.contracts.symbol_id.SymbolIdOrd.TheImpl as id_order
 use Rattle.fast_check_symbols.specs.declared.symbol_id.SymbolId.{SymbolId}
 use Rattle.fast_check_symbols.specs.Symbols.{symbol_of}

@@ -2,7 +2,7 @@
 
 ghost use Rattle.std.specs.Prelude.{◌≡◌, ◌++◌, [], map, IfOk, OnOk, string_bytes};
 ghost use Rattle.std.specs.List.{flat_map};
-ghost use Rattle.fast_check_names.specs.Names.{path_of};
+ghost use Rattle.fast_check_lattice.specs.Names.{path_of};
 ghost use Rattle.fast_check_demands.specs.Yields.{Adds};
 ghost use Rattle.fast_check_findings.specs.Faults.{placed_in, full_name, below, source_of, placed_seen};
 ghost use Rattle.fast_check_findings.specs.Namesakes.{AreNamesakes};

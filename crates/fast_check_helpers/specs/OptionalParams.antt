@@ -1,5 +1,5 @@
 -- Parameters that a call may leave out.
-use Rattle.std.specs.Prelude.{◌≡◌, ℕ, ◌<◌, Bool, true, false, leb, List, drop, length, Option, Some, None}
+use Rattle.std.specs.Prelude.{◌≡◌, ℕ, ◌<◌, ◌≤◌, ◌^◌, Bool, true, false, leb, List, drop, length, Option, Some, None, IfSome}
 use Rattle.std.specs.List.{list_all}
 use Rattle.fast_check_syntax.specs.declared.kind.Kind.{Kind}
 use Rattle.fast_check_syntax.specs.declared.kind.Kind.TheVariants as kinds
@@ -29,12 +29,19 @@ abbrev pub is_from : Option ℕ → ℕ → Bool
 is_from (Some start) place = leb start place
 is_from None place = false
 
--- the start of the optional parameters: of each place it says whether all are optional from there on
-abbrev pub IsOptionalStart : Option ℕ → List Tree → Type 0
-IsOptionalStart start pats = (place : ℕ) → place < length pats → is_from start place ≡ is_optional_from place pats
+-- the start of the optional parameters, if there is one, is the place of a parameter; and of each place that a `usize`
+-- names it says whether all are optional from there on
+pub record IsOptionalStart (start : Option ℕ) (pats : List Tree) : Type 0 where
+  pub place : IfSome start (λ s. s < length pats)
+  pub says : (place : ℕ) → place < 2 ^ 64 → place < length pats → is_from start place ≡ is_optional_from place pats
+
+-- Inner: a place that a `usize` names, or none past these
+abbrev pub IsPlace : Option ℕ → ℕ → Type 0
+IsPlace (Some place) n = place ≡ n
+IsPlace None n = 2 ^ 64 ≤ n
 
 -- the start, once the parameter at a place is read too
-abbrev pub next_start : Option ℕ → ℕ → Bool → Option ℕ
+abbrev pub next_start : Option ℕ → Option ℕ → Bool → Option ℕ
 next_start start place false = None
 next_start (Some start) place true = Some start
-next_start None place true = Some place
+next_start None place true = place

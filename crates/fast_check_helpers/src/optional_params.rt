@@ -1,9 +1,9 @@
 //! From which parameter on all may be left out.
-ghost use Rattle.std.specs.Prelude.{◌≡◌, List, map};
-ghost use Rattle.std.specs.Iterator.{Drains, UpTo};
+ghost use Rattle.std.specs.Prelude.{◌≡◌, ℕ, ◌+◌, List, map};
+ghost use Rattle.std.specs.Iterator.{Drains, IsFinite};
 ghost use Rattle.fast_check_syntax.specs.Part.{seen};
 ghost use Rattle.fast_check_syntax.specs.declared.part.Part.{Part};
-ghost use Rattle.fast_check_helpers.specs.OptionalParams.{is_optional_param, next_start, IsOptionalStart};
+ghost use Rattle.fast_check_helpers.specs.OptionalParams.{is_optional_param, next_start, IsPlace, IsOptionalStart};
 
 use fast_check_expression_forms::{ArrayPat, ObjectPat};
 use fast_check_program_forms::{BindingIdent, Ident};
@@ -24,15 +24,18 @@ fn is_optional_param(pat: Part<'_>) -> bool
     }
 }
 
-/// The start of the optional parameters, once the one at `place` is read too.
-fn next_start(start: Option<usize>, place: usize, is_optional: bool) -> Option<usize>
+/// The start of the optional parameters, once the one at `place` is read too. A place that no `usize` names is none.
+fn next_start(start: Option<usize>, place: Option<usize>, is_optional: bool) -> Option<usize>
     ensures { result ≡ next_start start place is_optional }
 {
-    if is_optional {
-        start.or(Some(place))
-    } else {
-        None
-    }
+    if is_optional { start.or(place) } else { None }
+}
+
+/// The place behind another, if a `usize` names it.
+fn next_place(place: Option<usize>) -> Option<usize>
+    ensures { (n : ℕ) → IsPlace place n → IsPlace result (n + 1) }
+{
+    place?.checked_add(1)
 }
 
 /// From where on all parameters of a function may be left out. Contracts see the place of the first, if there is one.
@@ -52,17 +55,17 @@ impl Model for ParamsOptionalStartIndex {
 impl ParamsOptionalStartIndex {
     ghost use Rattle.fast_check_helpers.specs.OptionalParams.{is_from};
 
-    /// The start among parameters, which are given by their patterns in order. It takes no memory.
+    /// The start among parameters, which are given by their patterns in order, by any iterator that ends. It takes no memory.
     pub fn build<'a, I: Iterator<Item = Part<'a>> + Drop>(params: I) -> ParamsOptionalStartIndex
         requires can { I.can_next params }
-        requires count { UpTo (I.remaining params) usize.MAX }
+        requires ends { IsFinite (I.remaining params) }
         ensures { (pats : List Part) × Drains I.next_gives params pats × IsOptionalStart result (map seen pats) }
     {
         let mut start = None;
-        let mut place = 0usize;
+        let mut place = Some(0usize);
         for pat in params {
             start = next_start(start, place, is_optional_param(pat));
-            place += 1;
+            place = next_place(place);
         }
         ParamsOptionalStartIndex { start }
     }

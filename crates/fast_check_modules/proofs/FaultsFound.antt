@@ -16,7 +16,7 @@ use Rattle.fast_check_symbols.specs.declared.tables.ModuleTables.{ModuleTables}
 use Rattle.fast_check_symbols.specs.declared.tables.ReExportAllNode.{ReExportAllNode}
 use Rattle.fast_check_modules.specs.Expandos.{expandos}
 use Rattle.fast_check_symbols.specs.Tables.{Tables, same_id, symbol_of_swc, table_ranges}
-use Rattle.fast_check_symbols.specs.WellFormed.{AreMadeOf, AreWellFormed, bound_symbol}
+use Rattle.fast_check_symbols.specs.WellFormed.{AreMadeOf, AreWellFormed, symbols_of, bound_symbol}
 use Rattle.fast_check_modules.specs.FitProgram.{HasUnboundExpando, IsModuleFault}
 use Rattle.fast_check_symbols.specs.declared.fault.TableFault.{TableFault}
 use Rattle.fast_check_symbols.specs.declared.fault.TableFault.TheVariants.{MissingSymbol, SymbolWithoutDecl, ModuleNotUnderOwnName}
@@ -47,10 +47,10 @@ same_bound t made h id =
     ∙ ap (λ (ss : List Symbol). option_and_then (λ s. symbol_of s ss) (last_value (same_id id) t.swc_ids.items)) h.symbols
 
 same_ranges : (t : ModuleTables) (made : Tables) → AreMadeOf t made
-    → table_ranges made.symbols made.re_exports ≡ table_ranges t.symbols.items t.re_export_all_nodes.items
+    → table_ranges made.symbols made.re_exports ≡ table_ranges (symbols_of t) t.re_export_all_nodes.items
 same_ranges t made h =
     ap (λ (ss : List Symbol). table_ranges ss made.re_exports) h.symbols
-    ∙ ap (λ (ns : List ReExportAllNode). table_ranges t.symbols.items ns) h.re_exports
+    ∙ ap (λ (ns : List ReExportAllNode). table_ranges (symbols_of t) ns) h.re_exports
 
 pub unbound : (t : ModuleTables) (made : Tables) (program : Tree) → AreMadeOf t made
     → list_any (is_ranged_unbound made) (expandos program) ≡ true → HasUnboundExpando t program

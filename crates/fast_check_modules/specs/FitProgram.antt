@@ -8,7 +8,7 @@ use Rattle.fast_check_symbols.specs.declared.fault.TableFault.TheVariants.{Modul
 use Rattle.fast_check_symbols.specs.declared.fault.TableFault.TheVariants.{OutOfMemory}
 use Rattle.fast_check_symbols.specs.declared.tables.ModuleTables.{ModuleTables}
 use Rattle.fast_check_symbols.specs.Tables.{table_ranges}
-use Rattle.fast_check_symbols.specs.WellFormed.{AreWellFormed, LacksDeclaration, MissesSymbol, bound_symbol}
+use Rattle.fast_check_symbols.specs.WellFormed.{AreWellFormed, LacksDeclaration, MissesSymbol, symbols_of, bound_symbol}
 use Rattle.fast_check_modules.specs.declared.expandos.Expando.{Expando}
 use Rattle.fast_check_modules.specs.Expandos.{expandos}
 
@@ -16,7 +16,7 @@ use Rattle.fast_check_modules.specs.Expandos.{expandos}
 pub record HasUnboundExpando (t : ModuleTables) (program : Tree) : Type 0 where
   pub expando : Expando
   pub among : Contains (expandos program) expando
-  pub ranged : Contains (table_ranges t.symbols.items t.re_export_all_nodes.items) expando.range
+  pub ranged : Contains (table_ranges (symbols_of t) t.re_export_all_nodes.items) expando.range
   pub unbound : bound_symbol t expando.object ≡ None
 
 -- the first fault of tables beside a program

@@ -120,7 +120,7 @@ impl EsModuleInfo {
         self.tables.resolved_exports()
     }
 
-    /// Its symbols, in the order in which they were handed in.
+    /// Its symbols that count, in the order in which they were handed in.
     pub fn symbols(&self) -> &[Symbol]
         ensures { result.now ≡ self.now.tables.symbols }
     {

@@ -88,7 +88,7 @@ impl JsonModuleInfo {
         self.tables.resolved_exports()
     }
 
-    /// Its symbols, in the order in which they were handed in.
+    /// Its symbols that count, in the order in which they were handed in.
     pub fn symbols(&self) -> &[Symbol]
         ensures { result.now ≡ self.now.tables.symbols }
     {

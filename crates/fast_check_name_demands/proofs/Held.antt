@@ -7,14 +7,14 @@ use Rattle.std.specs.Result.{IfOk}
 use Rattle.std.specs.declared.alloc.Global.{Global}
 use Rattle.std.proofs.lemmas.Bool.{false≢true, cases_Bool}
 use Rattle.std.proofs.lemmas.List.Elements.{Contains-push, Contains-push_cases}
-use Rattle.fast_check_names.specs.declared.lattice.demanded.PathEnd.{PathEnd}
-use Rattle.fast_check_names.specs.declared.lattice.named_subset.NamedSubset.{NamedSubset}
-use Rattle.fast_check_names.specs.declared.lattice.imported_exports.ImportedExports.{ImportedExports}
-use Rattle.fast_check_names.specs.declared.lattice.imported_exports.ImportedExports.TheVariants.{Star, StarWithDefault, Subset}
-use Rattle.fast_check_names.specs.Names.{Name, Path, NameSet, Touched as touched, Covered, nothing, path_of, paths, has_whole, IsSame}
-use Rattle.fast_check_names.specs.Paths.{paths_opened_nil}
-use Rattle.fast_check_names.specs.Ends.{is_demanded, IsShownBy, AreEnds}
-use Rattle.fast_check_names.specs.Imports.{NameDemand, names_but_default, each_name, subset_at, whole_at, demands}
+use Rattle.fast_check_lattice.specs.declared.lattice.demanded.PathEnd.{PathEnd}
+use Rattle.fast_check_lattice.specs.declared.lattice.named_subset.NamedSubset.{NamedSubset}
+use Rattle.fast_check_lattice.specs.declared.lattice.imported_exports.ImportedExports.{ImportedExports}
+use Rattle.fast_check_lattice.specs.declared.lattice.imported_exports.ImportedExports.TheVariants.{Star, StarWithDefault, Subset}
+use Rattle.fast_check_lattice.specs.Names.{Name, Path, NameSet, Touched as touched, Covered, nothing, path_of, paths, has_whole, IsSame}
+use Rattle.fast_check_lattice.specs.Paths.{paths_opened_nil}
+use Rattle.fast_check_lattice.specs.Ends.{is_demanded, IsShownBy, AreEnds}
+use Rattle.fast_check_lattice.specs.Imports.{NameDemand, names_but_default, each_name, subset_at, whole_at, demands}
 use Rattle.fast_check_demands.specs.symbol_demands.declared.demand.Extent.TheVariants.{Touched}
 use Rattle.fast_check_name_demands.specs.declared.single.HeldDemands.{HeldDemands}
 use Rattle.fast_check_name_demands.specs.declared.single.HeldDemands.TheVariants.{AllButDefault, All, There, Paths}

@@ -3,8 +3,8 @@ use Rattle.std.proofs.Common.{◌≡◌, ◌∙◌, ap, refl, ⊎_elim, ℕ, ◌
 use Rattle.std.specs.List.{Contains}
 use Rattle.std.proofs.lemmas.List.{length-map, get_or-map}
 use Rattle.std.proofs.lemmas.List.Elements.{Contains-push_cases, Contains-append_right, Contains-append_cases}
-use Rattle.fast_check_names.specs.Names.{Name, Path}
-use Rattle.fast_check_names.specs.Imports.{NameDemand}
+use Rattle.fast_check_lattice.specs.Names.{Name, Path}
+use Rattle.fast_check_lattice.specs.Imports.{NameDemand}
 
 abbrev pub Demands : Type 0
 Demands = List NameDemand

@@ -1,8 +1,8 @@
 -- What a demand asks of other files.
 use Rattle.std.specs.Prelude.{ℕ, not, ◌&&◌, cond, List, [], ◌∷◌, Some, None, string_bytes}
 use Rattle.std.specs.List.{flat_map}
-use Rattle.fast_check_names.specs.Names.{Path, path_of}
-use Rattle.fast_check_names.specs.Imports.{NameDemand, names_but_default, each_name, subset_at, whole_at}
+use Rattle.fast_check_lattice.specs.Names.{Path, path_of}
+use Rattle.fast_check_lattice.specs.Imports.{NameDemand, names_but_default, each_name, subset_at, whole_at}
 use Rattle.fast_check_symbols.specs.declared.file_dep_name.FileDepName.{FileDepName}
 use Rattle.fast_check_symbols.specs.declared.file_dep_name.FileDepName.TheVariants.{Star, Name as Named}
 use Rattle.fast_check_symbols.specs.declared.symbol.Symbol.{Symbol}

@@ -2,11 +2,11 @@
 -- The single things that a value of demanded names stands for.
 use Rattle.std.specs.Prelude.{◌≡◌, ◌↔◌, ◌⊎◌, Bool, true, false, List, [], ◌∷◌, ◌++◌, IsTrue}
 use Rattle.std.specs.List.{Contains}
-use Rattle.fast_check_names.specs.declared.lattice.imported_exports.ImportedExports.{ImportedExports}
-use Rattle.fast_check_names.specs.declared.lattice.demanded.PathEnd.{PathEnd}
-use Rattle.fast_check_names.specs.Names.{Name, Path, path_of}
-use Rattle.fast_check_names.specs.Ends.{IsShown}
-use Rattle.fast_check_names.specs.Imports.{NameDemand, names_but_default, each_name, subset_at, demands}
+use Rattle.fast_check_lattice.specs.declared.lattice.imported_exports.ImportedExports.{ImportedExports}
+use Rattle.fast_check_lattice.specs.declared.lattice.demanded.PathEnd.{PathEnd}
+use Rattle.fast_check_lattice.specs.Names.{Name, Path, path_of}
+use Rattle.fast_check_lattice.specs.Ends.{IsShown}
+use Rattle.fast_check_lattice.specs.Imports.{NameDemand, names_but_default, each_name, subset_at, demands}
 use Rattle.fast_check_demands.specs.symbol_demands.declared.demand.Extent.{Extent}
 use Rattle.fast_check_demands.specs.symbol_demands.declared.demand.Extent.TheVariants.{Touched, Whole}
 use Rattle.fast_check_name_demands.specs.declared.single.HeldDemands.{HeldDemands}

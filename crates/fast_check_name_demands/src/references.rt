@@ -1,7 +1,7 @@
 //! What a demand of a module asks of other files: by file references, import types and aliases.
 ghost use Rattle.std.specs.Prelude.{◌≡◌, ◌++◌, OnOk};
 ghost use Rattle.std.specs.List.{flat_map};
-ghost use Rattle.fast_check_names.specs.Names.{path_of};
+ghost use Rattle.fast_check_lattice.specs.Names.{path_of};
 ghost use Rattle.fast_check_symbols.specs.Symbols.{symbol_of};
 ghost use Rattle.fast_check_demands.specs.Rules.{each_of};
 ghost use Rattle.fast_check_name_demands.specs.Files.{dep_files, deps_files, kind_files, decl_files, symbol_files, alias_files};

@@ -5,7 +5,7 @@ ghost use Rattle.fast_check_name_demands.specs.NameDemands.{extent_of, end_deman
 
 use crate::want::{NameDemand, by_path};
 use fast_check_demands::Extent;
-use fast_check_names::{ImportedExports, PathEnd};
+use fast_check_lattice::{ImportedExports, PathEnd};
 use std::alloc::{AllocError, Global};
 
 /// What a value demands of a module, held while its single demands are lent.

@@ -1,6 +1,6 @@
 //! What is asked of another file, by the text that names it.
 ghost use Rattle.std.specs.Prelude.{◌≡◌, ◌∷◌, string_bytes};
-ghost use Rattle.fast_check_names.specs.Names.{path_of};
+ghost use Rattle.fast_check_lattice.specs.Names.{path_of};
 ghost use Rattle.fast_check_name_demands.specs.Files.{names_of, path_demand, reference_demand, path_in_file, import_demand};
 
 use fast_check_demands::Extent;

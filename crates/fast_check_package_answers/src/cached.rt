@@ -59,6 +59,7 @@ fn answer_found_and_set(
         OnOk result (stored cache.new ≡ with_item (hash_of cache.old seed.now (nv_of nv.now) (map serialize package_ranges.entrypoints.keys))
         (item_for i.options.now.should_error_on_first_diagnostic i.graph.now i.root_symbol.now package_ranges) (stored cache.old)) }
     ensures err { OnErr result (stored cache.new ≡ stored cache.old) }
+    ensures seed { seed_text cache.new ≡ seed_text cache.old }
     ensures hash { hash_of cache.new ≡ hash_of cache.old }
 {
     let key = key_of(&*cache, seed, nv, &package_ranges.entrypoints);
@@ -87,6 +88,7 @@ pub fn answer_and_set(
         OnOk result (stored cache.new ≡ with_package (hash_of cache.old seed.now) i.options.now.should_error_on_first_diagnostic
         i.graph.now i.root_symbol.now (nv_of nv.now) package_ranges (stored cache.old)) }
     ensures err { OnErr result (stored cache.new ≡ stored cache.old) }
+    ensures seed { seed_text cache.new ≡ seed_text cache.old }
     ensures hash { hash_of cache.new ≡ hash_of cache.old }
 {
     if package_ranges.cache_items.is_empty() {

@@ -64,6 +64,7 @@ fn answer_and_set_one(
         OnOk result (stored cache.new ≡ with_package (hash_of cache.old seed.now) i.options.now.should_error_on_first_diagnostic
         i.graph.now i.root_symbol.now (nv_of nv.now) package_ranges (stored cache.old)) }
     ensures err { OnErr result (stored cache.new ≡ stored cache.old) }
+    ensures seed { seed_text cache.new ≡ seed_text cache.old }
     ensures hash { hash_of cache.new ≡ hash_of cache.old }
 {
     // Maps and sets are in order.
@@ -90,6 +91,8 @@ pub fn answer_and_set_all(
     ensures err { let i = input.entry in
         OnErr result ((n : ℕ) × (stored cache.new ≡ sets (hash_of cache.old seed.now) i.options.now.should_error_on_first_diagnostic
         i.graph.now i.root_symbol.now (take n ranges.entries) (stored cache.old))) }
+    ensures seed { seed_text cache.new ≡ seed_text cache.old }
+    ensures hash { hash_of cache.new ≡ hash_of cache.old }
 {
     let mut answers = Vec::new(alloc);
     for (nv, package_ranges) in ranges {

@@ -1,13 +1,11 @@
 -- Indexes of packages as they grow, and what is found by them.
 use Rattle.std.proofs.Common.{◌≡◌, ◌∙◌, sym, ap, subst, refl, ℕ, zero, suc, ◌+◌, ◌<◌, Bool, true, false, cond, List, [], ◌∷◌, ◌++◌, length}
-use Rattle.std.proofs.Common.{take, get_or, arith, Option, Some, None, find, slice_get, option_and_then, IfSome, BTreeMap, is_eq}
+use Rattle.std.proofs.Common.{take, get_or, arith, Option, Some, None, find, slice_get, option_and_then, IfSome, is_eq}
 use Rattle.std.proofs.Common.{length-take-le, length-append}
 use Rattle.std.specs.Borrow.{Bor}
 use Rattle.std.specs.Slice.{IsItemAt}
 use Rattle.std.specs.Option.{option_copied}
 use Rattle.std.specs.Cmp.{eq_by_cmp_equiv}
-use Rattle.std.specs.BTreeMap.{get}
-use Rattle.std.specs.Map.{update, update_all}
 use Rattle.std.specs.Ordering.{eq_by_cmp}
 use Rattle.std.proofs.lemmas.List.{take_more, reverse-append}
 use Rattle.std.proofs.lemmas.Option.{slice_get_past, slice_get-get_or}
@@ -17,7 +15,7 @@ use Rattle.fast_check_packages.specs.Package.{nv_of, nv_cmp}
 use Rattle.fast_check_packages.specs.PackageOrder.{nv_total}
 use Rattle.fast_check_packages.specs.Listed.{Row, row_of, row_at, begins_with}
 use Rattle.fast_check_packages.specs.First.{first_place}
-use Rattle.fast_check_packages.specs.Packages.{package_cmp, ArePlaces, IsPackageIndex, texts_of}
+use Rattle.fast_check_packages.specs.Packages.{package_cmp, ArePlaces, texts_of}
 use Rattle.fast_check_packages.proofs.First.{found_there, first_mapped}
 
 -- ---- one row more
@@ -47,48 +45,31 @@ row_of_more : (rows : List Row) (e : Row) (nv : PackageNv)
     → row_of (rows ++ e ∷ []) (nv_of nv) ≡ cond (is_eq (nv_cmp (nv_of nv) (nv_of e.0))) (Some e) (row_of rows (nv_of nv))
 row_of_more rows e nv = ap (λ (xs : List Row). find (λ r. is_eq (nv_cmp (nv_of nv) (nv_of r.0))) xs) (reverse-append rows (e ∷ []))
 
--- the places of entries that are put one after another
-abbrev pub places_in : List (PackageNv × ℕ) → PackageNv → Option ℕ
-places_in entries = update_all (eq_by_cmp package_cmp) (λ _. None) entries
-
-put_last : {K X : Type 0} (e : K → K → Bool) (f : K → Option X) (xs : List (K × X)) (x : K × X) (q : K)
-    → update_all e f (xs ++ x ∷ []) q ≡ cond (e x.0 q) (Some x.1) (update_all e f xs q)
-put_last e f [] x q = refl
-put_last e f (y ∷ xs) x q = put_last e (update e f y.0 (Some y.1)) xs x q
-
-pub places_more : (rows : List Row) (i : ℕ) (e : Row) (key : PackageNv) (entries : List (PackageNv × ℕ)) → i < length rows →
-    e ≡ get_or rows i e
-    → nv_of key ≡ nv_of e.0 → ArePlaces (take i rows) (places_in entries) →
-    ArePlaces (take (i + 1) rows) (places_in (entries ++ (key, i) ∷ []))
-places_more rows i e key entries lt read same h =
+-- the place of one row more is put
+pub places_more : (rows : List Row) (i : ℕ) (e : Row) (key : PackageNv) (old new : PackageNv → Option ℕ) → i < length rows
+    → e ≡ get_or rows i e → nv_of key ≡ nv_of e.0
+    → ((nv : PackageNv) → new nv ≡ cond (eq_by_cmp package_cmp key nv) (Some i) (old nv)) → ArePlaces (take i rows) old
+    → ArePlaces (take (i + 1) rows) new
+places_more rows i e key old new lt read same put h =
     let longer : take (i + 1) rows ≡ take i rows ++ e ∷ [] = take_more rows i e lt ∙ ap (λ (x : Row). take i rows ++ x ∷ []) (sym read) in
     let long : length (take i rows) ≡ i = length-take-le i rows (omega arith) in
-    let now : (nv : PackageNv) → places_in (entries ++ (key, i) ∷ []) nv
-    ≡ cond (is_eq (nv_cmp (nv_of nv) (nv_of e.0))) (Some (length (take i rows))) (places_in entries nv)
-    = λ nv. put_last (eq_by_cmp package_cmp) (λ _. None) entries (key, i) nv
-    ∙ (ap (λ b. cond b (Some i) (places_in entries nv))
+    let now : (nv : PackageNv) → new nv
+    ≡ cond (is_eq (nv_cmp (nv_of nv) (nv_of e.0))) (Some (length (take i rows))) (old nv)
+    = λ nv. put nv ∙ (ap (λ b. cond b (Some i) (old nv))
     ((eq_by_cmp_equiv nv_total).symm (nv_of key) (nv_of nv) ∙ ap (λ p. is_eq (nv_cmp (nv_of nv) p)) same)
-    ∙ ap (λ n. cond (is_eq (nv_cmp (nv_of nv) (nv_of e.0))) (Some n) (places_in entries nv)) (sym long)) in
-    subst (λ (xs : List Row). ArePlaces xs (places_in (entries ++ (key, i) ∷ []))) (sym longer) (record {
+    ∙ ap (λ n. cond (is_eq (nv_cmp (nv_of nv) (nv_of e.0))) (Some n) (old nv)) (sym long)) in
+    subst (λ (xs : List Row). ArePlaces xs new) (sym longer) (record {
       within = λ nv.
           subst (λ (o : Option ℕ). IfSome o (λ place. place < length (take i rows ++ e ∷ []))) (sym (now nv))
           (put_within (is_eq (nv_cmp (nv_of nv) (nv_of e.0))) (length (take i rows)) (length (take i rows ++ e ∷ []))
-          (places_in entries nv)
+          (old nv)
           (subst (λ (n : ℕ). length (take i rows) < n) (sym (length-append (take i rows) (e ∷ []))) (omega arith)) (h.within nv));
       says = λ nv.
           ap (λ (o : Option ℕ). option_and_then (slice_get (take i rows ++ e ∷ [])) o) (now nv)
-          ∙ (put_says (is_eq (nv_cmp (nv_of nv) (nv_of e.0))) (take i rows) e (places_in entries nv) (row_of (take i rows) (nv_of nv))
+          ∙ (put_says (is_eq (nv_cmp (nv_of nv) (nv_of e.0))) (take i rows) e (old nv) (row_of (take i rows) (nv_of nv))
           (h.within nv)
           (h.says nv) ∙ sym (row_of_more (take i rows) e nv));
     })
-
--- the index of these entries
-pub index_of_places : (rows : List Row) (entries : List (PackageNv × ℕ)) (index : BTreeMap PackageNv ℕ) → ArePlaces rows (places_in entries)
-    → ((nv : PackageNv) → get package_cmp index nv ≡ places_in entries nv) → IsPackageIndex rows index
-index_of_places rows entries index h same = record {
-  within = λ nv. subst (λ (o : Option ℕ). IfSome o (λ place. place < length rows)) (sym (same nv)) (h.within nv);
-  says = λ nv. ap (λ (o : Option ℕ). option_and_then (slice_get rows) o) (same nv) ∙ h.says nv;
-}
 
 -- ---- what is found
 

@@ -7,7 +7,7 @@ use std::alloc::{AllocError, AllocFailed};
 use thiserror::Error;
 
 /// Why a build stops.
-#[derive(Debug, Drop, Error)]
+#[derive(Debug, PartialEq, Eq, Drop, Error)]
 pub enum BuildFault {
     /// An export text of a package that cannot be joined to the URL of the package.
     #[error("invalid-export")]

@@ -44,11 +44,11 @@ fn package_index(
 ) -> Result<BTreeMap<PackageNv, usize>, AllocError>
     ensures { IfOk result (IsPackageIndex rows.now) }
 {
-    let mut places = Vec::with_capacity(alloc, rows.len())?;
+    let mut places = BTreeMap::new(alloc);
     for (place, row) in rows.iter().enumerate() {
-        places.push((row.0.clone()?, place))?;
+        places.insert(row.0.clone()?, place)?;
     }
-    places.into_iter().collect(alloc)
+    Ok(places)
 }
 
 /// The texts of the URLs.

@@ -4,8 +4,8 @@ use Rattle.serde_json.specs.Data.{Data}
 use Rattle.fast_check_graph.specs.declared.graph.ModuleGraph.{ModuleGraph}
 use Rattle.fast_check_modules.specs.EsModule.{EsModule}
 use Rattle.fast_check_modules.specs.diagnostics.PublicRanges.{PublicRanges}
-use Rattle.fast_check_write.specs.Answer.{answer_data}
-use Rattle.fast_check_write.specs.Pieces.{pair_data}
+use Rattle.fast_check_print.specs.Answer.{answer_data}
+use Rattle.fast_check_print.specs.Pieces.{pair_data}
 use Rattle.fast_check_transform_command.specs.Line.{line_of_data}
 use Rattle.fast_check_transformer.specs.Transformed.{ModuleAnswer, IsTransformed}
 

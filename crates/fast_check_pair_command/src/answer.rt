@@ -1,13 +1,13 @@
 //! The line that `pair` answers.
 
 ghost use Rattle.std.specs.Prelude.{◌≡◌, IfOk, OnOk};
-ghost use Rattle.fast_check_write.specs.Writing.{WritesData};
+ghost use Rattle.fast_check_print.specs.Writing.{WritesData};
 ghost use Rattle.fast_check_transform_command.specs.Line.{line_of_data};
 ghost use Rattle.fast_check_pair_command.specs.Line.{answers_data};
 
 use fast_check_modules::diagnostics::FastCheckDiagnostic;
 use fast_check_parsed_source::FastCheckModule;
-use fast_check_write::write_answer;
+use fast_check_print::print_answer;
 use json::Writer;
 use std::alloc::{AllocError, Global};
 
@@ -36,7 +36,7 @@ fn write_both(
     ensures { OnOk result (WritesData (answers_data first.now second.now) out.old out.new) }
 {
     out.begin_array()?;
-    write_answer(alloc, out, first)?;
-    write_answer(alloc, out, second)?;
+    print_answer(alloc, out, first)?;
+    print_answer(alloc, out, second)?;
     out.end_array()
 }

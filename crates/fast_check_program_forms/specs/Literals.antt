@@ -1,7 +1,6 @@
 -- Written by forms/write.py from forms/forms.txt.
 -- Literals.
--- Each form has its fields by their names, and what it holds once it reads a node;
--- where it is made, the node of its fields.
+-- Each form has its fields by their names, what it holds once it reads a node, and the node of its fields.
 use Rattle.std.specs.Prelude.{◌≡◌, Bool, ℕ, List, [], ◌∷◌}
 use Rattle.std.specs.Borrow.{Bor}
 use Rattle.fast_check_syntax.specs.declared.kind.Kind.TheVariants as kinds
@@ -56,6 +55,9 @@ Null-span t = range_of (part 0 t)
 
 pub record ReadsNull (form : Null) (t : Tree) : Type 0 where
   pub span : form.span ≡ Null-span t
+
+abbrev pub null : SourceRange → Tree
+null span = node kinds.Null (Range span ∷ [])
 
 -- A number, as `1` or `0x10`.
 abbrev pub Number-span : Tree → SourceRange
@@ -113,3 +115,6 @@ JSXText-raw t = text_of (part 1 t)
 pub record ReadsJSXText (form : JSXText (Bor (List ℕ))) (t : Tree) : Type 0 where
   pub span : form.span ≡ JSXText-span t
   pub raw : form.raw.now ≡ JSXText-raw t
+
+abbrev pub jsx_text : SourceRange → List ℕ → Tree
+jsx_text span raw = node kinds.JSXText (Range span ∷ Text raw ∷ [])

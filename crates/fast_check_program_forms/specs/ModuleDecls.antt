@@ -1,7 +1,6 @@
 -- Written by forms/write.py from forms/forms.txt.
 -- Imports and exports.
--- Each form has its fields by their names, and what it holds once it reads a node;
--- where it is made, the node of its fields.
+-- Each form has its fields by their names, what it holds once it reads a node, and the node of its fields.
 use Rattle.std.specs.Prelude.{◌≡◌, Bool, ℕ, List, [], ◌∷◌}
 use Rattle.std.specs.Borrow.{Bor}
 use Rattle.fast_check_syntax.specs.declared.kind.Kind.TheVariants as kinds
@@ -77,6 +76,10 @@ pub record ReadsImportNamedSpecifier (form : ImportNamedSpecifier Part) (t : Tre
   pub imported : seen form.imported ≡ ImportNamedSpecifier-imported t
   pub is_type_only : form.is_type_only ≡ ImportNamedSpecifier-is_type_only t
 
+abbrev pub import_named_specifier : SourceRange → Tree → Tree → Bool → Tree
+import_named_specifier span local imported is_type_only =
+    node kinds.ImportNamedSpecifier (Range span ∷ local ∷ imported ∷ Flag is_type_only ∷ [])
+
 -- `import local from ..`.
 abbrev pub ImportDefaultSpecifier-span : Tree → SourceRange
 ImportDefaultSpecifier-span t = range_of (part 0 t)
@@ -88,6 +91,9 @@ pub record ReadsImportDefaultSpecifier (form : ImportDefaultSpecifier Part) (t :
   pub span : form.span ≡ ImportDefaultSpecifier-span t
   pub local : seen form.local ≡ ImportDefaultSpecifier-local t
 
+abbrev pub import_default_specifier : SourceRange → Tree → Tree
+import_default_specifier span local = node kinds.ImportDefaultSpecifier (Range span ∷ local ∷ [])
+
 -- `import * as local from ..`.
 abbrev pub ImportStarAsSpecifier-span : Tree → SourceRange
 ImportStarAsSpecifier-span t = range_of (part 0 t)
@@ -98,6 +104,9 @@ ImportStarAsSpecifier-local t = part 1 t
 pub record ReadsImportStarAsSpecifier (form : ImportStarAsSpecifier Part) (t : Tree) : Type 0 where
   pub span : form.span ≡ ImportStarAsSpecifier-span t
   pub local : seen form.local ≡ ImportStarAsSpecifier-local t
+
+abbrev pub import_star_as_specifier : SourceRange → Tree → Tree
+import_star_as_specifier span local = node kinds.ImportStarAsSpecifier (Range span ∷ local ∷ [])
 
 -- `import id = module_ref`.
 abbrev pub TsImportEqualsDecl-span : Tree → SourceRange
@@ -122,6 +131,10 @@ pub record ReadsTsImportEqualsDecl (form : TsImportEqualsDecl Part) (t : Tree) :
   pub id : seen form.id ≡ TsImportEqualsDecl-id t
   pub module_ref : seen form.module_ref ≡ TsImportEqualsDecl-module_ref t
 
+abbrev pub ts_import_equals_decl : SourceRange → Bool → Bool → Tree → Tree → Tree
+ts_import_equals_decl span is_export is_type_only id module_ref =
+    node kinds.TsImportEqualsDecl (Range span ∷ Flag is_export ∷ Flag is_type_only ∷ id ∷ module_ref ∷ [])
+
 -- `require(expr)`, behind `import id =`.
 abbrev pub TsExternalModuleRef-span : Tree → SourceRange
 TsExternalModuleRef-span t = range_of (part 0 t)
@@ -132,6 +145,9 @@ TsExternalModuleRef-expr t = part 1 t
 pub record ReadsTsExternalModuleRef (form : TsExternalModuleRef Part) (t : Tree) : Type 0 where
   pub span : form.span ≡ TsExternalModuleRef-span t
   pub expr : seen form.expr ≡ TsExternalModuleRef-expr t
+
+abbrev pub ts_external_module_ref : SourceRange → Tree → Tree
+ts_external_module_ref span expr = node kinds.TsExternalModuleRef (Range span ∷ expr ∷ [])
 
 -- `export decl`.
 abbrev pub ExportDecl-span : Tree → SourceRange
@@ -185,12 +201,18 @@ pub record ReadsExportNamespaceSpecifier (form : ExportNamespaceSpecifier Part) 
   pub span : form.span ≡ ExportNamespaceSpecifier-span t
   pub name : seen form.name ≡ ExportNamespaceSpecifier-name t
 
+abbrev pub export_namespace_specifier : SourceRange → Tree → Tree
+export_namespace_specifier span name = node kinds.ExportNamespaceSpecifier (Range span ∷ name ∷ [])
+
 -- `export exported from ..`.
 abbrev pub ExportDefaultSpecifier-exported : Tree → Tree
 ExportDefaultSpecifier-exported t = part 0 t
 
 pub record ReadsExportDefaultSpecifier (form : ExportDefaultSpecifier Part) (t : Tree) : Type 0 where
   pub exported : seen form.exported ≡ ExportDefaultSpecifier-exported t
+
+abbrev pub export_default_specifier : Tree → Tree
+export_default_specifier exported = node kinds.ExportDefaultSpecifier (exported ∷ [])
 
 -- In the braces of an export: `orig as exported`.
 abbrev pub ExportNamedSpecifier-span : Tree → SourceRange
@@ -210,6 +232,10 @@ pub record ReadsExportNamedSpecifier (form : ExportNamedSpecifier Part) (t : Tre
   pub orig : seen form.orig ≡ ExportNamedSpecifier-orig t
   pub exported : seen form.exported ≡ ExportNamedSpecifier-exported t
   pub is_type_only : form.is_type_only ≡ ExportNamedSpecifier-is_type_only t
+
+abbrev pub export_named_specifier : SourceRange → Tree → Tree → Bool → Tree
+export_named_specifier span orig exported is_type_only =
+    node kinds.ExportNamedSpecifier (Range span ∷ orig ∷ exported ∷ Flag is_type_only ∷ [])
 
 -- `export default decl`, of a class, a function or an interface.
 abbrev pub ExportDefaultDecl-span : Tree → SourceRange
@@ -272,6 +298,9 @@ pub record ReadsTsExportAssignment (form : TsExportAssignment Part) (t : Tree) :
   pub span : form.span ≡ TsExportAssignment-span t
   pub expr : seen form.expr ≡ TsExportAssignment-expr t
 
+abbrev pub ts_export_assignment : SourceRange → Tree → Tree
+ts_export_assignment span expr = node kinds.TsExportAssignment (Range span ∷ expr ∷ [])
+
 -- `export as namespace id`.
 abbrev pub TsNamespaceExportDecl-span : Tree → SourceRange
 TsNamespaceExportDecl-span t = range_of (part 0 t)
@@ -282,3 +311,6 @@ TsNamespaceExportDecl-id t = part 1 t
 pub record ReadsTsNamespaceExportDecl (form : TsNamespaceExportDecl Part) (t : Tree) : Type 0 where
   pub span : form.span ≡ TsNamespaceExportDecl-span t
   pub id : seen form.id ≡ TsNamespaceExportDecl-id t
+
+abbrev pub ts_namespace_export_decl : SourceRange → Tree → Tree
+ts_namespace_export_decl span id = node kinds.TsNamespaceExportDecl (Range span ∷ id ∷ [])

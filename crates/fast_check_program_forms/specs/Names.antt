@@ -1,7 +1,6 @@
 -- Written by forms/write.py from forms/forms.txt.
 -- Names.
--- Each form has its fields by their names, and what it holds once it reads a node;
--- where it is made, the node of its fields.
+-- Each form has its fields by their names, what it holds once it reads a node, and the node of its fields.
 use Rattle.std.specs.Prelude.{◌≡◌, Bool, ℕ, List, [], ◌∷◌}
 use Rattle.std.specs.Borrow.{Bor}
 use Rattle.fast_check_syntax.specs.declared.kind.Kind.TheVariants as kinds
@@ -48,6 +47,9 @@ IdentName-sym t = text_of (part 1 t)
 pub record ReadsIdentName (form : IdentName (Bor (List ℕ))) (t : Tree) : Type 0 where
   pub span : form.span ≡ IdentName-span t
   pub sym : form.sym.now ≡ IdentName-sym t
+
+abbrev pub ident_name : SourceRange → List ℕ → Tree
+ident_name span sym = node kinds.IdentName (Range span ∷ Text sym ∷ [])
 
 -- An identifier as a pattern: `id: type_ann`.
 abbrev pub BindingIdent-id : Tree → Tree

@@ -1,7 +1,6 @@
 -- Written by forms/write.py from forms/forms.txt.
 -- A whole file.
--- Each form has its fields by their names, and what it holds once it reads a node;
--- where it is made, the node of its fields.
+-- Each form has its fields by their names, what it holds once it reads a node, and the node of its fields.
 use Rattle.std.specs.Prelude.{◌≡◌, [], ◌∷◌}
 use Rattle.fast_check_syntax.specs.declared.kind.Kind.TheVariants as kinds
 use Rattle.fast_check_syntax.specs.declared.part.Part.{Part}
@@ -44,3 +43,6 @@ pub record ReadsScript (form : Script Part) (t : Tree) : Type 0 where
   pub span : form.span ≡ Script-span t
   pub body : seen form.body ≡ Script-body t
   pub shebang : seen form.shebang ≡ Script-shebang t
+
+abbrev pub script : SourceRange → Tree → Tree → Tree
+script span body shebang = node kinds.Script (Range span ∷ body ∷ shebang ∷ [])

@@ -9,6 +9,7 @@ ghost use Rattle.fast_check_program_forms.specs.Literals.{
   ReadsBool,
   bool,
   ReadsNull,
+  null,
   ReadsNumber,
   number,
   ReadsBigInt,
@@ -16,6 +17,7 @@ ghost use Rattle.fast_check_program_forms.specs.Literals.{
   ReadsRegex,
   regex,
   ReadsJSXText,
+  jsx_text,
 };
 
 use fast_check_syntax::{Atom, Kind, Part, SourceRange, Tree};
@@ -99,6 +101,14 @@ impl Null {
         Null {
             span: node.part(0).range(),
         }
+    }
+
+    /// The node of these fields.
+    pub fn into_tree(self, alloc: Global) -> Result<Tree, AllocError>
+        ensures { IfOk result (λ tree. tree ≡ null self.span) }
+    {
+        let Null { span } = self;
+        Tree::node(alloc, Kind::Null, [Tree::Range(span)])
     }
 }
 
@@ -214,5 +224,15 @@ impl<'a> JSXText<&'a str> {
             span: node.part(0).range(),
             raw: node.part(1).text(),
         }
+    }
+}
+
+impl JSXText<Atom> {
+    /// The node of these fields.
+    pub fn into_tree(self, alloc: Global) -> Result<Tree, AllocError>
+        ensures { IfOk result (λ tree. tree ≡ jsx_text self.span self.raw) }
+    {
+        let JSXText { span, raw } = self;
+        Tree::node(alloc, Kind::JSXText, [Tree::Range(span), Tree::Text(raw)])
     }
 }

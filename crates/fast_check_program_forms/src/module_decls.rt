@@ -7,17 +7,25 @@ ghost use Rattle.fast_check_program_forms.specs.ModuleDecls.{
   ReadsImportDecl,
   import_decl,
   ReadsImportNamedSpecifier,
+  import_named_specifier,
   ReadsImportDefaultSpecifier,
+  import_default_specifier,
   ReadsImportStarAsSpecifier,
+  import_star_as_specifier,
   ReadsTsImportEqualsDecl,
+  ts_import_equals_decl,
   ReadsTsExternalModuleRef,
+  ts_external_module_ref,
   ReadsExportDecl,
   export_decl,
   ReadsNamedExport,
   named_export,
   ReadsExportNamespaceSpecifier,
+  export_namespace_specifier,
   ReadsExportDefaultSpecifier,
+  export_default_specifier,
   ReadsExportNamedSpecifier,
+  export_named_specifier,
   ReadsExportDefaultDecl,
   export_default_decl,
   ReadsExportDefaultExpr,
@@ -25,7 +33,9 @@ ghost use Rattle.fast_check_program_forms.specs.ModuleDecls.{
   ReadsExportAll,
   export_all,
   ReadsTsExportAssignment,
+  ts_export_assignment,
   ReadsTsNamespaceExportDecl,
+  ts_namespace_export_decl,
 };
 
 use fast_check_syntax::{Atom, Kind, Part, SourceRange, Tree};
@@ -118,6 +128,26 @@ impl<'a> ImportNamedSpecifier<Part<'a>> {
     }
 }
 
+impl ImportNamedSpecifier<Tree> {
+    /// The node of these fields.
+    pub fn into_tree(self, alloc: Global) -> Result<Tree, AllocError>
+        ensures { IfOk result (λ tree. tree ≡
+            import_named_specifier self.span self.local self.imported self.is_type_only) }
+    {
+        let ImportNamedSpecifier {
+            span,
+            local,
+            imported,
+            is_type_only,
+        } = self;
+        Tree::node(
+            alloc,
+            Kind::ImportNamedSpecifier,
+            [Tree::Range(span), local, imported, Tree::Flag(is_type_only)],
+        )
+    }
+}
+
 /// `import local from ..`.
 #[derive(Drop)]
 pub struct ImportDefaultSpecifier<N> {
@@ -138,6 +168,20 @@ impl<'a> ImportDefaultSpecifier<Part<'a>> {
     }
 }
 
+impl ImportDefaultSpecifier<Tree> {
+    /// The node of these fields.
+    pub fn into_tree(self, alloc: Global) -> Result<Tree, AllocError>
+        ensures { IfOk result (λ tree. tree ≡ import_default_specifier self.span self.local) }
+    {
+        let ImportDefaultSpecifier { span, local } = self;
+        Tree::node(
+            alloc,
+            Kind::ImportDefaultSpecifier,
+            [Tree::Range(span), local],
+        )
+    }
+}
+
 /// `import * as local from ..`.
 #[derive(Drop)]
 pub struct ImportStarAsSpecifier<N> {
@@ -155,6 +199,20 @@ impl<'a> ImportStarAsSpecifier<Part<'a>> {
             span: node.part(0).range(),
             local: node.part(1),
         }
+    }
+}
+
+impl ImportStarAsSpecifier<Tree> {
+    /// The node of these fields.
+    pub fn into_tree(self, alloc: Global) -> Result<Tree, AllocError>
+        ensures { IfOk result (λ tree. tree ≡ import_star_as_specifier self.span self.local) }
+    {
+        let ImportStarAsSpecifier { span, local } = self;
+        Tree::node(
+            alloc,
+            Kind::ImportStarAsSpecifier,
+            [Tree::Range(span), local],
+        )
     }
 }
 
@@ -187,6 +245,34 @@ impl<'a> TsImportEqualsDecl<Part<'a>> {
     }
 }
 
+impl TsImportEqualsDecl<Tree> {
+    /// The node of these fields.
+    pub fn into_tree(self, alloc: Global) -> Result<Tree, AllocError>
+        ensures { IfOk result (λ tree. tree ≡
+            ts_import_equals_decl self.span self.is_export self.is_type_only self.id
+            self.module_ref) }
+    {
+        let TsImportEqualsDecl {
+            span,
+            is_export,
+            is_type_only,
+            id,
+            module_ref,
+        } = self;
+        Tree::node(
+            alloc,
+            Kind::TsImportEqualsDecl,
+            [
+                Tree::Range(span),
+                Tree::Flag(is_export),
+                Tree::Flag(is_type_only),
+                id,
+                module_ref,
+            ],
+        )
+    }
+}
+
 /// `require(expr)`, behind `import id =`.
 #[derive(Drop)]
 pub struct TsExternalModuleRef<N> {
@@ -204,6 +290,16 @@ impl<'a> TsExternalModuleRef<Part<'a>> {
             span: node.part(0).range(),
             expr: node.part(1),
         }
+    }
+}
+
+impl TsExternalModuleRef<Tree> {
+    /// The node of these fields.
+    pub fn into_tree(self, alloc: Global) -> Result<Tree, AllocError>
+        ensures { IfOk result (λ tree. tree ≡ ts_external_module_ref self.span self.expr) }
+    {
+        let TsExternalModuleRef { span, expr } = self;
+        Tree::node(alloc, Kind::TsExternalModuleRef, [Tree::Range(span), expr])
     }
 }
 
@@ -313,6 +409,20 @@ impl<'a> ExportNamespaceSpecifier<Part<'a>> {
     }
 }
 
+impl ExportNamespaceSpecifier<Tree> {
+    /// The node of these fields.
+    pub fn into_tree(self, alloc: Global) -> Result<Tree, AllocError>
+        ensures { IfOk result (λ tree. tree ≡ export_namespace_specifier self.span self.name) }
+    {
+        let ExportNamespaceSpecifier { span, name } = self;
+        Tree::node(
+            alloc,
+            Kind::ExportNamespaceSpecifier,
+            [Tree::Range(span), name],
+        )
+    }
+}
+
 /// `export exported from ..`.
 #[derive(Drop)]
 pub struct ExportDefaultSpecifier<N> {
@@ -328,6 +438,16 @@ impl<'a> ExportDefaultSpecifier<Part<'a>> {
         ExportDefaultSpecifier {
             exported: node.part(0),
         }
+    }
+}
+
+impl ExportDefaultSpecifier<Tree> {
+    /// The node of these fields.
+    pub fn into_tree(self, alloc: Global) -> Result<Tree, AllocError>
+        ensures { IfOk result (λ tree. tree ≡ export_default_specifier self.exported) }
+    {
+        let ExportDefaultSpecifier { exported } = self;
+        Tree::node(alloc, Kind::ExportDefaultSpecifier, [exported])
     }
 }
 
@@ -354,6 +474,26 @@ impl<'a> ExportNamedSpecifier<Part<'a>> {
             exported: node.part(2),
             is_type_only: node.part(3).flag(),
         }
+    }
+}
+
+impl ExportNamedSpecifier<Tree> {
+    /// The node of these fields.
+    pub fn into_tree(self, alloc: Global) -> Result<Tree, AllocError>
+        ensures { IfOk result (λ tree. tree ≡
+            export_named_specifier self.span self.orig self.exported self.is_type_only) }
+    {
+        let ExportNamedSpecifier {
+            span,
+            orig,
+            exported,
+            is_type_only,
+        } = self;
+        Tree::node(
+            alloc,
+            Kind::ExportNamedSpecifier,
+            [Tree::Range(span), orig, exported, Tree::Flag(is_type_only)],
+        )
     }
 }
 
@@ -483,6 +623,16 @@ impl<'a> TsExportAssignment<Part<'a>> {
     }
 }
 
+impl TsExportAssignment<Tree> {
+    /// The node of these fields.
+    pub fn into_tree(self, alloc: Global) -> Result<Tree, AllocError>
+        ensures { IfOk result (λ tree. tree ≡ ts_export_assignment self.span self.expr) }
+    {
+        let TsExportAssignment { span, expr } = self;
+        Tree::node(alloc, Kind::TsExportAssignment, [Tree::Range(span), expr])
+    }
+}
+
 /// `export as namespace id`.
 #[derive(Drop)]
 pub struct TsNamespaceExportDecl<N> {
@@ -500,5 +650,15 @@ impl<'a> TsNamespaceExportDecl<Part<'a>> {
             span: node.part(0).range(),
             id: node.part(1),
         }
+    }
+}
+
+impl TsNamespaceExportDecl<Tree> {
+    /// The node of these fields.
+    pub fn into_tree(self, alloc: Global) -> Result<Tree, AllocError>
+        ensures { IfOk result (λ tree. tree ≡ ts_namespace_export_decl self.span self.id) }
+    {
+        let TsNamespaceExportDecl { span, id } = self;
+        Tree::node(alloc, Kind::TsNamespaceExportDecl, [Tree::Range(span), id])
     }
 }

@@ -7,6 +7,7 @@ ghost use Rattle.fast_check_program_forms.specs.Names.{
   ReadsIdent,
   ident,
   ReadsIdentName,
+  ident_name,
   ReadsBindingIdent,
   binding_ident,
   ReadsPrivateName,
@@ -81,6 +82,16 @@ impl<'a> IdentName<&'a str> {
             span: node.part(0).range(),
             sym: node.part(1).text(),
         }
+    }
+}
+
+impl IdentName<Atom> {
+    /// The node of these fields.
+    pub fn into_tree(self, alloc: Global) -> Result<Tree, AllocError>
+        ensures { IfOk result (λ tree. tree ≡ ident_name self.span self.sym) }
+    {
+        let IdentName { span, sym } = self;
+        Tree::node(alloc, Kind::IdentName, [Tree::Range(span), Tree::Text(sym)])
     }
 }
 

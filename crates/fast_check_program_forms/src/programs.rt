@@ -3,7 +3,12 @@
 
 ghost use Rattle.std.specs.Prelude.{◌≡◌, IfOk};
 ghost use Rattle.fast_check_syntax.specs.Part.{seen};
-ghost use Rattle.fast_check_program_forms.specs.Programs.{ReadsModule, module', ReadsScript};
+ghost use Rattle.fast_check_program_forms.specs.Programs.{
+  ReadsModule,
+  module',
+  ReadsScript,
+  script,
+};
 
 use fast_check_syntax::{Kind, Part, SourceRange, Tree};
 use std::alloc::{AllocError, Global};
@@ -65,5 +70,19 @@ impl<'a> Script<Part<'a>> {
             body: node.part(1),
             shebang: node.part(2),
         }
+    }
+}
+
+impl Script<Tree> {
+    /// The node of these fields.
+    pub fn into_tree(self, alloc: Global) -> Result<Tree, AllocError>
+        ensures { IfOk result (λ tree. tree ≡ script self.span self.body self.shebang) }
+    {
+        let Script {
+            span,
+            body,
+            shebang,
+        } = self;
+        Tree::node(alloc, Kind::Script, [Tree::Range(span), body, shebang])
     }
 }

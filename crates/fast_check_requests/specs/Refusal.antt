@@ -1,6 +1,5 @@
 -- Why the program has no answer, and what it says then.
-use Rattle.std.specs.Prelude.{◌≡◌, ℕ, IsTrue, List, ◌++◌, Option, codes}
-use Rattle.std.specs.Io.KnownBytes.{Appends}
+use Rattle.std.specs.Prelude.{◌≡◌, ℕ, Bool, List, ◌++◌, codes}
 use Rattle.fast_check_modules.specs.symbols.declared.fault.TableFault as table_fault
 use Rattle.fast_check_modules.specs.symbols.declared.fault.TableFault.TheVariants as table_faults
 use Rattle.fast_check_read.specs.declared.error.ReadError.{ReadError}
@@ -55,8 +54,8 @@ abbrev pub refusal_of_error : ReadError → Refusal
 refusal_of_error read_errors.BadForm = BadForm
 refusal_of_error read_errors.OutOfMemory = OutOfMemory
 
--- the refusal gives the status, and its line is what is written, where that is taken: of the bytes that a stream held
--- and holds then, what is known
-abbrev pub WritesRefusal : Refusal → Option (List ℕ) → Option (List ℕ) → Ending → Type 0
-WritesRefusal refusal old new ending = (ending.status ≡ status_of refusal) ×
-    (IsTrue ending.is_written → Appends old new (line_of refusal))
+-- the refusal gives the status, and its line is what the stream was asked to take: what a stream does is said of the
+-- stream before, the line, whether it was taken, and the stream after
+abbrev pub WritesRefusal : {S : Type 0} → (S → List ℕ → Bool → S → Type 0) → Refusal → S → S → Ending → Type 0
+WritesRefusal takes refusal old new ending = (ending.status ≡ status_of refusal) ×
+    takes old (line_of refusal) ending.is_written new

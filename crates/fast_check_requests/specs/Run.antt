@@ -1,6 +1,5 @@
 -- What a program does with its words and its file, by what its commands answer to the bytes of a file.
-use Rattle.std.specs.Prelude.{◌≡◌, ℕ, ◌<◌, IsTrue, List, Option, Some, None}
-use Rattle.std.specs.Io.KnownBytes.{Appends}
+use Rattle.std.specs.Prelude.{◌≡◌, ℕ, ◌<◌, IsTrue, Bool, true, false, List, Option, Some, None}
 use Rattle.fast_check_requests.specs.declared.ending.Ending.{Ending}
 use Rattle.fast_check_requests.specs.declared.refusal.Refusal.{Refusal}
 use Rattle.fast_check_requests.specs.declared.refusal.Refusal.TheVariants as refusals
@@ -34,15 +33,17 @@ abbrev pub AnswersCall : {C : Type 0} → (List ℕ → Option C) → (C → Lis
 AnswersCall named Answers words file line status = (status < 2) ×
     OfCall named (λ command bytes. Answers command bytes line status) words file
 
-abbrev pub HasAnswer : {C : Type 0} → (List ℕ → Option C) → (C → List ℕ → List ℕ → ℕ → Type 0) → List (List ℕ) → File →
-    Type 0
-HasAnswer named Answers words file = (line : List ℕ) × (status : ℕ) × AnswersCall named Answers words file line status
+-- ---- the streams: what one does is said of the stream before, the line, whether it was taken, and the stream after
 
--- ---- the streams: what is known of the bytes that one held and holds then
-
--- the line of an answer is what is written
-abbrev pub IsAnswered : {C : Type 0} → (List ℕ → Option C) → (C → List ℕ → List ℕ → ℕ → Type 0) → List (List ℕ) → File
-    → Option (List ℕ) → Option (List ℕ) → Ending → Type 0
-IsAnswered named Answers words file old new ending =
+-- the line of an answer is taken
+abbrev pub IsAnswered : {C S : Type 0} → (List ℕ → Option C) → (C → List ℕ → List ℕ → ℕ → Type 0) →
+    (S → List ℕ → Bool → S → Type 0) → List (List ℕ) → File → S → S → Ending → Type 0
+IsAnswered named Answers takes words file old new ending =
     IsTrue ending.is_written ×
-    ((line : List ℕ) × Appends old new line × AnswersCall named Answers words file line ending.status)
+    ((line : List ℕ) × takes old line true new × AnswersCall named Answers words file line ending.status)
+
+-- it was tried, and is not taken
+abbrev pub IsRefusedAnswer : {C S : Type 0} → (List ℕ → Option C) → (C → List ℕ → List ℕ → ℕ → Type 0) →
+    (S → List ℕ → Bool → S → Type 0) → List (List ℕ) → File → S → S → Type 0
+IsRefusedAnswer named Answers takes words file old new =
+    (line : List ℕ) × (status : ℕ) × takes old line false new × AnswersCall named Answers words file line status

@@ -5,6 +5,7 @@
 mod command;
 mod ending;
 mod input;
+mod lines;
 mod program;
 mod refusal;
 mod request;
@@ -13,6 +14,7 @@ mod words;
 pub use command::{Answer, Command};
 pub use ending::Ending;
 pub use input::{read_bytes, read_request};
+pub use lines::{LineWriter, Lines};
 pub use program::run_commands;
 pub use refusal::Refusal;
 pub use request::{

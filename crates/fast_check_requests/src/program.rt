@@ -4,19 +4,20 @@ ghost use Rattle.std.specs.Prelude.{◌≡◌, ◌<◌, ◌≤◌, map, option_m
 ghost use Rattle.std.specs.String.{string_bytes};
 ghost use Rattle.fast_check_requests.specs.Call.{called};
 ghost use Rattle.fast_check_requests.specs.Refusal.{WritesRefusal};
-ghost use Rattle.fast_check_requests.specs.Run.{RefusesCall, AnswersCall, HasAnswer, IsAnswered};
+ghost use Rattle.fast_check_requests.specs.Run.{RefusesCall, AnswersCall, IsAnswered, IsRefusedAnswer};
 
 use crate::command::{Answer, Command};
 use crate::ending::Ending;
 use crate::input::read_bytes;
+use crate::lines::LineWriter;
 use crate::refusal::Refusal;
 use std::alloc::Global;
-use std::io::{Read, Write};
+use std::io::Read;
 
 /// Runs a program of these commands with these words on an input, which is none where its file does not open. The status is 0
 /// where all modules have skeletons, 1 where there are diagnostics, each with one line of JSON to `out`; 2 where the words or the
 /// input are refused, 3 where memory ran out, and 4 where `out` does not take its line, each with one line to `err`.
-pub fn run_commands<C: Command, R: Read + Drop, O: Write, E: Write>(
+pub fn run_commands<C: Command, R: Read + Drop, O: LineWriter, E: LineWriter>(
     alloc: Global,
     words: &[String],
     input: Option<R>,
@@ -24,22 +25,25 @@ pub fn run_commands<C: Command, R: Read + Drop, O: Write, E: Write>(
     err: &mut E,
 ) -> Ending
     ensures usage { called C.named (map string_bytes words.now) ≡ None →
-        WritesRefusal Refusal.Usage (E.contents err.old) (E.contents err.new) result × (out.new ≡ out.old) }
+        WritesRefusal E.takes Refusal.Usage err.old err.new result × (out.new ≡ out.old) }
     ensures answer { result.status < 2 →
-        IsAnswered C.named C.Answers (map string_bytes words.now) (option_map R.remaining input) (O.contents out.old) (O.contents out.new) result
+        IsAnswered C.named C.Answers O.takes (map string_bytes words.now) (option_map R.remaining input) out.old out.new result
         × (err.new ≡ err.old) }
-    ensures refusal { 2 ≤ result.status → (refusal : Refusal) × WritesRefusal refusal (E.contents err.old) (E.contents err.new) result
+    ensures refusal { 2 ≤ result.status → (refusal : Refusal) × WritesRefusal E.takes refusal err.old err.new result
         × ((RefusesCall C.named C.Refuses (map string_bytes words.now) (option_map R.remaining input) refusal × (out.new ≡ out.old))
-        ⊎ ((refusal ≡ Refusal.Unwritable) × HasAnswer C.named C.Answers (map string_bytes words.now) (option_map R.remaining input))) }
+        ⊎ ((refusal ≡ Refusal.Unwritable)
+        × IsRefusedAnswer C.named C.Answers O.takes (map string_bytes words.now) (option_map R.remaining input) out.old out.new)) }
 {
     match respond::<C, R>(alloc, words, input) {
-        Ok(answer) => match out.write_all(answer.line.as_slice()) {
-            Ok(()) => Ending {
-                status: answer.status,
-                is_written: true,
-            },
-            Err(_) => Refusal::Unwritable.write_line(err),
-        },
+        Ok(answer) => {
+            if out.write_line(answer.line.as_slice()) {
+                return Ending {
+                    status: answer.status,
+                    is_written: true,
+                };
+            }
+            Refusal::Unwritable.write_line(err)
+        }
         Err(refusal) => refusal.write_line(err),
     }
 }

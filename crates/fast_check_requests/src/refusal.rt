@@ -4,10 +4,10 @@ ghost use Rattle.std.specs.Prelude.{◌≡◌};
 ghost use Rattle.fast_check_requests.specs.Refusal.{line_of, line_of_fault, status_of, WritesRefusal};
 
 use crate::ending::Ending;
+use crate::lines::LineWriter;
 use fast_check_modules::TableFault;
 use fast_check_read::{InputFault, ReadError};
 use std::alloc::{AllocError, AllocFailed};
-use std::io::Write;
 
 /// Why the program has no answer.
 #[derive(Clone, Copy, Debug, PartialEq, Eq)]
@@ -61,13 +61,12 @@ impl Refusal {
     }
 
     /// Writes the line, and answers the status, with whether the line was taken. A line that is not taken changes no status.
-    pub fn write_line<E: Write>(self, err: &mut E) -> Ending
-        ensures { WritesRefusal self (E.contents err.old) (E.contents err.new) result }
+    pub fn write_line<E: LineWriter>(self, err: &mut E) -> Ending
+        ensures { WritesRefusal E.takes self err.old err.new result }
     {
-        let written = err.write_all(self.line().as_bytes());
         Ending {
             status: self.status(),
-            is_written: written.is_ok(),
+            is_written: err.write_line(self.line().as_bytes()),
         }
     }
 }

@@ -4,13 +4,14 @@ ghost use Rattle.std.specs.Prelude.{◌≡◌, IfErr};
 ghost use Rattle.fast_check_requests.specs.Opened.{unless_out_of_memory};
 
 use crate::refusal::Refusal;
-use std::env::Env;
+use std::alloc::AllocError;
+use std::env::{Env, FillError};
 use std::fs::{File, Files};
 use std::io::ErrorKind;
-use std::{env, io};
+use std::{env, io, str};
 
-/// What the program is called with: the words behind its name, and the file that they name, which is none where it does not open.
-/// Arguments that are not UTF-8 are no words.
+/// What the program is called with: the words behind its name, and the file that they name, which is none where it does not open,
+/// or its name is not text.
 pub fn read_call<R: Env + Files + AllocGlobal>(
     rt: &R,
 ) -> Result<(Vec<String>, Option<R::File>), Refusal>
@@ -28,12 +29,40 @@ fn read_words<R: Env + AllocGlobal>(rt: &R) -> Result<Vec<String>, Refusal>
     ensures { IfErr result (λ refusal. refusal ≡ Refusal.OutOfMemory) }
 {
     let mut words = Vec::new(rt.alloc());
-    if let Some(arguments) = unless_out_of_memory(env::args(rt))? {
-        for word in arguments.skip(1) {
-            words.push(word)?;
+    match unless_out_of_memory(env::args(rt))? {
+        Some(arguments) => {
+            for word in arguments.skip(1) {
+                words.push(word)?;
+            }
         }
+        None => push_short_words(rt, &mut words)?,
     }
     Ok(words)
+}
+
+/// Pushes the first three words, where one of all is not text. What is not text, or longer than the name of any command, is empty: so it
+/// names no command, and no file opens by it.
+fn push_short_words<R: Env + AllocGlobal>(
+    rt: &R,
+    words: &mut Vec<String>,
+) -> Result<(), AllocError> {
+    for place in 1..4usize {
+        let mut bytes = [0u8; 16];
+        match rt.arg(place, &mut bytes) {
+            Ok(length) => words.push(String::from_str(rt.alloc(), text_of(&bytes, length))?)?,
+            Err(FillError::TooLong) => words.push(String::new(rt.alloc()))?,
+            Err(FillError::NotPresent) => return Ok(()),
+        }
+    }
+    Ok(())
+}
+
+/// The text that the first bytes are, or none.
+fn text_of(bytes: &[u8], length: usize) -> &str {
+    let Some(word) = bytes.get(..length) else {
+        return "";
+    };
+    str::from_utf8(word).unwrap_or("")
 }
 
 /// What was asked of the system, or none where it failed. Want of memory is passed on.

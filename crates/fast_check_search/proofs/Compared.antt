@@ -3,7 +3,7 @@ use Rattle.std.proofs.Common.{◌≡◌, ◌∙◌, sym, ap, refl, ℕ, Bool, tr
 use Rattle.std.specs.BTreeSet.{BTreeSet, contains}
 use Rattle.std.specs.List.{list_any, Contains}
 use Rattle.std.specs.Ordering.{is_eq, nat_cmp, ordering_then}
-use Rattle.fast_check_names.specs.Names.{Path, path_of}
+use Rattle.fast_check_lattice.specs.Names.{Path, path_of}
 use Rattle.fast_check_name_demands.specs.demands.symbol_demands.contracts.demand.NamespaceOrd.TheImpl as namespace_order
 use Rattle.fast_check_name_demands.specs.demands.symbol_demands.contracts.demand.ExtentOrd.TheImpl as extent_order
 use Rattle.fast_check_name_demands.specs.demands.symbol_demands.declared.demand.Namespace.{Namespace}

@@ -1,8 +1,8 @@
 -- What a demand by a path asks of other files: the path there, or its rest behind a first name.
 use Rattle.std.proofs.Common.{◌≡◌, refl, subst, inl, inr, [], ◌∷◌, string_bytes}
 use Rattle.std.specs.List.{Contains}
-use Rattle.fast_check_names.specs.Names.{Name, Path}
-use Rattle.fast_check_names.specs.Imports.{NameDemand, names_but_default, each_name, subset_at, whole_at}
+use Rattle.fast_check_lattice.specs.Names.{Name, Path}
+use Rattle.fast_check_lattice.specs.Imports.{NameDemand, names_but_default, each_name, subset_at, whole_at}
 use Rattle.fast_check_symbols.specs.declared.file_dep_name.FileDepName.{FileDepName}
 use Rattle.fast_check_symbols.specs.declared.file_dep_name.FileDepName.TheVariants.{Star, Name as Named}
 use Rattle.fast_check_symbols.specs.declared.symbol.Symbol.{Symbol}

@@ -9,7 +9,7 @@ use Rattle.std.specs.Map.{values_of, lookup}
 use Rattle.std.specs.List.{Contains, flat_map, list_any, find, IsDistinct}
 use Rattle.std.proofs.lemmas.List.Elements.{Contains-append_left, Contains-append_right, Contains-append_cases}
 use Rattle.std.proofs.lemmas.Map.Made.{length-le_from_is_member}
-use Rattle.fast_check_names.specs.Names.{Name, Path, path_of}
+use Rattle.fast_check_lattice.specs.Names.{Name, Path, path_of}
 use Rattle.fast_check_syntax.specs.declared.atom.Id.{Id}
 use Rattle.fast_check_symbols.specs.declared.symbol_id.SymbolId.{SymbolId}
 use Rattle.fast_check_symbols.specs.declared.symbol.Symbol.{Symbol}

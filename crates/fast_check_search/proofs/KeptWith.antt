@@ -7,7 +7,7 @@ use Rattle.std.proofs.lemmas.Bool.{cases_Bool, or_left, or_right, or_cases}
 use Rattle.std.proofs.lemmas.List.{take_more, take_all}
 use Rattle.std.proofs.lemmas.List.Elements.{Contains-push_cases}
 use Rattle.std.proofs.lemmas.List.Folds.{list_any-append}
-use Rattle.fast_check_names.specs.Names.{Path}
+use Rattle.fast_check_lattice.specs.Names.{Path}
 use Rattle.fast_check_name_demands.specs.demands.Demands.{Demand, Asked, by_reference, as_child, by_path}
 use Rattle.fast_check_name_demands.specs.demands.Account.{alike}
 use Rattle.fast_check_search.specs.contracts.done.DoneDemandOrd.TheImpl as order

@@ -8,7 +8,7 @@ use Rattle.std.specs.List.{Contains, filter, flat_map}
 use Rattle.std.specs.Map.{lookup}
 use Rattle.std.specs.declared.alloc.Global.{Global}
 use Rattle.std.proofs.lemmas.List.Elements.{filter-append}
-use Rattle.fast_check_names.specs.Names.{Path}
+use Rattle.fast_check_lattice.specs.Names.{Path}
 use Rattle.fast_check_symbols.specs.Aliases.{Alias, symbol, part, file, export, alias_of, AreAliases}
 use Rattle.fast_check_symbols.specs.contracts.symbol_id.SymbolIdOrd.TheImpl as order
 use Rattle.fast_check_symbols.specs.declared.symbol_id.SymbolId.{SymbolId}

@@ -14,7 +14,7 @@ use Rattle.std.specs.declared.cmp.Ordering.TheVariants.{Less, Equal, Greater}
 use Rattle.std.proofs.lemmas.Bool.{cases_Bool, cond-true, cond-false, false≢true, eqb-true, eq-eqb, and_parts}
 use Rattle.std.proofs.lemmas.List.{get_or_append_left, get_or_push, length_push, length-map, drop_more, get_or-map}
 use Rattle.std.proofs.lemmas.Map.Text.{btree_map_updates_text}
-use Rattle.fast_check_names.specs.Names.{Name, Path, path_of}
+use Rattle.fast_check_lattice.specs.Names.{Name, Path, path_of}
 use Rattle.fast_check_name_demands.specs.demands.Account.{same_path}
 use Rattle.fast_check_search.specs.contracts.numbers.NamedRestOrd.TheImpl as order
 use Rattle.fast_check_search.specs.declared.numbers.NamedRest.{NamedRest}

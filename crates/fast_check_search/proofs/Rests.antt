@@ -3,7 +3,7 @@ use Rattle.std.proofs.Common.{◌≡◌, refl, ◌≤◌, inl, inr, Bool, List, 
 use Rattle.std.specs.List.{flat_map}
 use Rattle.std.specs.declared.alloc.Global.{Global}
 use Rattle.std.specs.Prelude.{String}
-use Rattle.fast_check_names.specs.Names.{Name, Path}
+use Rattle.fast_check_lattice.specs.Names.{Name, Path}
 use Rattle.fast_check_symbols.specs.declared.symbol_id.SymbolId.{SymbolId}
 use Rattle.fast_check_symbols.specs.declared.symbol.Symbol.{Symbol}
 use Rattle.fast_check_symbols.specs.declared.decl.SymbolDeclKind.{SymbolDeclKind}

@@ -4,7 +4,7 @@ use Rattle.std.specs.BTreeSet as sorted
 use Rattle.std.specs.List.{Contains}
 use Rattle.std.specs.Ordering.{is_eq, nat_cmp, ordering_then}
 use Rattle.std.proofs.lemmas.Bool.{cases_Bool, cond-false, false≢true}
-use Rattle.fast_check_names.specs.Names.{Path}
+use Rattle.fast_check_lattice.specs.Names.{Path}
 use Rattle.fast_check_symbols.specs.declared.symbol_id.SymbolId.{SymbolId}
 use Rattle.fast_check_symbols.specs.Tables.{Tables}
 use Rattle.fast_check_demands.proofs.Adds.{adds_kept, adds_none}

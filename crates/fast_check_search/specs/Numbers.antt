@@ -5,7 +5,7 @@ use Rattle.std.specs.Prelude.{string_bytes, zero, suc}
 use Rattle.std.specs.BTreeMap.{get, get_by_text}
 use Rattle.std.specs.Option.{option_and_then}
 use Rattle.std.specs.declared.alloc.Global.{Global}
-use Rattle.fast_check_names.specs.Names.{Name, Path}
+use Rattle.fast_check_lattice.specs.Names.{Name, Path}
 use Rattle.fast_check_search.specs.contracts.numbers.NamedRestOrd.TheImpl as order
 use Rattle.fast_check_search.specs.declared.numbers.NamedRest.{NamedRest}
 use Rattle.fast_check_search.specs.declared.numbers.PathNumbers.{PathNumbers}

@@ -3,7 +3,7 @@
 -- what is left of one of their paths, or one name of it.
 use Rattle.std.specs.Prelude.{ℕ, List, [], ◌∷◌, ◌++◌, map, length, Some, None, ⊤}
 use Rattle.std.specs.List.{flat_map, Contains}
-use Rattle.fast_check_names.specs.Names.{Path, path_of}
+use Rattle.fast_check_lattice.specs.Names.{Path, path_of}
 use Rattle.fast_check_symbols.specs.declared.symbol_id.SymbolId.{SymbolId}
 use Rattle.fast_check_symbols.specs.declared.symbol.Symbol.{Symbol}
 use Rattle.fast_check_symbols.specs.declared.decl.SymbolDeclKind.{SymbolDeclKind}

@@ -1,7 +1,7 @@
 //! Paths by numbers. Paths of the same names have one number, so what is left of two paths is told apart at once, however long it is.
 
 ghost use Rattle.std.specs.Prelude.{◌≡◌, ◌≤◌, [], length, Some, IfOk, OnOk, string_bytes};
-ghost use Rattle.fast_check_names.specs.Names.{path_of};
+ghost use Rattle.fast_check_lattice.specs.Names.{path_of};
 ghost use Rattle.fast_check_search.specs.Numbers.{name_number, number_before, number_of, IsNumbering, Keeps, Follows};
 
 use std::alloc::{AllocError, Global};

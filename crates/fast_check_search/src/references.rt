@@ -2,7 +2,7 @@
 ghost use Rattle.std.specs.Prelude.{◌≡◌, ◌++◌, [], IfOk, OnOk, map};
 ghost use Rattle.std.specs.List.{filter};
 ghost use Rattle.std.specs.Option.{option_copied};
-ghost use Rattle.fast_check_names.specs.Names.{Path, path_of};
+ghost use Rattle.fast_check_lattice.specs.Names.{Path, path_of};
 ghost use Rattle.fast_check_name_demands.specs.demands.symbol_demands.declared.demand.Extent.{Extent};
 ghost use Rattle.fast_check_name_demands.specs.demands.Demands.{demand_of};
 ghost use Rattle.fast_check_name_demands.specs.demands.Rules.{each_of};

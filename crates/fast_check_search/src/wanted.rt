@@ -2,7 +2,7 @@
 ghost use Rattle.std.specs.Prelude.{◌≡◌, List, [], ◌∷◌, map, Some, OnOk};
 ghost use Rattle.std.specs.Option.{option_copied};
 ghost use Rattle.std.specs.List.{Contains};
-ghost use Rattle.fast_check_names.specs.Names.{path_of};
+ghost use Rattle.fast_check_lattice.specs.Names.{path_of};
 ghost use Rattle.fast_check_symbols.specs.Tables.{Tables};
 ghost use Rattle.fast_check_name_demands.specs.declared.want.FileWant.{FileWant};
 ghost use Rattle.fast_check_name_demands.specs.Files.{FileDemand, file_demand_of};

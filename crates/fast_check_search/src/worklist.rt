@@ -1,7 +1,7 @@
 //! The demands of a search: those that were asked for, with a cursor.
 ghost use Rattle.std.specs.Prelude.{◌≡◌, [], ◌∷◌, length, map, slice_get, Some, true, false, ◌<◌, IfOk, OnOk};
 ghost use Rattle.std.specs.List.{list_any, Contains};
-ghost use Rattle.fast_check_names.specs.Names.{path_of};
+ghost use Rattle.fast_check_lattice.specs.Names.{path_of};
 ghost use Rattle.fast_check_name_demands.specs.demands.Demands.{Demand, asked_of, demand_of};
 ghost use Rattle.fast_check_name_demands.specs.demands.Account.{referred as referred_of, alike, IsCovered};
 ghost use Rattle.fast_check_search.specs.Done.{asked_path, IsNumbered};

@@ -11,8 +11,7 @@ use Rattle.fast_check_syntax.specs.Descent.{by_descent}
 use Rattle.fast_check_class_forms.specs.Functions.{Function-span}
 use Rattle.fast_check_expression_forms.specs.Calls.{CallExpr-callee, CallExpr-args, NewExpr-callee, NewExpr-type_args}
 use Rattle.fast_check_helpers.specs.GlobalCalls.{object_freeze_call_arg}
-use Rattle.fast_check_signatures.specs.declared.rules.TheConstants.{PLAIN_KINDS, COMPOUND_KINDS, SATISFIES, ASSERTION}
-use Rattle.fast_check_signatures.specs.declared.rules.TheConstants.{FN_EXPR, FREEZE, NEW}
+use Rattle.fast_check_signatures.specs.declared.rules.TheConstants.{SATISFIES, ASSERTION, FN_EXPR, FREEZE, NEW}
 use Rattle.fast_check_signatures.specs.declared.rules.Slot.{Slot}
 use Rattle.fast_check_signatures.specs.declared.rules.Slot.TheVariants as slots
 use Rattle.fast_check_signatures.specs.declared.function_kind.FunctionKind.TheVariants.{ExpressionLike}
@@ -27,11 +26,40 @@ is_among kinds kind = list_any (λ other. other is kind) kinds
 
 -- an expression that stays as it is, or a name or a text inside of one
 abbrev pub is_plain : Kind → Bool
-is_plain = is_among PLAIN_KINDS
+is_plain kinds.Leaf = true
+is_plain kinds.ThisExpr = true
+is_plain kinds.Ident = true
+is_plain kinds.IdentName = true
+is_plain kinds.Str = true
+is_plain kinds.Bool = true
+is_plain kinds.Null = true
+is_plain kinds.Number = true
+is_plain kinds.BigInt = true
+is_plain kinds.Regex = true
+is_plain kinds.TplElement = true
+is_plain _ = false
 
 -- one that stays if its parts do
 abbrev pub is_compound : Kind → Bool
-is_compound = is_among COMPOUND_KINDS
+is_compound kinds.List = true
+is_compound kinds.ArrayLit = true
+is_compound kinds.ExprOrSpread = true
+is_compound kinds.ObjectLit = true
+is_compound kinds.SpreadElement = true
+is_compound kinds.KeyValueProp = true
+is_compound kinds.AssignProp = true
+is_compound kinds.ComputedPropName = true
+is_compound kinds.UnaryExpr = true
+is_compound kinds.UpdateExpr = true
+is_compound kinds.AwaitExpr = true
+is_compound kinds.ParenExpr = true
+is_compound kinds.TsNonNullExpr = true
+is_compound kinds.TsConstAssertion = true
+is_compound kinds.BinExpr = true
+is_compound kinds.CondExpr = true
+is_compound kinds.MemberExpr = true
+is_compound kinds.Tpl = true
+is_compound _ = false
 
 -- other expressions that may stay
 abbrev pub other_kinds : List Kind

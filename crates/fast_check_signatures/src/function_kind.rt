@@ -6,7 +6,7 @@ pub enum FunctionKind {
     DeclarationLike,
     /// A function expression or an arrow: with no `return`, its type may be `void` or `never`.
     ExpressionLike,
-    /// A getter: its type has to be written.
+    /// A getter: its type has to be written, or named by the only `return` of its body.
     Getter,
     /// A setter: it has no type.
     Setter,

@@ -1,4 +1,8 @@
-//! How expressions stay, kind by kind: the tables that the definitions name, and that the transform walks.
+//! How expressions stay, kind by kind: which stay whole, which if their parts do, and the rows, which the definitions name and the
+//! transform walks.
+ghost use Rattle.std.specs.Prelude.{◌≡◌};
+ghost use Rattle.fast_check_signatures.specs.Expressions.{is_plain, is_compound};
+
 use fast_check_syntax::Kind;
 
 /// What becomes of a part of an expression that stays slot by slot.
@@ -18,42 +22,52 @@ pub enum Slot {
     Function,
 }
 
-/// Expressions that stay as they are, and the names and texts inside of others.
-pub const PLAIN_KINDS: [Kind; 11] = [
-    Kind::Leaf,
-    Kind::ThisExpr,
-    Kind::Ident,
-    Kind::IdentName,
-    Kind::Str,
-    Kind::Bool,
-    Kind::Null,
-    Kind::Number,
-    Kind::BigInt,
-    Kind::Regex,
-    Kind::TplElement,
-];
+/// Whether an expression of this kind stays as it is, or is a name or a text inside of another.
+pub fn is_plain(kind: Kind) -> bool
+    ensures { result ≡ is_plain kind }
+{
+    matches!(
+        kind,
+        Kind::Leaf
+            | Kind::ThisExpr
+            | Kind::Ident
+            | Kind::IdentName
+            | Kind::Str
+            | Kind::Bool
+            | Kind::Null
+            | Kind::Number
+            | Kind::BigInt
+            | Kind::Regex
+            | Kind::TplElement
+    )
+}
 
-/// Expressions that stay if their parts do, with the lists, elements, properties and computed names inside of them.
-pub const COMPOUND_KINDS: [Kind; 18] = [
-    Kind::List,
-    Kind::ArrayLit,
-    Kind::ExprOrSpread,
-    Kind::ObjectLit,
-    Kind::SpreadElement,
-    Kind::KeyValueProp,
-    Kind::AssignProp,
-    Kind::ComputedPropName,
-    Kind::UnaryExpr,
-    Kind::UpdateExpr,
-    Kind::AwaitExpr,
-    Kind::ParenExpr,
-    Kind::TsNonNullExpr,
-    Kind::TsConstAssertion,
-    Kind::BinExpr,
-    Kind::CondExpr,
-    Kind::MemberExpr,
-    Kind::Tpl,
-];
+/// Whether one stays if its parts do, or is a list, an element, a property or a computed name inside of one.
+pub fn is_compound(kind: Kind) -> bool
+    ensures { result ≡ is_compound kind }
+{
+    matches!(
+        kind,
+        Kind::List
+            | Kind::ArrayLit
+            | Kind::ExprOrSpread
+            | Kind::ObjectLit
+            | Kind::SpreadElement
+            | Kind::KeyValueProp
+            | Kind::AssignProp
+            | Kind::ComputedPropName
+            | Kind::UnaryExpr
+            | Kind::UpdateExpr
+            | Kind::AwaitExpr
+            | Kind::ParenExpr
+            | Kind::TsNonNullExpr
+            | Kind::TsConstAssertion
+            | Kind::BinExpr
+            | Kind::CondExpr
+            | Kind::MemberExpr
+            | Kind::Tpl
+    )
+}
 
 /// `value satisfies type`: the value as it stays. A row has a slot for each field of its form, in their order.
 pub const SATISFIES: [Slot; 3] = [Slot::Span, Slot::Value, Slot::Written];

@@ -14,7 +14,7 @@ use Rattle.url.specs.Parts.{Parts, serialize}
 use Rattle.fast_check_packages.specs.Package.{Nv, nv_of}
 use Rattle.fast_check_packages.specs.declared.package.WorkspaceMember.{WorkspaceMember}
 use Rattle.fast_check_packages.specs.Members.{member_nv}
-use Rattle.fast_check_names.specs.Imports.{names_but_default}
+use Rattle.fast_check_lattice.specs.Imports.{names_but_default}
 use Rattle.fast_check_graph.specs.Resolutions.{text_resolved}
 use Rattle.fast_check_demands.specs.Rules.{each_of}
 use Rattle.fast_check_demands.specs.Yields.{Adds}

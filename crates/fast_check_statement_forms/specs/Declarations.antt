@@ -1,7 +1,6 @@
 -- Written by forms/write.py from forms/forms.txt.
 -- Declarations.
--- Each form has its fields by their names, and what it holds once it reads a node;
--- where it is made, the node of its fields.
+-- Each form has its fields by their names, what it holds once it reads a node, and the node of its fields.
 use Rattle.std.specs.Prelude.{◌≡◌, Bool, [], ◌∷◌}
 use Rattle.fast_check_syntax.specs.declared.kind.Kind.TheVariants as kinds
 use Rattle.fast_check_syntax.specs.declared.part.Part.{Part}
@@ -115,3 +114,6 @@ pub record ReadsUsingDecl (form : UsingDecl Part) (t : Tree) : Type 0 where
   pub span : form.span ≡ UsingDecl-span t
   pub is_await : form.is_await ≡ UsingDecl-is_await t
   pub decls : seen form.decls ≡ UsingDecl-decls t
+
+abbrev pub using_decl : SourceRange → Bool → Tree → Tree
+using_decl span is_await decls = node kinds.UsingDecl (Range span ∷ Flag is_await ∷ decls ∷ [])

@@ -1,12 +1,13 @@
 -- Written by forms/write.py from forms/forms.txt.
 -- Loops.
--- Each form has its fields by their names, and what it holds once it reads a node.
-use Rattle.std.specs.Prelude.{◌≡◌, Bool}
+-- Each form has its fields by their names, what it holds once it reads a node, and the node of its fields.
+use Rattle.std.specs.Prelude.{◌≡◌, Bool, [], ◌∷◌}
+use Rattle.fast_check_syntax.specs.declared.kind.Kind.TheVariants as kinds
 use Rattle.fast_check_syntax.specs.declared.part.Part.{Part}
 use Rattle.fast_check_syntax.specs.declared.source.SourceRange.{SourceRange}
-use Rattle.fast_check_syntax.specs.declared.tree.Tree.{Tree}
+use Rattle.fast_check_syntax.specs.declared.tree.Tree.{Tree, Range, Flag}
 use Rattle.fast_check_syntax.specs.Part.{seen}
-use Rattle.fast_check_syntax.specs.Shape.{part, range_of, flag_of}
+use Rattle.fast_check_syntax.specs.Shape.{node, part, range_of, flag_of}
 use Rattle.fast_check_statement_forms.specs.declared.loops.WhileStmt.{WhileStmt}
 use Rattle.fast_check_statement_forms.specs.declared.loops.DoWhileStmt.{DoWhileStmt}
 use Rattle.fast_check_statement_forms.specs.declared.loops.ForStmt.{ForStmt}
@@ -28,6 +29,9 @@ pub record ReadsWhileStmt (form : WhileStmt Part) (t : Tree) : Type 0 where
   pub test : seen form.test ≡ WhileStmt-test t
   pub body : seen form.body ≡ WhileStmt-body t
 
+abbrev pub while_stmt : SourceRange → Tree → Tree → Tree
+while_stmt span test body = node kinds.WhileStmt (Range span ∷ test ∷ body ∷ [])
+
 -- `do body while (test);`.
 abbrev pub DoWhileStmt-span : Tree → SourceRange
 DoWhileStmt-span t = range_of (part 0 t)
@@ -42,6 +46,9 @@ pub record ReadsDoWhileStmt (form : DoWhileStmt Part) (t : Tree) : Type 0 where
   pub span : form.span ≡ DoWhileStmt-span t
   pub test : seen form.test ≡ DoWhileStmt-test t
   pub body : seen form.body ≡ DoWhileStmt-body t
+
+abbrev pub do_while_stmt : SourceRange → Tree → Tree → Tree
+do_while_stmt span test body = node kinds.DoWhileStmt (Range span ∷ test ∷ body ∷ [])
 
 -- `for (init; test; update) body`.
 abbrev pub ForStmt-span : Tree → SourceRange
@@ -66,6 +73,9 @@ pub record ReadsForStmt (form : ForStmt Part) (t : Tree) : Type 0 where
   pub update : seen form.update ≡ ForStmt-update t
   pub body : seen form.body ≡ ForStmt-body t
 
+abbrev pub for_stmt : SourceRange → Tree → Tree → Tree → Tree → Tree
+for_stmt span init test update body = node kinds.ForStmt (Range span ∷ init ∷ test ∷ update ∷ body ∷ [])
+
 -- `for (left in right) body`.
 abbrev pub ForInStmt-span : Tree → SourceRange
 ForInStmt-span t = range_of (part 0 t)
@@ -84,6 +94,9 @@ pub record ReadsForInStmt (form : ForInStmt Part) (t : Tree) : Type 0 where
   pub left : seen form.left ≡ ForInStmt-left t
   pub right : seen form.right ≡ ForInStmt-right t
   pub body : seen form.body ≡ ForInStmt-body t
+
+abbrev pub for_in_stmt : SourceRange → Tree → Tree → Tree → Tree
+for_in_stmt span left right body = node kinds.ForInStmt (Range span ∷ left ∷ right ∷ body ∷ [])
 
 -- `for (left of right) body`.
 abbrev pub ForOfStmt-span : Tree → SourceRange
@@ -107,3 +120,6 @@ pub record ReadsForOfStmt (form : ForOfStmt Part) (t : Tree) : Type 0 where
   pub left : seen form.left ≡ ForOfStmt-left t
   pub right : seen form.right ≡ ForOfStmt-right t
   pub body : seen form.body ≡ ForOfStmt-body t
+
+abbrev pub for_of_stmt : SourceRange → Bool → Tree → Tree → Tree → Tree
+for_of_stmt span is_await left right body = node kinds.ForOfStmt (Range span ∷ Flag is_await ∷ left ∷ right ∷ body ∷ [])

@@ -1,7 +1,6 @@
 -- Written by forms/write.py from forms/forms.txt.
 -- Statements.
--- Each form has its fields by their names, and what it holds once it reads a node;
--- where it is made, the node of its fields.
+-- Each form has its fields by their names, what it holds once it reads a node, and the node of its fields.
 use Rattle.std.specs.Prelude.{◌≡◌, [], ◌∷◌}
 use Rattle.fast_check_syntax.specs.declared.kind.Kind.TheVariants as kinds
 use Rattle.fast_check_syntax.specs.declared.part.Part.{Part}
@@ -51,12 +50,18 @@ EmptyStmt-span t = range_of (part 0 t)
 pub record ReadsEmptyStmt (form : EmptyStmt) (t : Tree) : Type 0 where
   pub span : form.span ≡ EmptyStmt-span t
 
+abbrev pub empty_stmt : SourceRange → Tree
+empty_stmt span = node kinds.EmptyStmt (Range span ∷ [])
+
 -- `debugger;`.
 abbrev pub DebuggerStmt-span : Tree → SourceRange
 DebuggerStmt-span t = range_of (part 0 t)
 
 pub record ReadsDebuggerStmt (form : DebuggerStmt) (t : Tree) : Type 0 where
   pub span : form.span ≡ DebuggerStmt-span t
+
+abbrev pub debugger_stmt : SourceRange → Tree
+debugger_stmt span = node kinds.DebuggerStmt (Range span ∷ [])
 
 -- `with (obj) body`.
 abbrev pub WithStmt-span : Tree → SourceRange
@@ -72,6 +77,9 @@ pub record ReadsWithStmt (form : WithStmt Part) (t : Tree) : Type 0 where
   pub span : form.span ≡ WithStmt-span t
   pub obj : seen form.obj ≡ WithStmt-obj t
   pub body : seen form.body ≡ WithStmt-body t
+
+abbrev pub with_stmt : SourceRange → Tree → Tree → Tree
+with_stmt span obj body = node kinds.WithStmt (Range span ∷ obj ∷ body ∷ [])
 
 -- `return arg;`.
 abbrev pub ReturnStmt-span : Tree → SourceRange
@@ -102,6 +110,9 @@ pub record ReadsLabeledStmt (form : LabeledStmt Part) (t : Tree) : Type 0 where
   pub label : seen form.label ≡ LabeledStmt-label t
   pub body : seen form.body ≡ LabeledStmt-body t
 
+abbrev pub labeled_stmt : SourceRange → Tree → Tree → Tree
+labeled_stmt span label body = node kinds.LabeledStmt (Range span ∷ label ∷ body ∷ [])
+
 -- `break label;`.
 abbrev pub BreakStmt-span : Tree → SourceRange
 BreakStmt-span t = range_of (part 0 t)
@@ -113,6 +124,9 @@ pub record ReadsBreakStmt (form : BreakStmt Part) (t : Tree) : Type 0 where
   pub span : form.span ≡ BreakStmt-span t
   pub label : seen form.label ≡ BreakStmt-label t
 
+abbrev pub break_stmt : SourceRange → Tree → Tree
+break_stmt span label = node kinds.BreakStmt (Range span ∷ label ∷ [])
+
 -- `continue label;`.
 abbrev pub ContinueStmt-span : Tree → SourceRange
 ContinueStmt-span t = range_of (part 0 t)
@@ -123,6 +137,9 @@ ContinueStmt-label t = part 1 t
 pub record ReadsContinueStmt (form : ContinueStmt Part) (t : Tree) : Type 0 where
   pub span : form.span ≡ ContinueStmt-span t
   pub label : seen form.label ≡ ContinueStmt-label t
+
+abbrev pub continue_stmt : SourceRange → Tree → Tree
+continue_stmt span label = node kinds.ContinueStmt (Range span ∷ label ∷ [])
 
 -- `if (test) cons else alt`.
 abbrev pub IfStmt-span : Tree → SourceRange
@@ -143,6 +160,9 @@ pub record ReadsIfStmt (form : IfStmt Part) (t : Tree) : Type 0 where
   pub cons : seen form.cons ≡ IfStmt-cons t
   pub alt : seen form.alt ≡ IfStmt-alt t
 
+abbrev pub if_stmt : SourceRange → Tree → Tree → Tree → Tree
+if_stmt span test cons alt = node kinds.IfStmt (Range span ∷ test ∷ cons ∷ alt ∷ [])
+
 -- `switch (discriminant) { cases }`.
 abbrev pub SwitchStmt-span : Tree → SourceRange
 SwitchStmt-span t = range_of (part 0 t)
@@ -157,6 +177,9 @@ pub record ReadsSwitchStmt (form : SwitchStmt Part) (t : Tree) : Type 0 where
   pub span : form.span ≡ SwitchStmt-span t
   pub discriminant : seen form.discriminant ≡ SwitchStmt-discriminant t
   pub cases : seen form.cases ≡ SwitchStmt-cases t
+
+abbrev pub switch_stmt : SourceRange → Tree → Tree → Tree
+switch_stmt span discriminant cases = node kinds.SwitchStmt (Range span ∷ discriminant ∷ cases ∷ [])
 
 -- `case test: cons`, or `default: cons` where there is no test.
 abbrev pub SwitchCase-span : Tree → SourceRange
@@ -173,6 +196,9 @@ pub record ReadsSwitchCase (form : SwitchCase Part) (t : Tree) : Type 0 where
   pub test : seen form.test ≡ SwitchCase-test t
   pub cons : seen form.cons ≡ SwitchCase-cons t
 
+abbrev pub switch_case : SourceRange → Tree → Tree → Tree
+switch_case span test cons = node kinds.SwitchCase (Range span ∷ test ∷ cons ∷ [])
+
 -- `throw arg;`.
 abbrev pub ThrowStmt-span : Tree → SourceRange
 ThrowStmt-span t = range_of (part 0 t)
@@ -183,6 +209,9 @@ ThrowStmt-arg t = part 1 t
 pub record ReadsThrowStmt (form : ThrowStmt Part) (t : Tree) : Type 0 where
   pub span : form.span ≡ ThrowStmt-span t
   pub arg : seen form.arg ≡ ThrowStmt-arg t
+
+abbrev pub throw_stmt : SourceRange → Tree → Tree
+throw_stmt span arg = node kinds.ThrowStmt (Range span ∷ arg ∷ [])
 
 -- `try block handler finally finalizer`.
 abbrev pub TryStmt-span : Tree → SourceRange
@@ -203,6 +232,9 @@ pub record ReadsTryStmt (form : TryStmt Part) (t : Tree) : Type 0 where
   pub handler : seen form.handler ≡ TryStmt-handler t
   pub finalizer : seen form.finalizer ≡ TryStmt-finalizer t
 
+abbrev pub try_stmt : SourceRange → Tree → Tree → Tree → Tree
+try_stmt span block handler finalizer = node kinds.TryStmt (Range span ∷ block ∷ handler ∷ finalizer ∷ [])
+
 -- `catch (param) body`.
 abbrev pub CatchClause-span : Tree → SourceRange
 CatchClause-span t = range_of (part 0 t)
@@ -218,6 +250,9 @@ pub record ReadsCatchClause (form : CatchClause Part) (t : Tree) : Type 0 where
   pub param : seen form.param ≡ CatchClause-param t
   pub body : seen form.body ≡ CatchClause-body t
 
+abbrev pub catch_clause : SourceRange → Tree → Tree → Tree
+catch_clause span param body = node kinds.CatchClause (Range span ∷ param ∷ body ∷ [])
+
 -- `expr;`.
 abbrev pub ExprStmt-span : Tree → SourceRange
 ExprStmt-span t = range_of (part 0 t)
@@ -228,3 +263,6 @@ ExprStmt-expr t = part 1 t
 pub record ReadsExprStmt (form : ExprStmt Part) (t : Tree) : Type 0 where
   pub span : form.span ≡ ExprStmt-span t
   pub expr : seen form.expr ≡ ExprStmt-expr t
+
+abbrev pub expr_stmt : SourceRange → Tree → Tree
+expr_stmt span expr = node kinds.ExprStmt (Range span ∷ expr ∷ [])

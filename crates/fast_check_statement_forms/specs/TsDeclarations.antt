@@ -1,7 +1,6 @@
 -- Written by forms/write.py from forms/forms.txt.
 -- TypeScript's own declarations.
--- Each form has its fields by their names, and what it holds once it reads a node;
--- where it is made, the node of its fields.
+-- Each form has its fields by their names, what it holds once it reads a node, and the node of its fields.
 use Rattle.std.specs.Prelude.{◌≡◌, Bool, [], ◌∷◌}
 use Rattle.fast_check_syntax.specs.declared.kind.Kind.TheVariants as kinds
 use Rattle.fast_check_syntax.specs.declared.part.Part.{Part}
@@ -65,6 +64,9 @@ pub record ReadsTsExprWithTypeArgs (form : TsExprWithTypeArgs Part) (t : Tree) :
   pub expr : seen form.expr ≡ TsExprWithTypeArgs-expr t
   pub type_args : seen form.type_args ≡ TsExprWithTypeArgs-type_args t
 
+abbrev pub ts_expr_with_type_args : SourceRange → Tree → Tree → Tree
+ts_expr_with_type_args span expr type_args = node kinds.TsExprWithTypeArgs (Range span ∷ expr ∷ type_args ∷ [])
+
 -- `{ body }` of an interface.
 abbrev pub TsInterfaceBody-span : Tree → SourceRange
 TsInterfaceBody-span t = range_of (part 0 t)
@@ -75,6 +77,9 @@ TsInterfaceBody-body t = part 1 t
 pub record ReadsTsInterfaceBody (form : TsInterfaceBody Part) (t : Tree) : Type 0 where
   pub span : form.span ≡ TsInterfaceBody-span t
   pub body : seen form.body ≡ TsInterfaceBody-body t
+
+abbrev pub ts_interface_body : SourceRange → Tree → Tree
+ts_interface_body span body = node kinds.TsInterfaceBody (Range span ∷ body ∷ [])
 
 -- `type id<type_params> = type_ann;`.
 abbrev pub TsTypeAliasDecl-span : Tree → SourceRange
@@ -99,6 +104,10 @@ pub record ReadsTsTypeAliasDecl (form : TsTypeAliasDecl Part) (t : Tree) : Type 
   pub type_params : seen form.type_params ≡ TsTypeAliasDecl-type_params t
   pub type_ann : seen form.type_ann ≡ TsTypeAliasDecl-type_ann t
 
+abbrev pub ts_type_alias_decl : SourceRange → Bool → Tree → Tree → Tree → Tree
+ts_type_alias_decl span declare id type_params type_ann =
+    node kinds.TsTypeAliasDecl (Range span ∷ Flag declare ∷ id ∷ type_params ∷ type_ann ∷ [])
+
 -- `enum id { members }`.
 abbrev pub TsEnumDecl-span : Tree → SourceRange
 TsEnumDecl-span t = range_of (part 0 t)
@@ -122,6 +131,10 @@ pub record ReadsTsEnumDecl (form : TsEnumDecl Part) (t : Tree) : Type 0 where
   pub id : seen form.id ≡ TsEnumDecl-id t
   pub members : seen form.members ≡ TsEnumDecl-members t
 
+abbrev pub ts_enum_decl : SourceRange → Bool → Bool → Tree → Tree → Tree
+ts_enum_decl span declare is_const id members =
+    node kinds.TsEnumDecl (Range span ∷ Flag declare ∷ Flag is_const ∷ id ∷ members ∷ [])
+
 -- In an enum: `id = init`.
 abbrev pub TsEnumMember-span : Tree → SourceRange
 TsEnumMember-span t = range_of (part 0 t)
@@ -136,6 +149,9 @@ pub record ReadsTsEnumMember (form : TsEnumMember Part) (t : Tree) : Type 0 wher
   pub span : form.span ≡ TsEnumMember-span t
   pub id : seen form.id ≡ TsEnumMember-id t
   pub init : seen form.init ≡ TsEnumMember-init t
+
+abbrev pub ts_enum_member : SourceRange → Tree → Tree → Tree
+ts_enum_member span id init = node kinds.TsEnumMember (Range span ∷ id ∷ init ∷ [])
 
 -- `module id body`, `namespace id body` or `global body`.
 abbrev pub TsModuleDecl-span : Tree → SourceRange
@@ -204,3 +220,7 @@ pub record ReadsTsNamespaceDecl (form : TsNamespaceDecl Part) (t : Tree) : Type 
   pub global : form.global ≡ TsNamespaceDecl-global t
   pub id : seen form.id ≡ TsNamespaceDecl-id t
   pub body : seen form.body ≡ TsNamespaceDecl-body t
+
+abbrev pub ts_namespace_decl : SourceRange → Bool → Bool → Tree → Tree → Tree
+ts_namespace_decl span declare global id body =
+    node kinds.TsNamespaceDecl (Range span ∷ Flag declare ∷ Flag global ∷ id ∷ body ∷ [])

@@ -13,6 +13,7 @@ ghost use Rattle.fast_check_statement_forms.specs.Declarations.{
   ReadsVarDeclarator,
   var_declarator,
   ReadsUsingDecl,
+  using_decl,
 };
 
 use fast_check_syntax::{Kind, Part, SourceRange, SyntaxContext, Tree};
@@ -215,5 +216,23 @@ impl<'a> UsingDecl<Part<'a>> {
             is_await: node.part(1).flag(),
             decls: node.part(2),
         }
+    }
+}
+
+impl UsingDecl<Tree> {
+    /// The node of these fields.
+    pub fn into_tree(self, alloc: Global) -> Result<Tree, AllocError>
+        ensures { IfOk result (λ tree. tree ≡ using_decl self.span self.is_await self.decls) }
+    {
+        let UsingDecl {
+            span,
+            is_await,
+            decls,
+        } = self;
+        Tree::node(
+            alloc,
+            Kind::UsingDecl,
+            [Tree::Range(span), Tree::Flag(is_await), decls],
+        )
     }
 }

@@ -1,16 +1,23 @@
 //! Loops. Each form with its fields by their names.
 // Written by forms/write.py from forms/forms.txt.
 
+ghost use Rattle.std.specs.Prelude.{◌≡◌, IfOk};
 ghost use Rattle.fast_check_syntax.specs.Part.{seen};
 ghost use Rattle.fast_check_statement_forms.specs.Loops.{
   ReadsWhileStmt,
+  while_stmt,
   ReadsDoWhileStmt,
+  do_while_stmt,
   ReadsForStmt,
+  for_stmt,
   ReadsForInStmt,
+  for_in_stmt,
   ReadsForOfStmt,
+  for_of_stmt,
 };
 
-use fast_check_syntax::{Part, SourceRange};
+use fast_check_syntax::{Kind, Part, SourceRange, Tree};
+use std::alloc::{AllocError, Global};
 
 /// `while (test) body`.
 #[derive(Drop)]
@@ -35,6 +42,16 @@ impl<'a> WhileStmt<Part<'a>> {
     }
 }
 
+impl WhileStmt<Tree> {
+    /// The node of these fields.
+    pub fn into_tree(self, alloc: Global) -> Result<Tree, AllocError>
+        ensures { IfOk result (λ tree. tree ≡ while_stmt self.span self.test self.body) }
+    {
+        let WhileStmt { span, test, body } = self;
+        Tree::node(alloc, Kind::WhileStmt, [Tree::Range(span), test, body])
+    }
+}
+
 /// `do body while (test);`.
 #[derive(Drop)]
 pub struct DoWhileStmt<N> {
@@ -55,6 +72,16 @@ impl<'a> DoWhileStmt<Part<'a>> {
             test: node.part(1),
             body: node.part(2),
         }
+    }
+}
+
+impl DoWhileStmt<Tree> {
+    /// The node of these fields.
+    pub fn into_tree(self, alloc: Global) -> Result<Tree, AllocError>
+        ensures { IfOk result (λ tree. tree ≡ do_while_stmt self.span self.test self.body) }
+    {
+        let DoWhileStmt { span, test, body } = self;
+        Tree::node(alloc, Kind::DoWhileStmt, [Tree::Range(span), test, body])
     }
 }
 
@@ -87,6 +114,27 @@ impl<'a> ForStmt<Part<'a>> {
     }
 }
 
+impl ForStmt<Tree> {
+    /// The node of these fields.
+    pub fn into_tree(self, alloc: Global) -> Result<Tree, AllocError>
+        ensures { IfOk result (λ tree. tree ≡
+            for_stmt self.span self.init self.test self.update self.body) }
+    {
+        let ForStmt {
+            span,
+            init,
+            test,
+            update,
+            body,
+        } = self;
+        Tree::node(
+            alloc,
+            Kind::ForStmt,
+            [Tree::Range(span), init, test, update, body],
+        )
+    }
+}
+
 /// `for (left in right) body`.
 #[derive(Drop)]
 pub struct ForInStmt<N> {
@@ -110,6 +158,26 @@ impl<'a> ForInStmt<Part<'a>> {
             right: node.part(2),
             body: node.part(3),
         }
+    }
+}
+
+impl ForInStmt<Tree> {
+    /// The node of these fields.
+    pub fn into_tree(self, alloc: Global) -> Result<Tree, AllocError>
+        ensures { IfOk result (λ tree. tree ≡
+            for_in_stmt self.span self.left self.right self.body) }
+    {
+        let ForInStmt {
+            span,
+            left,
+            right,
+            body,
+        } = self;
+        Tree::node(
+            alloc,
+            Kind::ForInStmt,
+            [Tree::Range(span), left, right, body],
+        )
     }
 }
 
@@ -139,5 +207,26 @@ impl<'a> ForOfStmt<Part<'a>> {
             right: node.part(3),
             body: node.part(4),
         }
+    }
+}
+
+impl ForOfStmt<Tree> {
+    /// The node of these fields.
+    pub fn into_tree(self, alloc: Global) -> Result<Tree, AllocError>
+        ensures { IfOk result (λ tree. tree ≡
+            for_of_stmt self.span self.is_await self.left self.right self.body) }
+    {
+        let ForOfStmt {
+            span,
+            is_await,
+            left,
+            right,
+            body,
+        } = self;
+        Tree::node(
+            alloc,
+            Kind::ForOfStmt,
+            [Tree::Range(span), Tree::Flag(is_await), left, right, body],
+        )
     }
 }

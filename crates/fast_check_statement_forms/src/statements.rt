@@ -7,20 +7,33 @@ ghost use Rattle.fast_check_statement_forms.specs.Statements.{
   ReadsBlockStmt,
   block_stmt,
   ReadsEmptyStmt,
+  empty_stmt,
   ReadsDebuggerStmt,
+  debugger_stmt,
   ReadsWithStmt,
+  with_stmt,
   ReadsReturnStmt,
   return_stmt,
   ReadsLabeledStmt,
+  labeled_stmt,
   ReadsBreakStmt,
+  break_stmt,
   ReadsContinueStmt,
+  continue_stmt,
   ReadsIfStmt,
+  if_stmt,
   ReadsSwitchStmt,
+  switch_stmt,
   ReadsSwitchCase,
+  switch_case,
   ReadsThrowStmt,
+  throw_stmt,
   ReadsTryStmt,
+  try_stmt,
   ReadsCatchClause,
+  catch_clause,
   ReadsExprStmt,
+  expr_stmt,
 };
 
 use fast_check_syntax::{Kind, Part, SourceRange, SyntaxContext, Tree};
@@ -78,6 +91,14 @@ impl EmptyStmt {
             span: node.part(0).range(),
         }
     }
+
+    /// The node of these fields.
+    pub fn into_tree(self, alloc: Global) -> Result<Tree, AllocError>
+        ensures { IfOk result (λ tree. tree ≡ empty_stmt self.span) }
+    {
+        let EmptyStmt { span } = self;
+        Tree::node(alloc, Kind::EmptyStmt, [Tree::Range(span)])
+    }
 }
 
 /// `debugger;`.
@@ -94,6 +115,14 @@ impl DebuggerStmt {
         DebuggerStmt {
             span: node.part(0).range(),
         }
+    }
+
+    /// The node of these fields.
+    pub fn into_tree(self, alloc: Global) -> Result<Tree, AllocError>
+        ensures { IfOk result (λ tree. tree ≡ debugger_stmt self.span) }
+    {
+        let DebuggerStmt { span } = self;
+        Tree::node(alloc, Kind::DebuggerStmt, [Tree::Range(span)])
     }
 }
 
@@ -117,6 +146,16 @@ impl<'a> WithStmt<Part<'a>> {
             obj: node.part(1),
             body: node.part(2),
         }
+    }
+}
+
+impl WithStmt<Tree> {
+    /// The node of these fields.
+    pub fn into_tree(self, alloc: Global) -> Result<Tree, AllocError>
+        ensures { IfOk result (λ tree. tree ≡ with_stmt self.span self.obj self.body) }
+    {
+        let WithStmt { span, obj, body } = self;
+        Tree::node(alloc, Kind::WithStmt, [Tree::Range(span), obj, body])
     }
 }
 
@@ -173,6 +212,16 @@ impl<'a> LabeledStmt<Part<'a>> {
     }
 }
 
+impl LabeledStmt<Tree> {
+    /// The node of these fields.
+    pub fn into_tree(self, alloc: Global) -> Result<Tree, AllocError>
+        ensures { IfOk result (λ tree. tree ≡ labeled_stmt self.span self.label self.body) }
+    {
+        let LabeledStmt { span, label, body } = self;
+        Tree::node(alloc, Kind::LabeledStmt, [Tree::Range(span), label, body])
+    }
+}
+
 /// `break label;`.
 #[derive(Drop)]
 pub struct BreakStmt<N> {
@@ -193,6 +242,16 @@ impl<'a> BreakStmt<Part<'a>> {
     }
 }
 
+impl BreakStmt<Tree> {
+    /// The node of these fields.
+    pub fn into_tree(self, alloc: Global) -> Result<Tree, AllocError>
+        ensures { IfOk result (λ tree. tree ≡ break_stmt self.span self.label) }
+    {
+        let BreakStmt { span, label } = self;
+        Tree::node(alloc, Kind::BreakStmt, [Tree::Range(span), label])
+    }
+}
+
 /// `continue label;`.
 #[derive(Drop)]
 pub struct ContinueStmt<N> {
@@ -210,6 +269,16 @@ impl<'a> ContinueStmt<Part<'a>> {
             span: node.part(0).range(),
             label: node.part(1),
         }
+    }
+}
+
+impl ContinueStmt<Tree> {
+    /// The node of these fields.
+    pub fn into_tree(self, alloc: Global) -> Result<Tree, AllocError>
+        ensures { IfOk result (λ tree. tree ≡ continue_stmt self.span self.label) }
+    {
+        let ContinueStmt { span, label } = self;
+        Tree::node(alloc, Kind::ContinueStmt, [Tree::Range(span), label])
     }
 }
 
@@ -239,6 +308,21 @@ impl<'a> IfStmt<Part<'a>> {
     }
 }
 
+impl IfStmt<Tree> {
+    /// The node of these fields.
+    pub fn into_tree(self, alloc: Global) -> Result<Tree, AllocError>
+        ensures { IfOk result (λ tree. tree ≡ if_stmt self.span self.test self.cons self.alt) }
+    {
+        let IfStmt {
+            span,
+            test,
+            cons,
+            alt,
+        } = self;
+        Tree::node(alloc, Kind::IfStmt, [Tree::Range(span), test, cons, alt])
+    }
+}
+
 /// `switch (discriminant) { cases }`.
 #[derive(Drop)]
 pub struct SwitchStmt<N> {
@@ -259,6 +343,24 @@ impl<'a> SwitchStmt<Part<'a>> {
             discriminant: node.part(1),
             cases: node.part(2),
         }
+    }
+}
+
+impl SwitchStmt<Tree> {
+    /// The node of these fields.
+    pub fn into_tree(self, alloc: Global) -> Result<Tree, AllocError>
+        ensures { IfOk result (λ tree. tree ≡ switch_stmt self.span self.discriminant self.cases) }
+    {
+        let SwitchStmt {
+            span,
+            discriminant,
+            cases,
+        } = self;
+        Tree::node(
+            alloc,
+            Kind::SwitchStmt,
+            [Tree::Range(span), discriminant, cases],
+        )
     }
 }
 
@@ -285,6 +387,16 @@ impl<'a> SwitchCase<Part<'a>> {
     }
 }
 
+impl SwitchCase<Tree> {
+    /// The node of these fields.
+    pub fn into_tree(self, alloc: Global) -> Result<Tree, AllocError>
+        ensures { IfOk result (λ tree. tree ≡ switch_case self.span self.test self.cons) }
+    {
+        let SwitchCase { span, test, cons } = self;
+        Tree::node(alloc, Kind::SwitchCase, [Tree::Range(span), test, cons])
+    }
+}
+
 /// `throw arg;`.
 #[derive(Drop)]
 pub struct ThrowStmt<N> {
@@ -302,6 +414,16 @@ impl<'a> ThrowStmt<Part<'a>> {
             span: node.part(0).range(),
             arg: node.part(1),
         }
+    }
+}
+
+impl ThrowStmt<Tree> {
+    /// The node of these fields.
+    pub fn into_tree(self, alloc: Global) -> Result<Tree, AllocError>
+        ensures { IfOk result (λ tree. tree ≡ throw_stmt self.span self.arg) }
+    {
+        let ThrowStmt { span, arg } = self;
+        Tree::node(alloc, Kind::ThrowStmt, [Tree::Range(span), arg])
     }
 }
 
@@ -331,6 +453,26 @@ impl<'a> TryStmt<Part<'a>> {
     }
 }
 
+impl TryStmt<Tree> {
+    /// The node of these fields.
+    pub fn into_tree(self, alloc: Global) -> Result<Tree, AllocError>
+        ensures { IfOk result (λ tree. tree ≡
+            try_stmt self.span self.block self.handler self.finalizer) }
+    {
+        let TryStmt {
+            span,
+            block,
+            handler,
+            finalizer,
+        } = self;
+        Tree::node(
+            alloc,
+            Kind::TryStmt,
+            [Tree::Range(span), block, handler, finalizer],
+        )
+    }
+}
+
 /// `catch (param) body`.
 #[derive(Drop)]
 pub struct CatchClause<N> {
@@ -354,6 +496,16 @@ impl<'a> CatchClause<Part<'a>> {
     }
 }
 
+impl CatchClause<Tree> {
+    /// The node of these fields.
+    pub fn into_tree(self, alloc: Global) -> Result<Tree, AllocError>
+        ensures { IfOk result (λ tree. tree ≡ catch_clause self.span self.param self.body) }
+    {
+        let CatchClause { span, param, body } = self;
+        Tree::node(alloc, Kind::CatchClause, [Tree::Range(span), param, body])
+    }
+}
+
 /// `expr;`.
 #[derive(Drop)]
 pub struct ExprStmt<N> {
@@ -371,5 +523,15 @@ impl<'a> ExprStmt<Part<'a>> {
             span: node.part(0).range(),
             expr: node.part(1),
         }
+    }
+}
+
+impl ExprStmt<Tree> {
+    /// The node of these fields.
+    pub fn into_tree(self, alloc: Global) -> Result<Tree, AllocError>
+        ensures { IfOk result (λ tree. tree ≡ expr_stmt self.span self.expr) }
+    {
+        let ExprStmt { span, expr } = self;
+        Tree::node(alloc, Kind::ExprStmt, [Tree::Range(span), expr])
     }
 }

@@ -7,15 +7,21 @@ ghost use Rattle.fast_check_statement_forms.specs.TsDeclarations.{
   ReadsTsInterfaceDecl,
   ts_interface_decl,
   ReadsTsExprWithTypeArgs,
+  ts_expr_with_type_args,
   ReadsTsInterfaceBody,
+  ts_interface_body,
   ReadsTsTypeAliasDecl,
+  ts_type_alias_decl,
   ReadsTsEnumDecl,
+  ts_enum_decl,
   ReadsTsEnumMember,
+  ts_enum_member,
   ReadsTsModuleDecl,
   ts_module_decl,
   ReadsTsModuleBlock,
   ts_module_block,
   ReadsTsNamespaceDecl,
+  ts_namespace_decl,
 };
 
 use fast_check_syntax::{Kind, Part, SourceRange, Tree};
@@ -106,6 +112,25 @@ impl<'a> TsExprWithTypeArgs<Part<'a>> {
     }
 }
 
+impl TsExprWithTypeArgs<Tree> {
+    /// The node of these fields.
+    pub fn into_tree(self, alloc: Global) -> Result<Tree, AllocError>
+        ensures { IfOk result (λ tree. tree ≡
+            ts_expr_with_type_args self.span self.expr self.type_args) }
+    {
+        let TsExprWithTypeArgs {
+            span,
+            expr,
+            type_args,
+        } = self;
+        Tree::node(
+            alloc,
+            Kind::TsExprWithTypeArgs,
+            [Tree::Range(span), expr, type_args],
+        )
+    }
+}
+
 /// `{ body }` of an interface.
 #[derive(Drop)]
 pub struct TsInterfaceBody<N> {
@@ -123,6 +148,16 @@ impl<'a> TsInterfaceBody<Part<'a>> {
             span: node.part(0).range(),
             body: node.part(1),
         }
+    }
+}
+
+impl TsInterfaceBody<Tree> {
+    /// The node of these fields.
+    pub fn into_tree(self, alloc: Global) -> Result<Tree, AllocError>
+        ensures { IfOk result (λ tree. tree ≡ ts_interface_body self.span self.body) }
+    {
+        let TsInterfaceBody { span, body } = self;
+        Tree::node(alloc, Kind::TsInterfaceBody, [Tree::Range(span), body])
     }
 }
 
@@ -155,6 +190,33 @@ impl<'a> TsTypeAliasDecl<Part<'a>> {
     }
 }
 
+impl TsTypeAliasDecl<Tree> {
+    /// The node of these fields.
+    pub fn into_tree(self, alloc: Global) -> Result<Tree, AllocError>
+        ensures { IfOk result (λ tree. tree ≡
+            ts_type_alias_decl self.span self.declare self.id self.type_params self.type_ann) }
+    {
+        let TsTypeAliasDecl {
+            span,
+            declare,
+            id,
+            type_params,
+            type_ann,
+        } = self;
+        Tree::node(
+            alloc,
+            Kind::TsTypeAliasDecl,
+            [
+                Tree::Range(span),
+                Tree::Flag(declare),
+                id,
+                type_params,
+                type_ann,
+            ],
+        )
+    }
+}
+
 /// `enum id { members }`.
 #[derive(Drop)]
 pub struct TsEnumDecl<N> {
@@ -184,6 +246,33 @@ impl<'a> TsEnumDecl<Part<'a>> {
     }
 }
 
+impl TsEnumDecl<Tree> {
+    /// The node of these fields.
+    pub fn into_tree(self, alloc: Global) -> Result<Tree, AllocError>
+        ensures { IfOk result (λ tree. tree ≡
+            ts_enum_decl self.span self.declare self.is_const self.id self.members) }
+    {
+        let TsEnumDecl {
+            span,
+            declare,
+            is_const,
+            id,
+            members,
+        } = self;
+        Tree::node(
+            alloc,
+            Kind::TsEnumDecl,
+            [
+                Tree::Range(span),
+                Tree::Flag(declare),
+                Tree::Flag(is_const),
+                id,
+                members,
+            ],
+        )
+    }
+}
+
 /// In an enum: `id = init`.
 #[derive(Drop)]
 pub struct TsEnumMember<N> {
@@ -204,6 +293,16 @@ impl<'a> TsEnumMember<Part<'a>> {
             id: node.part(1),
             init: node.part(2),
         }
+    }
+}
+
+impl TsEnumMember<Tree> {
+    /// The node of these fields.
+    pub fn into_tree(self, alloc: Global) -> Result<Tree, AllocError>
+        ensures { IfOk result (λ tree. tree ≡ ts_enum_member self.span self.id self.init) }
+    {
+        let TsEnumMember { span, id, init } = self;
+        Tree::node(alloc, Kind::TsEnumMember, [Tree::Range(span), id, init])
     }
 }
 
@@ -324,5 +423,32 @@ impl<'a> TsNamespaceDecl<Part<'a>> {
             id: node.part(3),
             body: node.part(4),
         }
+    }
+}
+
+impl TsNamespaceDecl<Tree> {
+    /// The node of these fields.
+    pub fn into_tree(self, alloc: Global) -> Result<Tree, AllocError>
+        ensures { IfOk result (λ tree. tree ≡
+            ts_namespace_decl self.span self.declare self.global self.id self.body) }
+    {
+        let TsNamespaceDecl {
+            span,
+            declare,
+            global,
+            id,
+            body,
+        } = self;
+        Tree::node(
+            alloc,
+            Kind::TsNamespaceDecl,
+            [
+                Tree::Range(span),
+                Tree::Flag(declare),
+                Tree::Flag(global),
+                id,
+                body,
+            ],
+        )
     }
 }

@@ -1,6 +1,6 @@
 -- Demands of the symbols of a module.
 use Rattle.std.specs.Prelude.{Bool, ◌==◌}
-use Rattle.fast_check_names.specs.Names.{Path, path_of}
+use Rattle.fast_check_lattice.specs.Names.{Path, path_of}
 use Rattle.fast_check_symbols.specs.declared.symbol_id.SymbolId.{SymbolId}
 use Rattle.fast_check_symbol_demands.specs.declared.demand.Namespace.{Namespace}
 use Rattle.fast_check_symbol_demands.specs.declared.demand.Extent.{Extent}

@@ -1,6 +1,6 @@
 //! Demands by the names that a module binds.
 ghost use Rattle.std.specs.Prelude.{◌≡◌, [], ◌∷◌, ◌++◌, OnOk};
-ghost use Rattle.fast_check_names.specs.Names.{path_of};
+ghost use Rattle.fast_check_lattice.specs.Names.{path_of};
 ghost use Rattle.fast_check_symbol_demands.specs.Rules.{bound, each_of, reference, child, references, children, references_in, qualified, named};
 
 use crate::demand::{Ask, Extent, Namespace, SymbolDemand};

@@ -20,11 +20,11 @@ pub entry_missed : (symbols : List Symbol) (es : List (List ℕ × SymbolId)) (i
     → true ≡ list_any (is_missing symbols) (values_of es)
 entry_missed symbols es i h = missed_at symbols es i (slice_get es i) refl h
 
-or_left : (a b : Bool) → (a || b) ≡ false → a ≡ false
+pub or_left : (a b : Bool) → (a || b) ≡ false → a ≡ false
 or_left true b e = cc
 or_left false b e = refl
 
-or_right : (a b : Bool) → (a || b) ≡ false → b ≡ false
+pub or_right : (a b : Bool) → (a || b) ≡ false → b ≡ false
 or_right true b e = cc
 or_right false b e = e
 

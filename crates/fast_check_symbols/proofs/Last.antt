@@ -1,7 +1,10 @@
 -- Lemmas on the last item and the last entry that pass a test.
 use Rattle.std.proofs.Common.{◌≡◌, ◌∙◌, sym, ap, refl, ℕ, suc, Bool, true, false, cond, List, [], ◌∷◌, ◌++◌, Option, Some, None, length}
 use Rattle.std.specs.Prelude.{option_map, slice_get}
+use Rattle.std.specs.BTreeMap.{BTreeMap, get}
 use Rattle.std.specs.Option.{option_or}
+use Rattle.std.specs.Ordering.{eq_by_cmp}
+use Rattle.std.specs.declared.cmp.Ordering.{Ordering}
 use Rattle.std.specs.Map.{update, update_all}
 use Rattle.fast_check_symbols.specs.Entries.{last_that, last_place, last_value}
 
@@ -38,6 +41,27 @@ found_below x xs (Some y) (Some i) b h = h
 pub last_found : {X : Type 0} (test : X → Bool) (xs : List X) → IsFound xs (last_that test xs) (last_place test xs)
 last_found test [] = tt
 last_found test (x ∷ xs) = found_below x xs (last_that test xs) (last_place test xs) (test x) (last_found test xs)
+
+-- the last entry of a longer list
+last_value_or : {X : Type 0} (deep : Option X) (b c : Bool) (x y : X)
+    → option_or (cond b (Some x) deep) (cond c (Some y) None) ≡ cond b (Some x) (option_or deep (cond c (Some y) None))
+last_value_or deep true c x y = refl
+last_value_or deep false c x y = refl
+
+pub last_value_push : {K X : Type 0} (test : K → Bool) (es : List (K × X)) (e : K × X)
+    → last_value test (es ++ e ∷ []) ≡ cond (test e.0) (Some e.1) (last_value test es)
+last_value_push test [] e = refl
+last_value_push test (f ∷ es) e =
+    ap (λ o. option_or o (cond (test f.0) (Some f.1) None)) (last_value_push test es e)
+    ∙ last_value_or (last_value test es) (test e.0) (test f.0) e.1 f.1
+
+-- a map with one entry more
+pub map_more : {K X : Type 0} (cmp : K → K → Ordering) (old new : BTreeMap K X) (es : List (K × X)) (e : K × X)
+    → ((key : K) → get cmp old key ≡ last_value (λ k. eq_by_cmp cmp k key) es)
+    → ((key : K) → get cmp new key ≡ cond (eq_by_cmp cmp e.0 key) (Some e.1) (get cmp old key))
+    → (key : K) → get cmp new key ≡ last_value (λ k. eq_by_cmp cmp k key) (es ++ e ∷ [])
+map_more cmp old new es e h u key =
+    u key ∙ (ap (λ o. cond (eq_by_cmp cmp e.0 key) (Some e.1) o) (h key) ∙ sym (last_value_push (λ k. eq_by_cmp cmp k key) es e))
 
 or_or : {X : Type 0} (o p r : Option X) → option_or (option_or o p) r ≡ option_or o (option_or p r)
 or_or None p r = refl

@@ -1,4 +1,5 @@
 pub mod Last
+pub mod Unreplaced
 pub mod Seen
 pub mod Indexed
 pub mod Mentions

@@ -1,6 +1,13 @@
 -- Lists in which a later item stands for the earlier ones like it.
 use Rattle.std.specs.Prelude.{Bool, cond, List, [], ◌∷◌, Option, Some, None, option_map, ℕ, suc}
+use Rattle.std.specs.Prelude.{if◌then◌else◌}
+use Rattle.std.specs.List.{list_any}
 use Rattle.std.specs.Option.{option_or}
+
+-- the items that no later one replaces
+abbrev pub unreplaced : {X : Type 0} → (X → X → Bool) → List X → List X
+unreplaced alike [] = []
+unreplaced alike (x ∷ xs) = if list_any (alike x) xs then unreplaced alike xs else x ∷ unreplaced alike xs
 
 -- the last item that passes a test
 abbrev pub last_that : {X : Type 0} → (X → Bool) → List X → Option X

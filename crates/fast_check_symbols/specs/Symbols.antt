@@ -5,7 +5,7 @@ use Rattle.std.specs.Map.{values_of}
 use Rattle.fast_check_symbols.specs.declared.symbol_id.SymbolId.{SymbolId}
 use Rattle.fast_check_symbols.specs.declared.symbol.Symbol.{Symbol}
 use Rattle.fast_check_symbols.specs.Decls.{decl_has_export_keyword, decl_is_plain_class}
-use Rattle.fast_check_symbols.specs.Entries.{last_that, last_place}
+use Rattle.fast_check_symbols.specs.Entries.{unreplaced, last_that, last_place}
 
 -- a declaration of it stands behind the keyword `export`
 abbrev pub has_export_keyword : Symbol → Bool
@@ -21,6 +21,10 @@ mentioned_by s = option_to_list s.parent_id ++ (values_of s.exports ++ s.members
 
 abbrev pub has_id : SymbolId → Symbol → Bool
 has_id id s = id.0 == s.id.0
+
+-- the symbols that no later one of their id replaces
+abbrev pub last_symbols : List Symbol → List Symbol
+last_symbols = unreplaced (λ s. has_id s.id)
 
 -- the symbol of an id: the last that has it
 abbrev pub symbol_of : SymbolId → List Symbol → Option Symbol

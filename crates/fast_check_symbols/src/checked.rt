@@ -65,6 +65,7 @@ impl CheckedTables {
             resolved_exports,
         } = tables;
         let symbols = SymbolTable::new(alloc, symbols)?;
+        let swc_ids = map_of(alloc, swc_ids)?;
         if misses_symbol(&symbols, module_symbol, &swc_ids) {
             return Err(TableFault::MissingSymbol);
         }
@@ -72,7 +73,6 @@ impl CheckedTables {
             return Err(TableFault::SymbolWithoutDecl);
         }
         let members = MemberIndexes::of(alloc, &symbols)?;
-        let swc_ids = map_of(alloc, swc_ids)?;
         let resolved_exports = map_of(alloc, resolved_exports)?;
         Ok(CheckedTables {
             symbols,
@@ -84,7 +84,7 @@ impl CheckedTables {
         })
     }
 
-    /// The symbols, in the order in which they were handed in.
+    /// The symbols that count, in the order in which they were handed in.
     pub fn symbols(&self) -> &[Symbol]
         ensures { result.now ≡ self.now.symbols }
     {

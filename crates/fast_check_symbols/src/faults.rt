@@ -11,15 +11,16 @@ use crate::symbol::Symbol;
 use crate::symbol_id::SymbolId;
 use crate::table::SymbolTable;
 use fast_check_syntax::Id;
+use std::collections::BTreeMap;
 
 /// Whether an id is mentioned that no symbol has: the module's, one that a symbol mentions, or an identifier's.
 #[tactic(auto, using(crate::proofs::Mentions::any_of_mentioned))]
 pub fn misses_symbol(
     symbols: &SymbolTable,
     module_symbol: SymbolId,
-    swc_ids: &[(Id, SymbolId)],
+    swc_ids: &BTreeMap<Id, SymbolId>,
 ) -> bool
-    ensures { result ≡ list_any (is_missing symbols.now) (module_symbol ∷ (flat_map mentioned_by symbols.now ++ values_of swc_ids.now)) }
+    ensures { result ≡ list_any (is_missing symbols.now) (module_symbol ∷ (flat_map mentioned_by symbols.now ++ values_of swc_ids.now.entries)) }
 {
     is_missing(symbols, module_symbol)
         || symbols_miss(symbols, symbols.as_slice())
@@ -32,15 +33,10 @@ fn is_missing(symbols: &SymbolTable, id: SymbolId) -> bool
     symbols.get(id).is_none()
 }
 
-fn identifiers_miss(symbols: &SymbolTable, swc_ids: &[(Id, SymbolId)]) -> bool
-    ensures { result ≡ list_any (is_missing symbols.now) (values_of swc_ids.now) }
+fn identifiers_miss(symbols: &SymbolTable, swc_ids: &BTreeMap<Id, SymbolId>) -> bool
+    ensures { result ≡ list_any (is_missing symbols.now) (values_of swc_ids.now.entries) }
 {
-    for (_, id) in swc_ids {
-        if is_missing(symbols, *id) {
-            return true;
-        }
-    }
-    false
+    swc_ids.values().any(|id| is_missing(symbols, *id))
 }
 
 fn symbols_miss(symbols: &SymbolTable, some: &[Symbol]) -> bool

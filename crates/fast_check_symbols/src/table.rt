@@ -1,15 +1,30 @@
 //! The symbols of a module by their numbers.
 ghost use Rattle.std.specs.Prelude.{◌≡◌, IfOk};
 ghost use Rattle.std.specs.Option.{option_copied};
-ghost use Rattle.fast_check_symbols.specs.Symbols.{symbol_of, place_of};
+ghost use Rattle.fast_check_symbols.specs.Symbols.{last_symbols, symbol_of, place_of};
 
 use crate::symbol::Symbol;
 use crate::symbol_id::SymbolId;
 use std::alloc::{AllocError, Global};
-use std::collections::BTreeMap;
+use std::collections::{BTreeMap, BTreeSet};
 use std::marker::Model;
 
-/// The symbols of a module, found by their ids. Of symbols with one id the last is found.
+/// The symbols that no later one of their id replaces, in their order.
+fn last_symbols(alloc: Global, mut symbols: Vec<Symbol>) -> Result<Vec<Symbol>, AllocError>
+    ensures { IfOk result (λ last. last.items ≡ last_symbols symbols.items) }
+{
+    let mut ids = BTreeSet::new(alloc);
+    let mut last = Vec::new(alloc);
+    while let Some(symbol) = symbols.pop() {
+        if ids.insert(symbol.id.0)? {
+            last.push(symbol)?;
+        }
+    }
+    last.reverse();
+    Ok(last)
+}
+
+/// The symbols of a module, found by their ids. Of symbols with one id the last counts alone.
 #[derive(Drop)]
 pub struct SymbolTable {
     symbols: Vec<Symbol>,
@@ -30,10 +45,11 @@ impl Model for SymbolTable {
 }
 
 impl SymbolTable {
-    /// The table of these symbols.
+    /// The table of these symbols, but for those that a later one of their id replaces.
     pub fn new(alloc: Global, symbols: Vec<Symbol>) -> Result<SymbolTable, AllocError>
-        ensures { IfOk result (λ table. table ≡ symbols.items) }
+        ensures { IfOk result (λ table. table ≡ last_symbols symbols.items) }
     {
+        let symbols = last_symbols(alloc, symbols)?;
         let mut places = BTreeMap::new(alloc);
         for (place, symbol) in symbols.iter().enumerate() {
             places.insert(symbol.id.0, place)?;

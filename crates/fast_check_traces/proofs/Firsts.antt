@@ -5,7 +5,7 @@ use Rattle.std.specs.List.{find}
 use Rattle.std.specs.Option.{option_or, option_and_then}
 use Rattle.std.proofs.lemmas.List.{take_more}
 use Rattle.url.specs.Parts.{Parts}
-use Rattle.fast_check_names.specs.Names.{Name}
+use Rattle.fast_check_lattice.specs.Names.{Name}
 use Rattle.fast_check_modules.specs.symbols.declared.tables.ReExportAllNode.{ReExportAllNode}
 use Rattle.fast_check_traces.specs.declared.modules.TracedModule.{TracedModule}
 use Rattle.fast_check_traces.specs.Modules.{answer_of, first_with}

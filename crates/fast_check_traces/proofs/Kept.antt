@@ -2,8 +2,8 @@
 use Rattle.std.proofs.Common.{◌≡◌, ◌∙◌, ap, refl, Bool, false, not, ◌||◌, cond, is_some, List, [], ◌∷◌, ◌++◌, map, option_map}
 use Rattle.std.specs.List.{flat_map, list_any}
 use Rattle.fast_check_syntax.specs.declared.source.SourceRange.{SourceRange}
-use Rattle.fast_check_names.specs.Names.{Name}
-use Rattle.fast_check_names.specs.Imports.{NameDemand, names_but_default, each_name, subset_at, whole_at}
+use Rattle.fast_check_lattice.specs.Names.{Name}
+use Rattle.fast_check_lattice.specs.Imports.{NameDemand, names_but_default, each_name, subset_at, whole_at}
 use Rattle.fast_check_name_demands.specs.declared.want.NameDemand.{NameDemand as Single}
 use Rattle.fast_check_name_demands.specs.Files.{names_of}
 use Rattle.fast_check_traces.specs.declared.modules.TracedModule.{TracedModule}

@@ -1,6 +1,6 @@
 -- What a path of names asks of other modules.
 use Rattle.std.proofs.Common.{◌≡◌, refl, ◌∷◌, Option}
-use Rattle.fast_check_names.specs.Names.{Name, Path}
+use Rattle.fast_check_lattice.specs.Names.{Name, Path}
 use Rattle.fast_check_demands.specs.symbol_demands.declared.demand.Extent.{Extent}
 use Rattle.fast_check_demands.specs.symbol_demands.declared.demand.Extent.TheVariants.{Touched, Whole}
 use Rattle.fast_check_name_demands.specs.Files.{path_demand}

@@ -9,7 +9,7 @@ use Rattle.std.specs.Ordering.{nat_cmp}
 use Rattle.std.specs.Option.{option_or}
 use Rattle.std.proofs.lemmas.Map.Text.{btree_map_updates_str}
 use Rattle.std.proofs.lemmas.Slice.Eq.{bytes_eq-Decides}
-use Rattle.fast_check_names.specs.Names.{Name}
+use Rattle.fast_check_lattice.specs.Names.{Name}
 use Rattle.fast_check_traces.specs.declared.origins.Origin.{Origin}
 use Rattle.fast_check_traces.specs.Origins.{origin_of, indexed}
 use Rattle.fast_check_traces.proofs.Firsts.{or_none}

@@ -4,8 +4,8 @@ use Rattle.std.proofs.Common.{Option, Some, None, option_map, ⊎_elim, ◌⊎�
 use Rattle.std.specs.List.{Contains, flat_map, list_any}
 use Rattle.std.proofs.lemmas.List.Elements.{Contains-append_left, Contains-append_right, Contains-append_cases}
 use Rattle.fast_check_syntax.specs.declared.source.SourceRange.{SourceRange}
-use Rattle.fast_check_names.specs.Names.{Name}
-use Rattle.fast_check_names.specs.Imports.{NameDemand, names_but_default, each_name, subset_at, whole_at}
+use Rattle.fast_check_lattice.specs.Names.{Name}
+use Rattle.fast_check_lattice.specs.Imports.{NameDemand, names_but_default, each_name, subset_at, whole_at}
 use Rattle.fast_check_search.proofs.Each.{Contains_none}
 use Rattle.fast_check_name_demands.specs.declared.want.NameDemand.{NameDemand as Single}
 use Rattle.fast_check_name_demands.specs.Files.{names_of}

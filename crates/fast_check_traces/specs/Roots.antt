@@ -2,8 +2,8 @@
 use Rattle.std.specs.Prelude.{Bool, true, false, not, ◌&&◌, ◌||◌, cond, List, [], ◌∷◌, Option, Some, None}
 use Rattle.std.specs.List.{flat_map, list_any}
 use Rattle.std.specs.Str.{bytes_eq}
-use Rattle.fast_check_names.specs.Names.{Name, Path}
-use Rattle.fast_check_names.specs.Imports.{NameDemand, names_but_default, each_name, subset_at, whole_at, default_name}
+use Rattle.fast_check_lattice.specs.Names.{Name, Path}
+use Rattle.fast_check_lattice.specs.Imports.{NameDemand, names_but_default, each_name, subset_at, whole_at, default_name}
 use Rattle.fast_check_symbols.specs.declared.symbol_id.SymbolId.{SymbolId}
 use Rattle.fast_check_symbols.specs.declared.symbol.Symbol.{Symbol}
 use Rattle.fast_check_symbols.specs.declared.decl.SymbolDecl.{SymbolDecl}

@@ -4,8 +4,8 @@ use Rattle.std.specs.Prelude.{◌⊎◌, ℕ, is_some, cond, List, [], ◌∷◌
 use Rattle.std.specs.List.{Contains, flat_map}
 use Rattle.url.specs.Parts.{Parts}
 use Rattle.fast_check_syntax.specs.declared.source.SourceRange.{SourceRange}
-use Rattle.fast_check_names.specs.Names.{Name, Path}
-use Rattle.fast_check_names.specs.Imports.{NameDemand, names_but_default, each_name, subset_at, whole_at}
+use Rattle.fast_check_lattice.specs.Names.{Name, Path}
+use Rattle.fast_check_lattice.specs.Imports.{NameDemand, names_but_default, each_name, subset_at, whole_at}
 use Rattle.fast_check_modules.specs.symbols.declared.tables.ReExportAllNode.{ReExportAllNode}
 use Rattle.fast_check_demands.specs.Rules.{each_of}
 use Rattle.fast_check_name_demands.specs.Files.{names_of}

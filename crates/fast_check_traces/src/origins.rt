@@ -2,7 +2,7 @@
 ghost use Rattle.std.specs.Prelude.{◌≡◌, List, [], ◌∷◌, ◌++◌, Option, Some, None, is_some, cond, option_map, IfOk, OnOk};
 ghost use Rattle.std.specs.Option.{option_or, option_and_then, option_copied};
 ghost use Rattle.std.specs.Str.{bytes_eq};
-ghost use Rattle.fast_check_names.specs.Names.{Name};
+ghost use Rattle.fast_check_lattice.specs.Names.{Name};
 ghost use Rattle.fast_check_modules.specs.symbols.declared.tables.ReExportAllNode.{ReExportAllNode};
 ghost use Rattle.fast_check_graph.specs.Graph.{resolved_to};
 ghost use Rattle.fast_check_graph.specs.Root.{specifier_of, found_module, AreFoundByOwnNames};

@@ -2,7 +2,7 @@
 ghost use Rattle.std.specs.Prelude.{◌≡◌, ◌∷◌, [], ◌++◌, option_map, OnOk, IfOk};
 ghost use Rattle.std.specs.Option.{option_copied};
 ghost use Rattle.std.specs.List.{flat_map};
-ghost use Rattle.fast_check_names.specs.Names.{path_of};
+ghost use Rattle.fast_check_lattice.specs.Names.{path_of};
 ghost use Rattle.fast_check_symbols.specs.Exports.{seen_export};
 ghost use Rattle.fast_check_name_demands.specs.Files.{names_of, path_demand};
 ghost use Rattle.fast_check_demands.specs.Rules.{each_of, reference};

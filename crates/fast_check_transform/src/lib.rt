@@ -9,6 +9,6 @@ pub use fast_check_transformer::{FastCheckTransformer, transform_pair};
 pub mod cache {
     pub use fast_check_cache::{
         FastCheckCache, FastCheckCacheItem, FastCheckCacheKey, FastCheckCacheModuleItem,
-        FastCheckCacheModuleItemDiagnostic, FastCheckCacheModuleItemInfo,
+        FastCheckCacheModuleItemDiagnostic, FastCheckCacheModuleItemInfo, HASH_SEED,
     };
 }

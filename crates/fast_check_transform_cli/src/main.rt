@@ -1,13 +1,17 @@
 //! `fast-check transform FILE`, without the other commands: the fast check of one TypeScript module, from a JSON file to a line of JSON.
 #![tactic(auto)]
 
-use fast_check_requests::{read_call, run_commands};
+use fast_check_requests::{Lines, read_call, run_commands};
 use fast_check_transform_command::Transform;
 use std::process::ExitCode;
 
 fn main(rt: HostRuntime) -> ExitCode {
-    let mut out = rt.stdout();
-    let mut err = rt.stderr();
+    let mut out = Lines {
+        writer: rt.stdout(),
+    };
+    let mut err = Lines {
+        writer: rt.stderr(),
+    };
     let ending = match read_call(&rt) {
         Ok((words, file)) => {
             run_commands::<Transform, _, _, _>(

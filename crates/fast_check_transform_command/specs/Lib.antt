@@ -3,8 +3,8 @@ pub use Rattle.fast_check_requests.specs.Refusal
 pub use Rattle.fast_check_requests.specs.Request
 pub use Rattle.fast_check_requests.specs.Input
 pub use Rattle.fast_check_requests.specs.Run
-pub use Rattle.fast_check_write.specs.Answer
-pub use Rattle.fast_check_write.specs.Diagnostics
+pub use Rattle.fast_check_print.specs.Answer
+pub use Rattle.fast_check_print.specs.Diagnostics
 pub mod Line
 pub mod Only
 pub mod Transform

@@ -9,7 +9,7 @@ use Rattle.fast_check_modules.specs.diagnostics.PublicRanges.{PublicRanges}
 use Rattle.fast_check_module_transform.specs.Transform.{skeleton, comments, sources, faults}
 use Rattle.fast_check_transform_faults.specs.Diagnostics.{AreDiagnosticsOf, diagnosed}
 use Rattle.fast_check_requests.specs.Refusal.{line_end}
-use Rattle.fast_check_write.specs.Answer.{skeleton_data, diagnostics_data}
+use Rattle.fast_check_print.specs.Answer.{skeleton_data, diagnostics_data}
 
 -- a line of compact JSON
 abbrev pub line_of_data : Data → List ℕ

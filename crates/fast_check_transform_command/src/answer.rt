@@ -1,12 +1,12 @@
 //! The line that the program answers.
 
 ghost use Rattle.std.specs.Prelude.{◌≡◌, IfOk};
-ghost use Rattle.fast_check_write.specs.Answer.{answer_data};
+ghost use Rattle.fast_check_print.specs.Answer.{answer_data};
 ghost use Rattle.fast_check_transform_command.specs.Line.{line_of_data};
 
 use fast_check_modules::diagnostics::FastCheckDiagnostic;
 use fast_check_parsed_source::FastCheckModule;
-use fast_check_write::write_answer;
+use fast_check_print::print_answer;
 use json::Writer;
 use std::alloc::{AllocError, Global};
 
@@ -18,7 +18,7 @@ pub fn line_of(
     ensures { IfOk result (λ line. line.items ≡ line_of_data (answer_data answer.now)) }
 {
     let mut out = Writer::new(Vec::new(alloc));
-    write_answer(alloc, &mut out, answer)?;
+    print_answer(alloc, &mut out, answer)?;
     let mut line = out.into_inner();
     line.push(b'\n')?;
     Ok(line)

@@ -9,9 +9,9 @@ use Rattle.std.proofs.lemmas.List.Elements.{Contains-append_cases, Contains-appe
 use Rattle.url.specs.Parts.{serialize}
 use Rattle.fast_check_packages.specs.Package.{Nv, nv_of}
 use Rattle.fast_check_graph.specs.declared.root_symbol.AnyModuleInfo.{AnyModuleInfo}
-use Rattle.fast_check_names.specs.declared.lattice.imported_exports.ImportedExports.{ImportedExports}
-use Rattle.fast_check_names.specs.declared.lattice.imported_exports.ImportedExports.TheVariants.{Star, StarWithDefault}
-use Rattle.fast_check_names.specs.Imports.{NameDemand, names_but_default, each_name, subset_at, whole_at}
+use Rattle.fast_check_lattice.specs.declared.lattice.imported_exports.ImportedExports.{ImportedExports}
+use Rattle.fast_check_lattice.specs.declared.lattice.imported_exports.ImportedExports.TheVariants.{Star, StarWithDefault}
+use Rattle.fast_check_lattice.specs.Imports.{NameDemand, names_but_default, each_name, subset_at, whole_at}
 use Rattle.fast_check_demands.specs.Rules.{each_of}
 use Rattle.fast_check_entries.specs.findings.Yields.{Yield}
 use Rattle.fast_check_search.proofs.Each.{Contains_none, Each, each_append, each_map, each_flat}

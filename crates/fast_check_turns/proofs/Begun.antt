@@ -7,8 +7,8 @@ use Rattle.std.specs.Cmp.Lexicographic.{bytes_decides}
 use Rattle.std.proofs.lemmas.Bool.{false≢true, and_parts, and_from, or_left, or_right, or_cases}
 use Rattle.url.specs.Parts.{Parts, serialize}
 use Rattle.fast_check_packages.specs.Package.{Nv}
-use Rattle.fast_check_names.specs.Names.{Name, Path, NameSet, Touched as touched, Covered, whole_below, has_whole}
-use Rattle.fast_check_names.specs.Imports.{NameDemand, names_but_default, each_name, subset_at, whole_at}
+use Rattle.fast_check_lattice.specs.Names.{Name, Path, NameSet, Touched as touched, Covered, whole_below, has_whole}
+use Rattle.fast_check_lattice.specs.Imports.{NameDemand, names_but_default, each_name, subset_at, whole_at}
 use Rattle.fast_check_symbols.specs.declared.symbol_id.SymbolId.{SymbolId}
 use Rattle.fast_check_symbols.specs.Tables.{Tables}
 use Rattle.fast_check_demands.specs.symbol_demands.declared.demand.Extent.{Extent}

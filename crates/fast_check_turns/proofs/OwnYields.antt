@@ -9,7 +9,7 @@ use Rattle.fast_check_syntax.specs.declared.source.SourceRange.{SourceRange}
 use Rattle.fast_check_symbols.specs.Tables.{table_ranges}
 use Rattle.fast_check_packages.specs.Package.{Nv}
 use Rattle.fast_check_cache.specs.Cache.{ItemView}
-use Rattle.fast_check_names.specs.Imports.{NameDemand}
+use Rattle.fast_check_lattice.specs.Imports.{NameDemand}
 use Rattle.fast_check_graph.specs.declared.module.Module.{Module}
 use Rattle.fast_check_graph.specs.declared.root_symbol.AnyModuleInfo.{AnyModuleInfo}
 use Rattle.fast_check_graph.specs.Modules.{is_typed_module}

@@ -4,7 +4,7 @@ use Rattle.std.specs.List.{flat_map}
 use Rattle.url.specs.Parts.{Parts, serialize}
 use Rattle.fast_check_packages.specs.Package.{Nv}
 use Rattle.fast_check_cache.specs.Cache.{ItemView}
-use Rattle.fast_check_names.specs.Imports.{NameDemand, names_but_default, each_name}
+use Rattle.fast_check_lattice.specs.Imports.{NameDemand, names_but_default, each_name}
 use Rattle.fast_check_demands.specs.Demands.{Demand as SymbolDemand}
 use Rattle.fast_check_demands.specs.Rules.{names}
 use Rattle.fast_check_name_demands.specs.Files.{FileDemand, files}

@@ -13,7 +13,7 @@ use Rattle.fast_check_entries.specs.findings.declared.finding.FoundModule.{Found
 use Rattle.fast_check_entries.specs.findings.Findings.{faulty_module, module_yields}
 use Rattle.fast_check_packages.specs.Package.{Nv}
 use Rattle.fast_check_graph.specs.declared.root_symbol.AnyModuleInfo.{AnyModuleInfo}
-use Rattle.fast_check_names.specs.Imports.{NameDemand}
+use Rattle.fast_check_lattice.specs.Imports.{NameDemand}
 use Rattle.fast_check_demands.specs.Demands.{Demand as SymbolDemand}
 use Rattle.fast_check_demands.specs.Rules.{each_of}
 use Rattle.fast_check_search.specs.Searched.{IsAsked, IsKeptWith}

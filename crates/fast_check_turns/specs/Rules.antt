@@ -5,7 +5,7 @@ use Rattle.url.specs.Parts.{Parts, serialize}
 use Rattle.fast_check_graph.specs.Root.{specifier_of}
 use Rattle.fast_check_packages.specs.Package.{Nv}
 use Rattle.fast_check_cache.specs.Cache.{ItemView}
-use Rattle.fast_check_names.specs.Imports.{NameDemand, each_name}
+use Rattle.fast_check_lattice.specs.Imports.{NameDemand, each_name}
 use Rattle.fast_check_graph.specs.declared.graph.ModuleGraph.{ModuleGraph}
 use Rattle.fast_check_demands.specs.Demands.{Demand as SymbolDemand}
 use Rattle.fast_check_demands.specs.Rules.{each_of, names}

@@ -5,7 +5,7 @@ use Rattle.std.specs.BTreeSet.{contains}
 use Rattle.std.specs.List.{Contains}
 use Rattle.url.specs.Parts.{serialize}
 use Rattle.fast_check_packages.specs.Package.{Nv, nv_of}
-use Rattle.fast_check_names.specs.Imports.{NameDemand, names_but_default, each_name, subset_at, whole_at}
+use Rattle.fast_check_lattice.specs.Imports.{NameDemand, names_but_default, each_name, subset_at, whole_at}
 use Rattle.fast_check_demands.specs.Demands.{Demand as SymbolDemand}
 use Rattle.fast_check_traces.specs.declared.modules.TracedModule.{TracedModule}
 use Rattle.fast_check_traces.specs.Modules.{own_tables}

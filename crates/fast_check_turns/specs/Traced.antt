@@ -4,8 +4,8 @@ use Rattle.std.specs.Prelude.{◌≡◌, List, [], ◌++◌, map}
 use Rattle.std.specs.List.{flat_map}
 use Rattle.fast_check_syntax.specs.declared.source.SourceRange.{SourceRange}
 use Rattle.fast_check_packages.specs.Package.{Nv}
-use Rattle.fast_check_names.specs.declared.lattice.imported_exports.ImportedExports.{ImportedExports}
-use Rattle.fast_check_names.specs.Imports.{NameDemand}
+use Rattle.fast_check_lattice.specs.declared.lattice.imported_exports.ImportedExports.{ImportedExports}
+use Rattle.fast_check_lattice.specs.Imports.{NameDemand}
 use Rattle.fast_check_name_demands.specs.NameDemands.{AreDemands}
 use Rattle.fast_check_demands.specs.Demands.{Demand as SymbolDemand}
 use Rattle.fast_check_demands.specs.Account.{IsYield as IsSymbolYield}

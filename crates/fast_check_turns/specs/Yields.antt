@@ -6,7 +6,7 @@ use Rattle.url.specs.Parts.{Parts, serialize}
 use Rattle.fast_check_syntax.specs.declared.source.SourceRange.{SourceRange}
 use Rattle.fast_check_packages.specs.Package.{Nv}
 use Rattle.fast_check_cache.specs.Cache.{ItemView}
-use Rattle.fast_check_names.specs.Imports.{NameDemand}
+use Rattle.fast_check_lattice.specs.Imports.{NameDemand}
 use Rattle.fast_check_graph.specs.declared.graph.ModuleGraph.{ModuleGraph}
 use Rattle.fast_check_graph.specs.declared.root_symbol.AnyModuleInfo.{AnyModuleInfo}
 use Rattle.fast_check_graph.specs.declared.root_symbol.AnyModuleInfo.TheVariants.{Esm, Json}

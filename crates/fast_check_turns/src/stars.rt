@@ -3,12 +3,12 @@
 ghost use Rattle.std.specs.Prelude.{◌≡◌, ◌⊎◌, IsTrue, OnOk};
 ghost use Rattle.url.specs.Parts.{serialize};
 ghost use Rattle.fast_check_packages.specs.Package.{Nv, nv_of};
-ghost use Rattle.fast_check_names.specs.Imports.{NameDemand};
+ghost use Rattle.fast_check_lattice.specs.Imports.{NameDemand};
 ghost use Rattle.fast_check_worklists.specs.Demands.{Text, asked};
 ghost use Rattle.fast_check_turns.specs.Stars.{IsNoted};
 
 use crate::searches::ModuleOfPackage;
-use fast_check_names::ImportedExports;
+use fast_check_lattice::ImportedExports;
 use std::alloc::{AllocError, Global};
 use std::collections::BTreeSet;
 

@@ -1,12 +1,13 @@
 -- Written by forms/write.py from forms/forms.txt.
 -- Function types, and the members of interfaces and type literals.
--- Each form has its fields by their names, and what it holds once it reads a node.
-use Rattle.std.specs.Prelude.{◌≡◌, Bool}
+-- Each form has its fields by their names, what it holds once it reads a node, and the node of its fields.
+use Rattle.std.specs.Prelude.{◌≡◌, Bool, [], ◌∷◌}
+use Rattle.fast_check_syntax.specs.declared.kind.Kind.TheVariants as kinds
 use Rattle.fast_check_syntax.specs.declared.part.Part.{Part}
 use Rattle.fast_check_syntax.specs.declared.source.SourceRange.{SourceRange}
-use Rattle.fast_check_syntax.specs.declared.tree.Tree.{Tree}
+use Rattle.fast_check_syntax.specs.declared.tree.Tree.{Tree, Range, Flag}
 use Rattle.fast_check_syntax.specs.Part.{seen}
-use Rattle.fast_check_syntax.specs.Shape.{part, range_of, flag_of}
+use Rattle.fast_check_syntax.specs.Shape.{node, part, range_of, flag_of}
 use Rattle.fast_check_type_forms.specs.declared.signatures.TsFnType.{TsFnType}
 use Rattle.fast_check_type_forms.specs.declared.signatures.TsConstructorType.{TsConstructorType}
 use Rattle.fast_check_type_forms.specs.declared.signatures.TsCallSignatureDecl.{TsCallSignatureDecl}
@@ -39,6 +40,10 @@ pub record ReadsTsFnType (form : TsFnType Part) (t : Tree) : Type 0 where
   pub type_ann : seen form.type_ann ≡ TsFnType-type_ann t
   pub is_abstract : form.is_abstract ≡ TsFnType-is_abstract t
 
+abbrev pub ts_fn_type : SourceRange → Tree → Tree → Tree → Bool → Tree
+ts_fn_type span params type_params type_ann is_abstract =
+    node kinds.TsFnType (Range span ∷ params ∷ type_params ∷ type_ann ∷ Flag is_abstract ∷ [])
+
 -- `new <type_params>(params) => type_ann`.
 abbrev pub TsConstructorType-span : Tree → SourceRange
 TsConstructorType-span t = range_of (part 0 t)
@@ -62,6 +67,10 @@ pub record ReadsTsConstructorType (form : TsConstructorType Part) (t : Tree) : T
   pub type_ann : seen form.type_ann ≡ TsConstructorType-type_ann t
   pub is_abstract : form.is_abstract ≡ TsConstructorType-is_abstract t
 
+abbrev pub ts_constructor_type : SourceRange → Tree → Tree → Tree → Bool → Tree
+ts_constructor_type span params type_params type_ann is_abstract =
+    node kinds.TsConstructorType (Range span ∷ params ∷ type_params ∷ type_ann ∷ Flag is_abstract ∷ [])
+
 -- `<type_params>(params): type_ann`.
 abbrev pub TsCallSignatureDecl-span : Tree → SourceRange
 TsCallSignatureDecl-span t = range_of (part 0 t)
@@ -81,6 +90,10 @@ pub record ReadsTsCallSignatureDecl (form : TsCallSignatureDecl Part) (t : Tree)
   pub type_ann : seen form.type_ann ≡ TsCallSignatureDecl-type_ann t
   pub type_params : seen form.type_params ≡ TsCallSignatureDecl-type_params t
 
+abbrev pub ts_call_signature_decl : SourceRange → Tree → Tree → Tree → Tree
+ts_call_signature_decl span params type_ann type_params =
+    node kinds.TsCallSignatureDecl (Range span ∷ params ∷ type_ann ∷ type_params ∷ [])
+
 -- `new <type_params>(params): type_ann`.
 abbrev pub TsConstructSignatureDecl-span : Tree → SourceRange
 TsConstructSignatureDecl-span t = range_of (part 0 t)
@@ -99,6 +112,10 @@ pub record ReadsTsConstructSignatureDecl (form : TsConstructSignatureDecl Part) 
   pub params : seen form.params ≡ TsConstructSignatureDecl-params t
   pub type_ann : seen form.type_ann ≡ TsConstructSignatureDecl-type_ann t
   pub type_params : seen form.type_params ≡ TsConstructSignatureDecl-type_params t
+
+abbrev pub ts_construct_signature_decl : SourceRange → Tree → Tree → Tree → Tree
+ts_construct_signature_decl span params type_ann type_params =
+    node kinds.TsConstructSignatureDecl (Range span ∷ params ∷ type_ann ∷ type_params ∷ [])
 
 -- `key: type_ann`.
 abbrev pub TsPropertySignature-span : Tree → SourceRange
@@ -127,6 +144,11 @@ pub record ReadsTsPropertySignature (form : TsPropertySignature Part) (t : Tree)
   pub optional : form.optional ≡ TsPropertySignature-optional t
   pub type_ann : seen form.type_ann ≡ TsPropertySignature-type_ann t
 
+abbrev pub ts_property_signature : SourceRange → Tree → Bool → Bool → Bool → Tree → Tree
+ts_property_signature span key computed readonly optional type_ann =
+    node kinds.TsPropertySignature (Range span ∷ key ∷ Flag computed ∷ Flag readonly ∷ Flag optional ∷
+    type_ann ∷ [])
+
 -- `get key(): type_ann`.
 abbrev pub TsGetterSignature-span : Tree → SourceRange
 TsGetterSignature-span t = range_of (part 0 t)
@@ -146,6 +168,10 @@ pub record ReadsTsGetterSignature (form : TsGetterSignature Part) (t : Tree) : T
   pub computed : form.computed ≡ TsGetterSignature-computed t
   pub type_ann : seen form.type_ann ≡ TsGetterSignature-type_ann t
 
+abbrev pub ts_getter_signature : SourceRange → Tree → Bool → Tree → Tree
+ts_getter_signature span key computed type_ann =
+    node kinds.TsGetterSignature (Range span ∷ key ∷ Flag computed ∷ type_ann ∷ [])
+
 -- `set key(params)`.
 abbrev pub TsSetterSignature-span : Tree → SourceRange
 TsSetterSignature-span t = range_of (part 0 t)
@@ -164,6 +190,10 @@ pub record ReadsTsSetterSignature (form : TsSetterSignature Part) (t : Tree) : T
   pub key : seen form.key ≡ TsSetterSignature-key t
   pub computed : form.computed ≡ TsSetterSignature-computed t
   pub params : seen form.params ≡ TsSetterSignature-params t
+
+abbrev pub ts_setter_signature : SourceRange → Tree → Bool → Tree → Tree
+ts_setter_signature span key computed params =
+    node kinds.TsSetterSignature (Range span ∷ key ∷ Flag computed ∷ params ∷ [])
 
 -- `key<type_params>(params): type_ann`.
 abbrev pub TsMethodSignature-span : Tree → SourceRange
@@ -195,3 +225,8 @@ pub record ReadsTsMethodSignature (form : TsMethodSignature Part) (t : Tree) : T
   pub params : seen form.params ≡ TsMethodSignature-params t
   pub type_ann : seen form.type_ann ≡ TsMethodSignature-type_ann t
   pub type_params : seen form.type_params ≡ TsMethodSignature-type_params t
+
+abbrev pub ts_method_signature : SourceRange → Tree → Bool → Bool → Tree → Tree → Tree → Tree
+ts_method_signature span key computed optional params type_ann type_params =
+    node kinds.TsMethodSignature (Range span ∷ key ∷ Flag computed ∷ Flag optional ∷ params ∷ type_ann ∷
+    type_params ∷ [])

@@ -1,12 +1,11 @@
 -- Written by forms/write.py from forms/forms.txt.
 -- Types that are computed from others, and predicates.
--- Each form has its fields by their names, and what it holds once it reads a node;
--- where it is made, the node of its fields.
+-- Each form has its fields by their names, what it holds once it reads a node, and the node of its fields.
 use Rattle.std.specs.Prelude.{◌≡◌, Bool, [], ◌∷◌}
 use Rattle.fast_check_syntax.specs.declared.kind.Kind.TheVariants as kinds
 use Rattle.fast_check_syntax.specs.declared.part.Part.{Part}
 use Rattle.fast_check_syntax.specs.declared.source.SourceRange.{SourceRange}
-use Rattle.fast_check_syntax.specs.declared.tree.Tree.{Tree, Range}
+use Rattle.fast_check_syntax.specs.declared.tree.Tree.{Tree, Range, Flag}
 use Rattle.fast_check_syntax.specs.Part.{seen}
 use Rattle.fast_check_syntax.specs.Shape.{node, part, range_of, flag_of}
 use Rattle.fast_check_type_forms.specs.declared.type_operators.TsConditionalType.{TsConditionalType}
@@ -39,6 +38,10 @@ pub record ReadsTsConditionalType (form : TsConditionalType Part) (t : Tree) : T
   pub true_type : seen form.true_type ≡ TsConditionalType-true_type t
   pub false_type : seen form.false_type ≡ TsConditionalType-false_type t
 
+abbrev pub ts_conditional_type : SourceRange → Tree → Tree → Tree → Tree → Tree
+ts_conditional_type span check_type extends_type true_type false_type =
+    node kinds.TsConditionalType (Range span ∷ check_type ∷ extends_type ∷ true_type ∷ false_type ∷ [])
+
 -- `infer type_param`.
 abbrev pub TsInferType-span : Tree → SourceRange
 TsInferType-span t = range_of (part 0 t)
@@ -49,6 +52,9 @@ TsInferType-type_param t = part 1 t
 pub record ReadsTsInferType (form : TsInferType Part) (t : Tree) : Type 0 where
   pub span : form.span ≡ TsInferType-span t
   pub type_param : seen form.type_param ≡ TsInferType-type_param t
+
+abbrev pub ts_infer_type : SourceRange → Tree → Tree
+ts_infer_type span type_param = node kinds.TsInferType (Range span ∷ type_param ∷ [])
 
 -- `op type_ann`, as `keyof a`.
 abbrev pub TsTypeOperator-span : Tree → SourceRange
@@ -87,6 +93,10 @@ pub record ReadsTsIndexedAccessType (form : TsIndexedAccessType Part) (t : Tree)
   pub obj_type : seen form.obj_type ≡ TsIndexedAccessType-obj_type t
   pub index_type : seen form.index_type ≡ TsIndexedAccessType-index_type t
 
+abbrev pub ts_indexed_access_type : SourceRange → Bool → Tree → Tree → Tree
+ts_indexed_access_type span readonly obj_type index_type =
+    node kinds.TsIndexedAccessType (Range span ∷ Flag readonly ∷ obj_type ∷ index_type ∷ [])
+
 -- `{ readonly [type_param as name_type]optional: type_ann }`.
 abbrev pub TsMappedType-span : Tree → SourceRange
 TsMappedType-span t = range_of (part 0 t)
@@ -114,6 +124,10 @@ pub record ReadsTsMappedType (form : TsMappedType Part) (t : Tree) : Type 0 wher
   pub optional : seen form.optional ≡ TsMappedType-optional t
   pub type_ann : seen form.type_ann ≡ TsMappedType-type_ann t
 
+abbrev pub ts_mapped_type : SourceRange → Tree → Tree → Tree → Tree → Tree → Tree
+ts_mapped_type span readonly type_param name_type optional type_ann =
+    node kinds.TsMappedType (Range span ∷ readonly ∷ type_param ∷ name_type ∷ optional ∷ type_ann ∷ [])
+
 -- `asserts param_name is type_ann`.
 abbrev pub TsTypePredicate-span : Tree → SourceRange
 TsTypePredicate-span t = range_of (part 0 t)
@@ -132,3 +146,7 @@ pub record ReadsTsTypePredicate (form : TsTypePredicate Part) (t : Tree) : Type 
   pub asserts : form.asserts ≡ TsTypePredicate-asserts t
   pub param_name : seen form.param_name ≡ TsTypePredicate-param_name t
   pub type_ann : seen form.type_ann ≡ TsTypePredicate-type_ann t
+
+abbrev pub ts_type_predicate : SourceRange → Bool → Tree → Tree → Tree
+ts_type_predicate span asserts param_name type_ann =
+    node kinds.TsTypePredicate (Range span ∷ Flag asserts ∷ param_name ∷ type_ann ∷ [])

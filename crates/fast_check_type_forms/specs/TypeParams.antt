@@ -1,12 +1,11 @@
 -- Written by forms/write.py from forms/forms.txt.
 -- Type parameters, type arguments and annotations.
--- Each form has its fields by their names, and what it holds once it reads a node;
--- where it is made, the node of its fields.
+-- Each form has its fields by their names, what it holds once it reads a node, and the node of its fields.
 use Rattle.std.specs.Prelude.{◌≡◌, Bool, [], ◌∷◌}
 use Rattle.fast_check_syntax.specs.declared.kind.Kind.TheVariants as kinds
 use Rattle.fast_check_syntax.specs.declared.part.Part.{Part}
 use Rattle.fast_check_syntax.specs.declared.source.SourceRange.{SourceRange}
-use Rattle.fast_check_syntax.specs.declared.tree.Tree.{Tree, Range}
+use Rattle.fast_check_syntax.specs.declared.tree.Tree.{Tree, Range, Flag}
 use Rattle.fast_check_syntax.specs.Part.{seen}
 use Rattle.fast_check_syntax.specs.Shape.{node, part, range_of, flag_of}
 use Rattle.fast_check_type_forms.specs.declared.type_params.TsTypeParam.{TsTypeParam}
@@ -45,6 +44,11 @@ pub record ReadsTsTypeParam (form : TsTypeParam Part) (t : Tree) : Type 0 where
   pub constraint : seen form.constraint ≡ TsTypeParam-constraint t
   pub default : seen form.default ≡ TsTypeParam-default t
 
+abbrev pub ts_type_param : SourceRange → Tree → Bool → Bool → Bool → Tree → Tree → Tree
+ts_type_param span name is_in is_out is_const constraint default =
+    node kinds.TsTypeParam (Range span ∷ name ∷ Flag is_in ∷ Flag is_out ∷ Flag is_const ∷ constraint ∷
+    default ∷ [])
+
 -- `<params>`, where they are declared.
 abbrev pub TsTypeParamDecl-span : Tree → SourceRange
 TsTypeParamDecl-span t = range_of (part 0 t)
@@ -55,6 +59,9 @@ TsTypeParamDecl-params t = part 1 t
 pub record ReadsTsTypeParamDecl (form : TsTypeParamDecl Part) (t : Tree) : Type 0 where
   pub span : form.span ≡ TsTypeParamDecl-span t
   pub params : seen form.params ≡ TsTypeParamDecl-params t
+
+abbrev pub ts_type_param_decl : SourceRange → Tree → Tree
+ts_type_param_decl span params = node kinds.TsTypeParamDecl (Range span ∷ params ∷ [])
 
 -- `<params>`, as arguments.
 abbrev pub TsTypeParamInstantiation-span : Tree → SourceRange

@@ -1,7 +1,6 @@
 -- Written by forms/write.py from forms/forms.txt.
 -- Types.
--- Each form has its fields by their names, and what it holds once it reads a node;
--- where it is made, the node of its fields.
+-- Each form has its fields by their names, what it holds once it reads a node, and the node of its fields.
 use Rattle.std.specs.Prelude.{◌≡◌, [], ◌∷◌}
 use Rattle.fast_check_syntax.specs.declared.kind.Kind.TheVariants as kinds
 use Rattle.fast_check_syntax.specs.declared.part.Part.{Part}
@@ -48,6 +47,9 @@ TsThisType-span t = range_of (part 0 t)
 pub record ReadsTsThisType (form : TsThisType) (t : Tree) : Type 0 where
   pub span : form.span ≡ TsThisType-span t
 
+abbrev pub ts_this_type : SourceRange → Tree
+ts_this_type span = node kinds.TsThisType (Range span ∷ [])
+
 -- `type_name<type_params>`.
 abbrev pub TsTypeRef-span : Tree → SourceRange
 TsTypeRef-span t = range_of (part 0 t)
@@ -81,6 +83,9 @@ pub record ReadsTsQualifiedName (form : TsQualifiedName Part) (t : Tree) : Type 
   pub left : seen form.left ≡ TsQualifiedName-left t
   pub right : seen form.right ≡ TsQualifiedName-right t
 
+abbrev pub ts_qualified_name : SourceRange → Tree → Tree → Tree
+ts_qualified_name span left right = node kinds.TsQualifiedName (Range span ∷ left ∷ right ∷ [])
+
 -- `typeof expr_name<type_args>`.
 abbrev pub TsTypeQuery-span : Tree → SourceRange
 TsTypeQuery-span t = range_of (part 0 t)
@@ -95,6 +100,9 @@ pub record ReadsTsTypeQuery (form : TsTypeQuery Part) (t : Tree) : Type 0 where
   pub span : form.span ≡ TsTypeQuery-span t
   pub expr_name : seen form.expr_name ≡ TsTypeQuery-expr_name t
   pub type_args : seen form.type_args ≡ TsTypeQuery-type_args t
+
+abbrev pub ts_type_query : SourceRange → Tree → Tree → Tree
+ts_type_query span expr_name type_args = node kinds.TsTypeQuery (Range span ∷ expr_name ∷ type_args ∷ [])
 
 -- `import(arg).qualifier<type_args>`.
 abbrev pub TsImportType-span : Tree → SourceRange
@@ -115,6 +123,9 @@ pub record ReadsTsImportType (form : TsImportType Part) (t : Tree) : Type 0 wher
   pub qualifier : seen form.qualifier ≡ TsImportType-qualifier t
   pub type_args : seen form.type_args ≡ TsImportType-type_args t
 
+abbrev pub ts_import_type : SourceRange → Tree → Tree → Tree → Tree
+ts_import_type span arg qualifier type_args = node kinds.TsImportType (Range span ∷ arg ∷ qualifier ∷ type_args ∷ [])
+
 -- `{ members }`.
 abbrev pub TsTypeLit-span : Tree → SourceRange
 TsTypeLit-span t = range_of (part 0 t)
@@ -125,6 +136,9 @@ TsTypeLit-members t = part 1 t
 pub record ReadsTsTypeLit (form : TsTypeLit Part) (t : Tree) : Type 0 where
   pub span : form.span ≡ TsTypeLit-span t
   pub members : seen form.members ≡ TsTypeLit-members t
+
+abbrev pub ts_type_lit : SourceRange → Tree → Tree
+ts_type_lit span members = node kinds.TsTypeLit (Range span ∷ members ∷ [])
 
 -- `elem_type[]`.
 abbrev pub TsArrayType-span : Tree → SourceRange
@@ -137,6 +151,9 @@ pub record ReadsTsArrayType (form : TsArrayType Part) (t : Tree) : Type 0 where
   pub span : form.span ≡ TsArrayType-span t
   pub elem_type : seen form.elem_type ≡ TsArrayType-elem_type t
 
+abbrev pub ts_array_type : SourceRange → Tree → Tree
+ts_array_type span elem_type = node kinds.TsArrayType (Range span ∷ elem_type ∷ [])
+
 -- `[elem_types]`.
 abbrev pub TsTupleType-span : Tree → SourceRange
 TsTupleType-span t = range_of (part 0 t)
@@ -147,6 +164,9 @@ TsTupleType-elem_types t = part 1 t
 pub record ReadsTsTupleType (form : TsTupleType Part) (t : Tree) : Type 0 where
   pub span : form.span ≡ TsTupleType-span t
   pub elem_types : seen form.elem_types ≡ TsTupleType-elem_types t
+
+abbrev pub ts_tuple_type : SourceRange → Tree → Tree
+ts_tuple_type span elem_types = node kinds.TsTupleType (Range span ∷ elem_types ∷ [])
 
 -- In a tuple: `label: ty`, or `ty` alone.
 abbrev pub TsTupleElement-span : Tree → SourceRange
@@ -177,6 +197,9 @@ pub record ReadsTsOptionalType (form : TsOptionalType Part) (t : Tree) : Type 0 
   pub span : form.span ≡ TsOptionalType-span t
   pub type_ann : seen form.type_ann ≡ TsOptionalType-type_ann t
 
+abbrev pub ts_optional_type : SourceRange → Tree → Tree
+ts_optional_type span type_ann = node kinds.TsOptionalType (Range span ∷ type_ann ∷ [])
+
 -- In a tuple: `...type_ann`.
 abbrev pub TsRestType-span : Tree → SourceRange
 TsRestType-span t = range_of (part 0 t)
@@ -188,6 +211,9 @@ pub record ReadsTsRestType (form : TsRestType Part) (t : Tree) : Type 0 where
   pub span : form.span ≡ TsRestType-span t
   pub type_ann : seen form.type_ann ≡ TsRestType-type_ann t
 
+abbrev pub ts_rest_type : SourceRange → Tree → Tree
+ts_rest_type span type_ann = node kinds.TsRestType (Range span ∷ type_ann ∷ [])
+
 -- `(type_ann)`.
 abbrev pub TsParenthesizedType-span : Tree → SourceRange
 TsParenthesizedType-span t = range_of (part 0 t)
@@ -198,6 +224,9 @@ TsParenthesizedType-type_ann t = part 1 t
 pub record ReadsTsParenthesizedType (form : TsParenthesizedType Part) (t : Tree) : Type 0 where
   pub span : form.span ≡ TsParenthesizedType-span t
   pub type_ann : seen form.type_ann ≡ TsParenthesizedType-type_ann t
+
+abbrev pub ts_parenthesized_type : SourceRange → Tree → Tree
+ts_parenthesized_type span type_ann = node kinds.TsParenthesizedType (Range span ∷ type_ann ∷ [])
 
 -- Types with `|` between them: `types`.
 abbrev pub TsUnionType-span : Tree → SourceRange
@@ -223,6 +252,9 @@ TsIntersectionType-types t = part 1 t
 pub record ReadsTsIntersectionType (form : TsIntersectionType Part) (t : Tree) : Type 0 where
   pub span : form.span ≡ TsIntersectionType-span t
   pub types : seen form.types ≡ TsIntersectionType-types t
+
+abbrev pub ts_intersection_type : SourceRange → Tree → Tree
+ts_intersection_type span types = node kinds.TsIntersectionType (Range span ∷ types ∷ [])
 
 -- A literal as a type.
 abbrev pub TsLitType-span : Tree → SourceRange
@@ -252,3 +284,6 @@ pub record ReadsTsTplLitType (form : TsTplLitType Part) (t : Tree) : Type 0 wher
   pub span : form.span ≡ TsTplLitType-span t
   pub types : seen form.types ≡ TsTplLitType-types t
   pub quasis : seen form.quasis ≡ TsTplLitType-quasis t
+
+abbrev pub ts_tpl_lit_type : SourceRange → Tree → Tree → Tree
+ts_tpl_lit_type span types quasis = node kinds.TsTplLitType (Range span ∷ types ∷ quasis ∷ [])

@@ -1,19 +1,29 @@
 //! Function types, and the members of interfaces and type literals. Each form with its fields by their names.
 // Written by forms/write.py from forms/forms.txt.
 
+ghost use Rattle.std.specs.Prelude.{◌≡◌, IfOk};
 ghost use Rattle.fast_check_syntax.specs.Part.{seen};
 ghost use Rattle.fast_check_type_forms.specs.Signatures.{
   ReadsTsFnType,
+  ts_fn_type,
   ReadsTsConstructorType,
+  ts_constructor_type,
   ReadsTsCallSignatureDecl,
+  ts_call_signature_decl,
   ReadsTsConstructSignatureDecl,
+  ts_construct_signature_decl,
   ReadsTsPropertySignature,
+  ts_property_signature,
   ReadsTsGetterSignature,
+  ts_getter_signature,
   ReadsTsSetterSignature,
+  ts_setter_signature,
   ReadsTsMethodSignature,
+  ts_method_signature,
 };
 
-use fast_check_syntax::{Part, SourceRange};
+use fast_check_syntax::{Kind, Part, SourceRange, Tree};
+use std::alloc::{AllocError, Global};
 
 /// `<type_params>(params) => type_ann`.
 #[derive(Drop)]
@@ -40,6 +50,33 @@ impl<'a> TsFnType<Part<'a>> {
             type_ann: node.part(3),
             is_abstract: node.part(4).flag(),
         }
+    }
+}
+
+impl TsFnType<Tree> {
+    /// The node of these fields.
+    pub fn into_tree(self, alloc: Global) -> Result<Tree, AllocError>
+        ensures { IfOk result (λ tree. tree ≡
+            ts_fn_type self.span self.params self.type_params self.type_ann self.is_abstract) }
+    {
+        let TsFnType {
+            span,
+            params,
+            type_params,
+            type_ann,
+            is_abstract,
+        } = self;
+        Tree::node(
+            alloc,
+            Kind::TsFnType,
+            [
+                Tree::Range(span),
+                params,
+                type_params,
+                type_ann,
+                Tree::Flag(is_abstract),
+            ],
+        )
     }
 }
 
@@ -72,6 +109,34 @@ impl<'a> TsConstructorType<Part<'a>> {
     }
 }
 
+impl TsConstructorType<Tree> {
+    /// The node of these fields.
+    pub fn into_tree(self, alloc: Global) -> Result<Tree, AllocError>
+        ensures { IfOk result (λ tree. tree ≡
+            ts_constructor_type self.span self.params self.type_params self.type_ann
+            self.is_abstract) }
+    {
+        let TsConstructorType {
+            span,
+            params,
+            type_params,
+            type_ann,
+            is_abstract,
+        } = self;
+        Tree::node(
+            alloc,
+            Kind::TsConstructorType,
+            [
+                Tree::Range(span),
+                params,
+                type_params,
+                type_ann,
+                Tree::Flag(is_abstract),
+            ],
+        )
+    }
+}
+
 /// `<type_params>(params): type_ann`.
 #[derive(Drop)]
 pub struct TsCallSignatureDecl<N> {
@@ -98,6 +163,26 @@ impl<'a> TsCallSignatureDecl<Part<'a>> {
     }
 }
 
+impl TsCallSignatureDecl<Tree> {
+    /// The node of these fields.
+    pub fn into_tree(self, alloc: Global) -> Result<Tree, AllocError>
+        ensures { IfOk result (λ tree. tree ≡
+            ts_call_signature_decl self.span self.params self.type_ann self.type_params) }
+    {
+        let TsCallSignatureDecl {
+            span,
+            params,
+            type_ann,
+            type_params,
+        } = self;
+        Tree::node(
+            alloc,
+            Kind::TsCallSignatureDecl,
+            [Tree::Range(span), params, type_ann, type_params],
+        )
+    }
+}
+
 /// `new <type_params>(params): type_ann`.
 #[derive(Drop)]
 pub struct TsConstructSignatureDecl<N> {
@@ -121,6 +206,26 @@ impl<'a> TsConstructSignatureDecl<Part<'a>> {
             type_ann: node.part(2),
             type_params: node.part(3),
         }
+    }
+}
+
+impl TsConstructSignatureDecl<Tree> {
+    /// The node of these fields.
+    pub fn into_tree(self, alloc: Global) -> Result<Tree, AllocError>
+        ensures { IfOk result (λ tree. tree ≡
+            ts_construct_signature_decl self.span self.params self.type_ann self.type_params) }
+    {
+        let TsConstructSignatureDecl {
+            span,
+            params,
+            type_ann,
+            type_params,
+        } = self;
+        Tree::node(
+            alloc,
+            Kind::TsConstructSignatureDecl,
+            [Tree::Range(span), params, type_ann, type_params],
+        )
     }
 }
 
@@ -155,6 +260,36 @@ impl<'a> TsPropertySignature<Part<'a>> {
     }
 }
 
+impl TsPropertySignature<Tree> {
+    /// The node of these fields.
+    pub fn into_tree(self, alloc: Global) -> Result<Tree, AllocError>
+        ensures { IfOk result (λ tree. tree ≡
+            ts_property_signature self.span self.key self.computed self.readonly self.optional
+            self.type_ann) }
+    {
+        let TsPropertySignature {
+            span,
+            key,
+            computed,
+            readonly,
+            optional,
+            type_ann,
+        } = self;
+        Tree::node(
+            alloc,
+            Kind::TsPropertySignature,
+            [
+                Tree::Range(span),
+                key,
+                Tree::Flag(computed),
+                Tree::Flag(readonly),
+                Tree::Flag(optional),
+                type_ann,
+            ],
+        )
+    }
+}
+
 /// `get key(): type_ann`.
 #[derive(Drop)]
 pub struct TsGetterSignature<N> {
@@ -181,6 +316,26 @@ impl<'a> TsGetterSignature<Part<'a>> {
     }
 }
 
+impl TsGetterSignature<Tree> {
+    /// The node of these fields.
+    pub fn into_tree(self, alloc: Global) -> Result<Tree, AllocError>
+        ensures { IfOk result (λ tree. tree ≡
+            ts_getter_signature self.span self.key self.computed self.type_ann) }
+    {
+        let TsGetterSignature {
+            span,
+            key,
+            computed,
+            type_ann,
+        } = self;
+        Tree::node(
+            alloc,
+            Kind::TsGetterSignature,
+            [Tree::Range(span), key, Tree::Flag(computed), type_ann],
+        )
+    }
+}
+
 /// `set key(params)`.
 #[derive(Drop)]
 pub struct TsSetterSignature<N> {
@@ -204,6 +359,26 @@ impl<'a> TsSetterSignature<Part<'a>> {
             computed: node.part(2).flag(),
             params: node.part(3),
         }
+    }
+}
+
+impl TsSetterSignature<Tree> {
+    /// The node of these fields.
+    pub fn into_tree(self, alloc: Global) -> Result<Tree, AllocError>
+        ensures { IfOk result (λ tree. tree ≡
+            ts_setter_signature self.span self.key self.computed self.params) }
+    {
+        let TsSetterSignature {
+            span,
+            key,
+            computed,
+            params,
+        } = self;
+        Tree::node(
+            alloc,
+            Kind::TsSetterSignature,
+            [Tree::Range(span), key, Tree::Flag(computed), params],
+        )
     }
 }
 
@@ -239,5 +414,37 @@ impl<'a> TsMethodSignature<Part<'a>> {
             type_ann: node.part(5),
             type_params: node.part(6),
         }
+    }
+}
+
+impl TsMethodSignature<Tree> {
+    /// The node of these fields.
+    pub fn into_tree(self, alloc: Global) -> Result<Tree, AllocError>
+        ensures { IfOk result (λ tree. tree ≡
+            ts_method_signature self.span self.key self.computed self.optional self.params
+            self.type_ann self.type_params) }
+    {
+        let TsMethodSignature {
+            span,
+            key,
+            computed,
+            optional,
+            params,
+            type_ann,
+            type_params,
+        } = self;
+        Tree::node(
+            alloc,
+            Kind::TsMethodSignature,
+            [
+                Tree::Range(span),
+                key,
+                Tree::Flag(computed),
+                Tree::Flag(optional),
+                params,
+                type_ann,
+                type_params,
+            ],
+        )
     }
 }

@@ -5,12 +5,17 @@ ghost use Rattle.std.specs.Prelude.{◌≡◌, IfOk};
 ghost use Rattle.fast_check_syntax.specs.Part.{seen};
 ghost use Rattle.fast_check_type_forms.specs.TypeOperators.{
   ReadsTsConditionalType,
+  ts_conditional_type,
   ReadsTsInferType,
+  ts_infer_type,
   ReadsTsTypeOperator,
   ts_type_operator,
   ReadsTsIndexedAccessType,
+  ts_indexed_access_type,
   ReadsTsMappedType,
+  ts_mapped_type,
   ReadsTsTypePredicate,
+  ts_type_predicate,
 };
 
 use fast_check_syntax::{Kind, Part, SourceRange, Tree};
@@ -45,6 +50,34 @@ impl<'a> TsConditionalType<Part<'a>> {
     }
 }
 
+impl TsConditionalType<Tree> {
+    /// The node of these fields.
+    pub fn into_tree(self, alloc: Global) -> Result<Tree, AllocError>
+        ensures { IfOk result (λ tree. tree ≡
+            ts_conditional_type self.span self.check_type self.extends_type self.true_type
+            self.false_type) }
+    {
+        let TsConditionalType {
+            span,
+            check_type,
+            extends_type,
+            true_type,
+            false_type,
+        } = self;
+        Tree::node(
+            alloc,
+            Kind::TsConditionalType,
+            [
+                Tree::Range(span),
+                check_type,
+                extends_type,
+                true_type,
+                false_type,
+            ],
+        )
+    }
+}
+
 /// `infer type_param`.
 #[derive(Drop)]
 pub struct TsInferType<N> {
@@ -62,6 +95,16 @@ impl<'a> TsInferType<Part<'a>> {
             span: node.part(0).range(),
             type_param: node.part(1),
         }
+    }
+}
+
+impl TsInferType<Tree> {
+    /// The node of these fields.
+    pub fn into_tree(self, alloc: Global) -> Result<Tree, AllocError>
+        ensures { IfOk result (λ tree. tree ≡ ts_infer_type self.span self.type_param) }
+    {
+        let TsInferType { span, type_param } = self;
+        Tree::node(alloc, Kind::TsInferType, [Tree::Range(span), type_param])
     }
 }
 
@@ -127,6 +170,31 @@ impl<'a> TsIndexedAccessType<Part<'a>> {
     }
 }
 
+impl TsIndexedAccessType<Tree> {
+    /// The node of these fields.
+    pub fn into_tree(self, alloc: Global) -> Result<Tree, AllocError>
+        ensures { IfOk result (λ tree. tree ≡
+            ts_indexed_access_type self.span self.readonly self.obj_type self.index_type) }
+    {
+        let TsIndexedAccessType {
+            span,
+            readonly,
+            obj_type,
+            index_type,
+        } = self;
+        Tree::node(
+            alloc,
+            Kind::TsIndexedAccessType,
+            [
+                Tree::Range(span),
+                Tree::Flag(readonly),
+                obj_type,
+                index_type,
+            ],
+        )
+    }
+}
+
 /// `{ readonly [type_param as name_type]optional: type_ann }`.
 #[derive(Drop)]
 pub struct TsMappedType<N> {
@@ -159,6 +227,36 @@ impl<'a> TsMappedType<Part<'a>> {
     }
 }
 
+impl TsMappedType<Tree> {
+    /// The node of these fields.
+    pub fn into_tree(self, alloc: Global) -> Result<Tree, AllocError>
+        ensures { IfOk result (λ tree. tree ≡
+            ts_mapped_type self.span self.readonly self.type_param self.name_type self.optional
+            self.type_ann) }
+    {
+        let TsMappedType {
+            span,
+            readonly,
+            type_param,
+            name_type,
+            optional,
+            type_ann,
+        } = self;
+        Tree::node(
+            alloc,
+            Kind::TsMappedType,
+            [
+                Tree::Range(span),
+                readonly,
+                type_param,
+                name_type,
+                optional,
+                type_ann,
+            ],
+        )
+    }
+}
+
 /// `asserts param_name is type_ann`.
 #[derive(Drop)]
 pub struct TsTypePredicate<N> {
@@ -182,5 +280,25 @@ impl<'a> TsTypePredicate<Part<'a>> {
             param_name: node.part(2),
             type_ann: node.part(3),
         }
+    }
+}
+
+impl TsTypePredicate<Tree> {
+    /// The node of these fields.
+    pub fn into_tree(self, alloc: Global) -> Result<Tree, AllocError>
+        ensures { IfOk result (λ tree. tree ≡
+            ts_type_predicate self.span self.asserts self.param_name self.type_ann) }
+    {
+        let TsTypePredicate {
+            span,
+            asserts,
+            param_name,
+            type_ann,
+        } = self;
+        Tree::node(
+            alloc,
+            Kind::TsTypePredicate,
+            [Tree::Range(span), Tree::Flag(asserts), param_name, type_ann],
+        )
     }
 }

@@ -5,7 +5,9 @@ ghost use Rattle.std.specs.Prelude.{◌≡◌, IfOk};
 ghost use Rattle.fast_check_syntax.specs.Part.{seen};
 ghost use Rattle.fast_check_type_forms.specs.TypeParams.{
   ReadsTsTypeParam,
+  ts_type_param,
   ReadsTsTypeParamDecl,
+  ts_type_param_decl,
   ReadsTsTypeParamInstantiation,
   ts_type_param_instantiation,
   ReadsTsTypeAnn,
@@ -50,6 +52,38 @@ impl<'a> TsTypeParam<Part<'a>> {
     }
 }
 
+impl TsTypeParam<Tree> {
+    /// The node of these fields.
+    pub fn into_tree(self, alloc: Global) -> Result<Tree, AllocError>
+        ensures { IfOk result (λ tree. tree ≡
+            ts_type_param self.span self.name self.is_in self.is_out self.is_const
+            self.constraint self.default) }
+    {
+        let TsTypeParam {
+            span,
+            name,
+            is_in,
+            is_out,
+            is_const,
+            constraint,
+            default,
+        } = self;
+        Tree::node(
+            alloc,
+            Kind::TsTypeParam,
+            [
+                Tree::Range(span),
+                name,
+                Tree::Flag(is_in),
+                Tree::Flag(is_out),
+                Tree::Flag(is_const),
+                constraint,
+                default,
+            ],
+        )
+    }
+}
+
 /// `<params>`, where they are declared.
 #[derive(Drop)]
 pub struct TsTypeParamDecl<N> {
@@ -67,6 +101,16 @@ impl<'a> TsTypeParamDecl<Part<'a>> {
             span: node.part(0).range(),
             params: node.part(1),
         }
+    }
+}
+
+impl TsTypeParamDecl<Tree> {
+    /// The node of these fields.
+    pub fn into_tree(self, alloc: Global) -> Result<Tree, AllocError>
+        ensures { IfOk result (λ tree. tree ≡ ts_type_param_decl self.span self.params) }
+    {
+        let TsTypeParamDecl { span, params } = self;
+        Tree::node(alloc, Kind::TsTypeParamDecl, [Tree::Range(span), params])
     }
 }
 

@@ -7,25 +7,37 @@ ghost use Rattle.fast_check_type_forms.specs.Types.{
   ReadsTsKeywordType,
   ts_keyword_type,
   ReadsTsThisType,
+  ts_this_type,
   ReadsTsTypeRef,
   ts_type_ref,
   ReadsTsQualifiedName,
+  ts_qualified_name,
   ReadsTsTypeQuery,
+  ts_type_query,
   ReadsTsImportType,
+  ts_import_type,
   ReadsTsTypeLit,
+  ts_type_lit,
   ReadsTsArrayType,
+  ts_array_type,
   ReadsTsTupleType,
+  ts_tuple_type,
   ReadsTsTupleElement,
   ts_tuple_element,
   ReadsTsOptionalType,
+  ts_optional_type,
   ReadsTsRestType,
+  ts_rest_type,
   ReadsTsParenthesizedType,
+  ts_parenthesized_type,
   ReadsTsUnionType,
   ts_union_type,
   ReadsTsIntersectionType,
+  ts_intersection_type,
   ReadsTsLitType,
   ts_lit_type,
   ReadsTsTplLitType,
+  ts_tpl_lit_type,
 };
 
 use fast_check_syntax::{Kind, Part, SourceRange, Tree};
@@ -75,6 +87,14 @@ impl TsThisType {
         TsThisType {
             span: node.part(0).range(),
         }
+    }
+
+    /// The node of these fields.
+    pub fn into_tree(self, alloc: Global) -> Result<Tree, AllocError>
+        ensures { IfOk result (λ tree. tree ≡ ts_this_type self.span) }
+    {
+        let TsThisType { span } = self;
+        Tree::node(alloc, Kind::TsThisType, [Tree::Range(span)])
     }
 }
 
@@ -143,6 +163,20 @@ impl<'a> TsQualifiedName<Part<'a>> {
     }
 }
 
+impl TsQualifiedName<Tree> {
+    /// The node of these fields.
+    pub fn into_tree(self, alloc: Global) -> Result<Tree, AllocError>
+        ensures { IfOk result (λ tree. tree ≡ ts_qualified_name self.span self.left self.right) }
+    {
+        let TsQualifiedName { span, left, right } = self;
+        Tree::node(
+            alloc,
+            Kind::TsQualifiedName,
+            [Tree::Range(span), left, right],
+        )
+    }
+}
+
 /// `typeof expr_name<type_args>`.
 #[derive(Drop)]
 pub struct TsTypeQuery<N> {
@@ -163,6 +197,25 @@ impl<'a> TsTypeQuery<Part<'a>> {
             expr_name: node.part(1),
             type_args: node.part(2),
         }
+    }
+}
+
+impl TsTypeQuery<Tree> {
+    /// The node of these fields.
+    pub fn into_tree(self, alloc: Global) -> Result<Tree, AllocError>
+        ensures { IfOk result (λ tree. tree ≡
+            ts_type_query self.span self.expr_name self.type_args) }
+    {
+        let TsTypeQuery {
+            span,
+            expr_name,
+            type_args,
+        } = self;
+        Tree::node(
+            alloc,
+            Kind::TsTypeQuery,
+            [Tree::Range(span), expr_name, type_args],
+        )
     }
 }
 
@@ -192,6 +245,26 @@ impl<'a> TsImportType<Part<'a>> {
     }
 }
 
+impl TsImportType<Tree> {
+    /// The node of these fields.
+    pub fn into_tree(self, alloc: Global) -> Result<Tree, AllocError>
+        ensures { IfOk result (λ tree. tree ≡
+            ts_import_type self.span self.arg self.qualifier self.type_args) }
+    {
+        let TsImportType {
+            span,
+            arg,
+            qualifier,
+            type_args,
+        } = self;
+        Tree::node(
+            alloc,
+            Kind::TsImportType,
+            [Tree::Range(span), arg, qualifier, type_args],
+        )
+    }
+}
+
 /// `{ members }`.
 #[derive(Drop)]
 pub struct TsTypeLit<N> {
@@ -209,6 +282,16 @@ impl<'a> TsTypeLit<Part<'a>> {
             span: node.part(0).range(),
             members: node.part(1),
         }
+    }
+}
+
+impl TsTypeLit<Tree> {
+    /// The node of these fields.
+    pub fn into_tree(self, alloc: Global) -> Result<Tree, AllocError>
+        ensures { IfOk result (λ tree. tree ≡ ts_type_lit self.span self.members) }
+    {
+        let TsTypeLit { span, members } = self;
+        Tree::node(alloc, Kind::TsTypeLit, [Tree::Range(span), members])
     }
 }
 
@@ -232,6 +315,16 @@ impl<'a> TsArrayType<Part<'a>> {
     }
 }
 
+impl TsArrayType<Tree> {
+    /// The node of these fields.
+    pub fn into_tree(self, alloc: Global) -> Result<Tree, AllocError>
+        ensures { IfOk result (λ tree. tree ≡ ts_array_type self.span self.elem_type) }
+    {
+        let TsArrayType { span, elem_type } = self;
+        Tree::node(alloc, Kind::TsArrayType, [Tree::Range(span), elem_type])
+    }
+}
+
 /// `[elem_types]`.
 #[derive(Drop)]
 pub struct TsTupleType<N> {
@@ -249,6 +342,16 @@ impl<'a> TsTupleType<Part<'a>> {
             span: node.part(0).range(),
             elem_types: node.part(1),
         }
+    }
+}
+
+impl TsTupleType<Tree> {
+    /// The node of these fields.
+    pub fn into_tree(self, alloc: Global) -> Result<Tree, AllocError>
+        ensures { IfOk result (λ tree. tree ≡ ts_tuple_type self.span self.elem_types) }
+    {
+        let TsTupleType { span, elem_types } = self;
+        Tree::node(alloc, Kind::TsTupleType, [Tree::Range(span), elem_types])
     }
 }
 
@@ -305,6 +408,16 @@ impl<'a> TsOptionalType<Part<'a>> {
     }
 }
 
+impl TsOptionalType<Tree> {
+    /// The node of these fields.
+    pub fn into_tree(self, alloc: Global) -> Result<Tree, AllocError>
+        ensures { IfOk result (λ tree. tree ≡ ts_optional_type self.span self.type_ann) }
+    {
+        let TsOptionalType { span, type_ann } = self;
+        Tree::node(alloc, Kind::TsOptionalType, [Tree::Range(span), type_ann])
+    }
+}
+
 /// In a tuple: `...type_ann`.
 #[derive(Drop)]
 pub struct TsRestType<N> {
@@ -325,6 +438,16 @@ impl<'a> TsRestType<Part<'a>> {
     }
 }
 
+impl TsRestType<Tree> {
+    /// The node of these fields.
+    pub fn into_tree(self, alloc: Global) -> Result<Tree, AllocError>
+        ensures { IfOk result (λ tree. tree ≡ ts_rest_type self.span self.type_ann) }
+    {
+        let TsRestType { span, type_ann } = self;
+        Tree::node(alloc, Kind::TsRestType, [Tree::Range(span), type_ann])
+    }
+}
+
 /// `(type_ann)`.
 #[derive(Drop)]
 pub struct TsParenthesizedType<N> {
@@ -342,6 +465,20 @@ impl<'a> TsParenthesizedType<Part<'a>> {
             span: node.part(0).range(),
             type_ann: node.part(1),
         }
+    }
+}
+
+impl TsParenthesizedType<Tree> {
+    /// The node of these fields.
+    pub fn into_tree(self, alloc: Global) -> Result<Tree, AllocError>
+        ensures { IfOk result (λ tree. tree ≡ ts_parenthesized_type self.span self.type_ann) }
+    {
+        let TsParenthesizedType { span, type_ann } = self;
+        Tree::node(
+            alloc,
+            Kind::TsParenthesizedType,
+            [Tree::Range(span), type_ann],
+        )
     }
 }
 
@@ -395,6 +532,16 @@ impl<'a> TsIntersectionType<Part<'a>> {
     }
 }
 
+impl TsIntersectionType<Tree> {
+    /// The node of these fields.
+    pub fn into_tree(self, alloc: Global) -> Result<Tree, AllocError>
+        ensures { IfOk result (λ tree. tree ≡ ts_intersection_type self.span self.types) }
+    {
+        let TsIntersectionType { span, types } = self;
+        Tree::node(alloc, Kind::TsIntersectionType, [Tree::Range(span), types])
+    }
+}
+
 /// A literal as a type.
 #[derive(Drop)]
 pub struct TsLitType<N> {
@@ -445,5 +592,23 @@ impl<'a> TsTplLitType<Part<'a>> {
             types: node.part(1),
             quasis: node.part(2),
         }
+    }
+}
+
+impl TsTplLitType<Tree> {
+    /// The node of these fields.
+    pub fn into_tree(self, alloc: Global) -> Result<Tree, AllocError>
+        ensures { IfOk result (λ tree. tree ≡ ts_tpl_lit_type self.span self.types self.quasis) }
+    {
+        let TsTplLitType {
+            span,
+            types,
+            quasis,
+        } = self;
+        Tree::node(
+            alloc,
+            Kind::TsTplLitType,
+            [Tree::Range(span), types, quasis],
+        )
     }
 }

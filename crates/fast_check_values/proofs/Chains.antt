@@ -26,6 +26,6 @@ mapped_slice {g = g} s items drains w h xs rest calls =
 
 -- the start of the optional patterns, said of the parameters that have them
 pub start_of_params : (start : Option ℕ) (params : List Tree) → IsOptionalStart start (patterns params) → IsStartOfParams start params
-start_of_params start params says place h =
-    says place (subst (λ n. place < n) (sym (length-map params (λ p. Param-pat p))) h) ∙ ap (list_all is_optional_param)
+start_of_params start params start_is place r h =
+    start_is.says place r (subst (λ n. place < n) (sym (length-map params (λ p. Param-pat p))) h) ∙ ap (list_all is_optional_param)
     (drop-map (λ p. Param-pat p) place params)

@@ -1,6 +1,6 @@
 -- Inner: no contract of a public call cites what stands here.
 -- Lists of parameters, and the return type of an arrow where it is known.
-use Rattle.std.specs.Prelude.{◌≡◌, ℕ, ◌<◌, drop, length, Option, Some, None, List, map, option_map, if◌then◌else◌}
+use Rattle.std.specs.Prelude.{◌≡◌, ℕ, ◌<◌, ◌^◌, drop, length, Option, Some, None, List, map, option_map, if◌then◌else◌}
 use Rattle.std.specs.List.{list_all}
 use Rattle.fast_check_syntax.specs.declared.kind.Kind.TheVariants.{BlockStmt}
 use Rattle.fast_check_syntax.specs.declared.source.SourceRange.{SourceRange}
@@ -29,7 +29,7 @@ patterns params = map (λ p. Param-pat p) params
 
 -- a start says of the place of each parameter whether all from there on may be left out
 abbrev pub IsStartOfParams : Option ℕ → List Tree → Type 0
-IsStartOfParams start params = (place : ℕ) → place < length params →
+IsStartOfParams start params = (place : ℕ) → place < 2 ^ 64 → place < length params →
     is_from start place ≡ list_all is_optional_param (patterns (drop place params))
 
 -- what is seen of the parameters of a function

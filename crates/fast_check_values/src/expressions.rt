@@ -12,7 +12,7 @@ use fast_check_bindings::row_of;
 use fast_check_class_forms::Function;
 use fast_check_modules::EsModuleInfo;
 use fast_check_new_nodes::{never_in_parens, or_own};
-use fast_check_signatures::{COMPOUND_KINDS, Fault, FunctionKind, PLAIN_KINDS, Slot};
+use fast_check_signatures::{Fault, FunctionKind, Slot, is_compound, is_plain};
 use fast_check_syntax::{Items, Kind, Part, SourceRange, Tree};
 use std::alloc::{AllocError, Global};
 
@@ -30,10 +30,10 @@ pub fn leave_expr(
     ensures { IfOk result (λ tree. Adds (answer_to (expr_seen (bindings_of info.now) (seen expr.entry) place)) tree faults.old.items faults.new.items) }
 {
     let kind = expr.kind();
-    if COMPOUND_KINDS.contains(&kind) {
+    if is_compound(kind) {
         return leave_parts(alloc, info, expr, faults);
     }
-    if PLAIN_KINDS.contains(&kind) {
+    if is_plain(kind) {
         return Ok(Some(expr.to_tree(alloc)?));
     }
     if kind == Kind::ArrowExpr {

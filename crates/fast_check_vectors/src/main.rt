@@ -9,7 +9,7 @@ use crate::streams::{Input, Output};
 use anyhow::{Result, bail};
 use fast_check_cache_cases::{run_cache_cases, run_cached_builds};
 use fast_check_cases::{run_form_cases, run_name_cases, run_place_cases};
-use fast_check_commands::{Ending, run};
+use fast_check_commands::{AnyCommand, Ending, Lines, run_commands};
 use fast_check_example::run_example;
 use fast_check_finder_cases::{
     run_deep_cases, run_fault_cases, run_finder_cases, run_transformer_cases, run_unfound_cases,
@@ -119,11 +119,24 @@ fn run_words<W: Write>(
     input: Option<Input>,
     out: &mut W,
 ) -> io::Result<Ending> {
-    let mut answer = Output::new(rt.alloc(), redirects(line, ">closed"));
-    let mut errors = Output::new(rt.alloc(), redirects(line, "2>closed"));
-    let ending = run(rt.alloc(), words, input, &mut answer, &mut errors);
-    write_both(out, answer.bytes(), errors.bytes())?;
+    let mut answer = output(rt, line, ">closed");
+    let mut errors = output(rt, line, "2>closed");
+    let ending = run_commands::<AnyCommand, _, _, _>(
+        rt.alloc(),
+        words,
+        input,
+        &mut answer,
+        &mut errors,
+    );
+    write_both(out, answer.writer.bytes(), errors.writer.bytes())?;
     Ok(ending)
+}
+
+/// An output, which takes nothing where the line has this redirection.
+fn output(rt: &HostRuntime, line: &str, redirection: &str) -> Lines<Output> {
+    Lines {
+        writer: Output::new(rt.alloc(), redirects(line, redirection)),
+    }
 }
 
 fn write_both<W: Write>(out: &mut W, answer: &[u8], errors: &[u8]) -> io::Result<()> {

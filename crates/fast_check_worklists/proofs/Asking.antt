@@ -1,14 +1,14 @@
 -- What is asked of a module, when names are added.
 use Rattle.std.proofs.Common.{◌≡◌, ◌∙◌, sym, ap, refl, subst, true, [], ◌∷◌, Option, Some, None, ◌⊎◌, inl, inr, ⊎_elim, ◌||◌}
 use Rattle.std.proofs.lemmas.Bool.{cases_Bool, false≢true, or_cases, or_left, or_right}
-use Rattle.fast_check_names.specs.declared.lattice.named_subset.NamedSubset.{NamedSubset}
-use Rattle.fast_check_names.specs.declared.lattice.imported_exports.ImportedExports.{ImportedExports}
-use Rattle.fast_check_names.specs.declared.lattice.imported_exports.ImportedExports.TheVariants.{Star, StarWithDefault, Subset}
-use Rattle.fast_check_names.specs.Names.{Touched, paths, has_subset}
-use Rattle.fast_check_names.specs.Imports.{default_name, imported, NameDemand, names_but_default, each_name, subset_at, whole_at, demands}
-use Rattle.fast_check_names.specs.Imports.{is_star, IsAdded, IsWidened, IsCopy}
-use Rattle.fast_check_names.proofs.Forms.{not_all, star_below_all}
-use Rattle.fast_check_names.proofs.Sets.{same_subset, same_whole}
+use Rattle.fast_check_lattice.specs.declared.lattice.named_subset.NamedSubset.{NamedSubset}
+use Rattle.fast_check_lattice.specs.declared.lattice.imported_exports.ImportedExports.{ImportedExports}
+use Rattle.fast_check_lattice.specs.declared.lattice.imported_exports.ImportedExports.TheVariants.{Star, StarWithDefault, Subset}
+use Rattle.fast_check_lattice.specs.Names.{Touched, paths, has_subset}
+use Rattle.fast_check_lattice.specs.Imports.{default_name, imported, NameDemand, names_but_default, each_name, subset_at, whole_at, demands}
+use Rattle.fast_check_lattice.specs.Imports.{is_star, IsAdded, IsWidened, IsCopy}
+use Rattle.fast_check_lattice.proofs.Forms.{not_all, star_below_all}
+use Rattle.fast_check_lattice.proofs.Sets.{same_subset, same_whole}
 use Rattle.fast_check_worklists.specs.Demands.{asked, asked_by}
 
 -- a demand that stands for several, or the empty path beside `default`

@@ -13,10 +13,10 @@ use Rattle.fast_check_packages.specs.PackageOrder.{nv_total}
 use Rattle.fast_check_packages.specs.Packages.{package_cmp}
 use Rattle.fast_check_worklists.specs.declared.worklist.OuterWant.{OuterWant}
 use Rattle.fast_check_worklists.specs.Demands.{same_nv, one}
-use Rattle.fast_check_names.specs.declared.lattice.imported_exports.ImportedExports.{ImportedExports}
-use Rattle.fast_check_names.specs.Names.{IsBelow}
-use Rattle.fast_check_names.specs.Imports.{imported, NameDemand}
-use Rattle.fast_check_worklists.specs.Traces.{is_module, Handles, Waits}
+use Rattle.fast_check_lattice.specs.declared.lattice.imported_exports.ImportedExports.{ImportedExports}
+use Rattle.fast_check_lattice.specs.Names.{IsBelow}
+use Rattle.fast_check_lattice.specs.Imports.{imported, NameDemand}
+use Rattle.fast_check_lattice.specs.Traces.{is_module, Handles, Waits}
 use Rattle.fast_check_worklists.specs.Places.{HasPackages}
 use Rattle.fast_check_worklists.specs.State.{State, was_told, WereAsked, AddsPackage, WaitsFor, AsksModuleFor, AsksOne, AsksAll}
 use Rattle.fast_check_worklists.proofs.Single.{path_in}

@@ -2,14 +2,14 @@
 use Rattle.std.proofs.Common.{◌≡◌, ◌∙◌, sym, ap, refl, Bool, true, false, ◌&&◌, ◌||◌, [], ◌∷◌}
 use Rattle.std.proofs.Math.Path.{fun_ext}
 use Rattle.std.specs.Str.{bytes_eq}
-use Rattle.fast_check_names.specs.declared.lattice.named_subset.NamedSubset.{NamedSubset}
-use Rattle.fast_check_names.specs.declared.lattice.named_subset.Exports.TheVariants.{Subset as SubsetBelow}
-use Rattle.fast_check_names.specs.declared.lattice.imported_exports.ImportedExports.TheVariants.{Subset}
-use Rattle.fast_check_names.specs.Names.{Name, Path, Part, Touched, Covered, NameSet, nothing, named, whole, subset_of, paths, paths_below}
-use Rattle.fast_check_names.specs.Names.{IsSame, IsJoin, is_touched}
-use Rattle.fast_check_names.specs.Paths.{below_subset_is}
-use Rattle.fast_check_names.specs.Imports.{NameDemand, names_but_default, each_name, subset_at, whole_at}
-use Rattle.fast_check_names.proofs.Sets.{same_subset, same_whole}
+use Rattle.fast_check_lattice.specs.declared.lattice.named_subset.NamedSubset.{NamedSubset}
+use Rattle.fast_check_lattice.specs.declared.lattice.named_subset.Exports.TheVariants.{Subset as SubsetBelow}
+use Rattle.fast_check_lattice.specs.declared.lattice.imported_exports.ImportedExports.TheVariants.{Subset}
+use Rattle.fast_check_lattice.specs.Names.{Name, Path, Part, Touched, Covered, NameSet, nothing, named, whole, subset_of, paths, paths_below}
+use Rattle.fast_check_lattice.specs.Names.{IsSame, IsJoin, is_touched}
+use Rattle.fast_check_lattice.specs.Paths.{below_subset_is}
+use Rattle.fast_check_lattice.specs.Imports.{NameDemand, names_but_default, each_name, subset_at, whole_at}
+use Rattle.fast_check_lattice.proofs.Sets.{same_subset, same_whole}
 use Rattle.fast_check_worklists.specs.Demands.{touched_path, set_demands, asked, asked_by}
 use Rattle.fast_check_worklists.specs.Exports.{touched_below}
 

@@ -9,10 +9,10 @@ use Rattle.std.proofs.lemmas.Map.{length-set_value}
 use Rattle.std.proofs.lemmas.Slice.Eq.{bytes_eq-Decides}
 use Rattle.url.specs.Parts.{Parts, serialize}
 use Rattle.fast_check_packages.specs.declared.package.PackageNv.{PackageNv}
-use Rattle.fast_check_names.specs.declared.lattice.imported_exports.ImportedExports.{ImportedExports}
+use Rattle.fast_check_lattice.specs.declared.lattice.imported_exports.ImportedExports.{ImportedExports}
 use Rattle.fast_check_packages.specs.Package.{Nv, nv_of}
-use Rattle.fast_check_names.specs.Imports.{NameDemand}
-use Rattle.fast_check_worklists.specs.Traces.{is_module, WaitsAt}
+use Rattle.fast_check_lattice.specs.Imports.{NameDemand}
+use Rattle.fast_check_lattice.specs.Traces.{is_module, WaitsAt}
 use Rattle.fast_check_worklists.specs.Demands.{Text, same_nv, asked, of_module, World}
 use Rattle.fast_check_worklists.specs.Account.{Trace, Chained}
 use Rattle.fast_check_worklists.specs.State.{State, WaitsFor, AsksModule, AsksPackage}

@@ -5,8 +5,8 @@ use Rattle.std.specs.Str.{bytes_eq}
 use Rattle.std.proofs.lemmas.Bool.{cases_Bool, false≢true}
 use Rattle.std.proofs.lemmas.Slice.Eq.{bytes_eq-Decides}
 use Rattle.fast_check_packages.specs.Package.{Nv}
-use Rattle.fast_check_names.specs.Names.{Name, Path, whole_path, has_whole}
-use Rattle.fast_check_names.specs.Imports.{default_name, NameDemand, names_but_default, each_name, subset_at, whole_at}
+use Rattle.fast_check_lattice.specs.Names.{Name, Path, whole_path, has_whole}
+use Rattle.fast_check_lattice.specs.Imports.{default_name, NameDemand, names_but_default, each_name, subset_at, whole_at}
 use Rattle.fast_check_demands.specs.Demands.{Demand as SymbolDemand}
 use Rattle.fast_check_worklists.specs.Demands.{asked_by, Want, to_package, to_module, to_symbol, Demand, of_package, of_module, of_symbol}
 use Rattle.fast_check_worklists.specs.Demands.{World, Gives}

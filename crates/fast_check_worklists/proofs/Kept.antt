@@ -10,11 +10,11 @@ use Rattle.std.proofs.lemmas.List.Folds.{list_any-append}
 use Rattle.std.proofs.lemmas.List.Elements.{Contains-append_cases, Contains-append_left, Contains-append_right, Contains-push_cases}
 use Rattle.url.specs.Parts.{Parts, serialize}
 use Rattle.fast_check_packages.specs.declared.package.PackageNv.{PackageNv}
-use Rattle.fast_check_names.specs.declared.lattice.imported_exports.ImportedExports.{ImportedExports}
-use Rattle.fast_check_names.specs.declared.lattice.imported_exports.ImportedExports.TheVariants.{StarWithDefault}
+use Rattle.fast_check_lattice.specs.declared.lattice.imported_exports.ImportedExports.{ImportedExports}
+use Rattle.fast_check_lattice.specs.declared.lattice.imported_exports.ImportedExports.TheVariants.{StarWithDefault}
 use Rattle.fast_check_packages.specs.Package.{Nv, nv_of}
-use Rattle.fast_check_names.specs.Names.{Part, Path, IsBelow}
-use Rattle.fast_check_names.specs.Imports.{imported, NameDemand}
+use Rattle.fast_check_lattice.specs.Names.{Part, Path, IsBelow}
+use Rattle.fast_check_lattice.specs.Imports.{imported, NameDemand}
 use Rattle.fast_check_worklists.specs.Demands.{Text, same_nv, asked, of_package, of_module, World}
 use Rattle.fast_check_worklists.specs.Account.{Trace, Chained, is_of, joined}
 use Rattle.fast_check_worklists.specs.State.{State, AsksModule, AsksPackage}

@@ -10,7 +10,7 @@ use Rattle.url.specs.Parts.{Parts}
 use Rattle.fast_check_packages.specs.declared.package.PackageNv.{PackageNv}
 use Rattle.fast_check_packages.specs.Package.{Nv}
 use Rattle.fast_check_packages.specs.PackageOrder.{nv_total}
-use Rattle.fast_check_names.specs.declared.lattice.imported_exports.ImportedExports.{ImportedExports}
+use Rattle.fast_check_lattice.specs.declared.lattice.imported_exports.ImportedExports.{ImportedExports}
 use Rattle.fast_check_worklists.specs.Demands.{Text, same_nv, Demand, of_package, of_module, of_symbol, World}
 use Rattle.fast_check_worklists.specs.Account.{Trace, Followed, Account, Has, traces_of, root, IsAccount, IsYield}
 use Rattle.fast_check_worklists.specs.State.{State}

@@ -1,8 +1,6 @@
-pub mod Traced
 pub mod Asks
 mod ExportsAsked
 pub mod Maps
-pub mod Placed
 pub mod Asking
 pub mod Taken
 pub mod Waiting

@@ -3,14 +3,14 @@ use Rattle.std.proofs.Common.{◌≡◌, ◌∙◌, sym, ap, refl, subst, ℕ, �
 use Rattle.std.proofs.Common.{length, ⊎_elim, arith}
 use Rattle.std.specs.List.{Contains}
 use Rattle.std.proofs.lemmas.Bool.{cases_Bool, false≢true, and_from}
-use Rattle.fast_check_names.specs.declared.lattice.named_subset.NamedSubset.{NamedSubset}
-use Rattle.fast_check_names.specs.declared.lattice.imported_exports.ImportedExports.{ImportedExports}
-use Rattle.fast_check_names.specs.declared.lattice.imported_exports.ImportedExports.TheVariants.{Star, StarWithDefault, Subset}
-use Rattle.fast_check_names.specs.Names.{Path, Part, Touched, Covered, NameSet, paths, has_whole, IsBelow, HasMore}
-use Rattle.fast_check_names.specs.Paths.{paths_opened_nil}
-use Rattle.fast_check_names.specs.Shapes.{own_set}
-use Rattle.fast_check_names.specs.Imports.{default_name, imported, NameDemand, subset_at, whole_at}
-use Rattle.fast_check_names.proofs.Forms.{not_all, star_below_all, new_above}
+use Rattle.fast_check_lattice.specs.declared.lattice.named_subset.NamedSubset.{NamedSubset}
+use Rattle.fast_check_lattice.specs.declared.lattice.imported_exports.ImportedExports.{ImportedExports}
+use Rattle.fast_check_lattice.specs.declared.lattice.imported_exports.ImportedExports.TheVariants.{Star, StarWithDefault, Subset}
+use Rattle.fast_check_lattice.specs.Names.{Path, Part, Touched, Covered, NameSet, paths, has_whole, IsBelow, HasMore}
+use Rattle.fast_check_lattice.specs.Paths.{paths_opened_nil}
+use Rattle.fast_check_lattice.specs.Shapes.{own_set}
+use Rattle.fast_check_lattice.specs.Imports.{default_name, imported, NameDemand, subset_at, whole_at}
+use Rattle.fast_check_lattice.proofs.Forms.{not_all, star_below_all, new_above}
 use Rattle.fast_check_worklists.specs.Demands.{asked}
 use Rattle.fast_check_worklists.specs.Measure.{IsWithin, cost, total, missing, rank}
 use Rattle.fast_check_worklists.proofs.Maps.{split_in, none_in}

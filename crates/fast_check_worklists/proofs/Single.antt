@@ -3,14 +3,14 @@ use Rattle.std.proofs.Common.{◌≡◌, sym, refl, subst, true, not, [], ◌∷
 use Rattle.std.specs.Str.{bytes_eq}
 use Rattle.std.proofs.lemmas.Bool.{false≢true, and_parts, and_from}
 use Rattle.std.proofs.lemmas.Slice.Eq.{bytes_eq-Decides}
-use Rattle.fast_check_names.specs.declared.lattice.imported_exports.ImportedExports.{ImportedExports}
-use Rattle.fast_check_names.specs.declared.lattice.imported_exports.ImportedExports.TheVariants.{Star, StarWithDefault, Subset}
-use Rattle.fast_check_names.specs.Names.{Name, Path, Part, Touched, Covered, NameSet, paths, whole_below, whole_path, has_whole, IsBelow}
-use Rattle.fast_check_names.specs.Names.{IsClosed, IsNameSet}
-use Rattle.fast_check_names.specs.Shapes.{own_set}
-use Rattle.fast_check_names.specs.Imports.{default_name, all_but_default, all_names, imported, NameDemand, names_but_default, each_name}
-use Rattle.fast_check_names.specs.Imports.{subset_at, whole_at}
-use Rattle.fast_check_names.proofs.Forms.{star_below_all}
+use Rattle.fast_check_lattice.specs.declared.lattice.imported_exports.ImportedExports.{ImportedExports}
+use Rattle.fast_check_lattice.specs.declared.lattice.imported_exports.ImportedExports.TheVariants.{Star, StarWithDefault, Subset}
+use Rattle.fast_check_lattice.specs.Names.{Name, Path, Part, Touched, Covered, NameSet, paths, whole_below, whole_path, has_whole, IsBelow}
+use Rattle.fast_check_lattice.specs.Names.{IsClosed, IsNameSet}
+use Rattle.fast_check_lattice.specs.Shapes.{own_set}
+use Rattle.fast_check_lattice.specs.Imports.{default_name, all_but_default, all_names, imported, NameDemand, names_but_default, each_name}
+use Rattle.fast_check_lattice.specs.Imports.{subset_at, whole_at}
+use Rattle.fast_check_lattice.proofs.Forms.{star_below_all}
 use Rattle.fast_check_worklists.specs.Demands.{set_demands, asked, asked_by, one, touched_path, begins}
 use Rattle.fast_check_worklists.specs.Account.{IsStarred, HasDefault}
 use Rattle.fast_check_worklists.specs.State.{has_path}

@@ -5,12 +5,12 @@ use Rattle.std.specs.Str.{bytes_eq}
 use Rattle.std.proofs.lemmas.Bool.{cases_Bool, false≢true, or_right, or_cases}
 use Rattle.std.proofs.lemmas.Slice.Eq.{bytes_eq-Decides}
 use Rattle.url.specs.Parts.{Parts, serialize}
-use Rattle.fast_check_names.specs.declared.lattice.imported_exports.ImportedExports.{ImportedExports}
-use Rattle.fast_check_names.specs.declared.lattice.imported_exports.ImportedExports.TheVariants.{Star, StarWithDefault, Subset}
-use Rattle.fast_check_names.specs.Names.{Part, Path, Touched, IsSame, IsBelow, HasMore}
-use Rattle.fast_check_names.specs.Imports.{default_name, all_names, imported, answered, NameDemand, IsCopy, IsAdded}
-use Rattle.fast_check_worklists.specs.Traces.{is_module, Handles, HandlesAt}
-use Rattle.fast_check_names.proofs.Forms.{not_all, star_below_all}
+use Rattle.fast_check_lattice.specs.declared.lattice.imported_exports.ImportedExports.{ImportedExports}
+use Rattle.fast_check_lattice.specs.declared.lattice.imported_exports.ImportedExports.TheVariants.{Star, StarWithDefault, Subset}
+use Rattle.fast_check_lattice.specs.Names.{Part, Path, Touched, IsSame, IsBelow, HasMore}
+use Rattle.fast_check_lattice.specs.Imports.{default_name, all_names, imported, answered, NameDemand, IsCopy, IsAdded}
+use Rattle.fast_check_lattice.specs.Traces.{is_module, Handles, HandlesAt}
+use Rattle.fast_check_lattice.proofs.Forms.{not_all, star_below_all}
 use Rattle.fast_check_worklists.specs.Demands.{Text, asked}
 use Rattle.fast_check_worklists.proofs.Asking.{IsWide, asked_new, asked_either, copy_asked}
 use Rattle.fast_check_worklists.proofs.Maps.{look_same, look_other, look_last, look_before, some_is}

@@ -1,12 +1,12 @@
 -- Demands that are widened are chained.
 use Rattle.std.proofs.Common.{◌≡◌, refl, Bool, true, false, not, List, [], ◌∷◌, ◌⊎◌, inl, inr, ⊎_elim}
 use Rattle.std.proofs.lemmas.Bool.{cases_Bool, false≢true, or_cases, and_from}
-use Rattle.fast_check_names.specs.declared.lattice.imported_exports.ImportedExports.{ImportedExports}
-use Rattle.fast_check_names.specs.declared.lattice.imported_exports.ImportedExports.TheVariants.{Star, StarWithDefault, Subset}
+use Rattle.fast_check_lattice.specs.declared.lattice.imported_exports.ImportedExports.{ImportedExports}
+use Rattle.fast_check_lattice.specs.declared.lattice.imported_exports.ImportedExports.TheVariants.{Star, StarWithDefault, Subset}
 use Rattle.fast_check_packages.specs.Package.{Nv}
-use Rattle.fast_check_names.specs.Names.{Touched, Covered, paths}
-use Rattle.fast_check_names.specs.Paths.{paths_opened_nil}
-use Rattle.fast_check_names.specs.Imports.{default_name, imported, NameDemand, names_but_default, each_name, subset_at, whole_at, is_star}
+use Rattle.fast_check_lattice.specs.Names.{Touched, Covered, paths}
+use Rattle.fast_check_lattice.specs.Paths.{paths_opened_nil}
+use Rattle.fast_check_lattice.specs.Imports.{default_name, imported, NameDemand, names_but_default, each_name, subset_at, whole_at, is_star}
 use Rattle.fast_check_worklists.specs.Demands.{Text, asked, asked_by, of_module, World}
 use Rattle.fast_check_worklists.specs.Account.{Chained, widen, IsStarred, HasDefault}
 use Rattle.fast_check_worklists.proofs.Asking.{IsWide}

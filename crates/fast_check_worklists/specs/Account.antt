@@ -3,10 +3,10 @@ use Rattle.std.specs.Prelude.{◌≡◌, Bool, ◌&&◌, List, [], ◌∷◌, �
 use Rattle.std.specs.List.{list_any, Contains}
 use Rattle.std.specs.Str.{bytes_eq}
 use Rattle.fast_check_packages.specs.Package.{Nv}
-use Rattle.fast_check_names.specs.declared.lattice.imported_exports.ImportedExports.{ImportedExports}
-use Rattle.fast_check_names.specs.Names.{Path, NameSet, IsBelow}
-use Rattle.fast_check_names.specs.Imports.{default_name, imported, NameDemand, names_but_default, each_name, subset_at}
-use Rattle.fast_check_names.specs.Imports.{whole_at}
+use Rattle.fast_check_lattice.specs.declared.lattice.imported_exports.ImportedExports.{ImportedExports}
+use Rattle.fast_check_lattice.specs.Names.{Path, NameSet, IsBelow}
+use Rattle.fast_check_lattice.specs.Imports.{default_name, imported, NameDemand, names_but_default, each_name, subset_at}
+use Rattle.fast_check_lattice.specs.Imports.{whole_at}
 use Rattle.fast_check_demands.specs.Demands.{Demand as SymbolDemand}
 use Rattle.fast_check_demands.specs.Account.{touches, IsCovered as IsSymbolCovered}
 use Rattle.fast_check_worklists.specs.Demands.{Text, same_nv, asked, asked_by, one, Demand, of_package, of_module}

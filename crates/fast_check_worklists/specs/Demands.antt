@@ -4,12 +4,12 @@ use Rattle.std.specs.List.{Contains}
 use Rattle.std.specs.Str.{bytes_eq}
 use Rattle.std.specs.Ordering.{is_eq}
 use Rattle.fast_check_packages.specs.Package.{Nv, nv_cmp}
-use Rattle.fast_check_names.specs.declared.lattice.imported_exports.ImportedExports.{ImportedExports}
-use Rattle.fast_check_names.specs.declared.lattice.imported_exports.ImportedExports.TheVariants.{Star, StarWithDefault}
-use Rattle.fast_check_names.specs.declared.lattice.imported_exports.ImportedExports.TheVariants.{Subset}
-use Rattle.fast_check_names.specs.Names.{Path, NameSet, paths, is_touched, whole_path, has_subset, has_whole}
-use Rattle.fast_check_names.specs.Imports.{NameDemand, names_but_default, each_name, subset_at, whole_at}
-use Rattle.fast_check_names.specs.Imports.{all_but_default, all_names}
+use Rattle.fast_check_lattice.specs.declared.lattice.imported_exports.ImportedExports.{ImportedExports}
+use Rattle.fast_check_lattice.specs.declared.lattice.imported_exports.ImportedExports.TheVariants.{Star, StarWithDefault}
+use Rattle.fast_check_lattice.specs.declared.lattice.imported_exports.ImportedExports.TheVariants.{Subset}
+use Rattle.fast_check_lattice.specs.Names.{Path, NameSet, paths, is_touched, whole_path, has_subset, has_whole}
+use Rattle.fast_check_lattice.specs.Imports.{NameDemand, names_but_default, each_name, subset_at, whole_at}
+use Rattle.fast_check_lattice.specs.Imports.{all_but_default, all_names}
 use Rattle.fast_check_demands.specs.Demands.{Demand as SymbolDemand}
 
 -- a specifier, by its text

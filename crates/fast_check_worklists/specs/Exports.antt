@@ -1,7 +1,7 @@
 -- Inner: no contract of a public call cites what stands here.
 -- What is asked below a name where a path goes on there.
 use Rattle.std.specs.Prelude.{◌&&◌}
-use Rattle.fast_check_names.specs.Names.{Path, NameSet, is_touched}
+use Rattle.fast_check_lattice.specs.Names.{Path, NameSet, is_touched}
 use Rattle.fast_check_worklists.specs.Demands.{begins}
 
 -- the path is touched, with its beginnings

@@ -1,4 +1,3 @@
-pub mod Traces
 pub mod Demands
 pub mod Account
 pub mod Exports

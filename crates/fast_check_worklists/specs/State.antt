@@ -5,12 +5,12 @@ use Rattle.std.specs.List.{list_any, Contains}
 use Rattle.std.specs.Map.{lookup}
 use Rattle.url.specs.Parts.{Parts, serialize}
 use Rattle.fast_check_packages.specs.declared.package.PackageNv.{PackageNv}
-use Rattle.fast_check_names.specs.declared.lattice.imported_exports.ImportedExports.{ImportedExports}
-use Rattle.fast_check_names.specs.Names.{Touched, Covered, IsBelow}
-use Rattle.fast_check_names.specs.Imports.{imported, NameDemand, subset_at, whole_at}
-use Rattle.fast_check_worklists.specs.declared.module_maps.PendingTrace.{PendingTrace}
+use Rattle.fast_check_lattice.specs.declared.lattice.imported_exports.ImportedExports.{ImportedExports}
+use Rattle.fast_check_lattice.specs.Names.{Touched, Covered, IsBelow}
+use Rattle.fast_check_lattice.specs.Imports.{imported, NameDemand, subset_at, whole_at}
+use Rattle.fast_check_lattice.specs.declared.module_maps.PendingTrace.{PendingTrace}
 use Rattle.fast_check_packages.specs.Package.{Nv, nv_of}
-use Rattle.fast_check_worklists.specs.Traces.{is_module, handled, pending, Handles, Waits}
+use Rattle.fast_check_lattice.specs.Traces.{is_module, handled, pending, Handles, Waits}
 use Rattle.fast_check_demands.specs.Demands.{Demand as SymbolDemand}
 use Rattle.fast_check_name_demands.specs.Files.{names_of}
 use Rattle.fast_check_worklists.specs.declared.worklist.OuterWant.{OuterWant}

@@ -8,10 +8,10 @@ use Rattle.std.specs.Str.{bytes_eq}
 use Rattle.url.specs.Parts.{Parts, serialize}
 use Rattle.fast_check_packages.specs.declared.package.PackageNv.{PackageNv}
 use Rattle.fast_check_packages.specs.Package.{Nv, nv_of}
-use Rattle.fast_check_names.specs.declared.lattice.imported_exports.ImportedExports.{ImportedExports}
-use Rattle.fast_check_names.specs.declared.lattice.imported_exports.ImportedExports.TheVariants.{StarWithDefault}
-use Rattle.fast_check_names.specs.Names.{IsBelow}
-use Rattle.fast_check_names.specs.Imports.{imported, NameDemand, each_name}
+use Rattle.fast_check_lattice.specs.declared.lattice.imported_exports.ImportedExports.{ImportedExports}
+use Rattle.fast_check_lattice.specs.declared.lattice.imported_exports.ImportedExports.TheVariants.{StarWithDefault}
+use Rattle.fast_check_lattice.specs.Names.{IsBelow}
+use Rattle.fast_check_lattice.specs.Imports.{imported, NameDemand, each_name}
 use Rattle.fast_check_demands.specs.Demands.{Demand as SymbolDemand}
 use Rattle.fast_check_worklists.specs.Demands.{Text, Wanted, same_nv, asked, one, to_module, to_symbol, Demand}
 use Rattle.fast_check_worklists.specs.Demands.{of_package, of_module, of_symbol, World, Follows}

@@ -1,14 +1,14 @@
 //! What of a module's names is asked of another by a re-export.
 ghost use Rattle.std.specs.Prelude.{◌≡◌, ◌∷◌, [], IfOk};
-ghost use Rattle.fast_check_names.specs.Names.{path_of, paths, paths_below, named, IsSame};
-ghost use Rattle.fast_check_names.specs.Imports.{subset_at, whole_at};
+ghost use Rattle.fast_check_lattice.specs.Names.{path_of, paths, paths_below, named, IsSame};
+ghost use Rattle.fast_check_lattice.specs.Imports.{subset_at, whole_at};
 ghost use Rattle.fast_check_name_demands.specs.Files.{names_of, path_demand};
 ghost use Rattle.fast_check_worklists.specs.Demands.{asked, asked_by};
 ghost use Rattle.fast_check_worklists.specs.Exports.{touched_below};
 
 use fast_check_demands::Extent;
+use fast_check_lattice::{Exports, ImportedExports, NamedSubset};
 use fast_check_name_demands::NameDemand;
-use fast_check_names::{Exports, ImportedExports, NamedSubset};
 use std::alloc::{AllocError, Global};
 
 /// What is asked below a name, where a path goes on below it that is touched. The last name stands inmost.

@@ -3,9 +3,8 @@
 
 mod asked_packages;
 mod exports;
-mod module_maps;
 mod worklist;
 
 pub use crate::asked_packages::AskedPackages;
-pub use crate::module_maps::{HandledExports, PendingTrace, PendingTraces};
+pub use fast_check_lattice::{HandledExports, PendingTrace, PendingTraces};
 pub use worklist::{OuterWant, Worklist, begin, copy_of, is_same_package};

@@ -2,20 +2,19 @@
 ghost use Rattle.std.specs.Prelude.{◌≡◌, ◌∷◌, map, OnOk, IfOk};
 ghost use Rattle.std.specs.Map.{lookup};
 ghost use Rattle.std.specs.Option.{option_copied};
-ghost use Rattle.fast_check_names.specs.Names.{path_of};
+ghost use Rattle.fast_check_lattice.specs.Names.{path_of};
 ghost use Rattle.fast_check_name_demands.specs.Files.{names_of, path_demand};
 ghost use Rattle.fast_check_packages.specs.Package.{nv_of};
 ghost use Rattle.fast_check_worklists.specs.Demands.{same_nv};
-ghost use Rattle.fast_check_worklists.specs.Traces.{is_module};
+ghost use Rattle.fast_check_lattice.specs.Traces.{is_module};
 ghost use Rattle.fast_check_worklists.specs.State.{state_of, has_path, was_told, AsksModuleFor, AsksNames, AsksPackage, AsksOne, AsksAll};
 ghost use Rattle.fast_check_worklists.specs.Turn.{IsBegun};
 
 use crate::asked_packages::AskedPackages;
 use crate::exports::exports_to_ask;
-use crate::module_maps::{HandledExports, PendingTraces};
 use fast_check_demands::Extent;
+use fast_check_lattice::{HandledExports, ImportedExports, PendingTraces};
 use fast_check_name_demands::NameDemand;
-use fast_check_names::ImportedExports;
 use fast_check_packages::PackageNv;
 use std::alloc::{AllocError, Global};
 use std::cmp::Ordering;

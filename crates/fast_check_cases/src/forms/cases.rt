@@ -1,14 +1,15 @@
 //! The words of a case.
 
+use crate::forms::every::say_every;
 use crate::forms::made::made;
 use crate::forms::names::form_named;
 use crate::forms::odd::odd_tree;
 use crate::said::Said;
 use fast_check_helpers::{ReturnStatementAnalysis, analyze_return_stmts_in_function_body};
+use fast_check_print::print_tree;
 use fast_check_read::{ReadError, read_tree};
 use fast_check_schema::Form;
 use fast_check_syntax::{Kind, Part, Tree};
-use fast_check_write::write_tree;
 use json::Writer;
 use serde_json::Value;
 use std::alloc::Global;
@@ -16,10 +17,17 @@ use std::alloc::Global;
 /// Says what comes of a case. It is `refused` where what it is run on is not of its form.
 pub fn say_case(alloc: Global, line: &str, said: &mut Said) {
     let (word, rest) = line.split_once(' ').unwrap_or(("", line));
-    if word == "returns" {
-        say_returns(alloc, rest, said);
-    } else {
-        say_tree_of(alloc, word, rest, said);
+    match word {
+        "returns" => say_returns(alloc, rest, said),
+        "form" => say_form(alloc, rest, said),
+        _ => say_tree_of(alloc, word, rest, said),
+    }
+}
+
+fn say_form(alloc: Global, name: &str, said: &mut Said) {
+    match form_named(alloc, name) {
+        Ok(form) => say_every(alloc, form, name, said),
+        Err(_) => said.lack(),
     }
 }
 
@@ -89,7 +97,7 @@ fn return_class(body: Part<'_>) -> &'static str {
 /// Says a tree as where the form stands.
 fn say_tree(alloc: Global, tree: &Tree, form: Form, said: &mut Said) {
     let mut out = Writer::new(Vec::new(alloc));
-    said.note(write_tree(&mut out, tree, form));
+    said.note(print_tree(&mut out, tree, form));
     match String::from_utf8(out.into_inner()) {
         Ok(text) => said.say(text.as_str()),
         Err(_) => said.say("refused"),

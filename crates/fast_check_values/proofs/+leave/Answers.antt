@@ -41,20 +41,20 @@ use Rattle.fast_check_values.proofs.+leave.Goals as goal
 
 -- ---- expressions
 
-pub expressions::leave_expr-returns-then-contains : goal.expressions::leave_expr-returns-then-contains
-expressions::leave_expr-returns-then-contains t c =
-    let compound : is_compound (kind_of (seen c.args.expr)) ≡ true = sym (c.contains.ensures.value ∙ ap is_compound c.kind-kind.ensures) ∙
-    c.if-contains.true in
+pub expressions::leave_expr-returns-then-is_compound : goal.expressions::leave_expr-returns-then-is_compound
+expressions::leave_expr-returns-then-is_compound t c =
+    let compound : is_compound (kind_of (seen c.args.expr)) ≡ true = sym (c.is_compound.ensures ∙ ap is_compound c.kind-kind.ensures) ∙
+    c.if-is_compound.true in
     IfOk-weaker c.leave_parts.result _ _ (λ tree h. adds_same
     (ap answer_to (seen_parted (bindings_of c.args.info.now) (seen c.args.expr) c.args.place compound)) h)
     c.leave_parts.ensures
 
-pub expressions::leave_expr-returns-then-contains-2 : goal.expressions::leave_expr-returns-then-contains-2
-expressions::leave_expr-returns-then-contains-2 t c =
+pub expressions::leave_expr-returns-then-is_plain : goal.expressions::leave_expr-returns-then-is_plain
+expressions::leave_expr-returns-then-is_plain t c =
     let k = c.kind-kind.ensures in
-    let compound : is_compound (kind_of (seen c.args.expr)) ≡ false = sym (c.contains.ensures.value ∙ ap is_compound k) ∙
-    c.if-contains.false in
-    let plain : is_plain (kind_of (seen c.args.expr)) ≡ true = sym (c.contains-2.ensures.value ∙ ap is_plain k) ∙ c.if-contains-2.true in
+    let compound : is_compound (kind_of (seen c.args.expr)) ≡ false = sym (c.is_compound.ensures ∙ ap is_compound k) ∙
+    c.if-is_compound.false in
+    let plain : is_plain (kind_of (seen c.args.expr)) ≡ true = sym (c.is_plain.ensures ∙ ap is_plain k) ∙ c.if-is_plain.true in
     adds_same
     (ap answer_to (seen_whole (bindings_of c.args.info.now) (seen c.args.expr) c.args.place compound plain) ∙
     ap (λ (x : Tree). faultless (Some x))
@@ -63,8 +63,8 @@ expressions::leave_expr-returns-then-contains-2 t c =
 
 pub expressions::leave_expr-transform_arrow-requires : goal.expressions::leave_expr-transform_arrow-requires
 expressions::leave_expr-transform_arrow-requires t c =
-    let plain : is_plain (kind_of (seen c.args.expr)) ≡ false = sym (c.contains-2.ensures.value ∙ ap is_plain c.kind-kind.ensures) ∙
-    c.if-contains-2.false in
+    let plain : is_plain (kind_of (seen c.args.expr)) ≡ false = sym (c.is_plain.ensures ∙ ap is_plain c.kind-kind.ensures) ∙
+    c.if-is_plain.false in
     (omega (arith, c.decreases, height_part (seen c.args.expr) 0 (not_leaf (kind_of (seen c.args.expr)) plain)), tt)
 
 pub expressions::leave_expr-returns-then-eq : goal.expressions::leave_expr-returns-then-eq
@@ -76,16 +76,16 @@ expressions::leave_expr-returns-then-eq t c =
 
 pub expressions::leave_expr-leave_slots-requires : goal.expressions::leave_expr-leave_slots-requires
 expressions::leave_expr-leave_slots-requires t c =
-    let plain : is_plain (kind_of (seen c.args.expr)) ≡ false = sym (c.contains-2.ensures.value ∙ ap is_plain c.kind-kind.ensures) ∙
-    c.if-contains-2.false in
+    let plain : is_plain (kind_of (seen c.args.expr)) ≡ false = sym (c.is_plain.ensures ∙ ap is_plain c.kind-kind.ensures) ∙
+    c.if-is_plain.false in
     (omega (arith, c.decreases, height_part (seen c.args.expr) 0 (not_leaf (kind_of (seen c.args.expr)) plain)), tt)
 
 pub expressions::leave_expr-returns-in-Some : goal.expressions::leave_expr-returns-in-Some
 expressions::leave_expr-returns-in-Some t c =
     let k = c.kind-kind.ensures in
-    let compound : is_compound (kind_of (seen c.args.expr)) ≡ false = sym (c.contains.ensures.value ∙ ap is_compound k) ∙
-    c.if-contains.false in
-    let plain : is_plain (kind_of (seen c.args.expr)) ≡ false = sym (c.contains-2.ensures.value ∙ ap is_plain k) ∙ c.if-contains-2.false in
+    let compound : is_compound (kind_of (seen c.args.expr)) ≡ false = sym (c.is_compound.ensures ∙ ap is_compound k) ∙
+    c.if-is_compound.false in
+    let plain : is_plain (kind_of (seen c.args.expr)) ≡ false = sym (c.is_plain.ensures ∙ ap is_plain k) ∙ c.if-is_plain.false in
     let row = sym c.in_ok-row.ensures ∙ ap option_copied c.in-Some.is in
     IfOk-weaker c.leave_slots.result _ _
     (λ tree h. adds_same
@@ -95,9 +95,9 @@ expressions::leave_expr-returns-in-Some t c =
 pub expressions::leave_expr-returns-in-None : goal.expressions::leave_expr-returns-in-None
 expressions::leave_expr-returns-in-None t c =
     let k = c.kind-kind.ensures in
-    let compound : is_compound (kind_of (seen c.args.expr)) ≡ false = sym (c.contains.ensures.value ∙ ap is_compound k) ∙
-    c.if-contains.false in
-    let plain : is_plain (kind_of (seen c.args.expr)) ≡ false = sym (c.contains-2.ensures.value ∙ ap is_plain k) ∙ c.if-contains-2.false in
+    let compound : is_compound (kind_of (seen c.args.expr)) ≡ false = sym (c.is_compound.ensures ∙ ap is_compound k) ∙
+    c.if-is_compound.false in
+    let plain : is_plain (kind_of (seen c.args.expr)) ≡ false = sym (c.is_plain.ensures ∙ ap is_plain k) ∙ c.if-is_plain.false in
     let row = sym c.in_ok-row.ensures ∙ ap option_copied c.in-None.is in
     let arrow = λ (e : kind_of (seen c.args.expr) ≡ kinds.ArrowExpr). not_arrow c.kind-kind.result (sym c.eq.ensures ∙ c.if-eq.false)
     (k ∙ e) in
@@ -262,7 +262,7 @@ parameters::transform_pats-loop-index-preserved t c =
     let i = c.loop-index.index in
     let d = c.index-pats-index.result in
     let within : i < length pats = c.loop-index-test.true in
-    let optional = c.is_optional_at_index-is_optional.ensures ∙ c.start_of_patterns-start.ensures i within in
+    let optional = c.is_optional_at_index-is_optional.ensures ∙ c.start_of_patterns-start.ensures.says i (omega arith) within in
     let pat = c.read.ensures ∙ c.index-pats-index.is in
     trees_are (sym c.in_ok-push.ensures.ok) (items_step c.loop-index.items c.in_ok-transform_param_pat.field-0 _ _
     (behind_along (next_pat u pats i d within) c.loop-index.invariant)
@@ -275,7 +275,7 @@ parameters::transform_params-loop-index-preserved t c =
     let i = c.loop-index.index in
     let d = c.index-params-index.result in
     let within : i < length params = c.loop-index-test.true in
-    let optional = c.is_optional_at_index-is_optional.ensures ∙ c.start_of_params-start.ensures i within in
+    let optional = c.is_optional_at_index-is_optional.ensures ∙ c.start_of_params-start.ensures i (omega arith) within in
     let param = c.read-param.ensures ∙ c.index-params-index.is in
     let pat = c.of.ensures.pat ∙ ap Param-pat param in
     let p = get_or params i d in

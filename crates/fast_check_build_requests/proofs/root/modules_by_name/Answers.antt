@@ -1,10 +1,11 @@
-use Rattle.std.proofs.lemmas.Iterator.Adapters.{fact_from_collect, YieldsList-from_vec}
-use Rattle.std.specs.BTreeMap.{IsFromIterResult}
-use Rattle.std.proofs.Common.{◌∙◌}
+use Rattle.std.proofs.Common.{◌∙◌, sym}
+use Rattle.std.specs.Ordering.{eq_by_cmp}
+use Rattle.fast_check_symbols.proofs.Last.{last_of_none}
 use Rattle.fast_check_build_requests.specs.Root.{url_cmp}
 use Rattle.fast_check_build_requests.proofs.root.modules_by_name.Goals as goal
 
 pub returns : goal.returns
-returns c =
-    fact_from_collect (IsFromIterResult url_cmp) c.collect.result c.collect.ensures.ran
-    (YieldsList-from_vec c.args.modules.items c.into_iter.ensures.rest (c.into_iter.ensures.len ∙ c.args.modules.ok.0))
+returns c = (
+  λ q. c.in_ok-by_name.ensures.got q ∙ sym (last_of_none (eq_by_cmp url_cmp) c.args.modules.items q),
+  c.in_ok-by_name.ensures.ordered,
+)

@@ -15,7 +15,7 @@ returns-clause-made c =
     IfOk-weaker c.new.result (IsRootOf c.in_ok-modules.modules c.in_ok-aliases.aliases)
     (IsRootOfParts c.args.modules.items c.args.aliases.items)
     (root_of c.args.modules.items c.in_ok-modules_of.field-0.items c.in_ok-modules_of.ensures.made c.in_ok-modules.modules
-    c.in_ok-modules.ensures c.args.aliases.items c.in_ok-aliases.aliases c.in_ok-aliases.ensures) c.new.ensures.made
+    c.in_ok-modules.ensures c.args.aliases.items c.in_ok-aliases.aliases c.in_ok-aliases.ensures.got) c.new.ensures.made
 
 pub returns-clause-own_names : goal.returns-clause-own_names
 returns-clause-own_names c =

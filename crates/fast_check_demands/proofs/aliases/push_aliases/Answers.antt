@@ -1,7 +1,7 @@
 use Rattle.std.proofs.Common.{◌∙◌, ap, ◌++◌}
 use Rattle.std.specs.List.{flat_map}
 use Rattle.std.proofs.lemmas.List.{take_all}
-use Rattle.fast_check_names.specs.Names.{path_of}
+use Rattle.fast_check_lattice.specs.Names.{path_of}
 use Rattle.fast_check_symbol_demands.specs.Demands.{demand_of}
 use Rattle.fast_check_demands.specs.Parts.{passed_on}
 use Rattle.fast_check_demands.proofs.Aliased.{at, adds_aliases, demands_below, below}

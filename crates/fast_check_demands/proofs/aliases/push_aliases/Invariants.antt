@@ -1,6 +1,6 @@
 use Rattle.std.proofs.Common.{◌≡◌, ◌++◌, take}
 use Rattle.std.specs.List.{flat_map}
-use Rattle.fast_check_names.specs.Names.{path_of}
+use Rattle.fast_check_lattice.specs.Names.{path_of}
 use Rattle.fast_check_symbol_demands.specs.Demands.{demand_of}
 use Rattle.fast_check_demands.specs.Parts.{passed_on}
 use Rattle.fast_check_demands.proofs.Aliased.{at}

@@ -1,5 +1,5 @@
 use Rattle.std.proofs.Common.{◌≡◌, ◌++◌, map, take}
-use Rattle.fast_check_names.specs.Names.{path_of}
+use Rattle.fast_check_lattice.specs.Names.{path_of}
 use Rattle.fast_check_symbol_demands.specs.Rules.{qualified}
 use Rattle.fast_check_demands.proofs.targets.push_targets.Given as goal
 

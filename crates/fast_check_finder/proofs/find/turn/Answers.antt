@@ -1,7 +1,7 @@
 use Rattle.std.proofs.Common.{map, refl, Some}
 use Rattle.std.specs.List.{flat_map}
 use Rattle.fast_check_packages.specs.Package.{nv_of}
-use Rattle.fast_check_worklists.specs.Traces.{handled, pending}
+use Rattle.fast_check_lattice.specs.Traces.{handled, pending}
 use Rattle.fast_check_worklists.specs.State.{state_of}
 use Rattle.fast_check_worklists.proofs.Last.{same_turn}
 use Rattle.fast_check_cache.specs.CachedPackages.{used_item}

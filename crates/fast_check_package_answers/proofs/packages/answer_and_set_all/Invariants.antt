@@ -12,5 +12,6 @@ invariant-loop-nv g l =
       all : l.yielded ++ l.nv-iterator ≡ l.fn.ranges.entries;
       answered : AreAnswered l.input.graph.now l.input.root_symbol.now first l.yielded l.answers.items;
       set : m.stored now ≡ sets (n.hash_of old l.seed) first l.input.graph.now l.input.root_symbol.now l.yielded (n.stored old);
+      seed : m.seed_text now ≡ n.seed_text old;
       hash : m.hash_of now ≡ n.hash_of old;
     }

@@ -1,7 +1,7 @@
 use Rattle.std.proofs.Common.{◌++◌, ap, ◌∙◌}
 use Rattle.json.specs.Print.{print}
 use Rattle.serde_json.proofs.Texts.{print-outline}
-use Rattle.fast_check_write.specs.Writing.{tokens_of}
+use Rattle.fast_check_print.specs.Writing.{tokens_of}
 use Rattle.fast_check_requests.specs.Refusal.{line_end}
 use Rattle.fast_check_pair_command.specs.Line.{answers_data}
 use Rattle.fast_check_pair_command.proofs.answer.line_of_answers.Goals as goal

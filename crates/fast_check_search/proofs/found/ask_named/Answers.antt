@@ -1,6 +1,6 @@
 use Rattle.std.proofs.Common.{◌≡◌, ◌∙◌, sym, subst, ⊎_elim, List, [], ◌++◌}
 use Rattle.std.specs.List.{Contains}
-use Rattle.fast_check_names.specs.Names.{Path}
+use Rattle.fast_check_lattice.specs.Names.{Path}
 use Rattle.fast_check_name_demands.specs.demands.Demands.{Demand}
 use Rattle.fast_check_name_demands.specs.demands.Parts.{names_beside, parts_beside}
 use Rattle.fast_check_name_demands.specs.demands.Rules.{names}

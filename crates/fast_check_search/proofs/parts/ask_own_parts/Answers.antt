@@ -2,7 +2,7 @@ use Rattle.std.proofs.Common.{◌≡◌, ◌∙◌, sym, ap, refl, subst, arith,
 use Rattle.std.specs.List.{Contains}
 use Rattle.std.proofs.lemmas.Bool.{eqb-true}
 use Rattle.std.proofs.lemmas.List.{length-map}
-use Rattle.fast_check_names.specs.Names.{path_of}
+use Rattle.fast_check_lattice.specs.Names.{path_of}
 use Rattle.fast_check_name_demands.specs.demands.Demands.{Demand, demand_of}
 use Rattle.fast_check_name_demands.specs.demands.Parts.{own_parts}
 use Rattle.fast_check_search.specs.SymbolWorklist.{met}

@@ -1,7 +1,7 @@
 use Rattle.std.proofs.Common.{◌∙◌, sym, ap, ◌++◌}
 use Rattle.std.specs.Option.{option_copied}
 use Rattle.std.proofs.lemmas.Result.{on_ok_weaker}
-use Rattle.fast_check_names.specs.Names.{path_of}
+use Rattle.fast_check_lattice.specs.Names.{path_of}
 use Rattle.fast_check_search.specs.Led.{kept_files}
 use Rattle.fast_check_search.proofs.Led.{kept_more, led_added}
 use Rattle.fast_check_search.proofs.references.push_path.Goals as goal

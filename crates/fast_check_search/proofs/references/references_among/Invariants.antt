@@ -2,7 +2,7 @@ use Rattle.std.proofs.Common.{◌≡◌, take}
 use Rattle.std.specs.List.{flat_map}
 use Rattle.std.specs.Option.{option_copied}
 use Rattle.fast_check_demands.proofs.Aliased.{at}
-use Rattle.fast_check_names.specs.Names.{Path}
+use Rattle.fast_check_lattice.specs.Names.{Path}
 use Rattle.fast_check_name_demands.specs.demands.symbol_demands.declared.demand.Extent.{Extent}
 use Rattle.fast_check_search.specs.Led.{alias_files_led, kept_files}
 use Rattle.fast_check_search.proofs.references.references_among.Given as goal

@@ -2,7 +2,7 @@ use Rattle.std.proofs.Common.{◌≡◌, ◌∙◌, sym, subst, List, []}
 use Rattle.std.specs.List.{Contains}
 use Rattle.std.specs.Option.{option_copied}
 use Rattle.fast_check_demands.proofs.Adds.{adds_gathered}
-use Rattle.fast_check_names.specs.Names.{Path}
+use Rattle.fast_check_lattice.specs.Names.{Path}
 use Rattle.fast_check_name_demands.specs.demands.Yields.{Adds}
 use Rattle.fast_check_name_demands.specs.Files.{FileDemand, file_demand_of}
 use Rattle.fast_check_search.specs.Led.{files_led}

@@ -1,7 +1,7 @@
 use Rattle.std.proofs.Common.{◌≡◌, ◌∙◌, sym, ap, subst, true, [], ◌∷◌, Some}
 use Rattle.std.specs.BTreeSet.{contains, Updates}
 use Rattle.std.specs.List.{Contains}
-use Rattle.fast_check_names.specs.Names.{Path}
+use Rattle.fast_check_lattice.specs.Names.{Path}
 use Rattle.fast_check_name_demands.specs.Files.{FileDemand, file_demand_of}
 use Rattle.fast_check_search.specs.contracts.wanted.DoneWantOrd.TheImpl as order
 use Rattle.fast_check_search.specs.declared.wanted.DoneWant.{DoneWant}

@@ -1,6 +1,6 @@
 use Rattle.std.proofs.Common.{◌∙◌, sym, ap, map}
 use Rattle.std.proofs.lemmas.List.{length-map, get_or-map}
-use Rattle.fast_check_names.specs.Names.{path_of}
+use Rattle.fast_check_lattice.specs.Names.{path_of}
 use Rattle.fast_check_name_demands.specs.Files.{file_demand_of}
 use Rattle.fast_check_search.proofs.Closure.{added_more}
 use Rattle.fast_check_search.proofs.Numbering.{number_kept}

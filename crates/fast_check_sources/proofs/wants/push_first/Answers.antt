@@ -6,7 +6,7 @@ use Rattle.fast_check_worklists.specs.Demands.{asked_by}
 use Rattle.fast_check_sources.specs.Wants.{resolved}
 use Rattle.fast_check_sources.specs.Asked.{Finds}
 use Rattle.fast_check_sources.proofs.Meetings.{behind_there}
-use Rattle.fast_check_names.specs.Imports.{names_but_default}
+use Rattle.fast_check_lattice.specs.Imports.{names_but_default}
 use Rattle.fast_check_sources.proofs.wants.push_first.Goals as goal
 
 pub returns-in-Some : goal.returns-in-Some

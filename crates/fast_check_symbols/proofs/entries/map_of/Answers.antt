@@ -1,14 +1,25 @@
-use Rattle.std.proofs.Common.{◌∙◌}
-use Rattle.std.proofs.lemmas.Result.{IfOk-weaker}
-use Rattle.std.proofs.lemmas.Iterator.Adapters.{fact_from_collect, YieldsList-from_vec}
-use Rattle.std.specs.BTreeMap as tree
-use Rattle.std.specs.Ordering.{eq_by_cmp}
-use Rattle.fast_check_symbols.proofs.Last.{last_of_none}
+use Rattle.std.proofs.Common.{ap}
+use Rattle.std.specs.Map.{lookup}
+use Rattle.std.specs.Ordering.{is_eq}
+use Rattle.fast_check_symbols.proofs.Last.{map_more}
 use Rattle.fast_check_symbols.proofs.entries.map_of.Goals as goal
 
-pub returns : goal.returns
-returns g c =
-    IfOk-weaker c.collect.result (tree.IsFromIterResult g.K.Ord.cmp c.args.entries.items) _
-    (λ map h key. h.0 key ∙ last_of_none (eq_by_cmp g.K.Ord.cmp) c.args.entries.items key)
-    (fact_from_collect (tree.IsFromIterResult g.K.Ord.cmp) c.collect.result c.collect.ensures.ran
-    (YieldsList-from_vec c.args.entries.items c.into_iter.ensures.rest (c.into_iter.ensures.len ∙ c.args.entries.ok.0)))
+pub loop-key-init : goal.loop-key-init
+loop-key-init g c = record {
+  got = λ key. ap (λ es. lookup (λ k. is_eq (g.K.Ord.cmp key k)) es) c.new-map.ensures.empty;
+  ordered = c.new-map.ensures.ordered;
+}
+
+pub loop-key-preserved-in_ok-insert : goal.loop-key-preserved-in_ok-insert
+loop-key-preserved-in_ok-insert g c = record {
+  got = map_more g.K.Ord.cmp c.loop-key.map c.insert.new.self c.loop-key.yielded (c.in-Some.key, c.in-Some.value) c.loop-key.invariant.got
+      c.in_ok-insert.ensures.updates.0;
+  ordered = c.in_ok-insert.ensures.ordered;
+}
+
+pub loop-key-preserved : goal.loop-key-preserved
+loop-key-preserved g c = record {
+  got = map_more g.K.Ord.cmp c.loop-key.map c.insert.new.self c.loop-key.yielded (c.in-Some.key, c.in-Some.value) c.loop-key.invariant.got
+      c.in_ok-insert.ensures.updates.0;
+  ordered = c.in_ok-insert.ensures.ordered;
+}

@@ -1,5 +1,5 @@
 use Rattle.std.proofs.Common.{◌≡◌, take}
-use Rattle.fast_check_names.specs.Names.{Name}
+use Rattle.fast_check_lattice.specs.Names.{Name}
 use Rattle.fast_check_traces.specs.Origins.{indexed, first_lead}
 use Rattle.fast_check_traces.proofs.origins.index_of.Given as goal
 

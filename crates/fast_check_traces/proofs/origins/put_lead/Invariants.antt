@@ -1,6 +1,6 @@
 use Rattle.std.proofs.Common.{◌≡◌}
 use Rattle.std.specs.Option.{option_or}
-use Rattle.fast_check_names.specs.Names.{Name}
+use Rattle.fast_check_lattice.specs.Names.{Name}
 use Rattle.fast_check_traces.specs.Origins.{indexed, lead_origin, entries_origin}
 use Rattle.fast_check_traces.proofs.origins.put_lead.Given as goal
 

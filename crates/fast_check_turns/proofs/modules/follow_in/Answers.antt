@@ -1,6 +1,6 @@
 use Rattle.std.proofs.Common.{sym, ap, subst, List, map}
 use Rattle.fast_check_packages.specs.Package.{nv_of}
-use Rattle.fast_check_names.specs.Imports.{NameDemand}
+use Rattle.fast_check_lattice.specs.Imports.{NameDemand}
 use Rattle.fast_check_name_demands.specs.Files.{names_of}
 use Rattle.fast_check_name_demands.specs.NameDemands.{AreDemands}
 use Rattle.fast_check_worklists.specs.State.{want_of}

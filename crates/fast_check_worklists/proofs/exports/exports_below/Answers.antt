@@ -1,7 +1,7 @@
 use Rattle.std.proofs.Common.{arith, ◌≡◌, ◌∷◌, ◌∙◌, ℕ, ◌+◌, ◌-◌, ◌<◌, ap, sym, drop, length, String, string_bytes}
 use Rattle.std.proofs.lemmas.List.{drop_more}
 use Rattle.std.specs.declared.alloc.Global.{Global}
-use Rattle.fast_check_names.specs.Names.{path_of, paths_below}
+use Rattle.fast_check_lattice.specs.Names.{path_of, paths_below}
 use Rattle.fast_check_worklists.proofs.ExportsAsked.{below_first}
 use Rattle.fast_check_worklists.proofs.exports.exports_below.Goals as goal
 

@@ -1,5 +1,5 @@
 use Rattle.std.proofs.Common.{drop}
-use Rattle.fast_check_names.specs.Names.{path_of, paths_below, IsSame}
+use Rattle.fast_check_lattice.specs.Names.{path_of, paths_below, IsSame}
 use Rattle.fast_check_worklists.specs.Exports.{touched_below}
 use Rattle.fast_check_worklists.proofs.exports.exports_below.Given as goal
 

@@ -1,4 +1,4 @@
-use Rattle.fast_check_names.specs.Names.{path_of, paths_below}
+use Rattle.fast_check_lattice.specs.Names.{path_of, paths_below}
 use Rattle.fast_check_worklists.proofs.ExportsAsked.{touched_asked}
 use Rattle.fast_check_worklists.proofs.exports.touched_exports.Goals as goal
 

@@ -1,4 +1,4 @@
-use Rattle.fast_check_names.specs.Names.{path_of, paths}
+use Rattle.fast_check_lattice.specs.Names.{path_of, paths}
 use Rattle.fast_check_worklists.proofs.ExportsAsked.{whole_asked}
 use Rattle.fast_check_worklists.proofs.exports.whole_exports.Goals as goal
 

@@ -13,4 +13,4 @@ returns c =
     ∙ (given_some _ (ap (or_default no_resolutions resolutions_of) (sym c.get.ensures) ∙ c.in_ok-resolutions.ensures)
     ∙ (map_some _ c.in_ok-read_list-2.ensures
     ∙ ap Some (sym (graph_of_entries modules c.in_ok-read_list-2.field-0.items c.in_ok-modules.modules c.in_ok-resolutions.resolutions
-    c.in_ok-packages.packages c.in_ok-from_parts.field-0 c.in_ok-modules.ensures c.in_ok-packages.ensures c.in_ok-from_parts.ensures)))))
+    c.in_ok-packages.packages c.in_ok-from_parts.field-0 c.in_ok-modules.ensures.got c.in_ok-packages.ensures.got c.in_ok-from_parts.ensures)))))

@@ -1,5 +1,5 @@
 use Rattle.std.proofs.Common.{◌≡◌, ◌∙◌, sym, ap, refl, None, arith, length, string_bytes}
-use Rattle.fast_check_names.specs.Names.{Name}
+use Rattle.fast_check_lattice.specs.Names.{Name}
 use Rattle.fast_check_search.specs.declared.numbers.PathNumbers.{PathNumbers}
 use Rattle.fast_check_search.specs.Numbers.{name_number}
 use Rattle.fast_check_search.proofs.Numbering.{name_numbering, name_keeps}

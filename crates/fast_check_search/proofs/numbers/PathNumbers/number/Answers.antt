@@ -1,5 +1,5 @@
 use Rattle.std.proofs.Common.{◌+◌, ◌-◌, ◌≡◌, ◌<◌, ℕ, Some, arith, drop, subst, sym}
-use Rattle.fast_check_names.specs.Names.{path_of}
+use Rattle.fast_check_lattice.specs.Names.{path_of}
 use Rattle.fast_check_search.specs.Numbers.{number_of}
 use Rattle.fast_check_search.proofs.Numbering.{keeps_more, number_kept, number_upto, numbered_more}
 use Rattle.fast_check_search.proofs.numbers.PathNumbers.number.Goals as goal

@@ -1,5 +1,5 @@
 use Rattle.std.proofs.Common.{◌≡◌, ◌≤◌, Some, length, drop}
-use Rattle.fast_check_names.specs.Names.{path_of}
+use Rattle.fast_check_lattice.specs.Names.{path_of}
 use Rattle.fast_check_search.specs.Numbers.{number_of, IsNumbering, Keeps}
 use Rattle.fast_check_search.proofs.numbers.PathNumbers.number.Given as goal
 

@@ -1,6 +1,6 @@
 use Rattle.std.proofs.Common.{refl}
 use Rattle.std.proofs.lemmas.Result.{on_ok_weaker}
-use Rattle.fast_check_names.specs.Names.{path_of}
+use Rattle.fast_check_lattice.specs.Names.{path_of}
 use Rattle.fast_check_search.specs.declared.worklist.SymbolWorklist.{SymbolWorklist}
 use Rattle.fast_check_search.proofs.Closure.{grows_more}
 use Rattle.fast_check_search.proofs.Kept.{kept_numbered, grows_numbered}

@@ -1,6 +1,6 @@
 use Rattle.std.proofs.Common.{◌≡◌, ◌∙◌, sym, refl, subst, true}
-use Rattle.fast_check_names.specs.declared.lattice.imported_exports.ImportedExports.{ImportedExports}
-use Rattle.fast_check_names.specs.Imports.{NameDemand, names_but_default, each_name}
+use Rattle.fast_check_lattice.specs.declared.lattice.imported_exports.ImportedExports.{ImportedExports}
+use Rattle.fast_check_lattice.specs.Imports.{NameDemand, names_but_default, each_name}
 use Rattle.fast_check_worklists.specs.Demands.{asked}
 use Rattle.fast_check_turns.proofs.Again.{star_only, all_only}
 use Rattle.fast_check_turns.proofs.stars.FollowedStars.has.Goals as goal

@@ -1,7 +1,7 @@
 use Rattle.std.proofs.Common.{refl, map}
 use Rattle.fast_check_packages.specs.Package.{nv_of}
 use Rattle.fast_check_worklists.specs.State.{state_of}
-use Rattle.fast_check_worklists.specs.Traces.{handled, pending}
+use Rattle.fast_check_lattice.specs.Traces.{handled, pending}
 use Rattle.fast_check_worklists.proofs.Asks.{asks_none, asks_some}
 use Rattle.fast_check_worklists.proofs.worklist.Worklist.ask_exports.Goals as goal
 

@@ -1,5 +1,5 @@
 use Rattle.std.proofs.Common.{◌∙◌, sym, ap, refl, inl, inr}
-use Rattle.fast_check_names.proofs.Writes.{on_ok_from}
+use Rattle.fast_check_lattice.proofs.Writes.{on_ok_from}
 use Rattle.fast_check_name_demands.specs.Files.{names_of}
 use Rattle.fast_check_worklists.specs.State.{state_of, was_told}
 use Rattle.fast_check_worklists.proofs.Asks.{told_before}

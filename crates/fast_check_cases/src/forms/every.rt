@@ -1,0 +1,66 @@
+//! Every form, made of fields that tell their places.
+
+mod classes;
+mod expressions;
+mod programs;
+mod statements;
+mod types;
+
+use crate::forms::every::programs::made_programs;
+use crate::said::Said;
+use fast_check_schema::Form;
+use fast_check_syntax::{Atom, Kind, SourcePos, SourceRange, SyntaxContext, Tree};
+use std::alloc::{AllocError, Global};
+
+/// The range of a field by its place.
+fn span(place: u32) -> SourceRange {
+    SourceRange {
+        start: SourcePos(place),
+        end: SourcePos(place),
+    }
+}
+
+/// What stands in a field that holds a part of the tree, by its place.
+fn part(place: u32) -> Tree {
+    Tree::Context(SyntaxContext(place))
+}
+
+/// What stands in a field that holds a text.
+fn text(alloc: Global) -> Result<Atom, AllocError> {
+    Atom::from_str(alloc, "text")
+}
+
+/// The kind of a form, or of a mark by its name.
+fn kind_of(form: Option<Form>, name: &str) -> Kind {
+    match form {
+        Some(Form::Struct(kind)) => kind,
+        _ if name == "TargetPat" => Kind::TargetPat,
+        _ => Kind::PatExpr,
+    }
+}
+
+/// Says the fields of a form that is made, which stands under this name.
+pub fn say_every(alloc: Global, form: Option<Form>, name: &str, said: &mut Said) {
+    match made_programs(alloc, kind_of(form, name)) {
+        Ok(tree) => say_fields(alloc, &tree, said),
+        Err(_) => said.lack(),
+    }
+}
+
+fn say_fields(alloc: Global, tree: &Tree, said: &mut Said) {
+    said.say_made(format!(in alloc; "{:?}", tree.read().kind()));
+    for field in tree.read().parts() {
+        said.say(" ");
+        say_field(alloc, field, said);
+    }
+}
+
+fn say_field(alloc: Global, field: &Tree, said: &mut Said) {
+    match field {
+        Tree::Range(range) => said.say_made(format!(in alloc; "[{}]", range.start.0)),
+        Tree::Context(context) => said.say_made(format!(in alloc; "{}", context.0)),
+        Tree::Flag(flag) => said.say_flag(*flag),
+        Tree::Text(text) => said.say(text.as_str()),
+        _ => said.say("?"),
+    }
+}

@@ -1,6 +1,0 @@
-use Rattle.fast_check_names.specs.Graph.{entry}
-use Rattle.fast_check_names.proofs.Numbers.{IsNumbering}
-use Rattle.fast_check_names.proofs.lattice.covers.number_nodes.Given as goal
-
-abbrev pub invariant-loop-at : goal.invariant-loop-at
-invariant-loop-at l = IsNumbering (entry l.nodes) l.gone l.at l.next l.numbers.items

@@ -1,5 +1,0 @@
-use Rattle.fast_check_write.proofs.Adding.{adds-token, adds-last, adds-token_ok}
-use Rattle.fast_check_write.proofs.diagnostic.write_text.Goals as goal
-
-pub returns : goal.returns
-returns c = adds-last _ _ _ _ _ _ (adds-token_ok _ _ _ _ _ c.in_ok-key.was c.key.ensures) (adds-token _ _ _ _ c.string.ensures)
