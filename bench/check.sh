@@ -2,7 +2,8 @@
 # Runs all random checks of bench/check on the program, and prints one line for each: its name, how many inputs it made, of which seed, how many differ,
 # and the seconds. What differs stands below the line. Then come changed inputs (mutate.py), with how many breach, files and streams that are not as they
 # should be (files.py), the hostile shapes, with how many there are and how many take more time than they may, which stand below, and the shapes that are
-# known to grow with a square, with how many there are and how many do so no longer or have no answer, which stand below too. The status is 1 where anything
+# known to grow with a square, with how many there are and how many do so no longer or have no answer, which stand below too. These shapes take minutes whatever
+# COUNT is, so they are run from a COUNT of 1000 on: with 20 all the rest ends within two minutes. The status is 1 where anything
 # differs, breaches, takes too much or is no longer what it is known for, and 2 where nothing does and a check could not be run.
 # The checks of packages and of name sets, and the few builds in which who asks first decides, also need the program of crates/fast_check_vectors, which
 # `rt run` builds there and another one may be named for by VECTORS.
@@ -13,7 +14,7 @@ program=$(readlink -f "$1") count=${2:-1000} seed=${3:-1}
 top=$(cd "$(dirname "$(readlink -f "${BASH_SOURCE[0]}")")/.." && pwd)
 check=$top/bench/check
 vectors=${VECTORS:-$top/crates/fast_check_vectors/out/fast_check_vectors}
-[ -x "$program" ] || { echo "no program: $1" >&2; exit 2; }
+[ -x "$program" ] || { echo "check.sh: there is no program $1" >&2; exit 2; }
 status=0
 
 # Takes how a check ended and how many of its inputs are wrong, which its last line says. Where it did not end well, what it said stands below its line.
@@ -64,6 +65,11 @@ ended=$?
 read -r runs differ < <(sed -nE '$s/^runs=([0-9]+) differing=([0-9]+)$/\1 \2/p' <<< "$said")
 printf '%-16s %7s runs                %5s differ    %5s s\n' files "${runs:-?}" "${differ:-?}" $((SECONDS - began))
 judge "$ended" "${differ:-}" "$said"
+
+if [ "$count" -lt 1000 ]; then
+  printf '%-16s not run: from a COUNT of 1000 on\n' shapes squares
+  exit "$status"
+fi
 
 began=$SECONDS
 said=$("$check/shapes.py" "$program" 2>&1)

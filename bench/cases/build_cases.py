@@ -187,6 +187,7 @@ def graphs():
                                  Module("p/a.ts", let("x", value=ONE)))
     shown = [("p/a.ts", "export let x: number = {} as never;"), ("p/mod.ts", 'import { x } from "./a.ts"; export { x };')]
     yield Build("build_the_last_entry_of_a_package_counts", provided(one_by_other(), ("p", "elsewhere/"), ("p", "p/")), shown)
+    yield Build("build_a_replaced_entry_owns_no_url", provided(one_by_other(), ("q", "p/"), ("p", "p/"), ("q", "elsewhere/")), shown)
     yield Build("build_the_first_entry_of_a_url_counts", provided(one_by_other(), ("p", "p/"), ("q", "p/a")), shown)
     data = import_("./d.json", default_import("data"), with_=attributes(type="json"))
     mod = lambda word: Module(word, data, default_value(ref("data")), resolved={"./d.json": "p/d.json"})

@@ -145,19 +145,27 @@ def variants_come_back():
 
 SPAN, VOID = [1, 3], {"TsKeywordType": {"span": [0, 0], "kind": "TsVoidKeyword"}}
 MADE = {
-    "Bool": {"span": SPAN, "value": True}, "Number": {"span": SPAN, "raw": "text"}, "BigInt": {"span": SPAN, "raw": "text"},
-    "Regex": {"span": SPAN, "exp": "text", "flags": "text"},
-    "TsInterfaceDecl": {"span": SPAN, "id": None, "declare": True, "type_params": None, "extends": None, "body": None},
     "Ident": {"span": SPAN, "ctxt": 2, "sym": "text", "optional": False},
-    "TsTypeAssertion": {"span": SPAN, "expr": None, "type_ann": VOID}, "TsSatisfiesExpr": {"span": SPAN, "expr": None, "type_ann": VOID},
     "ts_readonly": {"span": [0, 0], "op": "ReadOnly", "type_ann": VOID}, "ts_tuple_element": {"span": [0, 0], "label": None, "ty": VOID},
 }
 
 
 def forms_are_made():
-    remark("forms and types that no transform makes, and an identifier of a copied id")
+    remark("types that no transform makes, and an identifier of a copied id")
     for name, made in MADE.items():
         case(f"make {name}", text_of(made))
+    remark("every form and every mark, made of fields that tell their places: those of ranges in brackets, flags are true")
+    for form, fields in FORMS.items():
+        case(f"form {form}", " ".join([form] + [place_told(place, field) for place, field in enumerate(fields)]))
+    for mark in MARKS.values():
+        case(f"form {mark}", f"{mark} 0")
+
+
+def place_told(place, field):
+    """What a field says of its place, where a form is made."""
+    if field[2] == "one" and field[1] in ("range", "flag", "text"):
+        return {"range": f"[{place}]", "flag": "true", "text": "text"}[field[1]]
+    return str(place)
 
 
 # ---- how bodies return

@@ -4,6 +4,7 @@ empty skeleton: what is shown is that the call ends, which modules are answered,
 import in_turns
 import long_texts
 import shapes
+import squares
 import tables
 
 def skeleton(leading=(), trailing=()):
@@ -173,7 +174,7 @@ CASES = [
     ("hostile_qualified_alias_in_turns", in_turns.qualified_alias_in_turns(50), [*IN_TURNS, tables.url("m")]),
     ("hostile_parts_through_aliases_in_turns", in_turns.parts_through_aliases_in_turns(80), [*sorted(tables.url(place) for place in range(1, 11)), tables.url("m")]),
     # told apart by what they are, though they have one hash
-    ("hostile_modules_of_one_hash", shapes.modules_of_one_hash(300), ONE),
+    ("hostile_modules_of_one_hash", squares.modules_of_one_hash(300), ONE),
     ("hostile_packages_of_one_hash", shapes.packages_of_one_hash(300), []),
     ("hostile_urls_beside_bases", shapes.urls_beside_bases(50), ONE),
     ("hostile_entry_points_of_a_long_package", shapes.entry_points_of_a_long_package(50), ONE),

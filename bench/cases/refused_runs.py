@@ -186,21 +186,30 @@ def tables():
     declared = {"id": 1, "decls": [definition([14, 21])]}
     refused("a_parent_without_symbol", with_tables(first_module().request(), symbols=[{"id": 0}, dict(declared, parent_id=3)]), "table-fault 1")
     refused("a_member_without_symbol", with_tables(first_module().request(), symbols=[{"id": 0, "members": [1, 2]}, declared]), "table-fault 1")
-    refused("an_identifier_without_symbol_that_a_later_one_replaces",
-            with_tables(first_module().request(), symbols=[{"id": 0}, declared], swc_ids=[[["x", 2], 2], [["x", 2], 1]]), "table-fault 1")
+    title("what a later entry replaces is as if it were not there")
+    answered("an_identifier_without_symbol_that_a_later_one_replaces",
+             with_tables(first_module().request(), symbols=[{"id": 0}, declared], swc_ids=[[["x", 2], 2], [["x", 2], 1]]), first_module().answer())
+    answered("a_member_without_symbol_that_a_later_one_replaces",
+             with_tables(first_module().request(), symbols=[{"id": 0}, {"id": 1, "members": [7]}, declared]), first_module().answer())
+    answered("a_symbol_without_declaration_that_a_later_one_replaces",
+             with_tables(first_module().request(), symbols=[{"id": 0}, {"id": 1}, declared]), first_module().answer())
+    refused("a_symbol_without_declaration_that_replaces_another", with_tables(first_module().request(), symbols=[{"id": 0}, declared, {"id": 1}]), "table-fault 2")
     replaced = with_tables(first_module().request(), symbols=[{"id": 0, "exports": [["x", 2], ["x", 1]]}, declared])
     answered("an_export_that_a_later_one_of_its_name_replaces", replaced, first_module().answer())
     title("a symbol has to have a declaration, but for the module's; one that is not there goes before")
     undeclared = [{"id": 0}, {"id": 1}]
     refused("a_symbol_without_declaration", with_tables(first_module().request(), symbols=undeclared), "table-fault 2")
     refused("a_private_module_symbol", with_tables(first_module().request(), symbols=[{"id": 0, "is_private_member": True}]), "table-fault 2")
-    refused("a_symbol_without_declaration_that_a_later_one_replaces", with_tables(first_module().request(), symbols=undeclared + [declared]), "table-fault 2")
     refused("a_missing_member_goes_before", with_tables(first_module().request(), symbols=[{"id": 0, "members": [2]}, {"id": 1}]), "table-fault 1")
     refused("a_missing_symbol_goes_before", with_tables(first_module().request(), symbols=undeclared + [{"id": 2, "parent_id": 3}]), "table-fault 1")
     title("an expando statement of the tables' ranges has to have an object with a symbol; the other faults go before")
     ranged = [{"id": 0}, {"id": 1, "decls": [definition([1, 8])]}]
     refused("an_expando_without_symbol", expando_request(symbols=ranged), "table-fault 4")
     refused("an_expando_of_a_re_export", expando_request(re_export_all_nodes=[[[1, 8], "./d.ts"]]), "table-fault 4")
+    elsewhere = {"id": 1, "decls": [definition([20, 28])]}
+    answered("an_expando_of_a_declaration_that_a_later_one_replaces", expando_request(symbols=ranged + [elsewhere]),
+             {"Ok": module_answer(program([], "q.x = 1;"))})
+    refused("an_expando_of_a_declaration_that_replaces_another", expando_request(symbols=[{"id": 0}, elsewhere, ranged[1]]), "table-fault 4")
     refused("an_object_of_another_scope", expando_request(symbols=ranged, swc_ids=[[["q", 1], 1]]), "table-fault 4")
     refused("a_missing_declaration_goes_before", expando_request(symbols=ranged + [{"id": 2}]), "table-fault 2")
     title("the same of public ranges: they are not admitted; faults of tables go before")

@@ -26,12 +26,12 @@ CHAPTERS = {
         "fast_check_cache::package_ranges": None, "fast_check_packages::fault": None, "fast_check_packages::listed": None, "fast_check_packages::provider": None,
     },
     "tables": {
-        "fast_check_names": None, "fast_check_worklists::module_maps": None, "fast_check_packages::package": None, "fast_check_parsed_source": None,
+        "fast_check_lattice": None, "fast_check_packages::package": None, "fast_check_parsed_source": None,
         "fast_check_diagnostics": None, "fast_check_symbols": None, "fast_check_modules": None,
         "fast_check_graph": None, "fast_check_comments": None, "fast_check_syntax": None, "fast_check_helpers": None,
     },
     "json": {
-        "fast_check_read": None, "fast_check_write::comments": None, "fast_check_write::pieces": None, "fast_check_write::tree": None,
+        "fast_check_read": None, "fast_check_print::comments": None, "fast_check_print::pieces": None, "fast_check_print::tree": None,
         "fast_check_read_graph": None, "fast_check_read_tables": None, "fast_check_schema": None,
         "fast_check_json::law": None,
     },

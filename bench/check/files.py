@@ -9,6 +9,8 @@ import subprocess
 import sys
 import tempfile
 
+from program_path import program_path
+
 TOP = os.path.dirname(os.path.dirname(os.path.dirname(os.path.abspath(__file__))))
 COMMANDS = {"transform": "examples/first.json", "build": "examples/build_hello.json", "pair": "examples/pair.json"}
 UNREADABLE, NOT_JSON = b"error: input refused: unreadable\n", b"error: input refused: not-json\n"
@@ -145,12 +147,14 @@ def main(words):
     if len(words) != 1:
         print(__doc__)
         return 2
-    program, check = os.path.abspath(words[0]), Check()
+    program, check = program_path(words[0]), Check()
     with tempfile.TemporaryDirectory() as folder:
         for command in COMMANDS:
             check_command(check, program, command, folder)
-        for wrong in [[], ["transform"], ["transform", "a", "b"], ["other", "a"], ["transform", b"\xff"]]:
+        for wrong in [[], ["transform"], ["transform", "a", "b"], ["other", "a"], [b"\xff", "a"], ["transform", b"\xff", "b"], ["transform", "a", b"\xff"]]:
             check.that(f"the words {wrong}", run([program, *wrong]), (2, b"", USAGE))
+        for name in [b"\xff", b"\xff" * 40]:
+            check.that(f"the file {name}", run([program, "transform", name]), (2, b"", UNREADABLE))
     print(f"runs={check.runs} differing={check.differing}")
     return 1 if check.differing else 0
 

@@ -8,6 +8,8 @@ import subprocess
 import sys
 import tempfile
 
+from program_path import program_path
+
 MOST_BYTES, MOST_EXPONENT, RUNS = 4_000_000, 1.2, 3
 
 
@@ -69,10 +71,8 @@ def measured(words, usage, names, measure, counted, missed):
     if not words or any(word not in names for word in words[1:]):
         print(usage + "\nShapes: " + " ".join(names))
         return 2
-    if not os.access(words[0], os.X_OK):
-        print(f"no program: {words[0]}", file=sys.stderr)
-        return 2
+    program = program_path(words[0])
     print(HEADER)
-    good = [measure(os.path.abspath(words[0]), name) for name in words[1:] or names]
+    good = [measure(program, name) for name in words[1:] or names]
     print(f"{counted}={len(good)} {missed}={good.count(False)}")
     return 0 if all(good) else 1

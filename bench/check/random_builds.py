@@ -21,6 +21,7 @@ import tempfile
 sys.dont_write_bytecode = True
 sys.path[:0] = [os.path.join(os.path.dirname(os.path.dirname(os.path.abspath(__file__))), folder) for folder in ("rules", "cases", "check", "time")]
 
+from program_path import program_path
 import packages as finders
 from build_cases import part_of
 from build_worlds import JsonModule, Module, World
@@ -185,7 +186,7 @@ def main(words):
         return
     count, seed = int((words + ["1000"])[0]), int((words + ["1", "1"])[1])
     program, finder = (words + ["", "", "", ""])[2:4]
-    program, finder = os.path.abspath(program or fast_check()), os.path.abspath(finder or built("fast_check_vectors"))
+    program, finder = program_path(program or fast_check()), os.path.abspath(finder or built("fast_check_vectors"))
     differ, by_others, not_judged, statuses = 0, 0, 0, {0: 0, 1: 0, 2: 0}
     for number in range(seed, seed + count):
         world = Writer(number).world()

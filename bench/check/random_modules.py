@@ -17,6 +17,7 @@ import tempfile
 sys.dont_write_bytecode = True
 sys.path[:0] = [os.path.join(os.path.dirname(os.path.dirname(os.path.abspath(__file__))), folder) for folder in ("rules", "cases", "check", "time")]
 
+from program_path import program_path
 import programs
 from expando_cases import put
 from module_skeletons import range_of_default, range_of_specifier, sources_of
@@ -332,7 +333,7 @@ def without_pages(answer):
 
 def main():
     count, seed = int((sys.argv + ["1000"])[1]), int((sys.argv + ["1", "1"])[2])
-    program = sys.argv[3] if len(sys.argv) > 3 else programs.transform()
+    program = program_path(sys.argv[3] if len(sys.argv) > 3 else programs.transform())
     differ, trees, faults = 0, 0, {}
     for number in range(seed, seed + count):
         request, expected = Writer(number).case()

@@ -1,5 +1,5 @@
 #!/usr/bin/env python3
-"""Random pairs of name sets through the calls of `fast_check_names`, against plain sets of paths.
+"""Random pairs of name sets through the calls of `fast_check_lattice`, against plain sets of paths.
 
 Both sets of a pair are trees of at most three names at a level and four levels: each name is demanded whole, has a subset that may be empty, or is
 absent. In one of fifty pairs both have 50 to 200 names more at their first level, of which some begin alike. For each pair the one is extended by the
@@ -14,6 +14,8 @@ import random
 import subprocess
 import sys
 import tempfile
+
+from program_path import program_path
 
 NAMES = ("a", "b", "c", "default")
 LEVELS = 4
@@ -151,7 +153,7 @@ def run(program, calls):
 
 
 def main(words):
-    program = os.path.abspath(words[0])
+    program = program_path(words[0])
     count = int(words[1]) if len(words) > 1 else 20_000
     seed = int(words[2]) if len(words) > 2 else 1
     random_ = random.Random(seed)

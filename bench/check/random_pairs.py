@@ -18,6 +18,7 @@ import tempfile
 sys.dont_write_bytecode = True
 sys.path[:0] = [os.path.join(os.path.dirname(os.path.dirname(os.path.abspath(__file__))), folder) for folder in ("rules", "cases", "check", "time")]
 
+from program_path import program_path
 import programs
 from hidden_edits import Edits, new_nodes
 from nodes import variant
@@ -199,7 +200,7 @@ def answers_of(program, request):
 
 def main():
     count, seed = int((sys.argv + ["1000"])[1]), int((sys.argv + ["1", "1"])[2])
-    program = sys.argv[3] if len(sys.argv) > 3 else programs.fast_check()
+    program = program_path(sys.argv[3] if len(sys.argv) > 3 else programs.fast_check())
     made, differ, trees, unrelated, edits, at = 0, 0, 0, 0, {}, seed
     while made < count:
         maker = PairMaker(at)

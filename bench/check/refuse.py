@@ -30,6 +30,7 @@ import sys
 import tempfile
 
 from fork_server import ForkServer, compile_library
+from program_path import program_path
 
 WANT = (3, b"", b"error: out of memory\n")
 PASSED_OVER = "the answer is as if nothing had been refused"
@@ -134,7 +135,7 @@ def main():
     file, command, *paths = words
     calls = os.memfd_create("calls")
     with tempfile.TemporaryDirectory() as folder:
-        server = ForkServer(os.path.abspath(file), compile_library(folder), calls)
+        server = ForkServer(program_path(file), compile_library(folder), calls)
         if where is not None:
             tell_where(file, Program(server, command, paths[0]), where, calls)
             return 0

@@ -14,6 +14,7 @@ import sys
 import tempfile
 
 from fork_server import ForkServer, compile_library
+from program_path import program_path
 
 CALLS = ("add_new", "add_covering", "path_new", "path_below", "path_covering", "named_new", "named_joined", "extend", "extend_joint", "extend_covering",
          "imported", "star_default", "imported_star", "handled", "handled_more", "pending", "pending_more")
@@ -36,7 +37,7 @@ def main():
         return 2
     is_well = True
     with tempfile.TemporaryDirectory() as folder:
-        server = ForkServer(os.path.abspath(sys.argv[1]), compile_library(folder))
+        server = ForkServer(program_path(sys.argv[1]), compile_library(folder))
         for call in CALLS:
             requests, found = server.refuse_each(call, outcome)
             is_well &= set(found) <= set(KNOWN) and (found["as before"] > 0) == (call not in NO_REQUEST)

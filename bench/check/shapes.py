@@ -734,14 +734,6 @@ def imports_in_a_long_url(n):
 
 
 @shape
-def modules_of_one_hash(n):
-    """Modules that are asked for, times those that were asked for before, if they were told apart by the hash of their URLs, which is one."""
-    made = request(module(url(0), [symbol(1, definition(*(import_type(f"{i}", "s") for i in range(n))))], [["s1", 1]]))
-    made["graph"]["resolutions"] = [[url(0), f"{i}", each] for i, each in enumerate(colliding(n, URL_LETTERS, HOST + "0/"))]
-    return made
-
-
-@shape
 def packages_of_one_hash(n):
     """Packages that are asked for, times those that were asked for before, if they were told apart by their hash, which is one."""
     return request(module(url(0), [], []), pending=[each + "@1.0.0" for each in colliding(n, NAME_LETTERS)])

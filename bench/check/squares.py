@@ -21,8 +21,8 @@ sys.path[:0] = [os.path.join(os.path.dirname(os.path.dirname(os.path.abspath(__f
 from growth import MOST_EXPONENT, exponent, in_three_sizes, measured, row, spent
 from in_turns import property_in_turns, two_in_turns
 from long_texts import askers_of, with_alias
-from one_hash import colliding
-from shapes import covered, paths_below
+from one_hash import URL_LETTERS, colliding
+from shapes import HOST, covered, paths_below
 from tables import definition, file_ref, import_type, module, one_name, part, request, symbol, transform, url
 
 FIRST, LEAST_SECONDS, RUNS = 125, 0.04, 2
@@ -49,13 +49,21 @@ def export_names_of_one_hash(n):
     return transform([], [], graph={"packages": [["@p/p0@1.0.0", [[each, ""] for each in colliding(n, TEXT_LETTERS)]]]})
 
 
+@known()
+def modules_of_one_hash(n):
+    """Modules that are asked for, times those that were asked for before: their URLs have one hash (fast_check_lattice, `HandledExports` and `PendingTraces`)."""
+    made = request(module(url(0), [symbol(1, definition(*(import_type(f"{i}", "s") for i in range(n))))], [["s1", 1]]))
+    made["graph"]["resolutions"] = [[url(0), f"{i}", each] for i, each in enumerate(colliding(n, URL_LETTERS, HOST + "0/"))]
+    return made
+
+
 # ---- a set of names is walked at each cover
 
 
 @known(first=500)
 def names_covered_before_a_long_path(n):
     """Names that come to be asked for whole, in a turn after a part of each was, times the nodes of the set: it ends with one path of as many names, so more
-    nodes lead to the last one than are moved (fast_check_names, `is_near`, `cover_apart`)."""
+    nodes lead to the last one than are moved."""
     return covered(n, lambda i: ["x"], [import_type(url(1), "m", *["z"] * n)])
 
 

@@ -17,6 +17,7 @@ sys.dont_write_bytecode = True
 sys.setrecursionlimit(100_000)
 sys.path[:0] = [os.path.join(os.path.dirname(os.path.dirname(os.path.abspath(__file__))), folder) for folder in ("rules", "cases", "check", "time")]
 
+from program_path import program_path
 import shapes
 from function_cases import ONE, const, func, if_
 from module_trees import namespace
@@ -174,10 +175,10 @@ def main(words):
     if not words or any(word not in known for word in words[1:]):
         print(__doc__ + "\nShapes: " + ", ".join(known))
         return 2
-    good = []
+    good, program = [], program_path(words[0])
     print(f"{'shape':28} {'levels':>8} {'KB':>8} {'levels':>8} {'KB':>8} {'a level':>10} {'8 MB hold':>12}")
     with tempfile.TemporaryDirectory() as folder:
-        runner = Runner(os.path.abspath(words[0]), folder)
+        runner = Runner(program, folder)
         for shape in words[1:] or known:
             if shape in TABLES:
                 good.append(measure_tables(runner, shape))

@@ -8,6 +8,8 @@ import sys
 from concurrent.futures import ThreadPoolExecutor
 from pathlib import Path
 
+from program_path import program_path
+
 CRATE = Path(__file__).resolve().parents[2] / "crates/fast_check_vectors"
 
 
@@ -41,7 +43,7 @@ def main(words):
     if not words:
         print(__doc__, file=sys.stderr)
         return 2
-    program = str(Path(words[0]).resolve())
+    program = program_path(words[0])
     runs = [it for it in stored() if not any("<" in word or ">" in word for word in it[0])]
     runs = [it for it in runs if not words[1:] or any(word in " ".join(it[0]) for word in words[1:])]
     with ThreadPoolExecutor(2) as pool:

@@ -154,7 +154,10 @@ class World:
             member = next((m for m in self.members if url.startswith(m['base'])), None)
             return member and '%s@%s' % (member['name'], member.get('version') or '0.0.0')
         self.asks_provider = True
-        return next((nv for nv, base in self.provider['packages'] if url.startswith(base)), None)
+        # of entries of one package the last counts alone
+        counting = {nv: place for place, (nv, _) in enumerate(self.provider['packages'])}.values()
+        entries = [self.provider['packages'][place] for place in sorted(counting)]
+        return next((nv for nv, base in entries if url.startswith(base)), None)
 
     # ---- what leaves a module
 

@@ -1,8 +1,8 @@
 #!/usr/bin/env python3
 """Times `fast-check build` on workspaces of growing size.
 
-For each shape and size it prints the input's megabytes, the modules that are answered, the program's seconds and peak memory, the seconds that a JSON
-library of Python (orjson, or json where that isn't there) needs to load and dump the same file, and the ratio of both.
+For each shape and size it prints the input's megabytes, the modules that are answered, the program's processor seconds and peak memory, the processor
+seconds that a JSON library of Python (orjson, or json where that isn't there) takes to load and dump the same text, and the ratio of both.
 The program has to be built: run `./fast-check build examples/build_hello.json` once.
 
     packages   packages of three modules, each of which asks for two other packages
@@ -27,13 +27,15 @@ import tempfile
 sys.dont_write_bytecode = True
 sys.path[:0] = [os.path.join(os.path.dirname(os.path.dirname(os.path.abspath(__file__))), folder) for folder in ("rules", "cases", "check", "time")]
 
+from program_path import program_path
 import tables
 from build_worlds import Module, World
 from function_cases import ONE, const, func, if_
 from module_trees import export, export_all, import_, interface, named_export, named_import, property_signature
 from package_worlds import HOST
 from programs import fast_check
-from transform import DUMP, LOAD, NAME, best
+from growth import spent
+from transform import LOAD, NAME, library_seconds
 from trees import (
     array, array_of, binary, call, class_method, class_stmt, constructor, declarator, default, exported, fn_stmt, hash_prop, lit, name, named, param_prop, prop,
     ref, returned, run, type_params, unexported, union, var_stmt,
@@ -126,31 +128,23 @@ def workspace(shape, packages, size):
     return made
 
 
-def spent(program, path):
-    """What a run answers, its seconds and its peak memory in megabytes."""
-    with tempfile.TemporaryFile() as out:
-        pid = os.fork()
-        if pid == 0:
-            os.dup2(out.fileno(), 1)
-            os.execv(program, [program, "build", path])
-        _, status, usage = os.wait4(pid, 0)
-        if os.waitstatus_to_exitcode(status) not in (0, 1):
-            sys.exit(f"status {status} on {path}")
-        out.seek(0)
-        return LOAD(out.read()), usage.ru_maxrss / 1024
+def answers_of(program, made):
+    """What a run answers."""
+    with tempfile.NamedTemporaryFile("w", suffix=".json") as file:
+        json.dump(made, file, separators=(",", ":"))
+        file.flush()
+        ran = subprocess.run([program, "build", file.name], stdout=subprocess.PIPE)
+        return LOAD(ran.stdout) if ran.returncode in (0, 1) else sys.exit(f"status {ran.returncode}")
 
 
 def measure(program, shape, packages, modules):
-    with tempfile.NamedTemporaryFile(suffix=".json") as file:
-        file.write(json.dumps(workspace(shape, packages, modules), separators=(",", ":")).encode())
-        file.flush()
-        size, (answers, peak) = os.path.getsize(file.name), spent(program, file.name)
-        seconds = best(3, lambda: subprocess.run([program, "build", file.name], stdout=subprocess.DEVNULL))
-        library = best(3, lambda: DUMP(LOAD(open(file.name, "rb").read())))
-        shown = sum("Ok" in answer for _, answer in answers)
-        count = 2 if shape == "names" else packages * modules
-        print(f"{shape:9} {packages:8} {count:8} {shown:9} {size / 1e6:8.2f} {seconds:9.3f} {peak:9.0f} {library:18.3f} "
-              f"{seconds / library:7.2f}", flush=True)
+    made = workspace(shape, packages, modules)
+    shown = sum("Ok" in answer for _, answer in answers_of(program, made))
+    size, _, seconds, held = spent(program, made)
+    library = library_seconds(json.dumps(made, separators=(",", ":")).encode())
+    count = 2 if shape == "names" else packages * modules
+    print(f"{shape:9} {packages:8} {count:8} {shown:9} {size / 1e6:8.2f} {seconds:9.3f} {held / 1e6:9.0f} {held / size:14.1f} {library:18.3f} "
+          f"{seconds / library:7.2f}", flush=True)
 
 
 def measure_cached(driver, shape, packages, modules):
@@ -173,8 +167,8 @@ def main(words):
                 measure_cached(drivers[0], shape, packages, (modules + [3])[0])
         return
     others = [word for word in words if word not in SHAPES and not word.isdigit() and not word.startswith("modules=")]
-    program = os.path.abspath((others + [PROGRAM])[0])
-    print(f"shape     packages  modules  answered    MB in   seconds   MB peak   {NAME} load+dump   ratio")
+    program = program_path((others + [PROGRAM])[0])
+    print(f"shape     packages  modules  answered    MB in   seconds   MB peak   bytes a byte   {NAME} load+dump   ratio")
     for shape in shapes or SHAPES:
         for packages in sizes or SIZES.get(shape, [10, 100, 1000]):
             measure(program, shape, packages, (modules + [3])[0])

@@ -14,12 +14,15 @@ usage: bench/time/finder.py [SHAPE PACKAGES MODULES SYMBOLS] [PROGRAM]     modul
 """
 import json
 import os
+import subprocess
 import sys
 import tempfile
 
 sys.dont_write_bytecode = True
 sys.path[:0] = [os.path.join(os.path.dirname(os.path.dirname(os.path.abspath(__file__))), folder) for folder in ("rules", "cases", "check", "time")]
 
+from growth import runner
+from program_path import program_path
 from package_worlds import request_of
 from programs import built
 
@@ -105,6 +108,14 @@ def world(name, packages, modules, symbols):
     return made
 
 
+def run_in(program, folder, out):
+    """The status, the processor seconds and the bytes held of a run in a folder."""
+    with open(out, 'w') as file:
+        child = subprocess.Popen([program, 'worlds'], cwd=folder, stdout=file)
+        _, status, usage = os.wait4(child.pid, 0)
+    return os.waitstatus_to_exitcode(status), usage.ru_utime + usage.ru_stime, usage.ru_maxrss * 1024
+
+
 def spent(program, made):
     """Processor seconds and megabytes of a run on one world, and what it printed."""
     with tempfile.TemporaryDirectory() as folder:
@@ -112,16 +123,11 @@ def spent(program, made):
             json.dump(request_of(made), file, separators=(',', ':'))
         size = os.path.getsize(file.name)
         out = os.path.join(folder, 'out')
-        pid = os.fork()
-        if pid == 0:
-            os.chdir(folder)
-            os.dup2(os.open(out, os.O_WRONLY | os.O_CREAT), 1)
-            os.execv(program, [program, 'worlds'])
-        _, status, usage = os.wait4(pid, 0)
+        status, seconds, held = runner().apply(run_in, (program, folder, out))
         if status != 0:
             sys.exit('status %d' % status)
         found = sum(line.startswith('  module ') for line in open(out))
-        return size / 1e6, usage.ru_utime + usage.ru_stime, usage.ru_maxrss / 1024, found
+        return size / 1e6, seconds, held / 1e6, found
 
 
 def measure(program, name, packages, modules, symbols):
@@ -134,7 +140,7 @@ def measure(program, name, packages, modules, symbols):
 
 
 def main(words):
-    program = os.path.abspath(words.pop()) if len(words) in (1, 5) else PROGRAM
+    program = program_path(words.pop() if len(words) in (1, 5) else PROGRAM)
     if len(words) not in (0, 4):
         sys.exit(__doc__)
     print('shape     packages  modules   symbols       MB  seconds  reading  ms/1000 sym.  MB peak')

@@ -16,6 +16,9 @@ if [ -z "$program" ]; then
   program=$(mktemp)
   trap 'rm -f "$program"' EXIT
   "$(dirname "$0")/driver.sh" names "$program"
+elif [ ! -x "$program" ]; then
+  echo "names.sh: there is no program $program; without one it is built" >&2
+  exit 2
 fi
 python3 - "$(readlink -f "$program")" <<'PY'
 import os, sys, tempfile, time

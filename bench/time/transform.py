@@ -1,18 +1,16 @@
 #!/usr/bin/env python3
 """Times `fast-check transform` on modules of growing size.
 
-For each shape and size it prints the input's megabytes, the program's seconds and peak memory, the seconds that a JSON
-library of Python (orjson, or json where that isn't there) needs to load and dump the same file, and the ratio of both.
+For each shape and size it prints the input's megabytes, the program's processor seconds and peak memory, the processor seconds that a JSON library of
+Python (orjson, or json where that isn't there) takes to load and dump the same text, and the ratio of both.
 The program has to be built: run `./fast-check transform examples/first.json` once.
 
-Usage: bench/time/transform.py [MEGABYTES ..]        (1 2 5 10 20 where none is given)
+Usage: bench/time/transform.py [MEGABYTES ..] [PROGRAM]        (1 2 5 10 20 where none is given)
 """
+import gc
 import json
 import os
-import resource
-import subprocess
 import sys
-import tempfile
 import time
 
 sys.dont_write_bytecode = True
@@ -23,6 +21,8 @@ import function_cases as cases
 import module_trees
 import programs
 import trees
+from growth import spent
+from program_path import program_path
 from ranges import ranges_of_item
 
 try:
@@ -31,7 +31,6 @@ try:
 except ImportError:
     NAME, LOAD, DUMP = "json", json.loads, lambda value: json.dumps(value).encode()
 
-PROGRAM = programs.transform()
 DEPTH = 40
 
 
@@ -190,42 +189,34 @@ def request(body, end, ranges):
     return {"graph": {"modules": [], "resolutions": [], "packages": []}, "module": module, "ranges": ranges, "impls": [], "first": False}
 
 
-def best(repeat, call):
-    times = []
-    for _ in range(repeat):
-        start = time.perf_counter()
-        call()
-        times.append(time.perf_counter() - start)
-    return min(times)
+def library_seconds(text):
+    """The processor seconds that the JSON library takes to read a text and to print it again, at best of three times. Python collects no garbage
+    meanwhile: that would count the interpreter's own walk over the value."""
+    found = []
+    for _ in range(3):
+        gc.collect()
+        gc.disable()
+        begun = time.process_time()
+        DUMP(LOAD(text))
+        found.append(time.process_time() - begun)
+        gc.enable()
+    return min(found)
 
 
-def peak_of(path):
-    """Peak memory of one run, in megabytes."""
-    pid = os.fork()
-    if pid == 0:
-        null = os.open(os.devnull, os.O_WRONLY)
-        os.dup2(null, 1)
-        os.execv(PROGRAM, [PROGRAM, "transform", path])
-    _, status, usage = os.wait4(pid, 0)
-    if status != 0:
-        sys.exit(f"status {status} on {path}")
-    return usage.ru_maxrss / 1024
-
-
-def main():
-    sizes = [int(word) for word in sys.argv[1:]] or [1, 2, 5, 10, 20]
-    print(f"shape       MB in   seconds   MB peak   {NAME} load+dump   ratio")
+def main(words):
+    """The sizes in megabytes, and behind them a program."""
+    program = program_path(words.pop() if words and not words[-1].isdigit() else programs.transform())
+    sizes = [int(word) for word in words] or [1, 2, 5, 10, 20]
+    print(f"shape       MB in   seconds   MB peak   bytes a byte   {NAME} load+dump   ratio")
     for shape in ("items", "wide", "deep", "functions", "classes", "modules", "symbols"):
         for size in sizes:
-            with tempfile.NamedTemporaryFile(suffix=".json") as file:
-                file.write(json.dumps(module(shape, size * 1000000), separators=(",", ":")).encode())
-                file.flush()
-                text = open(file.name, "rb").read()
-                run = lambda: subprocess.run([PROGRAM, "transform", file.name], stdout=subprocess.DEVNULL, check=True)
-                program = best(3, run)
-                library = best(3, lambda: DUMP(LOAD(open(file.name, "rb").read())))
-                print(f"{shape:9} {len(text) / 1e6:7.2f} {program:9.3f} {peak_of(file.name):9.0f} {library:18.3f} {program / library:7.2f}", flush=True)
+            made = module(shape, size * 1000000)
+            count, status, seconds, held = spent(program, made, "transform")
+            if status != 0:
+                sys.exit(f"status {status} on {shape} of {size} MB")
+            library = library_seconds(json.dumps(made, separators=(",", ":")).encode())
+            print(f"{shape:9} {count / 1e6:7.2f} {seconds:9.3f} {held / 1e6:9.0f} {held / count:14.1f} {library:18.3f} {seconds / library:7.2f}", flush=True)
 
 
 if __name__ == "__main__":
-    main()
+    main(sys.argv[1:])

@@ -8,7 +8,7 @@ The results are lines of JSON in the order of the packages, each written once al
     {"package": "canvas", "status": 1, "messages": [{"code": "missing-explicit-type", ..}], "seconds": 0.03}
     {"package": "broken", "error": "killed by SIGKILL, tried 3 times"}
 
-`status` is that of the command (0 nothing to tell, 1 messages, 2 refused). A task whose process is killed, takes more memory than it may, or
+`status` is that of the command (0 nothing to tell, 1 messages, 2 refused, 70 a fault of the tool). A task whose process is killed, takes more memory than it may, or
 does not end in time, is tried again, as is one whose worker is lost; in the end it is told by its name, in the results and on standard error.
 
 Usage: tools/registry/registry.py [OPTION ..] PACKAGE ..
@@ -49,9 +49,15 @@ def command(package, program):
     """The words that check a package, and how its messages are read from what they print."""
     top = program["top"]
     if os.path.isdir(package):
-        return [f"{top}/fast-check-ts", "check", "--json", package], lambda out: [json.loads(line) for line in out.splitlines()]
+        # The packages are strangers', so no compiler of theirs is run.
+        return [f"{top}/fast-check-ts", "check", "--json", "--no-own-compiler", package], told
     build = [program["path"]] if program["path"] else [f"{top}/fast-check"]
     return [*build, "build", package], messages_of
+
+
+def told(out):
+    """The messages of a check. Other lines say which entry points were taken."""
+    return [each for each in map(json.loads, out.splitlines()) if "code" in each]
 
 
 def messages_of(out):
@@ -118,7 +124,8 @@ def run_package(package, program, limits):
         raise Lost(why[0] if why else "out of memory")
     if status < 0 or status >= 128:
         raise Lost(f"killed by {signal.Signals(-status if status < 0 else status - 128).name}")
-    made = {"status": status, "messages": read(text) if status in (0, 1) else [], "seconds": round(time.monotonic() - begun, 3)}
+    is_told = status in (0, 1) or os.path.isdir(package)
+    made = {"status": status, "messages": read(text) if is_told else [], "seconds": round(time.monotonic() - begun, 3)}
     return {**made, "said": said.splitlines()[-1]} if said and status > 1 else made
 
 
