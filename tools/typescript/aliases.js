@@ -2,8 +2,7 @@
 // Aliases of a folder: `compilerOptions.paths` and `baseUrl` of its tsconfig.json files, and what they extend.
 
 const path = require('path');
-const { readText } = require('./files');
-const { ts } = require('./typescript');
+const { readJson, readText } = require('./files');
 
 const NAME = 'tsconfig.json';
 const NOTHING = { paths: {}, base: null, from: null, outDir: null, rootDir: null };
@@ -38,7 +37,7 @@ class Aliases {
   /** The object in a tsconfig file, or null where it is not there, is refused, or is no object. */
   config(file) {
     if (!this.files.isFile(file) || this.files.refusal(file)) return null;
-    const { config } = ts.parseConfigFileTextToJson(file, readText(file).text);
+    const { config } = readJson(file, readText(file).text);
     return isMap(config) ? config : null;
   }
 

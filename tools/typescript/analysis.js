@@ -7,7 +7,7 @@ const { INTERNAL } = require('./faults.js');
 const { isInside, readText } = require('./files.js');
 const { inputOf } = require('./input.js');
 const { Lines } = require('./lines.js');
-const { isFrom, version } = require('./typescript.js');
+const typescript = require('./typescript.js');
 
 /** A folder that cannot be read; `messages` say why, and `text` says it where there is no place. */
 class ReadError extends Error {
@@ -124,8 +124,8 @@ function unresolvedMessages(info, files, cwd) {
 /** Where an older compiler finds an error in a source, the first of them says how a newer one is had. */
 function withNewer(messages) {
   const first = messages.find((each) => each.code === 'syntax-error');
-  if (!first || isFrom(5, 2)) return messages;
-  const more = `TypeScript ${version} reads this; a newer one reads newer forms: \`export TYPESCRIPT=$(tools/typescript/newest.sh FOLDER)\` fetches it`;
+  if (!first || typescript.isFrom(5, 2)) return messages;
+  const more = `TypeScript ${typescript.version} reads this; a newer one reads newer forms: \`export TYPESCRIPT=$(tools/typescript/newest.sh FOLDER)\` fetches it`;
   return messages.map((each) => (each === first ? { ...each, info: [...each.info, more] } : each));
 }
 
@@ -138,7 +138,7 @@ function read(dir, options, { cwd, progress }) {
   const sources = new Map([...files.values()].map((file) => [file.path, file]));
   const broken = withNewer(info.errors.map((error) => readMessage(error, cwd, sources)));
   if (request === null) {
-    const reader = broken.some((each) => each.code === 'syntax-error') ? ` by TypeScript ${version}` : '';
+    const reader = broken.some((each) => each.code === 'syntax-error') ? ` by TypeScript ${typescript.version}` : '';
     throw new ReadError(`${shownName(dir, cwd)} cannot be read${reader}`, broken);
   }
   const faults = info.faults.map((error) => readMessage(error, cwd, sources));

@@ -27,16 +27,14 @@ function keepsName(tree, own = new Set()) {
 }
 
 /** Whether a source imports a module for its effects alone, which may change the types of others, or refers to one by a comment. */
-function hasEffects({ text, tree }) {
-  const { Module } = tree.program;
+function hasEffects(text, { Module }) {
   const isEffect = ({ ModuleDecl: it }) => it && it.Import && !it.Import.type_only && !(it.Import.specifiers || []).length;
   return /^\s*\/\/\/\s*<reference\b/m.test(text) || Boolean(Module && (Module.body || []).some(isEffect));
 }
 
 /** Whether `--verify` may tell more of a folder than its messages do. */
 function mayTellMore(world) {
-  const isPublic = (module) => world.skeletons.has(module.specifier) && module.tree.program;
-  return [...world.skeletons.values()].some(({ program }) => keepsName(program.body)) || world.info.modules.some((it) => isPublic(it) && hasEffects(it));
+  return [...world.skeletons.values()].some(({ program }) => keepsName(program.body)) || world.info.modules.some((it) => it.hasEffects && world.skeletons.has(it.specifier));
 }
 
-module.exports = { mayTellMore };
+module.exports = { hasEffects, mayTellMore };

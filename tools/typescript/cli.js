@@ -4,9 +4,13 @@
 const fs = require('fs');
 const path = require('path');
 const { lookIn } = require('./compiler.js');
-const { INTERNAL, internalText, isKnown } = require('./faults.js');
-const { UsageError, USAGE, parse } = require('./words.js');
+const { refusalOf } = require('./faults.js');
+const { keptFor } = require('./kept.js');
+const { USAGE, helpOf } = require('./options.js');
+const { UsageError, parse } = require('./words.js');
 const { Progress } = require('./progress.js');
+const { targetsOf } = require('./targets.js');
+const { versionOfTool } = require('./version.js');
 
 /** What a command works with: where it was started, the streams, colours, progress. */
 function contextOf(io, options) {
@@ -14,7 +18,8 @@ function contextOf(io, options) {
   const { painter } = require('./messages.js');
   const paint = painter(Boolean(io.out.isTTY) && !noColor);
   const paintErrors = painter(Boolean(io.err.isTTY) && !noColor);
-  return { ...io, paint, paintErrors, progress: new Progress(io.err, Boolean(io.err.isTTY)), begun: process.hrtime.bigint() };
+  const again = () => ({ ...io, kept: options.kept, paint, paintErrors, progress: new Progress(io.err, Boolean(io.err.isTTY)), begun: process.hrtime.bigint() });
+  return { ...again(), again };
 }
 
 /** The folder of a word, which has to be there. */
@@ -30,55 +35,10 @@ function folderOf(word, context) {
   return folder;
 }
 
-/** A number with its noun. */
-function count(number, noun) {
-  return `${number} ${noun}${number === 1 ? '' : 's'}`;
-}
-
-/** The seconds since the command began, as they are told. */
-function seconds(context) {
-  return `${(Number(process.hrtime.bigint() - context.begun) / 1e9).toFixed(2)} s`;
-}
-
 function writeMessages(messages, options, { out, paint }) {
   const { format, plain } = require('./messages.js');
   for (const message of messages) {
     out.write(options.json ? `${JSON.stringify(plain(message))}\n` : `${format(message, paint).join('\n')}\n`);
-  }
-}
-
-/** The last line of a check: how many files were read, how many of their modules are public, what was not followed, what was told, and the time. */
-function summary(world, told, context) {
-  const files = count(world.files.size, 'file');
-  const shown = world.skeletons.size ? `, ${count(world.skeletons.size, 'public module')}` : '';
-  const { externals } = world.info;
-  const names = new Set(externals.map((each) => each.name));
-  const outside = names.size ? `, ${count(externals.length, 'import')} of ${count(names.size, 'package')} not followed` : '';
-  return `${files}${shown}${outside}, ${count(told, 'message')}, ${seconds(context)}`;
-}
-
-/** The imports that were not followed, a line for each package: its name, and where it is imported. */
-function writeExternals(world, options, { out, cwd }) {
-  const { shownName } = require('./analysis.js');
-  const byPath = new Map([...world.files.values()].map((file) => [file.path, file]));
-  const places = new Map();
-  for (const { path: at, offset, text, name } of world.info.externals) {
-    const { line, column } = byPath.get(at).lines.shown(offset);
-    places.set(name, [...(places.get(name) || []), { text, file: shownName(at, cwd), line, column }]);
-  }
-  for (const [external, imports] of [...places].sort(([a], [b]) => (a < b ? -1 : 1))) {
-    if (options.json) out.write(`${JSON.stringify({ external, imports })}\n`);
-    else out.write(`not followed: ${external} (${imports.map(({ file, line }) => `${file}:${line}`).join(', ')})\n`);
-  }
-}
-
-/** Which entry points were taken in place of those that are written. */
-function writeTaken({ info }, options, { out, cwd }) {
-  const { shownName } = require('./analysis.js');
-  for (const { written, dir, file } of info.taken) {
-    const [entry, taken] = [written, shownName(file, cwd)];
-    if (options.json) out.write(`${JSON.stringify({ entry, package: shownName(dir, cwd), taken })}\n`);
-    else out.write(`${taken} is taken for the entry point ${entry}\n`);
   }
 }
 
@@ -87,31 +47,10 @@ function messagesOf(world) {
   return [...world.warnings, ...world.broken, ...world.messages];
 }
 
-/** The status of a folder that was analysed, by what is told of it. */
+/** The status of a folder that was analysed, by what is told of it: warnings alone are none. */
 function statusOf(world, told) {
   const { statusOf: statusOfBroken } = require('./analysis.js');
-  return statusOfBroken(world.broken) || (told.length ? 1 : 0);
-}
-
-async function check([word], options, context) {
-  const { analyse } = require('./analysis.js');
-  const world = await analyse(folderOf(word, context), options, context);
-  const messages = messagesOf(world);
-  if (options.verify && world.skeletons.size) {
-    const { verify } = require('./verify.js');
-    context.progress.begin("TypeScript's compiler checks the skeletons");
-    messages.push(...verify(world, context));
-  }
-  context.progress.end();
-  writeMessages(messages, options, context);
-  if (options.externals) writeExternals(world, options, context);
-  writeTaken(world, options, context);
-  if (!options.json) {
-    const { mayTellMore } = require('./apart.js');
-    const more = !options.verify && mayTellMore(world) ? '; --verify may tell more' : '';
-    context.out.write(`${summary(world, messages.length, context)}${more}\n`);
-  }
-  return statusOf(world, messages);
+  return statusOfBroken(world.broken) || (told.some(({ level }) => level !== 'Warning') ? 1 : 0);
 }
 
 /** The printed skeletons of a folder; its messages go to standard error. */
@@ -153,17 +92,19 @@ async function fix([word], options, context) {
   else for (const [file, text] of texts) fs.writeFileSync(file, text);
   const told = messagesOf(world);
   writeMessages(told, options, options.dry ? { out: context.err, paint: context.paintErrors } : context);
+  const { count, seconds } = require('./formats.js');
   const summary = `${count(types, 'type')} written in ${count(texts.size, 'file')}, ${count(told.length, 'message')} left, ${seconds(context)}\n`;
   (options.dry ? context.err : context.out).write(summary);
   return statusOf(world, told);
 }
 
 async function input([word], options, context) {
+  const { requestText } = require('./request.js');
   const { read } = require('./analysis.js');
   const { request, broken } = read(folderOf(word, context), options, context);
   context.progress.end();
   writeMessages(broken, {}, { out: context.err, paint: context.paintErrors });
-  context.out.write(`${JSON.stringify(request)}\n`);
+  context.out.write(`${requestText(request)}\n`);
   return statusOf({ broken }, []);
 }
 
@@ -240,29 +181,36 @@ const COLOURS = { ' ': 'gray', '-': 'red', '+': 'green' };
 async function report([word, file], options, context) {
   const { analyse } = require('./analysis.js');
   const { page } = require('./report.js');
+  const { summary } = require('./formats.js');
   const world = await analyse(folderOf(word, context), options, context);
   context.progress.begin('writing the page');
   fs.writeFileSync(path.resolve(context.cwd, file), page(world));
   context.progress.end();
-  context.out.write(`${file}: ${summary(world, messagesOf(world).length, context)}\n`);
+  context.out.write(`${file}: ${summary([{ world, messages: messagesOf(world), allowed: 0, known: 0 }], context)}\n`);
   return statusOf(world, world.messages);
+}
+
+/** The folder whose own compiler is looked for. */
+function folderAsked({ command, rest, options }, { cwd }) {
+  if (command === 'check') return targetsOf(rest, options, cwd)[0].dir;
+  return path.resolve(cwd, rest[command === 'diff' ? 1 : 0]);
+}
+
+async function check(words, options, context) {
+  const { checkAll } = require('./check.js');
+  return checkAll(targetsOf(words, options, context.cwd), options, context);
 }
 
 const RUN = { check, fix, skeleton, input, diff, report };
 
-/** What is told of an exception that is no refusal: a fault of this tool. */
-function fault(error) {
-  const message = { level: 'Error', code: 'internal-error', message: internalText(error, error.module), info: [] };
-  return { messages: [message], status: INTERNAL, message: 'nothing more is answered' };
-}
-
 /** Tells why a command could not be done, and answers its status. */
 function refuse(thrown, options, context) {
-  const error = thrown instanceof UsageError || isKnown(thrown) ? thrown : fault(thrown);
-  if (error.messages) writeMessages(error.messages, options, options.json ? context : { out: context.err, paint: context.paintErrors });
-  context.err.write(`fast-check-ts: ${error.message}\n`);
-  if (error instanceof UsageError && !options.command) context.err.write('fast-check-ts --help says what there is\n');
-  return error.status || 2;
+  const isUsage = thrown instanceof UsageError;
+  const { messages, status, message } = isUsage ? { messages: [], status: 2, message: thrown.message } : refusalOf(thrown);
+  writeMessages(messages, options, options.json ? context : { out: context.err, paint: context.paintErrors });
+  context.err.write(`fast-check-ts: ${message}\n`);
+  if (isUsage && !options.command) context.err.write('fast-check-ts --help says what there is\n');
+  return status;
 }
 
 /** Runs a command line, and answers its status. `io` has `cwd`, `environment`, and the streams `out` and `err`. */
@@ -271,13 +219,15 @@ async function main(words, io) {
   let context = contextOf(io, {});
   try {
     asked = parse(words);
+    asked.options.kept = keptFor(asked.options, io.environment);
     context = contextOf(io, asked.options);
-    if (asked.command === 'help') {
-      io.out.write(USAGE);
-      return 0;
-    }
-    if (!asked.options.noOwnCompiler) lookIn(path.resolve(io.cwd, asked.rest[asked.command === 'diff' ? 1 : 0]));
-    return await RUN[asked.command](asked.rest, asked.options, context);
+    if (asked.command === 'help') io.out.write(asked.rest.length ? helpOf(asked.rest[0]) : USAGE);
+    if (asked.command === 'version') io.out.write(`fast-check-ts ${versionOfTool()}\n`);
+    if (!RUN[asked.command]) return 0;
+    if (!asked.options.noOwnCompiler) lookIn(folderAsked(asked, io));
+    const status = await RUN[asked.command](asked.rest, asked.options, context);
+    asked.options.kept.end();
+    return status;
   } catch (error) {
     context.progress.end();
     return refuse(error, { ...asked.options, command: asked.command }, context);

@@ -4,6 +4,8 @@ const path = require('path');
 
 const DEBIAN = '/usr/share/nodejs/typescript';
 const chosen = { own: null };
+// The code of the error that there is no compiler which serves.
+const NO_COMPILER = 'NO_COMPILER';
 
 /** Has the compiler looked for in a folder's `node_modules` first. Its code is run. */
 function lookIn(folder) {
@@ -36,8 +38,20 @@ function loadCompiler() {
   if (own && isUsable(own)) return own;
   const [ts] = [process.env.TYPESCRIPT, 'typescript', DEBIAN].filter(Boolean).map(loaded).filter(Boolean);
   const lacks = !ts ? 'TypeScript is missing' : !isUsable(ts) ? `TypeScript ${ts.version} does not serve: 4.8 or newer is needed` : null;
-  if (lacks) throw Object.assign(new Error(`${lacks}; on Debian: apt-get install -y node-typescript`), { status: 2 });
+  if (lacks) throw Object.assign(new Error(`${lacks}; on Debian: apt-get install -y node-typescript`), { status: 2, code: NO_COMPILER });
   return ts;
 }
 
-module.exports = { isVersionFrom, loadCompiler, lookIn };
+/** The files of the compilers that are there, in the order in which they are looked at. */
+function candidateFiles() {
+  const files = [chosen.own, process.env.TYPESCRIPT, 'typescript', DEBIAN].filter(Boolean).map((name) => {
+    try {
+      return require.resolve(name);
+    } catch {
+      return null;
+    }
+  });
+  return files.filter(Boolean);
+}
+
+module.exports = { NO_COMPILER, candidateFiles, isVersionFrom, loadCompiler, lookIn };

@@ -3,11 +3,11 @@
 
 const fs = require('fs');
 const path = require('path');
-const { isInside, mediaTypeOf, readText } = require('./files');
+const { isInside, mediaTypeOf, readJson, readText } = require('./files');
 const { placeAt } = require('./lines');
-const { ts } = require('./typescript');
+const { NAMES } = require('./targets');
+const typescript = require('./typescript');
 
-const NAMES = ['deno.json', 'deno.jsonc', 'jsr.json', 'jsr.jsonc', 'package.json'];
 const USUAL = ['mod.ts', 'index.ts', 'src/index.ts', 'index.d.ts', 'mod.tsx', 'index.tsx', 'src/mod.ts'];
 const CONDITIONS = ['types', 'deno', 'import', 'module', 'node', 'browser', 'default', 'require'];
 
@@ -34,14 +34,14 @@ function readConfig(file, files, errors) {
     return null;
   }
   const { text, wrong } = readText(file);
-  const { config, error } = ts.parseConfigFileTextToJson(file, text);
+  const { config, error } = readJson(file, text);
   const refuse = (offset, message) => {
     errors.push({ path: file, ...placeAt(text, offset), message });
     return null;
   };
   if (wrong >= 0) return refuse(wrong, 'the file is no UTF-8 from here on');
   if (!config || typeof config !== 'object' || Array.isArray(config) || text.trimStart().startsWith('[')) return refuse(0, 'this is no object');
-  if (error) return refuse(error.start, ts.flattenDiagnosticMessageText(error.messageText, ' '));
+  if (error) return refuse(error.start, typescript.ts.flattenDiagnosticMessageText(error.messageText, ' '));
   const [key, wanted] = WANTED.find(([name, , isRight]) => config[name] !== undefined && !isRight(config[name])) || [];
   return key === undefined ? config : refuse(Math.max(0, text.indexOf(`"${key}"`)), `\`${key}\` has to be ${wanted}`);
 }
@@ -65,6 +65,7 @@ const NAMING_ENTRIES = new Set(['exports', 'types', 'typings']);
 
 /** Where the path of an entry point is written in a configuration file, as an offset of its text; undefined where it is not. */
 function placeOfPath(file, text, wanted) {
+  const { ts } = typescript;
   const source = ts.parseJsonText(file, text);
   const root = source.statements.length ? source.statements[0].expression : {};
   const entries = (root.properties || []).filter((it) => it.name && NAMING_ENTRIES.has(it.name.text) && it.initializer);

@@ -27,4 +27,11 @@ function internalText(error, module) {
   return `internal error in ${placeOf(error || {})}${module ? ` (module ${module})` : ''}: ${first}, please report it`;
 }
 
-module.exports = { INTERNAL, internalText, isKnown, isTooDeep };
+/** What an exception says: `{messages, status, message}`; one that is no refusal is a fault of this tool. */
+function refusalOf(error) {
+  if (isKnown(error)) return { messages: error.messages || [], status: error.status || 2, message: error.message };
+  const message = { level: 'Error', code: 'internal-error', message: internalText(error, error.module), info: [] };
+  return { messages: [message], status: INTERNAL, message: 'nothing more is answered' };
+}
+
+module.exports = { INTERNAL, internalText, isKnown, isTooDeep, refusalOf };

@@ -3,7 +3,7 @@
 
 const fs = require('fs');
 const path = require('path');
-const { ts } = require('./typescript');
+const typescript = require('./typescript');
 
 const MEDIA_TYPES = [
   ['.d.ts', 'Dts'], ['.d.mts', 'Dmts'], ['.d.cts', 'Dcts'], ['.ts', 'TypeScript'], ['.mts', 'Mts'], ['.cts', 'Cts'], ['.tsx', 'Tsx'],
@@ -79,6 +79,31 @@ function readText(file) {
   return { text: text.slice(mark), wrong: wrong < 0 ? wrong : wrong - mark };
 }
 
+/** The object in a text of JSON, which may have comments and commas that end a list: `{config, error}`, as the compiler reads it. */
+function readJson(file, text) {
+  try {
+    const config = JSON.parse(text);
+    if (config !== null && typeof config === 'object' && !Array.isArray(config)) return { config };
+  } catch {
+    // The compiler says where.
+  }
+  return typescript.ts.parseConfigFileTextToJson(file, text);
+}
+
+/**
+ * Makes a folder and those above it. Node's own recursive call does not come back where a file system lets nothing be made, as `/proc`.
+ */
+function makeFolder(folder) {
+  try {
+    fs.mkdirSync(folder);
+  } catch (error) {
+    if (error.code === 'EEXIST' && fs.statSync(folder).isDirectory()) return;
+    if (error.code !== 'ENOENT' || path.dirname(folder) === folder) throw error;
+    makeFolder(path.dirname(folder));
+    fs.mkdirSync(folder);
+  }
+}
+
 /** Whether a path lies below a folder. */
 function isInside(root, file) {
   const inside = path.relative(root, file);
@@ -143,11 +168,11 @@ function namedTypes(comment) {
 
 /** The declaration file that JavaScript names for itself in the comments at its start, or null. */
 function selfTypes(text) {
-  for (const { pos, end } of ts.getLeadingCommentRanges(text, 0) || []) {
+  for (const { pos, end } of typescript.ts.getLeadingCommentRanges(text, 0) || []) {
     const found = AT_START.exec(text.slice(pos, end));
     if (found) return found[1];
   }
   return null;
 }
 
-module.exports = { Files, isInside, readText, mediaTypeOf, isDeclarationFile, isJavaScript, namedTypes, selfTypes };
+module.exports = { Files, isInside, makeFolder, readJson, readText, mediaTypeOf, isDeclarationFile, isJavaScript, namedTypes, selfTypes };

@@ -2,6 +2,7 @@
 // Writes the types that messages ask for, as TypeScript's compiler infers them, until nothing more is gained.
 const path = require('path');
 const { analyse } = require('./analysis.js');
+const { FIXABLE } = require('./codes.js');
 const { Files } = require('./files.js');
 const { NotFixed, TypeWriter, applied, editsFor, importEdits } = require('./fix_types.js');
 const { ts } = require('./typescript.js');
@@ -9,7 +10,6 @@ const { resolver } = require('./ways.js');
 
 const RELATIVE = /^\.{1,2}(\/|$)/;
 const ROUNDS = 10;
-const CODES = new Set(['missing-explicit-return-type', 'missing-explicit-type', 'unsupported-default-export-expr']);
 // What the compiler says of something whose type is `any` since it finds none, as in a circle.
 const NO_TYPE = new Set([7005, 7006, 7008, 7010, 7011, 7016, 7018, 7019, 7022, 7023, 7024, 7031, 7034]);
 
@@ -141,7 +141,7 @@ function fixable(world) {
   const found = new Map();
   for (const message of world.messages) {
     const file = world.files.get(message.specifier);
-    if (!file || !message.lines || !CODES.has(message.code)) continue;
+    if (!file || !message.lines || !FIXABLE.has(message.code)) continue;
     found.set(file.path, [...(found.get(file.path) || []), message]);
   }
   return found;

@@ -3,6 +3,7 @@
 
 const { placeAt } = require('./lines');
 const { readPackage } = require('./package');
+const { JsonText } = require('./request');
 const { ownTables, jsonTables, tablesOf, World } = require('./symbols');
 
 // The levels of JSON that the program reads.
@@ -49,15 +50,24 @@ function readable(found) {
   return { ...found, modules, resolutions, packages };
 }
 
+/** Makes what the program is handed of a module: its source as JSON, and its tables. One that the program does not read is an error. */
+function complete(module, found, kept) {
+  const { program, comments, unresolvedContext } = module.tree;
+  module.tables = ownTables(module);
+  module.source = new JsonText(JSON.stringify({ media_type: module.mediaType, text: module.text, program, comments, unresolved_context: unresolvedContext }));
+  const span = tooDeep(program);
+  if (span) found.errors.push(deepError(module, span));
+  else if (kept) kept.put(module);
+}
+
 /** The tables of all modules that have some. A module whose tables cannot be made, or that the program does not read, is an error. */
-function tablesOfAll(found) {
+function tablesOfAll(found, kept) {
   const targets = new Map(found.resolutions.map(([from, text, to]) => [`${from}\n${text}`, to]));
   const world = new World((from, text) => targets.get(`${from}\n${text}`));
   for (const it of found.modules) {
     try {
-      world.add(it.specifier, ownTables(it));
-      const span = tooDeep(it.tree.program);
-      if (span) found.errors.push(deepError(it, span));
+      if (!it.source) complete(it, found, kept);
+      world.add(it.specifier, it.tables);
     } catch (error) {
       found.caught(it.path, error);
     }
@@ -67,9 +77,7 @@ function tablesOfAll(found) {
 }
 
 function moduleInput(module, world) {
-  const { program, comments, unresolvedContext } = module.tree;
-  const source = { media_type: module.mediaType, text: module.text, program, comments, unresolved_context: unresolvedContext };
-  return [module.specifier, { Esm: { specifier: module.specifier, source, ...tablesOf(module, world) } }];
+  return [module.specifier, { Esm: { specifier: module.specifier, source: module.source, ...tablesOf(module, world) } }];
 }
 
 function graphOf(found) {
@@ -103,8 +111,8 @@ function requestOf(found, world) {
 }
 
 /** The request of what can be read, or null where that is no package. Making the tables may find further errors. */
-function readableRequest(found) {
-  const world = tablesOfAll(readable(found));
+function readableRequest(found, kept) {
+  const world = tablesOfAll(readable(found), kept);
   const now = readable(found);
   return now.packages.length ? requestOf(now, world) : null;
 }
@@ -118,7 +126,7 @@ function readableRequest(found) {
 function inputOf(dir, options = {}) {
   const found = readPackage(dir, options);
   const began = process.hrtime.bigint();
-  const request = readableRequest(found);
+  const request = readableRequest(found, options.kept);
   const { packages } = readable(found);
   const { modules, scripts, jsonModules, externals, missing, errors, faults, taken, times } = found;
   times.tables = elapsed(began);

@@ -8,8 +8,10 @@ const { Aliases, bestKey } = require('./aliases');
 const { Files, isInside, readText, mediaTypeOf, isDeclarationFile, isJavaScript, namedTypes, selfTypes } = require('./files');
 const { packagesOf } = require('./config');
 const { internalText, isKnown, isTooDeep } = require('./faults');
-const { toTree, parse } = require('./tree');
 const { writeExports } = require('./ambient');
+const { hasEffects } = require('./apart');
+const { NO_COMPILER } = require('./compiler');
+const { Kept } = require('./kept');
 const { placeAt } = require('./lines');
 
 const RELATIVE = /^\.{1,2}(\/|$)/;
@@ -158,13 +160,15 @@ class Reader {
 
   /** What an exception at a file says: of a system call, of a stack that did not suffice, or of a fault of this tool. */
   caught(file, error) {
+    if (error.code === NO_COMPILER) throw error;
     if (isKnown(error)) this.errors.push({ path: file, code: 'refused-file', message: error.message });
     else if (isTooDeep(error)) this.errors.push({ path: file, code: 'nested-too-deep', message: 'this is nested deeper than can be read' });
     else this.errors.push({ path: file, code: 'internal-error', message: internalText(error, path.relative(this.root, file)) });
   }
 
-  readModule(file, mediaType, text) {
-    const specifier = urlOf(this.root, file);
+  /** A module's tree, and whether it has effects. */
+  parsed(file, mediaType, text) {
+    const { toTree, parse } = require('./tree');
     const began = process.hrtime.bigint();
     const sourceFile = parse(file, text);
     const parsed = process.hrtime.bigint();
@@ -173,17 +177,25 @@ class Reader {
     this.times.tree += Number(process.hrtime.bigint() - parsed) / 1e6;
     for (const it of tree.errors) this.errorAt(file, text, it);
     if (tree.program) writeExports(tree.program, isDeclarationFile(mediaType));
-    const module = { specifier, path: file, mediaType, text, tree, isDeclaration: isDeclarationFile(mediaType) };
-    if (this.options.keepSourceFiles) module.sourceFile = sourceFile;
+    const made = { tree, hasEffects: Boolean(tree.program) && hasEffects(text, tree.program) };
+    return this.options.keepSourceFiles ? { ...made, sourceFile } : made;
+  }
+
+  readModule(file, mediaType, text) {
+    const specifier = urlOf(this.root, file);
+    const kept = this.options.kept && this.options.kept.find(mediaType, text);
+    const made = kept ? Kept.module(text, kept) : this.parsed(file, mediaType, text);
+    const module = { specifier, path: file, mediaType, text, isDeclaration: isDeclarationFile(mediaType), ...made };
     this.modules.set(specifier, module);
-    for (const it of tree.sources || []) this.follow(module, it);
+    for (const it of module.tree.sources || []) this.follow(module, it);
     if (this.options.onModule) this.options.onModule(path.relative(this.root, file), this.modules.size);
   }
 
   /** The text of a file, or the one that is given in its place. */
   textOf(file) {
     const given = this.options.texts && this.options.texts.get(file);
-    return given === undefined ? readText(file) : { text: given, wrong: -1 };
+    if (given !== undefined) return { text: given, wrong: -1 };
+    return this.options.kept ? this.options.kept.textOf(file, readText) : readText(file);
   }
 
   readFile(file) {
@@ -222,7 +234,8 @@ class Reader {
  * Reads the packages of a folder with all modules that their entry points lead to.
  *
  * Options: `name`, `version`, `exports` (a text or a map), `short` (cut away what no rule looks at; it is the default),
- * `keepSourceFiles`, `texts` (texts by their paths, in place of those of the files), and `onModule(name, count)`.
+ * `keepSourceFiles`, `kept` (what is kept of sources that did not change), `texts` (texts by their paths, in place of those of the files), and
+ * `onModule(name, count)`.
  *
  * `errors` are what keeps a package from being read, `faults` what is wrong with one that is read; `caught(file, error)` adds the error of an exception.
  */

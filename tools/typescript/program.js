@@ -4,6 +4,7 @@ const childProcess = require('child_process');
 const fs = require('fs');
 const os = require('os');
 const path = require('path');
+const { requestText } = require('./request.js');
 
 const TOP = path.resolve(__dirname, '../..');
 
@@ -49,7 +50,7 @@ function run(words, tell) {
 /** The request as JSON, which Node may not hold in one text. */
 function textOf(request) {
   try {
-    return JSON.stringify(request);
+    return requestText(request);
   } catch (error) {
     if (error instanceof RangeError && /string length/.test(error.message)) throw new ProgramError('out of memory: the input is longer than a text may be', 3);
     throw error;

@@ -2,6 +2,7 @@
 // Skeletons as TypeScript: printed, and written to a folder.
 const fs = require('fs');
 const path = require('path');
+const { makeFolder } = require('./files.js');
 const { print } = require('./print.js');
 
 /** The text of a skeleton. An exception has the name of the module. */
@@ -27,20 +28,6 @@ function printed(world) {
 /** All skeletons as one text, each behind a line that names its module. */
 function joined(skeletons) {
   return skeletons.map(({ name, text }) => `// ${name}\n${text.replace(/\n*$/, '\n')}`).join('\n');
-}
-
-/**
- * Makes a folder and those above it. Node's own recursive call does not come back where a file system lets nothing be made, as `/proc`.
- */
-function makeFolder(folder) {
-  try {
-    fs.mkdirSync(folder);
-  } catch (error) {
-    if (error.code === 'EEXIST' && fs.statSync(folder).isDirectory()) return;
-    if (error.code !== 'ENOENT' || path.dirname(folder) === folder) throw error;
-    makeFolder(path.dirname(folder));
-    fs.mkdirSync(folder);
-  }
 }
 
 /** Writes the skeletons to a folder, which is made if it is not there. A name that leads out of it is an error. */

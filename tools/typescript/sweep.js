@@ -114,8 +114,7 @@ async function sweep(folders, words) {
     const isWrong = ![0, 1, 2].includes(status) || (status === 2 && !messages.length);
     if (isWrong) sums.wrong += 1;
     else if (status === 2) sums.refused += 1;
-    else if (status === 0) sums.clean += 1;
-    else sums[messages.every((each) => each.level === 'warning') ? 'warned' : 'messages'] += 1;
+    else sums[status === 1 ? 'messages' : messages.length ? 'warned' : 'clean'] += 1;
     for (const each of messages) (status === 2 ? refusals : codes).add(status === 2 ? `${each.code}: ${each.message}` : each.code, dir);
     const shown = messages.map((it) => [it.file, it.line, it.code, it.message]);
     if (words.includes('--lines') || isWrong) console.log(JSON.stringify({ dir, status, said, messages: shown }));

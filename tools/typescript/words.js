@@ -1,45 +1,12 @@
 'use strict';
 // The words of the command line.
+const { CODES, isCode } = require('./codes.js');
+const { COMMANDS, OPTIONS } = require('./options.js');
 
-const USAGE = `usage: fast-check-ts COMMAND ..
-
-  check DIR              messages for the package in the folder DIR
-  fix DIR                writes the types that messages ask for, as TypeScript's compiler infers them
-  skeleton DIR [OUT]     the skeletons of its public modules as TypeScript, in the folder OUT or on standard output
-  input DIR              the input of \`fast-check build\`, as JSON
-  diff OLD NEW           which public names are gone, new or declared otherwise in NEW, and what a version number wants
-  report DIR OUT.html    a page to look at: source beside skeleton, with the messages
-
-options:
-  --name NAME            the name of the package, where no deno.json, jsr.json or package.json says it
-  --version VERSION      its version
-  --exports EXPORTS      its entry points: a path, or a map as JSON, as {".": "./mod.ts", "./cli": "./cli.ts"}
-  --json                 check and diff: one object a line
-  --markdown             diff: a text for a pull request
-  --dry                  fix: show the changes, and write nothing
-  --list-externals       check: say which imports lead out of the folder, and are not followed
-  --verify               check: have TypeScript's compiler check the skeletons, and tell what it finds there and not in the source
-  --unproved             run the program without any proof
-  --no-own-compiler      pass over the compiler in the folder's node_modules, whose code would be run
-  --no-color             no colours on a terminal
-  --help                 these lines
-
-It ends with 0 where there is nothing to tell, 1 where there are messages or differences, 2 where something cannot be read,
-3 where memory ran out, 5 where the program is not there, and 70 where this tool itself is at fault.
-
-TypeScript's compiler is that of the folder's node_modules, else the one that the variable TYPESCRIPT names (a folder), else the system's.
-The variable FAST_CHECK names a program to run in place of ./fast-check, which is proved and built at the first run.
-`;
-
-// The commands, with the least and the most words behind them.
-const COMMANDS = { check: [1, 1], fix: [1, 1], skeleton: [1, 2], input: [1, 1], diff: [2, 2], report: [2, 2] };
-const FLAGS = {
-  '--json': 'json', '--verify': 'verify', '--list-externals': 'externals', '--dry': 'dry', '--markdown': 'markdown', '--unproved': 'unproved',
-  '--no-color': 'plain', '--no-own-compiler': 'noOwnCompiler', '--help': 'help', '-h': 'help',
-};
-const VALUES = { '--name': 'name', '--version': 'version', '--exports': 'exports' };
-// The flags that only some commands take.
-const ONLY = { '--json': ['check', 'diff'], '--verify': ['check'], '--list-externals': ['check'], '--dry': ['fix'], '--markdown': ['diff'] };
+const BY_WORD = new Map(OPTIONS.map((it) => [it.word, it]));
+const FORMATS = ['text', 'json', 'github', 'sarif', 'junit'];
+// Those that are one document, which a run that goes on has no end of.
+const DOCUMENTS = ['sarif', 'junit'];
 
 class UsageError extends Error {}
 
@@ -53,33 +20,76 @@ function exportsOf(text) {
   }
 }
 
-/** What the words ask for: the command, the words behind it, and the options. */
-function parse(words) {
-  const options = {};
-  const plain = [];
+function countOf(text) {
+  if (!/^\d{1,9}$/.test(text)) throw new UsageError(`--max-warnings wants a number, and ${text} is none`);
+  return Number(text);
+}
+
+function formatOf(name) {
+  if (!FORMATS.includes(name)) throw new UsageError(`there is no format ${name}: ${FORMATS.join(', ')}`);
+  return name;
+}
+
+/** A code that may be allowed: of what keeps a folder from being read, there is nothing to go on with. */
+function allowed(code) {
+  if (!isCode(code)) throw new UsageError(`there is no code ${code}: ${Object.keys(CODES).join(', ')}`);
+  if (CODES[code] === 'refused') throw new UsageError(`${code} cannot be allowed, since the package is not read then`);
+  return code;
+}
+
+// How the values of options are read, those of a list each.
+const READ = { exports: exportsOf, maxWarnings: countOf, format: formatOf, allow: allowed };
+
+/** Puts the value of an option among the others. */
+function put(options, { key, isList }, value) {
+  if (isList) options[key] = [...(options[key] || []), value];
+  else options[key] = value;
+}
+
+/** The words, parted into options and others. */
+function parted(words) {
+  const [options, plain] = [{}, []];
   for (let at = 0; at < words.length; at++) {
     const word = words[at];
-    const [, flag, given] = /^(--[a-z-]+)(?:=(.*))?$/s.exec(word) || [];
-    if (FLAGS[word]) options[FLAGS[word]] = true;
-    else if (VALUES[flag]) {
+    const [, name, given] = /^(--[a-z-]+)(?:=(.*))?$/s.exec(word) || [];
+    const option = BY_WORD.get(word === '-h' ? '--help' : name);
+    if (!option && word.startsWith('-') && word !== '-') throw new UsageError(`there is no option ${word}`);
+    if (!option) plain.push(word);
+    else if (!option.value && given !== undefined) throw new UsageError(`${name} takes no value`);
+    else if (!option.value) put(options, option, true);
+    else {
       const value = given !== undefined ? given : words[++at];
-      if (value === undefined) throw new UsageError(`${flag} wants a value`);
-      options[VALUES[flag]] = value;
-    } else if (word.startsWith('-') && word !== '-') throw new UsageError(`there is no option ${word}`);
-    else plain.push(word);
+      if (value === undefined) throw new UsageError(`${name} wants a value`);
+      put(options, option, value);
+    }
   }
+  return { options, plain };
+}
+
+/** Refuses options that a command does not take, or that do not go together. */
+function fit(command, options) {
+  for (const { word, key, commands } of OPTIONS) {
+    if (options[key] !== undefined && !commands.includes(command)) throw new UsageError(`${word} is not for ${command}`);
+  }
+  if (options.json && options.format && options.format !== 'json') throw new UsageError(`--json is --format json, and --format ${options.format} is asked for too`);
+  if (options.watch && DOCUMENTS.includes(options.format)) throw new UsageError(`--watch does not go with --format ${options.format}, which is one document`);
+}
+
+/** What the words ask for: the command, the words behind it, and the options. */
+function parse(words) {
+  if (words.length === 1 && words[0] === '--version') return { command: 'version', rest: [], options: {} };
+  const { options, plain } = parted(words);
   const [command, ...rest] = plain;
-  if (options.help) return { command: 'help', rest, options };
+  if (options.help && (command === undefined || Object.hasOwn(COMMANDS, command))) return { command: 'help', rest: plain, options };
   if (command === undefined) throw new UsageError('no command is given');
   if (!Object.hasOwn(COMMANDS, command)) throw new UsageError(`there is no command ${command}`);
-  const [least, most] = COMMANDS[command];
+  const { least, most } = COMMANDS[command];
   if (rest.length < least) throw new UsageError(`${command} wants ${least === 1 ? 'a folder' : 'two words'}`);
   if (rest.length > most) throw new UsageError(`${command} does not take the word ${rest[most]}`);
-  for (const [flag, commands] of Object.entries(ONLY)) {
-    if (options[FLAGS[flag]] && !commands.includes(command)) throw new UsageError(`${flag} is not for ${command}`);
-  }
-  if (options.exports !== undefined) options.exports = exportsOf(options.exports);
+  fit(command, options);
+  for (const [key, read] of Object.entries(READ)) if (options[key] !== undefined) options[key] = Array.isArray(options[key]) ? options[key].map(read) : read(options[key]);
+  if (options.json && command === 'check') options.format = 'json';
   return { command, rest, options };
 }
 
-module.exports = { USAGE, UsageError, parse };
+module.exports = { UsageError, parse };

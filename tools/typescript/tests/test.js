@@ -7,6 +7,10 @@ const path = require('path');
 const { main } = require('../cli.js');
 const { ts, isFrom } = require('../typescript.js');
 
+// Nothing is kept where the user's own is kept.
+process.env.XDG_CACHE_HOME = fs.mkdtempSync(path.join(os.tmpdir(), 'fast-check-cache-'));
+process.on('exit', () => fs.rmSync(process.env.XDG_CACHE_HOME, { recursive: true, force: true }));
+
 const PACKAGES = path.join(__dirname, 'packages');
 const EXPECTED = path.join(__dirname, 'expected');
 // Where the compiler of these tests lies.
@@ -22,6 +26,9 @@ const READS_NONE = !isFrom(4, 9);
 
 // What an older compiler says besides of the first syntax error.
 const NEWER_COMPILER = /  info: TypeScript \S+ reads this; a newer one .*\n\n?/;
+
+// The closing lines, which a test of their own looks at.
+const CLOSING = /^These are slow types(?:.*\n)+?\n/m;
 
 let passed = 0;
 const failed = [];
@@ -72,7 +79,7 @@ async function said(name) {
   for (const words of commands) {
     const { status, out, err: told } = await run([...words, '.'], { cwd: path.join(PACKAGES, name) });
     const err = told.replace(NEWER_COMPILER, '').replace(ts.version, 'VERSION');
-    parts.push(`$ ${words.join(' ')}: status ${status}\n${out}${err && words[0] !== 'skeleton' ? `$ standard error\n${err}` : ''}`);
+    parts.push(`$ ${words.join(' ')}: status ${status}\n${out.replace(CLOSING, '')}${err && words[0] !== 'skeleton' ? `$ standard error\n${err}` : ''}`);
   }
   return parts.join('\n');
 }
@@ -216,9 +223,24 @@ const WRONG = [
   [[], 'no command is given'],
   [['nothing'], 'there is no command nothing'],
   [['check'], 'check wants a folder'],
-  [['check', 'a', 'b'], 'check does not take the word b'],
-  [['check', 'nowhere'], 'there is no folder nowhere'],
-  [['check', 'variables/mod.ts'], 'variables/mod.ts is no folder'],
+  [['skeleton', 'a', 'b', 'c'], 'skeleton does not take the word c'],
+  [['check', 'nowhere'], 'there is no folder and no file nowhere'],
+  [['check', 'variables', 'nowhere'], 'there is no folder and no file nowhere'],
+  [['check', '/dev/null'], '/dev/null is no regular file'],
+  [['skeleton', 'variables/mod.ts'], 'variables/mod.ts is no folder'],
+  [['check', '--format', 'xml', 'variables'], 'there is no format xml'],
+  [['check', '--json', '--format', 'sarif', 'variables'], '--format sarif is asked for too'],
+  [['check', '--watch', '--format', 'junit', 'variables'], '--watch does not go with --format junit'],
+  [['check', '--max-warnings', 'many', 'variables'], '--max-warnings wants a number'],
+  [['check', '--allow', 'slow', 'variables'], 'there is no code slow'],
+  [['check', '--allow', 'syntax-error', 'variables'], 'syntax-error cannot be allowed'],
+  [['check', '--baseline', 'nowhere', 'variables'], 'nowhere'],
+  [['check', '--baseline', 'variables/mod.ts', 'variables'], 'variables/mod.ts:1 is no JSON'],
+  [['check', '--watch=yes', 'variables'], '--watch takes no value'],
+  [['check', '--name', 'a', 'variables', 'classes'], 'are of one package'],
+  [['check', '--exports', './mod.ts', 'variables/mod.ts'], '--exports goes with a folder'],
+  [['fix', '--watch', 'variables'], '--watch is not for fix'],
+  [['toString', '--help'], 'there is no command toString'],
   [['check', '--fast', 'variables'], 'there is no option --fast'],
   [['check', 'variables', '--name'], '--name wants a value'],
   [['skeleton', '--verify', 'variables'], '--verify is not for skeleton'],
@@ -238,6 +260,15 @@ async function commandLine() {
     });
   }
   await test('--help', async () => holds((await run(['--help'])).out.startsWith('usage: fast-check-ts COMMAND'), 'the usage comes'));
+  for (const command of ['check', 'fix', 'skeleton', 'input', 'diff', 'report']) {
+    await test(`${command} --help`, async () => {
+      const { status, out } = await run([command, '--help']);
+      same(status, 0, 'the status');
+      holds(out.startsWith(`usage: fast-check-ts ${command} [OPTION ..]`) && out.includes('\nexample:\n  fast-check-ts'), out);
+      same(out.includes('--watch'), command === 'check', 'whether --watch is named');
+    });
+  }
+  await test('--version', async () => same((await run(['--version'])).out, `fast-check-ts ${fs.readFileSync(path.resolve(__dirname, '../../../VERSION'), 'utf8')}`));
   await test('--json gives an object a line', async () => {
     const { status, out } = await run(['check', '--json', 'missing-return-type']);
     const lines = out.trimEnd().split('\n').map((line) => JSON.parse(line));
@@ -426,6 +457,11 @@ async function oddFolders() {
   for (const [name, body] of require('./odd.js').tests({ run, withFolder, same, holds })) await test(name, body);
 }
 
+/** Several folders, files, formats, what is left out, what is kept, and checks that go on. */
+async function checks() {
+  for (const [name, body] of require('./checks.js').tests({ run, withFolder, same, holds, LAUNCHER, PACKAGES })) await test(name, body);
+}
+
 /** The tree, the tables and the printer by themselves. */
 async function trees() {
   for (const [name, body] of require('./trees.js').tests) await test(name, body);
@@ -440,7 +476,7 @@ async function all(words) {
     return;
   }
   await storedPackages(names);
-  if (!asked.length) for (const part of [trees, () => everyDiagnostic(names), edits, revisions, commandLine, oddFolders, faults, compilers, fixes, fuzzed, programs, pages, verified]) await part();
+  if (!asked.length) for (const part of [trees, () => everyDiagnostic(names), edits, revisions, commandLine, checks, oddFolders, faults, compilers, fixes, fuzzed, programs, pages, verified]) await part();
   const not = names.filter((name) => !isCompared(name));
   if (not.length) console.log(`not compared under TypeScript ${ts.version}: ${not.join(', ')}`);
   console.log(`${passed} passed, ${failed.length} failed`);

@@ -1,0 +1,75 @@
+'use strict';
+// Checks folders, one after another, and tells what is wrong with them in the format that is asked for.
+const { analyse, statusOf } = require('./analysis.js');
+const { Baseline, withoutAllowed } = require('./allowed.js');
+const { refusalOf } = require('./faults.js');
+const { FORMATS } = require('./formats.js');
+
+/** What is told of a folder that was analysed: its messages without those that are allowed or known, and how many these are. */
+function toldOf(world, messages, options, baseline) {
+  const found = [...world.warnings, ...messages];
+  const wanted = withoutAllowed(world, found, options.allow);
+  const told = new Set(baseline ? baseline.without(wanted) : wanted);
+  const left = (list) => list.filter((each) => told.has(each));
+  return {
+    messages: [...left(world.warnings), ...world.broken, ...left(messages)],
+    allowed: found.length - wanted.length,
+    known: wanted.length - told.size,
+  };
+}
+
+/** What the program and, where it is asked for, the compiler say of a folder. */
+async function messagesOf(world, options, context) {
+  if (!options.verify || !world.skeletons.size) return world.messages;
+  const { verify } = require('./verify.js');
+  context.progress.begin("TypeScript's compiler checks the skeletons");
+  return [...world.messages, ...verify(world, context)];
+}
+
+/**
+ * The result of a folder: `world`, null where it cannot be read, `thrown`, which says why, the messages that are told, how many others are allowed and known,
+ * and the status.
+ */
+async function resultOf({ dir, exports }, options, { context, baseline }) {
+  try {
+    const world = await analyse(dir, { ...options, exports }, context);
+    const told = toldOf(world, await messagesOf(world, options, context), options, baseline);
+    return { dir, world, thrown: null, status: statusOf(world.broken), ...told };
+  } catch (error) {
+    const thrown = refusalOf(error);
+    return { dir, world: null, thrown, status: thrown.status, messages: thrown.messages, allowed: 0, known: 0 };
+  } finally {
+    context.progress.end();
+  }
+}
+
+/** The status of all results: the highest of what cannot be read, else 1 where there are errors, or more warnings than may be. */
+function statusOfAll(results, { maxWarnings = Infinity }) {
+  const highest = Math.max(...results.map(({ status }) => status));
+  const levels = results.flatMap(({ messages }) => messages.map(({ level }) => level));
+  const warnings = levels.filter((it) => it === 'Warning').length;
+  return highest || (levels.length > warnings || warnings > maxWarnings ? 1 : 0);
+}
+
+/** Checks all folders once, and answers the status and the results. */
+async function checkOnce(targets, options, view) {
+  const format = FORMATS[options.format || 'text'];
+  const results = [];
+  for (const target of targets) {
+    const result = await resultOf(target, options, view);
+    format.result(result, options, view.context);
+    results.push(result);
+  }
+  format.end(results, options, view.context);
+  return { status: statusOfAll(results, options), results };
+}
+
+/** Checks folders, as `targetsOf` answers them, and answers the status. */
+async function checkAll(targets, options, context) {
+  const view = { context, baseline: options.baseline ? Baseline.of(options.baseline, context.cwd) : null };
+  if (!options.watch) return (await checkOnce(targets, options, view)).status;
+  const { watch } = require('./watch.js');
+  return watch(targets, context, !options.format || options.format === 'text', (round) => checkOnce(targets, options, { ...view, context: round }));
+}
+
+module.exports = { checkAll };

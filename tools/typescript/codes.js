@@ -1,0 +1,28 @@
+'use strict';
+// The codes of messages, and where they come from: from the program, from what this tool finds beside it, or from what keeps a package from being read.
+
+const PROGRAM = [
+  'missing-explicit-type', 'missing-explicit-return-type', 'not-found-reference', 'unsupported-ambient-module', 'unsupported-complex-reference',
+  'unsupported-default-export-expr', 'unsupported-destructuring', 'unsupported-expando-property', 'unsupported-global-module',
+  'unsupported-javascript-entrypoint', 'unsupported-nested-javascript', 'unsupported-private-member-reference', 'unsupported-require',
+  'unsupported-super-class-expr', 'unsupported-ts-export-assignment', 'unsupported-ts-namespace-export', 'unsupported-using', 'export-not-found',
+];
+const OWN = ['declared-otherwise', 'missing-module', 'unresolved-import', 'no-entry-point'];
+const REFUSED = ['bad-configuration', 'internal-error', 'nested-too-deep', 'refused-file', 'syntax-error'];
+
+const from = (codes, source) => Object.fromEntries(codes.map((code) => [code, source]));
+
+const CODES = { ...from(PROGRAM, 'program'), ...from(OWN, 'own'), ...from(REFUSED, 'refused') };
+
+// Those that a written type may answer.
+const FIXABLE = new Set(['missing-explicit-return-type', 'missing-explicit-type', 'unsupported-default-export-expr']);
+
+// The errors of TypeScript's compiler, which are told by their numbers.
+const OF_COMPILER = /^typescript-\d+$/;
+
+/** Whether there are messages of a code. */
+function isCode(code) {
+  return Object.hasOwn(CODES, code) || OF_COMPILER.test(code);
+}
+
+module.exports = { CODES, FIXABLE, isCode };
