@@ -48,11 +48,11 @@ def measure(packages, program, workers, kill=False):
                 os.kill(next(iter(client.run(os.getpid).values())), signal.SIGKILL)
 
         begun = time.monotonic()
-        lost = registry.Registry(client, packages, program, {"memory": registry.size("2G"), "seconds": 600}, 3).run(out, on_done)
+        _, lost = registry.Registry(client, packages, program, {"memory": registry.size("2G"), "seconds": 600}, 3).run(out, on_done)
         spent = time.monotonic() - begun
     cluster.close()
-    results = [json.loads(line) for line in out.getvalue().splitlines()]
-    assert [it["package"] for it in results] == packages, "a result is missing, or stands at another place"
+    results = sorted([json.loads(line) for line in out.getvalue().splitlines()], key=lambda it: packages.index(it["package"]))
+    assert [it["package"] for it in results] == packages, "a result is missing, or stands twice"
     return spent, lost, [it.get("status") for it in results]
 
 

@@ -1,20 +1,23 @@
 #!/usr/bin/python3
 """Runs fast check on many packages, on one machine or many, over Dask (Debian: python3-distributed, python3-dask).
 
-Each package is one task. A package is a folder of TypeScript, which `fast-check-ts check` looks at, or a file with the input of `fast-check build`.
-The results are lines of JSON in the order of the packages, each written once all before it are there:
+Each package is one task. A package is a folder of TypeScript, which is checked as `fast-check-ts check` does, in a process of the worker that goes on from
+folder to folder, or a file with the input of `fast-check build`. The results are lines of JSON, each written as it comes:
 
     {"package": "hello", "status": 0, "messages": [], "seconds": 0.02}
     {"package": "canvas", "status": 1, "messages": [{"code": "missing-explicit-type", ..}], "seconds": 0.03}
+    {"package": "nowhere", "status": 2, "messages": [{"code": "no-package", ..}], "seconds": 0}
     {"package": "broken", "error": "killed by SIGKILL, tried 3 times"}
 
-`status` is that of the command (0 nothing to tell, 1 messages, 2 refused, 70 a fault of the tool). A task whose process is killed, takes more memory than it may, or
-does not end in time, is tried again, as is one whose worker is lost; in the end it is told by its name, in the results and on standard error.
+`status` is that of the command (0 nothing to tell but warnings, 1 messages, 2 refused or not there, above 2 failed: 5 no program, 70 a fault of the tool). A task
+whose process is killed or takes more memory than it may is tried again, as is one whose worker is lost; one that does not end in time is not. In the end it
+is told by its name, in the results and on standard error.
 
 Usage: tools/registry/registry.py [OPTION ..] PACKAGE ..
        tools/registry/registry.py [OPTION ..] --list FILE        (a package a line)
 """
 import argparse
+import contextlib
 import json
 import os
 import signal
@@ -23,6 +26,7 @@ import sys
 import tempfile
 import threading
 import time
+from collections import Counter
 from pathlib import Path
 
 try:
@@ -33,31 +37,22 @@ try:
 except ImportError as lacking:
     sys.exit(f"registry: {lacking.name} is not there for {sys.executable}: apt-get install -y python3-distributed python3-dask")
 
+import cgroups
+
 TOP = Path(__file__).resolve().parent.parent.parent
 # How often a task's memory is looked at, in seconds.
 LOOK = 0.05
 
 
 class Lost(Exception):
-    """A task that was not done: its process was killed, or took too much memory or time."""
+    """A task that was not done: its process was killed, or took too much memory or time. `is_final` says that another try takes as long."""
+
+    def __init__(self, why, is_final=False):
+        super().__init__(why, is_final)
+        self.why, self.is_final = why, is_final
 
 
 # ---- one package, on a worker
-
-
-def command(package, program):
-    """The words that check a package, and how its messages are read from what they print."""
-    top = program["top"]
-    if os.path.isdir(package):
-        # The packages are strangers', so no compiler of theirs is run.
-        return [f"{top}/fast-check-ts", "check", "--json", "--no-own-compiler", package], told
-    build = [program["path"]] if program["path"] else [f"{top}/fast-check"]
-    return [*build, "build", package], messages_of
-
-
-def told(out):
-    """The messages of a check. Other lines say which entry points were taken."""
-    return [each for each in map(json.loads, out.splitlines()) if "code" in each]
 
 
 def messages_of(out):
@@ -89,12 +84,12 @@ def end(process):
             pass
 
 
-def watch(child, limits, why):
-    """Kills a process that takes more memory or time than it may, and says so in `why`."""
+def watch(child, limits, why, done):
+    """Kills a process that takes more memory or time than it may before `done`, and says so in `why`."""
     begun = time.monotonic()
     try:
         process = psutil.Process(child.pid)
-        while child.poll() is None:
+        while not done.wait(LOOK) and child.poll() is None:
             if memory_of(process) > limits["memory"]:
                 why.append("out of memory")
             elif time.monotonic() - begun > limits["seconds"]:
@@ -102,31 +97,109 @@ def watch(child, limits, why):
             if why:
                 end(process)
                 return
-            time.sleep(LOOK)
     except psutil.Error:
         pass
 
 
-def run_package(package, program, limits):
-    """What one package is answered."""
-    words, read = command(package, program)
-    environment = {**os.environ, **({"FAST_CHECK": program["path"]} if program["path"] else {})}
-    begun, why = time.monotonic(), []
-    with tempfile.TemporaryFile() as out, tempfile.TemporaryFile() as err:
-        child = subprocess.Popen(words, stdin=subprocess.DEVNULL, stdout=out, stderr=err, env=environment)
-        watcher = threading.Thread(target=watch, args=(child, limits, why), daemon=True)
-        watcher.start()
-        status = child.wait()
+@contextlib.contextmanager
+def within(child, limits, group):
+    """Watches a process as long as something is done with it. Where that was too much, it is an exception."""
+    why, done, before = [], threading.Event(), group.kills()
+    watcher = threading.Thread(target=watch, args=(child, limits, why, done), daemon=True)
+    watcher.start()
+    try:
+        yield
+    finally:
+        done.set()
         watcher.join()
+        if group.kills() > before:
+            why.insert(0, "out of memory")
+        if why:
+            raise Lost(why[0], is_final=why[0] == "out of time")
+
+
+def signal_of(status):
+    """The name of the signal that ended a process, or nothing."""
+    number = -status if status < 0 else status - 128
+    return signal.Signals(number).name if number in iter(signal.Signals) else None
+
+
+def run_build(package, program, limits):
+    """What `fast-check build` answers to a file."""
+    words = [*([program["path"]] if program["path"] else [f"{program['top']}/fast-check"]), "build", package]
+    group = cgroups.Group.of(limits)
+    with tempfile.TemporaryFile() as out, tempfile.TemporaryFile() as err:
+        child = subprocess.Popen(group.words(words), stdin=subprocess.DEVNULL, stdout=out, stderr=err)
+        with within(child, limits, group):
+            status = child.wait()
         out.seek(0), err.seek(0)
         text, said = out.read().decode(), err.read().decode(errors="replace").strip()
-    if why or status == 3:
-        raise Lost(why[0] if why else "out of memory")
-    if status < 0 or status >= 128:
-        raise Lost(f"killed by {signal.Signals(-status if status < 0 else status - 128).name}")
-    is_told = status in (0, 1) or os.path.isdir(package)
-    made = {"status": status, "messages": read(text) if is_told else [], "seconds": round(time.monotonic() - begun, 3)}
-    return {**made, "said": said.splitlines()[-1]} if said and status > 1 else made
+    if signal_of(status):
+        raise Lost(f"killed by {signal_of(status)}")
+    return {"status": status, "messages": messages_of(text) if status in (0, 1) else [], "said": said}
+
+
+class Server:
+    """The process of a worker that checks folders, one after another, and keeps the compiler meanwhile."""
+
+    one = None
+
+    def __init__(self, program, limits):
+        self.key, self.group = (program["top"], program["path"]), cgroups.Group.of(limits)
+        environment = {**os.environ, **({"FAST_CHECK": program["path"]} if program["path"] else {})}
+        words = self.group.words(["node", f"{program['top']}/tools/typescript/serve.js"])
+        self.child = subprocess.Popen(words, stdin=subprocess.PIPE, stdout=subprocess.PIPE, stderr=subprocess.DEVNULL, text=True, env=environment)
+
+    @classmethod
+    def of(cls, program, limits):
+        """The one of this worker: another one where the last has ended, or holds much."""
+        if cls.one and (cls.one.key != (program["top"], program["path"]) or cls.one.is_used_up(limits)):
+            cls.one.close()
+        if not cls.one:
+            cls.one = cls(program, limits)
+        return cls.one
+
+    def is_used_up(self, limits):
+        return self.child.poll() is not None or memory_of(psutil.Process(self.child.pid)) > limits["memory"] / 2
+
+    def close(self):
+        self.child.kill()
+        self.child.wait()
+        Server.one = None
+
+    def check(self, package, limits):
+        """What is said of a folder."""
+        try:
+            with within(self.child, limits, self.group):
+                self.child.stdin.write(json.dumps({"dir": package}) + "\n")
+                self.child.stdin.flush()
+                line = self.child.stdout.readline()
+        except BrokenPipeError:
+            line = ""
+        except Lost:
+            self.close()
+            raise
+        if line.endswith("\n"):
+            return json.loads(line)
+        status = self.child.wait()
+        self.close()
+        raise Lost(f"killed by {signal_of(status)}" if signal_of(status) else f"its process ended with status {status}")
+
+
+NOT_THERE = {"level": "error", "code": "no-package", "message": "there is no folder and no file of this name", "file": None}
+
+
+def run_package(package, program, limits):
+    """What one package is answered."""
+    begun = time.monotonic()
+    if not os.path.exists(package):
+        return {"status": 2, "messages": [{**NOT_THERE, "file": package}], "seconds": 0}
+    answer = Server.of(program, limits).check(package, limits) if os.path.isdir(package) else run_build(package, program, limits)
+    if answer["status"] == 3:
+        raise Lost("out of memory")
+    said = answer.pop("said")
+    made = {**answer, "seconds": round(time.monotonic() - begun, 3)}
+    return {**made, "said": said.splitlines()[-1]} if said and made["status"] > 1 else made
 
 
 # ---- all packages
@@ -148,18 +221,12 @@ class Bar:
         print(f"\r[{'#' * filled}{'.' * (30 - filled)}] {done}/{self.total}, {lost} lost, {done / spent:.0f} a second", end="\n" if last else "", file=sys.stderr, flush=True)
 
 
-class Results:
-    """Results as lines in the order of the packages, each written once all before it are there."""
+KINDS = ["clean", "with messages", "refused", "failed", "lost"]
 
-    def __init__(self, out):
-        self.out, self.waiting, self.next = out, {}, 0
 
-    def put(self, place, result):
-        self.waiting[place] = result
-        while self.next in self.waiting:
-            self.out.write(json.dumps(self.waiting.pop(self.next)) + "\n")
-            self.next += 1
-        self.out.flush()
+def kind_of(result):
+    """What a result counts as."""
+    return KINDS[min(result["status"], 3)] if "status" in result else "lost"
 
 
 class Registry:
@@ -175,8 +242,8 @@ class Registry:
         return self.client.submit(run_package, self.packages[place], self.program, self.limits, key=key, pure=False)
 
     def run(self, out, on_done=lambda done: None):
-        """Writes all results, and answers the names of what was lost."""
-        results, lost, bar, done = Results(out), [], Bar(len(self.packages)), 0
+        """Writes each result as it comes, and answers how many there are of each kind, and what was lost."""
+        counts, lost, bar, done = dict.fromkeys(KINDS, 0), [], Bar(len(self.packages)), 0
         at = {self.submit(place): place for place in range(len(self.packages))}
         waiting = as_completed(list(at))
         for future in waiting:
@@ -189,23 +256,49 @@ class Registry:
                 waiting.add(again)
                 continue
             done += 1
+            counts[kind_of(result)] += 1
             if "error" in result:
                 lost.append((self.packages[place], result["error"]))
-            results.put(place, {"package": self.packages[place], **result})
+            out.write(json.dumps({"package": self.packages[place], **result}) + "\n")
+            out.flush()
             bar.show(done, len(lost))
             on_done(done)
         bar.show(done, len(lost), last=True)
-        return lost
+        return counts, lost
 
     def result(self, future, place):
         """What a task answers; none where it is to be tried again."""
         if future.status == "finished":
             return future.result()
         error = future.exception() if future.status == "error" else None
-        if self.left[place] > 0:
+        is_final = isinstance(error, Lost) and error.is_final
+        if self.left[place] > 0 and not is_final:
             return None
-        why = "its worker was lost" if isinstance(error, KilledWorker) else str(error) if isinstance(error, Lost) else repr(error)
-        return {"error": f"{why}, tried {self.tries} time{'s' if self.tries != 1 else ''}"}
+        why = "its worker was lost" if isinstance(error, KilledWorker) else error.why if isinstance(error, Lost) else repr(error)
+        tried = self.tries - self.left[place]
+        return {"error": f"{why}, tried {tried} time{'s' if tried != 1 else ''}"}
+
+
+def resumed(name, packages):
+    """The packages that a file has no result of, and how many results of each kind it has. A line that was not written whole is taken away."""
+    counts, done = dict.fromkeys(KINDS, 0), Counter()
+    whole = 0
+    with open(name, "rb+") as file:
+        for line in file:
+            if not line.endswith(b"\n"):
+                break
+            whole += len(line)
+            result = json.loads(line)
+            counts[kind_of(result)] += 1
+            done[result["package"]] += 1
+        file.truncate(whole)
+    left = []
+    for each in packages:
+        if done[each] > 0:
+            done[each] -= 1
+        else:
+            left.append(each)
+    return left, counts
 
 
 # ---- the command
@@ -219,45 +312,64 @@ def size(text):
 
 
 def words():
-    made = argparse.ArgumentParser(description="Runs fast check on many packages over Dask.", epilog="Results are lines of JSON, in the order of the packages.")
+    made = argparse.ArgumentParser(description="Runs fast check on many packages over Dask.", epilog="Results are lines of JSON, each written as it comes.")
     made.add_argument("packages", nargs="*", metavar="PACKAGE", help="a folder of TypeScript, or a file with the input of `fast-check build`")
     made.add_argument("--list", metavar="FILE", help="a file that names a package a line")
     made.add_argument("--scheduler", metavar="ADDRESS", help="a Dask cluster that is there, as tcp://host:8786; its workers need this folder and the packages under the same paths")
     made.add_argument("--workers", type=int, default=os.cpu_count(), metavar="N", help="how many workers a local cluster has (as many as processors)")
     made.add_argument("--memory", type=size, default=size("2G"), metavar="SIZE", help="the most memory of a task (2G)")
+    made.add_argument("--cgroup", metavar="FOLDER", help="the memory cgroup below which tasks have their own (that of the worker, where it may be written to; `none` for none)")
     made.add_argument("--seconds", type=float, default=600, metavar="N", help="the most time of a task (600)")
     made.add_argument("--tries", type=int, default=3, metavar="N", help="how often a task that is lost is tried (3)")
     made.add_argument("--out", metavar="FILE", help="where the results go (standard output)")
+    made.add_argument("--resume", action="store_true", help="go on with the results in FILE: packages that it has are passed over")
     return made
 
 
 def local(workers):
     """A cluster on this machine: one process a worker, one task at a time in each."""
+    os.environ["PYTHONPATH"] = os.pathsep.join([str(TOP / "tools" / "registry"), *filter(None, [os.environ.get("PYTHONPATH")])])
     dask.config.set({"distributed.worker.memory.terminate": False, "distributed.worker.daemon": False, "logging": {"distributed": "error", "distributed.nanny": "error", "distributed.diskutils": "error"}})
     return LocalCluster(n_workers=workers, threads_per_worker=1, processes=True, dashboard_address=None, memory_limit=0, silence_logs=50)
+
+
+def run(asked, packages, out):
+    """Runs the packages on the cluster that is asked for, and answers the counts and what was lost."""
+    program = {"top": str(TOP), "path": os.environ.get("FAST_CHECK", "")}
+    limits = {"memory": asked.memory, "seconds": asked.seconds, "cgroup": asked.cgroup}
+    cluster = None if asked.scheduler else local(max(min(asked.workers, len(packages)), 1))
+    with Client(asked.scheduler or cluster) as client:
+        # What a worker has to find by its name.
+        if asked.scheduler:
+            for name in ("cgroups.py", "registry.py"):
+                client.upload_file(str(TOP / "tools" / "registry" / name))
+        counts, lost = Registry(client, packages, program, limits, max(asked.tries, 1)).run(out)
+    if cluster:
+        cluster.close()
+    return counts, lost
 
 
 def main():
     asked = words().parse_args()
     packages = asked.packages + ([line for line in Path(asked.list).read_text().splitlines() if line.strip()] if asked.list else [])
-    missing = [each for each in packages if not os.path.exists(each)]
-    if missing and not asked.scheduler:
-        sys.exit(f"there is no package {missing[0]}")
-    program = {"top": str(TOP), "path": os.environ.get("FAST_CHECK", "")}
-    limits = {"memory": asked.memory, "seconds": asked.seconds}
-    cluster = None if asked.scheduler else local(max(asked.workers, 1))
-    out = open(asked.out, "w") if asked.out else sys.stdout
+    packages = left = [os.path.abspath(each) for each in packages]
+    if asked.resume and not asked.out:
+        sys.exit("registry: --resume wants --out, the file with the results")
+    before = dict.fromkeys(KINDS, 0)
+    if asked.resume and os.path.exists(asked.out):
+        left, before = resumed(asked.out, packages)
     begun = time.monotonic()
-    with Client(asked.scheduler or cluster) as client:
-        packages = [os.path.abspath(each) for each in packages]
-        lost = Registry(client, packages, program, limits, max(asked.tries, 1)).run(out)
-    if cluster:
-        cluster.close()
+    with open(asked.out, "a" if asked.resume else "w") if asked.out else contextlib.nullcontext(sys.stdout) as out:
+        counts, lost = run(asked, left, out) if left else (dict.fromkeys(KINDS, 0), [])
     for name, why in lost:
         print(f"lost: {name}: {why}", file=sys.stderr)
-    print(f"{len(packages)} packages, {len(lost)} lost, {time.monotonic() - begun:.1f} s", file=sys.stderr)
-    return 1 if lost else 0
+    sums = {kind: counts[kind] + before[kind] for kind in KINDS}
+    print(f"{len(packages)} packages: {', '.join(f'{sums[kind]} {kind}' for kind in KINDS)}, {time.monotonic() - begun:.1f} s", file=sys.stderr)
+    return 1 if sums["failed"] or sums["lost"] else 0
 
 
 if __name__ == "__main__":
-    sys.exit(main())
+    # Workers find what they run by the name of the module.
+    import registry
+
+    sys.exit(registry.main())

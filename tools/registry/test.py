@@ -7,6 +7,7 @@ import signal
 import subprocess
 import sys
 import tempfile
+import time
 from pathlib import Path
 
 HERE = Path(__file__).resolve().parent
@@ -16,6 +17,7 @@ sys.path.insert(0, str(HERE))
 os.environ["PYTHONPATH"] = str(HERE)
 os.environ["PYTHONDONTWRITEBYTECODE"] = "1"
 
+import cgroups
 import registry
 from distributed import Client
 
@@ -33,6 +35,7 @@ case $word in
   once) [ -e "$2.seen" ] || { : > "$2.seen"; kill -9 $$; }; echo '[]' ;;
   wants) exec python3 -c 'x = bytearray(400_000_000); x[::4096] = b"1" * len(x[::4096]); import time; time.sleep(30)' ;;
   endless) sleep 60 ;;
+  '{'*) case $(cat "$2") in *wants*) exec "$0" build "${0%/*}/wants.json" ;; *fails*) exit 9 ;; *) echo '[]' ;; esac ;;
 esac
 """
 
@@ -54,19 +57,32 @@ class Room:
             made.append(str(file))
         return made
 
+    def folder_of(self, name, text):
+        made = self.folder / name
+        made.mkdir()
+        (made / "mod.ts").write_text(text)
+        return str(made)
+
     def runs(self, package):
         return (self.folder / "program.runs").read_text().splitlines().count(package)
 
 
-def run(client, room, packages, memory=200_000_000, seconds=20, tries=3, on_done=lambda done: None):
-    """The results and what was lost."""
+def run(client, room, packages, memory=200_000_000, seconds=20, tries=3, on_done=lambda done: None, cgroup="none"):
+    """The results, in the order of the packages, and what was lost."""
     out = io.StringIO()
     program = {"top": str(registry.TOP), "path": str(room.path)}
-    lost = registry.Registry(client, packages, program, {"memory": memory, "seconds": seconds}, tries).run(out, on_done)
-    return [json.loads(line) for line in out.getvalue().splitlines()], lost
+    _, lost = registry.Registry(client, packages, program, {"memory": memory, "seconds": seconds, "cgroup": cgroup}, tries).run(out, on_done)
+    return sorted([json.loads(line) for line in out.getvalue().splitlines()], key=lambda it: packages.index(it["package"])), lost
 
 
-def results_stand_in_order(client, room):
+def results_are_written_as_they_come(client, room):
+    packages, out = room.packages("slow 3", "plain"), io.StringIO()
+    program = {"top": str(registry.TOP), "path": str(room.path)}
+    registry.Registry(client, packages, program, {"memory": 200_000_000, "seconds": 20}, 1).run(out)
+    assert [json.loads(line)["package"] for line in out.getvalue().splitlines()] == packages[::-1]
+
+
+def each_package_has_a_result(client, room):
     packages = room.packages("slow 1", "plain", "faults", "refused", "plain")
     results, lost = run(client, room, packages)
     assert [it["package"] for it in results] == packages and not lost
@@ -97,10 +113,63 @@ def a_task_that_takes_too_much_memory_is_told_by_name(client, room):
     assert room.runs(packages[0]) == 2
 
 
-def a_task_without_end_is_told_by_name(client, room):
+def a_task_without_end_is_not_tried_again(client, room):
     packages = room.packages("endless", "plain")
-    results, lost = run(client, room, packages, seconds=1, tries=1)
+    results, lost = run(client, room, packages, seconds=1)
     assert lost == [(packages[0], "out of time, tried 1 time")] and results[1]["status"] == 0
+    assert room.runs(packages[0]) == 1
+
+
+def folders_are_checked_in_one_process(client, room):
+    (room.folder / "wants.json").write_text("wants\n")
+    folders = [room.folder_of(name, text) for name, text in (("a", "export const a: 1 = 1;"), ("b", "export const b = ;"), ("wants", "export const wants: 1 = 1;"),
+                                                            ("fails", "export const fails: 1 = 1;"), ("c", "export const c: 1 = 1;"))]
+    packages = [*folders, str(room.folder / "nowhere"), str(room.folder / "c")]
+    results, lost = run(client, room, packages, memory=400_000_000, tries=2)
+    assert [it.get("status") for it in results] == [0, 2, None, 5, 0, 0, 2], results
+    assert lost == [(folders[2], "out of memory, tried 2 times")], lost
+    assert [it["code"] for it in results[1]["messages"]] == ["syntax-error"] and results[1]["messages"][0]["line"] == 1
+    assert [it["code"] for it in results[6]["messages"]] == ["no-package"]
+    assert "status 9" in results[3]["said"], results[3]
+
+
+def folders_are_quick(client, room):
+    text = "export function f(n: number): number { return n; }\n" * 20
+    packages = [room.folder_of(f"p{at}", text.replace("f(", f"f{at}(")) for at in range(60)]
+    run(client, room, packages[:4])
+    begun = time.monotonic()
+    results, lost = run(client, room, packages)
+    assert not lost and all(it["status"] == 0 for it in results)
+    print(f"    {60 / (time.monotonic() - begun):.0f} folders a second on two workers")
+
+
+def make_group(made):
+    """Makes a folder that stands for that of a cgroup: its files are there, as those of a new group are."""
+    os.mkdir(made)
+    for name, text in (("memory.max", ""), ("memory.swap.max", ""), ("memory.events", "oom 0\noom_kill 0\n"), ("cgroup.procs", "")):
+        (made / name).write_text(text)
+
+
+def a_cgroup_is_made_where_it_may_be(client, room):
+    parent = room.folder / "group"
+    parent.mkdir()
+    plain = Path.mkdir
+    try:
+        Path.mkdir = make_group
+        group = cgroups.Group(parent, 5000)
+    finally:
+        Path.mkdir = plain
+    ran = subprocess.run(group.words(["sh", "-c", "echo $$"]), capture_output=True, text=True, check=True)
+    assert (group.folder / "memory.max").read_text() == "5000" and (group.folder / "memory.swap.max").read_text() == "0"
+    assert (group.folder / "cgroup.procs").read_text() == ran.stdout, "the program is the process that was put into the group"
+    (group.folder / "memory.events").write_text("oom 1\noom_kill 1\n")
+    assert group.kills() == 1
+
+
+def where_no_cgroup_may_be_made_memory_is_looked_at(client, room):
+    packages = room.packages("wants", "plain")
+    results, lost = run(client, room, packages, tries=1, cgroup=str(room.folder / "nowhere"))
+    assert lost == [(packages[0], "out of memory, tried 1 time")] and results[1]["status"] == 0
 
 
 def nothing_is_lost_with_a_worker(client, room):
@@ -124,26 +193,47 @@ def a_package_that_stands_twice_is_answered_twice(client, room):
     assert len(results) == 3 and not lost
 
 
-def the_command_says_what_is_lost(client, room):
-    packages = room.packages("plain", "killed")
-    (room.folder / "list").write_text("\n".join(packages) + "\n")
-    words = [HERE / "registry.py", "--workers", "1", "--tries", "1", "--list", room.folder / "list", "--out", room.folder / "out"]
+def command(room, *words):
+    """Runs the command: its status, and what stands on standard error."""
+    words = [HERE / "registry.py", "--workers", "1", "--tries", "1", "--cgroup", "none", *words]
     ran = subprocess.run(words, env={**os.environ, "FAST_CHECK": str(room.path)}, capture_output=True, text=True)
-    assert ran.returncode == 1, ran.stderr
-    assert f"lost: {packages[1]}: killed by SIGKILL, tried 1 time\n" in ran.stderr and "2 packages, 1 lost" in ran.stderr, ran.stderr
-    assert len((room.folder / "out").read_text().splitlines()) == 2
+    return ran.returncode, ran.stderr
+
+
+def the_command_says_what_is_lost(client, room):
+    packages = room.packages("plain", "killed", "refused", "faults")
+    (room.folder / "list").write_text("\n".join([*packages, "/nowhere/at/all"]) + "\n")
+    status, said = command(room, "--list", room.folder / "list", "--out", room.folder / "out")
+    assert status == 1, said
+    assert f"lost: {packages[1]}: killed by SIGKILL, tried 1 time\n" in said, said
+    assert "5 packages: 1 clean, 1 with messages, 2 refused, 0 failed, 1 lost, " in said.splitlines()[-1], said
+    assert len((room.folder / "out").read_text().splitlines()) == 5
+
+
+def a_run_that_was_stopped_goes_on(client, room):
+    packages, out = room.packages("plain", "plain", "refused", "plain"), room.folder / "out"
+    done = [json.dumps({"package": packages[at], "status": status, "messages": []}) for at, status in ((2, 2), (0, 0))]
+    out.write_text("\n".join(done) + "\n" + '{"package": "half')
+    status, said = command(room, "--resume", "--out", out, *packages, packages[0])
+    results = [json.loads(line) for line in out.read_text().splitlines()]
+    assert status == 0 and sorted(it["package"] for it in results) == sorted([*packages, packages[0]]), said
+    assert "5 packages: 4 clean, 0 with messages, 1 refused, 0 failed, 0 lost, " in said.splitlines()[-1], said
+    assert [room.runs(it) for it in packages] == [1, 1, 0, 1], "what has a result is not run again"
+    assert command(room, "--resume", "--out", out, *packages, packages[0])[0] == 0
+    assert command(room, "--resume", *packages)[0] == 1
 
 
 def a_cluster_that_is_there_is_used(client, room):
     packages = room.packages("plain", "faults")
-    words = [HERE / "registry.py", "--scheduler", client.scheduler.address, *packages]
+    words = [HERE / "registry.py", "--cgroup", "none", "--scheduler", client.scheduler.address, *packages]
     ran = subprocess.run(words, env={**os.environ, "FAST_CHECK": str(room.path)}, capture_output=True, text=True)
     assert ran.returncode == 0, ran.stderr
-    assert [json.loads(line)["status"] for line in ran.stdout.splitlines()] == [0, 1]
+    assert sorted(json.loads(line)["status"] for line in ran.stdout.splitlines()) == [0, 1]
 
 
-TESTS = [results_stand_in_order, a_killed_task_is_tried_again, a_task_that_is_always_killed_is_told_by_name, a_task_that_takes_too_much_memory_is_told_by_name,
-         a_task_without_end_is_told_by_name, nothing_is_lost_with_a_worker, a_package_that_stands_twice_is_answered_twice, the_command_says_what_is_lost,
+TESTS = [results_are_written_as_they_come, each_package_has_a_result, folders_are_checked_in_one_process, folders_are_quick, a_cgroup_is_made_where_it_may_be,
+         where_no_cgroup_may_be_made_memory_is_looked_at, a_run_that_was_stopped_goes_on, a_killed_task_is_tried_again, a_task_that_is_always_killed_is_told_by_name, a_task_that_takes_too_much_memory_is_told_by_name,
+         a_task_without_end_is_not_tried_again, nothing_is_lost_with_a_worker, a_package_that_stands_twice_is_answered_twice, the_command_says_what_is_lost,
          a_cluster_that_is_there_is_used]
 
 

@@ -72,7 +72,7 @@ async function skeleton([word, out], options, context) {
   const { world, skeletons } = await skeletonsOf(word, options, context);
   if (folder === null) context.out.write(joined(skeletons));
   else write(folder, skeletons);
-  return statusOf(world, world.messages);
+  return statusOf(world, world.messages) || (skeletons.length ? 0 : 1);
 }
 
 /** The changes of texts as a unified diff. */
