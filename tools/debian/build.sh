@@ -52,8 +52,8 @@ lay_out() {
   install "$top/fast-check-ts" "$lib"
   echo "$version" > "$lib/VERSION"
   install -m 644 "$top"/tools/typescript/*.{js,css} "$lib/tools/typescript"
-  # What only tests the others.
-  rm -f "$lib"/tools/typescript/{fuzz,fuzz_modules,hidden,judge,judge_types,roundtrip,speed,sweep}.js
+  # What only tests the others, or serves tools/registry.
+  rm -f "$lib"/tools/typescript/{fuzz,fuzz_modules,hidden,judge,judge_types,roundtrip,serve,speed,sweep}.js
   chmod +x "$lib/tools/typescript/cli.js"
   install -m 644 "$here/completion.bash" "$completions/fast-check-ts"
   ln -s fast-check-ts "$completions/fast-check"

@@ -17,6 +17,7 @@ for tool in lintian mandoc unshare; do
   command -v "$tool" > /dev/null || { echo "test.sh: $tool is not there; on Debian: apt-get install -y lintian mandoc util-linux" >&2; exit 5; }
 done
 made=$(mktemp -d)
+export XDG_CACHE_HOME="$made/cache"
 trap 'rm -rf "$made"' EXIT
 passed=0 failed=0
 
@@ -110,7 +111,10 @@ offered() {
 
 completes() {
   [ "$(offered fast-check-ts che)" = check ] && [ "$(offered fast-check-ts --no-color ske)" = skeleton ] && [ -z "$(offered fast-check-ts check che)" ] &&
-    [[ $(offered fast-check-ts check --) == "--name "*" --help" ]] && [ "$(offered fast-check "")" = "transform build pair" ]
+    [[ $(offered fast-check-ts --) == "--name "*" --help" ]] && [ "$(offered fast-check "")" = "transform build pair" ] &&
+    [ "$(offered fast-check-ts check --w)" = --watch ] && [ -z "$(offered fast-check-ts fix --w)" ] && [ "$(offered fast-check-ts fix --d)" = --dry ] &&
+    [ "$(offered fast-check-ts check --format "")" = "text json github sarif junit" ] && [ "$(offered fast-check-ts check --allow missing-m)" = missing-module ] &&
+    [ "$(offered fast-check-ts check --baseline VER)" = VERSION ] && [ -z "$(offered fast-check-ts check --max-warnings "")" ]
 }
 
 # Runs words in the copy, where the files of the package lie over those of this machine, for these words alone.
@@ -154,7 +158,7 @@ test_that "the pages" pages_are_right
 test_that "completion" completes
 
 package=tools/typescript/tests/packages
-for words in "check examples/package" "check --unproved examples/package" "check --json examples/package" "check --verify $package/classes" "skeleton $package/classes" "input $package/classes" \
+for words in "check examples/package" "check --format junit examples/package $package/classes" "check $package/ignored" "check --help" "check --unproved examples/package" "check --json examples/package" "check --verify $package/classes" "skeleton $package/classes" "input $package/classes" \
   "fix --dry $package/fixed" "diff $package/classes $package/enums" "report $package/classes $made/page.html" "--help"; do
   # shellcheck disable=SC2086
   test_that "$words" answers_alike $words

@@ -1,5 +1,6 @@
 'use strict';
 // The commands and options of the command line, and the texts of `--help`.
+const { CODES } = require('./codes.js');
 
 /** The commands: how their words are shown, the least and the most of them, what they do, what more `COMMAND --help` says, and an example. */
 const COMMANDS = {
@@ -88,12 +89,28 @@ function textFor({ text, commands }) {
   return commands === ALL || commands === READING ? text : text.replace(/^[a-z]+(?: and [a-z]+)?: /, '');
 }
 
+/** Words in lines that a terminal holds. */
+function wrapped(words) {
+  const lines = [''];
+  for (const word of words) {
+    if (lines[lines.length - 1].length + word.length > 98) lines.push('');
+    lines[lines.length - 1] += `${lines[lines.length - 1] ? ' ' : '  '}${word}`;
+  }
+  return lines.join('\n');
+}
+
+/** The codes that may be allowed, as a paragraph of the help of `check`. */
+function codesText() {
+  const codes = Object.keys(CODES).filter((code) => CODES[code] !== 'refused').sort();
+  return `codes that may be allowed:\n${wrapped([...codes, 'typescript-N'])}\n\n`;
+}
+
 /** What `COMMAND --help` says. */
 function helpOf(name) {
   const { words, text, more, example } = COMMANDS[name];
   const taken = OPTIONS.filter(({ commands }) => commands.includes(name)).map((it) => entry(shown(it), textFor(it)));
   const about = [`${text[0].toUpperCase()}${text.slice(1)}.`, ...more].join('\n');
-  return `usage: fast-check-ts ${name} [OPTION ..] ${words}\n\n${about}\n\noptions:\n${taken.join('\n')}\n\nexample:\n  ${example}\n\n${ENDS}`;
+  return `usage: fast-check-ts ${name} [OPTION ..] ${words}\n\n${about}\n\noptions:\n${taken.join('\n')}\n\n${name === 'check' ? codesText() : ''}example:\n  ${example}\n\n${ENDS}`;
 }
 
 module.exports = { COMMANDS, OPTIONS, USAGE, helpOf };

@@ -30,6 +30,9 @@ const NEWER_COMPILER = /  info: TypeScript \S+ reads this; a newer one .*\n\n?/;
 // The closing lines, which a test of their own looks at.
 const CLOSING = /^These are slow types(?:.*\n)+?\n/m;
 
+// The version of this tool, which changes.
+const OWN_VERSION = /("name": "fast-check-ts",\s*"version": ")[^"]*/;
+
 let passed = 0;
 const failed = [];
 
@@ -71,15 +74,23 @@ function holds(value, what) {
 
 // ---- the stored packages
 
+// What is run of some packages besides.
+const MORE = {
+  fixed: [['fix', '--dry']],
+  baseline: [['check', '--baseline', 'known.jsonl']],
+  'javascript-entry': [['check', '--max-warnings', '0']],
+  'several-messages': [['check', '--allow', 'missing-explicit-type'], ...['github', 'sarif', 'junit'].map((format) => ['check', '--format', format])],
+};
+
 /** What the commands say of a package; of one where the rules part from TypeScript, and of
  * what can be written instead, what the compiler finds in the skeletons too. */
 async function said(name) {
   const parts = [];
-  const commands = [['check'], ['skeleton'], ...(/^(apart|instead)-/.test(name) ? [['check', '--verify']] : []), ...(name === 'fixed' ? [['fix', '--dry']] : [])];
+  const commands = [['check'], ['skeleton'], ...(/^(apart|instead)-/.test(name) ? [['check', '--verify']] : []), ...(MORE[name] || [])];
   for (const words of commands) {
     const { status, out, err: told } = await run([...words, '.'], { cwd: path.join(PACKAGES, name) });
     const err = told.replace(NEWER_COMPILER, '').replace(ts.version, 'VERSION');
-    parts.push(`$ ${words.join(' ')}: status ${status}\n${out.replace(CLOSING, '')}${err && words[0] !== 'skeleton' ? `$ standard error\n${err}` : ''}`);
+    parts.push(`$ ${words.join(' ')}: status ${status}\n${out.replace(CLOSING, '').replace(OWN_VERSION, '$1VERSION')}${err && words[0] !== 'skeleton' ? `$ standard error\n${err}` : ''}`);
   }
   return parts.join('\n');
 }

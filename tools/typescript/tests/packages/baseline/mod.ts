@@ -1,0 +1,6 @@
+export function added() {
+  return Math.random();
+}
+export function old() {
+  return Math.random();
+}
