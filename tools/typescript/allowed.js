@@ -40,8 +40,8 @@ function isIgnored(message, files) {
 }
 
 /** The messages of a folder without those that are allowed. */
-function withoutAllowed(world, messages, codes = []) {
-  const files = [...world.files.values()].filter(({ text }) => text.includes(WORD));
+function withoutAllowed(world, messages, { allow: codes = [], noIgnore }) {
+  const files = noIgnore ? [] : [...world.files.values()].filter(({ text }) => text.includes(WORD));
   return messages.filter((each) => !codes.includes(each.code) && !(files.length && isIgnored(each, files)));
 }
 

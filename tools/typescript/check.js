@@ -8,7 +8,7 @@ const { FORMATS } = require('./formats.js');
 /** What is told of a folder that was analysed: its messages without those that are allowed or known, and how many these are. */
 function toldOf(world, messages, options, baseline) {
   const found = [...world.warnings, ...messages];
-  const wanted = withoutAllowed(world, found, options.allow);
+  const wanted = withoutAllowed(world, found, options);
   const told = new Set(baseline ? baseline.without(wanted) : wanted);
   const left = (list) => list.filter((each) => told.has(each));
   return {

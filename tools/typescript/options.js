@@ -50,6 +50,7 @@ const OPTIONS = [
   { word: '--json', key: 'json', commands: ['check', 'diff'], text: 'check and diff: one object a line, as --format json' },
   { word: '--max-warnings', value: 'N', key: 'maxWarnings', commands: ['check'], text: 'check: status 1 where there are more warnings than N' },
   { word: '--allow', value: 'CODE', key: 'allow', isList: true, commands: ['check'], text: 'check: leave messages of this code out, and count them; may stand more than once' },
+  { word: '--no-ignore', key: 'noIgnore', commands: ['check'], text: 'check: pass over comments that allow messages' },
   { word: '--baseline', value: 'FILE', key: 'baseline', commands: ['check'], text: 'check: leave out what is in FILE, which an earlier `check --json` has written' },
   { word: '--watch', key: 'watch', commands: ['check'], text: 'check: go on, and check again what changes' },
   { word: '--list-externals', key: 'externals', commands: ['check'], text: 'check: say which imports lead out of the folder, and are not followed' },

@@ -1,5 +1,6 @@
 'use strict';
-// Times `fast-check-ts check` beside `tsc --declaration` on packages of growing size, and says where the time goes.
+// Times `fast-check-ts check` beside `tsc` on packages of growing size: from nothing, with what both keep, once a module has changed, and watching. It says where
+// the time goes.
 //
 //   node tools/typescript/speed.js [MODULES ..]        (10 50 200 where nothing is given)
 //
@@ -14,7 +15,7 @@ const { inputOf } = require('./input.js');
 const { printed } = require('./skeletons.js');
 const { filesOf, part } = require('./analysis.js');
 
-const TOP = path.resolve(__dirname, '../..');
+const LAUNCHER = path.resolve(__dirname, '../../fast-check-ts');
 const RUNS = 3;
 
 /** A module like those of a library: types, a class and functions with bodies, and imports of two others. */
@@ -77,10 +78,11 @@ function writePackage(folder, count) {
 
 const seconds = (since) => Number(process.hrtime.bigint() - since) / 1e9;
 
-/** The least seconds of some runs of a command, which has to end with status 0, and the least of its processor. */
-function best(words) {
+/** The least seconds of some runs of a command, which has to end with status 0, and the least of its processor. `before(run)` is called before each. */
+function best(words, before = () => {}) {
   const least = { seconds: Infinity, processor: Infinity };
   for (let run = 0; run < RUNS; run++) {
+    before(run);
     const begun = process.hrtime.bigint();
     const timed = ['-c', 'TIMEFORMAT="%U %S"; time "$@"', 'bash', ...words];
     const ran = childProcess.spawnSync('bash', timed, { stdio: ['ignore', 'pipe', 'pipe'], encoding: 'utf8' });
@@ -90,6 +92,29 @@ function best(words) {
     least.processor = Math.min(least.processor, user + system);
   }
   return `${least.seconds.toFixed(2)} (processor ${least.processor.toFixed(2)})`;
+}
+
+/** Edits the body of a function of a module, another way each time. */
+function editOne(folder, run) {
+  const file = path.join(folder, 'm0.ts');
+  fs.writeFileSync(file, fs.readFileSync(file, 'utf8').replace(/const sum = /, `void ${run};\n  const sum = `));
+}
+
+/** The least seconds from an edit until `check --watch` has told of it. */
+async function watched(folder) {
+  const child = childProcess.spawn(LAUNCHER, ['check', '--watch', folder], { stdio: ['ignore', 'pipe', 'ignore'] });
+  const ended = () => new Promise((resolve) => child.stdout.on('data', (part) => /\d s\n$|may tell more\n$/.test(part) && resolve()));
+  let least = Infinity;
+  await ended();
+  for (let run = 0; run < RUNS; run++) {
+    await new Promise((resolve) => setTimeout(resolve, 500));
+    const begun = process.hrtime.bigint();
+    editOne(folder, run);
+    await ended();
+    least = Math.min(least, seconds(begun));
+  }
+  child.kill();
+  return least.toFixed(2);
 }
 
 /** The seconds of each part of one run, in this process. */
@@ -109,16 +134,28 @@ async function parts(folder) {
   return times;
 }
 
+/** Times a command from nothing, with what it keeps, and once a module has changed. `forget` takes away what it keeps. */
+function thrice(words, folder, forget) {
+  const cold = best(words, forget);
+  return `from nothing ${cold}, again ${best(words)}, one module changed ${best(words, (run) => editOne(folder, run))}`;
+}
+
 async function measure(count) {
   const folder = fs.mkdtempSync(path.join(os.tmpdir(), 'fast-check-speed-'));
+  const [kept, info] = [path.join(folder, 'kept'), path.join(folder, 'info')];
+  process.env.XDG_CACHE_HOME = kept;
   try {
     writePackage(folder, count);
     const options = ['--declaration', '--emitDeclarationOnly', '--target', 'esnext', '--module', 'esnext', '--moduleResolution', 'node'];
-    const tsc = best(['tsc', ...options, '--outDir', path.join(folder, 'out'), path.join(folder, 'mod.ts')]);
-    const check = best([path.join(TOP, 'fast-check-ts'), 'check', folder]);
-    const where = Object.entries(await parts(folder)).map(([name, each]) => `${name} ${each.toFixed(2)}`).join(', ');
+    const tsc = ['tsc', ...options, '--outDir', path.join(folder, 'out'), path.join(folder, 'mod.ts')];
+    const forget = (folders) => () => folders.forEach((it) => fs.rmSync(it, { recursive: true, force: true }));
     const lines = fs.readFileSync(path.join(folder, 'm0.ts'), 'utf8').split('\n').length;
-    console.log(`${count} modules of ${lines} lines: check ${check}, tsc --declaration ${tsc}; of one run ${where}`);
+    console.log(`${count} modules of ${lines} lines`);
+    console.log(`  check --no-cache ${best([LAUNCHER, 'check', '--no-cache', folder])}; tsc --declaration ${best(tsc)}`);
+    console.log(`  check ${thrice([LAUNCHER, 'check', folder], folder, forget([kept]))}`);
+    console.log(`  tsc --incremental ${thrice([...tsc, '--incremental', '--tsBuildInfoFile', info], folder, forget([info]))}`);
+    console.log(`  check --watch, one module changed ${await watched(folder)}`);
+    console.log(`  of one run ${Object.entries(await parts(folder)).map(([name, each]) => `${name} ${each.toFixed(2)}`).join(', ')}`);
   } finally {
     fs.rmSync(folder, { recursive: true, force: true });
   }

@@ -134,6 +134,7 @@ function leftOut({ run, withFolder, same, holds }) {
       same(status, 1, 'the status');
       same(objects(out).map(({ code, line }) => `${code} ${line}`).join(), 'missing-explicit-return-type 11,missing-explicit-type 12');
       holds(/, 2 messages, 3 allowed, /.test((await told('check', '.')).out), 'the last line counts those that are allowed');
+      holds(/, 5 messages, 0\.00 s/.test((await told('check', '--no-ignore', '.')).out), 'with --no-ignore all are told');
     })],
     ['what keeps a package from being read is not allowed', inside({ 'mod.ts': '// fast-check-ignore syntax-error\nexport const a = ;\n' }, async (told) => same((await told('check', '.')).status, 2, 'the status'))],
     ['a baseline', inside({ 'mod.ts': `${UNTYPED}${UNTYPED.replace('f()', 'g()')}` }, async (told, folder) => {
@@ -247,9 +248,38 @@ function keeping({ run, withFolder, same, holds, PACKAGES }) {
   ];
 }
 
+const TOP = path.resolve(__dirname, '../../..');
+
+/** The examples of a page: the words behind `$ ./fast-check-ts`, and the lines that follow, up to an empty one or the next. */
+function examplesOf(text) {
+  const found = [];
+  let lines = null;
+  for (const line of text.split('\n')) {
+    const [, words] = /^ {4}\$ \.\/fast-check-ts (.*)$/.exec(line) || [];
+    if (words !== undefined) found.push({ words: words.split(' '), lines: (lines = []) });
+    else if (lines && line.startsWith('    ')) lines.push(`${line.slice(4)}\n`);
+    else lines = null;
+  }
+  return found;
+}
+
+/** Tests of the examples of docs/TYPESCRIPT.md. */
+function examples({ run, same, holds }) {
+  const untimed = (text) => text.replace(/, \d+\.\d\d s(?=\n|;)/g, ', 0.00 s');
+  const page = fs.readFileSync(path.join(TOP, 'docs/TYPESCRIPT.md'), 'utf8');
+  const all = examplesOf(page).map(({ words, lines }) => [`the example ${words.join(' ')}`, async () => {
+    same((await run(words, { cwd: TOP })).out, untimed(lines.join('')));
+  }]);
+  return [...all, ['the example of a message', async () => {
+    const { out } = await run(['check', 'examples/package'], { cwd: TOP });
+    holds(untimed(page).includes(`\`\`\`\n${out}\`\`\`\n`), `the page has not\n${out}`);
+    holds(all.length > 2, 'the page has examples');
+  }]];
+}
+
 /** The tests: a name and a call that throws where it fails. */
 function tests(tools) {
-  return [...formats(tools), ...targets(tools), ...leftOut(tools), ...keeping(tools), ...going(tools)];
+  return [...examples(tools), ...formats(tools), ...targets(tools), ...leftOut(tools), ...keeping(tools), ...going(tools)];
 }
 
 module.exports = { tests };
