@@ -221,7 +221,8 @@ function attributes(all) {
 function junitMessage(message, classname) {
   const { file, line, code, level } = plain(message);
   const whole = framed(message, (style, each) => each).join('\n').trimEnd();
-  const inside = level === 'error' ? `<failure${attributes({ type: code, message: message.message })}>${xml(whole)}</failure>` : `<system-out>${xml(whole)}</system-out>`;
+  const failure = `<failure${attributes({ type: code, message: message.message })}>${xml(whole)}</failure>`;
+  const inside = level === 'error' ? failure : `<system-out>${xml(whole)}</system-out>`;
   const name = `${code}${line ? ` at ${file}:${line}` : ''}`;
   return `    <testcase${attributes({ classname, name, file, line })}>${inside}</testcase>`;
 }
@@ -232,7 +233,8 @@ function junitSuite(result, context) {
   const told = new Set(result.messages.map(({ file }) => file));
   const files = result.world ? [...result.world.files.values()].map((file) => shownName(file.path, context.cwd)) : [];
   const passed = files.filter((file) => !told.has(file)).sort();
-  const errors = result.thrown ? [`    <testcase${attributes({ classname: name, name: 'check' })}><error${attributes({ message: result.thrown.message })}/></testcase>`] : [];
+  const error = ({ message }) => `    <testcase${attributes({ classname: name, name: 'check' })}><error${attributes({ message })}/></testcase>`;
+  const errors = result.thrown ? [error(result.thrown)] : [];
   const cases = [
     ...passed.map((file) => `    <testcase${attributes({ classname: name, name: file, file })}/>`),
     ...result.messages.map((each) => junitMessage(each, name)),

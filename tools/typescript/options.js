@@ -49,12 +49,21 @@ const OPTIONS = [
   { word: '--format', value: 'FORMAT', key: 'format', commands: ['check'], text: 'check: text, json, github, sarif or junit' },
   { word: '--json', key: 'json', commands: ['check', 'diff'], text: 'check and diff: one object a line, as --format json' },
   { word: '--max-warnings', value: 'N', key: 'maxWarnings', commands: ['check'], text: 'check: status 1 where there are more warnings than N' },
-  { word: '--allow', value: 'CODE', key: 'allow', isList: true, commands: ['check'], text: 'check: leave messages of this code out, and count them; may stand more than once' },
+  {
+    word: '--allow', value: 'CODE', key: 'allow', isList: true, commands: ['check'],
+    text: 'check: leave messages of this code out, and count them; may stand more than once',
+  },
   { word: '--no-ignore', key: 'noIgnore', commands: ['check'], text: 'check: pass over comments that allow messages' },
-  { word: '--baseline', value: 'FILE', key: 'baseline', commands: ['check'], text: 'check: leave out what is in FILE, which an earlier `check --json` has written' },
+  {
+    word: '--baseline', value: 'FILE', key: 'baseline', commands: ['check'],
+    text: 'check: leave out what is in FILE, which an earlier `check --json` has written',
+  },
   { word: '--watch', key: 'watch', commands: ['check'], text: 'check: go on, and check again what changes' },
   { word: '--list-externals', key: 'externals', commands: ['check'], text: 'check: say which imports lead out of the folder, and are not followed' },
-  { word: '--verify', key: 'verify', commands: ['check'], text: "check: have TypeScript's compiler check the skeletons, and tell what it finds there and not in the source" },
+  {
+    word: '--verify', key: 'verify', commands: ['check'],
+    text: "check: have TypeScript's compiler check the skeletons, and tell what it finds there and not in the source",
+  },
   { word: '--no-cache', key: 'noCache', commands: ALL, text: 'keep nothing between runs, and use nothing that was kept' },
   { word: '--dry', key: 'dry', commands: ['fix'], text: 'fix: show the changes, and write nothing' },
   { word: '--markdown', key: 'markdown', commands: ['diff'], text: 'diff: a text for a pull request' },
@@ -111,7 +120,8 @@ function helpOf(name) {
   const { words, text, more, example } = COMMANDS[name];
   const taken = OPTIONS.filter(({ commands }) => commands.includes(name)).map((it) => entry(shown(it), textFor(it)));
   const about = [`${text[0].toUpperCase()}${text.slice(1)}.`, ...more].join('\n');
-  return `usage: fast-check-ts ${name} [OPTION ..] ${words}\n\n${about}\n\noptions:\n${taken.join('\n')}\n\n${name === 'check' ? codesText() : ''}example:\n  ${example}\n\n${ENDS}`;
+  const codes = name === 'check' ? codesText() : '';
+  return `usage: fast-check-ts ${name} [OPTION ..] ${words}\n\n${about}\n\noptions:\n${taken.join('\n')}\n\n${codes}example:\n  ${example}\n\n${ENDS}`;
 }
 
 module.exports = { COMMANDS, OPTIONS, USAGE, helpOf };

@@ -1,6 +1,8 @@
 'use strict';
-// Checks one folder after another in one process, which keeps the compiler: for tools/registry, whose packages are strangers', so that no compiler of theirs is
-// run, no comment of theirs allows anything, and nothing is kept of them. A line in is `{"dir": FOLDER}`, and the line out for it `{"status", "messages", "said"}`; `said` is what stands on standard error.
+// Checks one folder after another in one process, which keeps the compiler: for tools/registry, whose packages are strangers'. So no compiler of theirs is run,
+// no comment of theirs allows anything, and nothing is kept of them.
+//
+// A line in is `{"dir": FOLDER}`, and the line out for it `{"status", "messages", "said"}`; `said` is what stands on standard error.
 const readline = require('readline');
 const { main } = require('./cli.js');
 

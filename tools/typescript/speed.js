@@ -1,6 +1,6 @@
 'use strict';
-// Times `fast-check-ts check` beside `tsc` on packages of growing size: from nothing, with what both keep, once a module has changed, and watching. It says where
-// the time goes.
+// Times `fast-check-ts check` beside `tsc` on packages of growing size: from nothing, with what both keep, once a module has changed, and watching. It says
+// where the time goes.
 //
 //   node tools/typescript/speed.js [MODULES ..]        (10 50 200 where nothing is given)
 //

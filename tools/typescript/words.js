@@ -71,7 +71,8 @@ function fit(command, options) {
   for (const { word, key, commands } of OPTIONS) {
     if (options[key] !== undefined && !commands.includes(command)) throw new UsageError(`${word} is not for ${command}`);
   }
-  if (options.json && options.format && options.format !== 'json') throw new UsageError(`--json is --format json, and --format ${options.format} is asked for too`);
+  const isOther = options.format !== undefined && options.format !== 'json';
+  if (options.json && isOther) throw new UsageError(`--json is --format json, and --format ${options.format} is asked for too`);
   if (options.watch && DOCUMENTS.includes(options.format)) throw new UsageError(`--watch does not go with --format ${options.format}, which is one document`);
 }
 
@@ -87,7 +88,9 @@ function parse(words) {
   if (rest.length < least) throw new UsageError(`${command} wants ${least === 1 ? 'a folder' : 'two words'}`);
   if (rest.length > most) throw new UsageError(`${command} does not take the word ${rest[most]}`);
   fit(command, options);
-  for (const [key, read] of Object.entries(READ)) if (options[key] !== undefined) options[key] = Array.isArray(options[key]) ? options[key].map(read) : read(options[key]);
+  for (const [key, read] of Object.entries(READ)) {
+    if (options[key] !== undefined) options[key] = key === 'allow' ? options.allow.map(read) : read(options[key]);
+  }
   if (options.json && command === 'check') options.format = 'json';
   return { command, rest, options };
 }

@@ -18,12 +18,13 @@ function objects(out) {
 }
 
 /** Tests of what is written. */
-function formats({ run, withFolder, same, holds }) {
+function formats({ run, same, holds }) {
   const wanted = async () => objects((await run(['check', '--json', ...FOLDERS])).out);
   const places = (all) => all.map(({ code, file, line, column }) => [code, file, line, column].join(' ')).join('\n');
   return [
     ['--format json is --json', async () => {
-      const [one, other] = [await run(['check', '--json', '--list-externals', ...FOLDERS]), await run(['check', '--format', 'json', '--list-externals', ...FOLDERS])];
+      const said = (...format) => run(['check', ...format, '--list-externals', ...FOLDERS]);
+      const [one, other] = [await said('--json'), await said('--format', 'json')];
       same(JSON.stringify(one), JSON.stringify(other));
       same(one.status, 2, 'the status');
     }],
@@ -38,7 +39,9 @@ function formats({ run, withFolder, same, holds }) {
     }],
     ['--format sarif', async () => {
       const { results, invocations } = sarifRun((await run(['check', '--format=sarif', ...FOLDERS])).out);
-      const placeOf = ({ physicalLocation: { artifactLocation: { uri: file }, region = {} } }) => ({ file, line: region.startLine, column: region.startColumn });
+      const placeOf = ({ physicalLocation: { artifactLocation, region = {} } }) => ({
+        file: artifactLocation.uri, line: region.startLine, column: region.startColumn,
+      });
       same(places(results.map(({ ruleId, locations: [each] }) => ({ code: ruleId, ...placeOf(each) }))), places(await wanted()));
       same(JSON.stringify(invocations.map((each) => [each.executionSuccessful, each.toolExecutionNotifications.length])), '[[false,1]]');
     }],
@@ -50,6 +53,13 @@ function formats({ run, withFolder, same, holds }) {
       same(failures.map(({ attributes: { type, message } }) => `${type} ${message}`).join('\n'), messages.join('\n'));
       holds(failures.every(({ text }) => text.includes('error[')), 'the whole message stands in each');
     }],
+  ];
+}
+
+/** Tests of what formats write otherwise, or leave out. */
+function escapes({ run, withFolder, same }) {
+  const places = (all) => all.map(({ code, file, line, column }) => [code, file, line, column].join(' ')).join('\n');
+  return [
     ['names and texts that formats write otherwise', () => withFolder(async (folder) => {
       const name = 'a,b:c%0A&"<é 日>.ts';
       write(folder, { 'deno.json': CONFIG, 'mod.ts': `export * from ${JSON.stringify(`./${name}`)};`, [name]: `import "]]>&%25\x01::error::";\n${UNTYPED}` });
@@ -79,7 +89,9 @@ function targets({ run, withFolder, same, holds }) {
       holds(out.includes('--> missing-type/mod.ts:') && err.includes('syntax-error cannot be read'), out + err);
       holds(/\n3 folders, 2 files, 1 public module, \d+ messages, 0\.00 s\n$/.test(out), out);
     }],
-    ['a folder that is named twice is checked once', async () => same((await run(['check', 'variables', './variables/'])).out, '1 file, 1 public module, 0 messages, 0.00 s\n')],
+    ['a folder that is named twice is checked once', async () => {
+      same((await run(['check', 'variables', './variables/'])).out, '1 file, 1 public module, 0 messages, 0.00 s\n');
+    }],
     ['a file as an entry point', () => withFolder(async (folder) => {
       write(folder, { 'deno.json': CONFIG, 'mod.ts': TYPED, 'src/b.ts': 'export * from "../c.ts";', 'c.ts': UNTYPED, 'src/d.ts': UNTYPED });
       const told = async (...words) => (await run(['check', ...words], { cwd: folder })).out;
@@ -110,12 +122,17 @@ export function g() { return Math.max(2); }
 export const last = Math.max(1); // fast-check-ignore missing-explicit-type
 `;
 
-/** Tests of what is left out. */
-function leftOut({ run, withFolder, same, holds }) {
-  const inside = (files, body) => () => withFolder(async (folder) => {
+/** A test in a folder with some files. */
+function insideOf({ run, withFolder }) {
+  return (files, body) => () => withFolder(async (folder) => {
     write(folder, { 'deno.json': CONFIG, ...files });
     await body((...words) => run(words, { cwd: folder }), folder);
   });
+}
+
+/** Tests of what is left out. */
+function leftOut({ run, withFolder, same, holds }) {
+  const inside = insideOf({ run, withFolder });
   return [
     ['warnings alone are no error', inside({ 'mod.ts': 'import "a";\nimport "b";\nexport {};\n' }, async (told) => {
       same((await told('check', '.')).status, 0, 'the status');
@@ -127,7 +144,8 @@ function leftOut({ run, withFolder, same, holds }) {
       const { status, out } = await told('check', '--allow', 'missing-explicit-type', '--allow=unresolved-import', '.');
       same(status, 1, 'the status');
       holds(!out.includes('[missing-explicit-type]') && out.includes('[missing-explicit-return-type]') && /, 1 message, 2 allowed, 0\.00 s\n$/.test(out), out);
-      same((await told('check', '--json', '--allow', 'missing-explicit-type', '--allow=missing-explicit-return-type', '.')).status, 0, 'the status where all are allowed');
+      const all = await told('check', '--json', '--allow', 'missing-explicit-type', '--allow=missing-explicit-return-type', '.');
+      same(all.status, 0, 'the status where all are allowed');
     })],
     ['comments above declarations', inside({ 'mod.ts': IGNORED }, async (told) => {
       const { status, out } = await told('check', '--json', '.');
@@ -136,7 +154,16 @@ function leftOut({ run, withFolder, same, holds }) {
       holds(/, 2 messages, 3 allowed, /.test((await told('check', '.')).out), 'the last line counts those that are allowed');
       holds(/, 5 messages, 0\.00 s/.test((await told('check', '--no-ignore', '.')).out), 'with --no-ignore all are told');
     })],
-    ['what keeps a package from being read is not allowed', inside({ 'mod.ts': '// fast-check-ignore syntax-error\nexport const a = ;\n' }, async (told) => same((await told('check', '.')).status, 2, 'the status'))],
+    ['what keeps a package from being read is not allowed', inside({ 'mod.ts': '// fast-check-ignore syntax-error\nexport const a = ;\n' }, async (told) => {
+      same((await told('check', '.')).status, 2, 'the status');
+    })],
+  ];
+}
+
+/** Tests of what is known, and of the closing lines. */
+function known({ run, withFolder, same, holds }) {
+  const inside = insideOf({ run, withFolder });
+  return [
     ['a baseline', inside({ 'mod.ts': `${UNTYPED}${UNTYPED.replace('f()', 'g()')}` }, async (told, folder) => {
       const file = path.join(folder, 'known.jsonl');
       fs.writeFileSync(file, (await told('check', '--json', '--list-externals', '.')).out);
@@ -184,7 +211,7 @@ function going({ withFolder, same, LAUNCHER }) {
         [() => fs.writeFileSync(path.join(folder, 'a.ts'), UNTYPED), /a\.ts changed\n[^]*\n2 files, 1 read again, 2 messages, /],
         [() => fs.writeFileSync(path.join(folder, 'note.txt'), ''), /^\n$/],
         [() => write(folder, { 'deno.json': CONFIG, 'new/b.ts': 'export const b: 1 = 1;\n' }), /\n3 files, [01] read again, 1 message, /],
-        [() => fs.writeFileSync(path.join(folder, 'a.ts'), 'export const a: string = "";\n'), /a\.ts changed\n3 files, 1 read again, 3 public modules, 0 messages, /],
+        [() => fs.writeFileSync(path.join(folder, 'a.ts'), `\n${TYPED}`), /a\.ts changed\n3 files, 1 read again, 3 public modules, 0 messages, /],
         [() => fs.writeFileSync(path.join(folder, 'deno.json'), '{'), /cannot be read\n/],
         [() => fs.writeFileSync(path.join(folder, 'deno.json'), CONFIG), /3 files, 0 read again, 3 public modules, 0 messages, /],
       ];
@@ -203,7 +230,10 @@ function going({ withFolder, same, LAUNCHER }) {
 
 /** Tests of what is kept between runs. */
 function keeping({ run, withFolder, same, holds, PACKAGES }) {
-  const entries = (folder) => fs.readdirSync(folder, { recursive: true, withFileTypes: true }).filter((it) => it.isFile() && it.name !== 'tidied').map((it) => path.join(it.parentPath || it.path, it.name));
+  const entries = (folder) => fs.readdirSync(folder, { withFileTypes: true }).flatMap((it) => {
+    const at = path.join(folder, it.name);
+    return it.isDirectory() ? entries(at) : it.name === 'tidied' ? [] : [at];
+  });
   const all = fs.readdirSync(PACKAGES);
   const said = async (name, environment, commands = [['check', '--json', '--list-externals'], ['skeleton'], ['input']]) => {
     const parts = [];
@@ -226,7 +256,8 @@ function keeping({ run, withFolder, same, holds, PACKAGES }) {
       const environment = { XDG_CACHE_HOME: folder };
       const without = await said('re-exports', {});
       await said('re-exports', environment);
-      const damages = [(text) => text.slice(0, -1), () => '', (text) => text.replace('sources', 'source5'), () => '{}', (text) => `${text.split('\n')[0]}\nnull`];
+      const cut = [(text) => text.slice(0, -1), () => '', () => '{}', (text) => `${text.split('\n')[0]}\nnull`];
+      const damages = [...cut, (text) => text.replace('sources', 'source5')];
       for (const damage of damages) {
         for (const file of entries(folder)) fs.writeFileSync(file, damage(fs.readFileSync(file, 'utf8')));
         same(await said('re-exports', environment), without, `what comes of ${damage}`);
@@ -279,7 +310,7 @@ function examples({ run, same, holds }) {
 
 /** The tests: a name and a call that throws where it fails. */
 function tests(tools) {
-  return [...examples(tools), ...formats(tools), ...targets(tools), ...leftOut(tools), ...keeping(tools), ...going(tools)];
+  return [...examples(tools), ...formats(tools), ...escapes(tools), ...targets(tools), ...leftOut(tools), ...known(tools), ...keeping(tools), ...going(tools)];
 }
 
 module.exports = { tests };
