@@ -21,9 +21,11 @@ function memberNames({ TsEnum: node }) {
 /** Whether a skeleton keeps a value that has the name of another one in it, as a constant, in place of a type. */
 function keepsName(tree, own = new Set()) {
   if (tree === null || typeof tree !== 'object') return false;
+  // A list of numbers is a place, of which a tree has many.
+  if (Array.isArray(tree)) return typeof tree[0] !== 'number' && tree.some((each) => keepsName(each, own));
   if (VALUES.some((key) => hasName(tree[key], own))) return true;
   const names = tree.TsEnum ? memberNames(tree) : own;
-  return Object.entries(tree).some(([key, each]) => !PASSED_OVER.has(key) && keepsName(each, names));
+  return Object.keys(tree).some((key) => typeof tree[key] === 'object' && !PASSED_OVER.has(key) && keepsName(tree[key], names));
 }
 
 /** Whether a source imports a module for its effects alone, which may change the types of others, or refers to one by a comment. */
