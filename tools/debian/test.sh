@@ -138,7 +138,7 @@ installs_afresh() {
   mirror=$(apt-get indextargets --format '$(REPO_URI)' 'Identifier: Packages' 'Origin: Debian' 'Component: main' | grep -v security | sort -u | head -n 1)
   debootstrap --variant=minbase bookworm "$fresh" "$mirror" && cp "$made"/first/*.deb "$fresh/nagdrez.deb" &&
     DEBIAN_FRONTEND=noninteractive chroot "$fresh" apt-get install -y -q --no-install-recommends /nagdrez.deb < /dev/null &&
-    ends_with 1 "4 files, 1 message" chroot "$fresh" fast-check-ts check /usr/share/doc/nagdrez/examples/package &&
+    ends_with 1 "4 files, 1 message" chroot "$fresh" fast-check-ts check --no-cache /usr/share/doc/nagdrez/examples/package &&
     ends_with 0 "fast-check-ts $(< "$top/VERSION")" chroot "$fresh" fast-check-ts --version &&
     chroot "$fresh" apt-get purge -y -q nagdrez && [ -z "$(find "$fresh" -path "$fresh/proc" -prune -o -name '*fast-check*' -print -o -name 'nagdrez' -print)" ]
 }

@@ -12,6 +12,11 @@ class JsonText {
   }
 }
 
+/** A value, of one that is JSON already what it says. */
+function valueOf(value) {
+  return value instanceof JsonText ? value.toJSON() : value;
+}
+
 function textOf(value) {
   return value instanceof JsonText ? value.text : JSON.stringify(value);
 }
@@ -32,4 +37,4 @@ function requestText(request) {
   return objectText(request, (value, name) => (name === 'modules' ? `[${value.map(moduleText).join(',')}]` : JSON.stringify(value)));
 }
 
-module.exports = { JsonText, requestText };
+module.exports = { JsonText, requestText, valueOf };
