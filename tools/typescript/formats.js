@@ -103,10 +103,11 @@ const text = {
 
   end(results, options, context) {
     if (results.every(({ thrown }) => thrown)) return;
-    for (const line of closing(results)) context.out.write(`${line}\n`);
+    const why = closing(results);
+    for (const line of why) context.out.write(`${line}\n`);
     const { mayTellMore } = require('./apart.js');
     const more = !options.verify && results.some(({ world }) => world && mayTellMore(world)) ? '; --verify may tell more' : '';
-    context.out.write(`${closing(results).length ? '\n' : ''}${summary(results, context)}${more}\n`);
+    context.out.write(`${why.length ? '\n' : ''}${summary(results, context)}${more}\n`);
   },
 };
 
@@ -123,8 +124,6 @@ const json = {
 };
 
 // ---- GitHub: the commands of a workflow, `::error file=..,line=..::message`
-
-const LEVELS = { error: 'error', warning: 'warning' };
 
 /** A text as the value of a command. */
 function escapedValue(value) {
@@ -147,7 +146,7 @@ const github = {
   result({ messages, world, thrown }, options, context) {
     for (const each of messages.map(located)) {
       const lines = [each.message, ...(each.hint ? [`hint: ${each.hint}`] : []), ...each.info, ...(each.docs ? [each.docs] : [])];
-      context.out.write(`${githubLine(LEVELS[each.level], each, lines.map(visible).join('\n'))}\n`);
+      context.out.write(`${githubLine(each.level, each, lines.map(visible).join('\n'))}\n`);
     }
     for (const line of world ? notesOf(world, options, context.cwd) : []) context.out.write(`${githubLine('notice', {}, line)}\n`);
     if (thrown) context.out.write(`${githubLine('error', {}, thrown.message)}\n`);

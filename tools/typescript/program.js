@@ -6,6 +6,9 @@ const os = require('os');
 const path = require('path');
 const { requestText } = require('./request.js');
 
+// How the folder of the program's input is named, which is removed again.
+const FOLDER = 'fast-check-ts-';
+
 const TOP = path.resolve(__dirname, '../..');
 
 /** What the program refuses, or that it is not there. `status` is the status that the command ends with. */
@@ -59,7 +62,7 @@ function textOf(request) {
 
 /** The answers of the program to a request: a list of `[specifier, {Ok | Err}]`. */
 async function build(request, { unproved, environment, tell }) {
-  const folder = fs.mkdtempSync(path.join(os.tmpdir(), 'fast-check-ts-'));
+  const folder = fs.mkdtempSync(path.join(os.tmpdir(), FOLDER));
   const remove = () => fs.rmSync(folder, { recursive: true, force: true });
   const stop = (signal) => {
     remove();
@@ -80,4 +83,4 @@ async function build(request, { unproved, environment, tell }) {
   }
 }
 
-module.exports = { ProgramError, build };
+module.exports = { FOLDER, ProgramError, build };

@@ -4,6 +4,7 @@ const fs = require('fs');
 const path = require('path');
 const { shownName } = require('./analysis.js');
 const { isInside, mediaTypeOf } = require('./files.js');
+const { FOLDER } = require('./program.js');
 
 // How long nothing has to change before it is checked again, in milliseconds: an editor writes a file in several steps.
 const QUIET = 30;
@@ -80,7 +81,8 @@ class Changes {
 
 /** Whether a change may change the answer: of a module, of a configuration, or of a folder. */
 function isRelevant(at, watched) {
-  if (path.basename(at).startsWith('.')) return false;
+  const name = path.basename(at);
+  if (name.startsWith('.') || name.startsWith(FOLDER)) return false;
   if (watched.has(at) || mediaTypeOf(at) !== 'Unknown') return true;
   const found = fs.statSync(at, { throwIfNoEntry: false });
   return Boolean(found) && found.isDirectory();

@@ -190,7 +190,7 @@ function until(child, said, pattern) {
   return new Promise((resolve, reject) => {
     const look = () => {
       if (pattern.test(said.text)) resolve(Date.now() - begun);
-      else if (Date.now() - begun > 30000) reject(new Error(`no ${pattern} comes of\n${said.text}`));
+      else if (Date.now() - begun > 120000) reject(new Error(`no ${pattern} comes of\n${said.text}`));
       else setTimeout(look, 10);
     };
     child.once('exit', (status) => reject(new Error(`it ended with ${status}:\n${said.text}`)));
@@ -198,13 +198,15 @@ function until(child, said, pattern) {
   });
 }
 
-/** Tests of checks that go on. */
+/** Tests of checks that go on. The program's input lies in the folder that is watched. */
 function going({ withFolder, same, LAUNCHER }) {
   return [['--watch', () => withFolder(async (folder) => {
     write(folder, { 'deno.json': CONFIG, 'mod.ts': 'export * from "./a.ts";\nexport * from "./new/b.ts";\n', 'a.ts': TYPED });
-    const child = childProcess.spawn(LAUNCHER, ['check', '--watch', '--no-cache', '.'], { cwd: folder });
-    const said = { text: '' };
-    for (const stream of [child.stdout, child.stderr]) stream.on('data', (part) => (said.text += part));
+    const options = { cwd: folder, env: { ...process.env, TMPDIR: folder } };
+    const child = childProcess.spawn(LAUNCHER, ['check', '--watch', '--no-cache', '.'], options);
+    const said = { text: '', all: '' };
+    const tell = (part) => Object.assign(said, { text: said.text + part, all: said.all + part });
+    for (const stream of [child.stdout, child.stderr]) stream.on('data', tell);
     try {
       const steps = [
         [() => {}, /there is no module '\.\/new\/b\.ts'[^]*\n2 files, 2 public modules, 1 message, /],
@@ -220,7 +222,9 @@ function going({ withFolder, same, LAUNCHER }) {
         change();
         await until(child, said, wanted);
       }
-      same(said.text.includes('note.txt'), false, 'whether a file that is no module is told');
+      const [last] = [said.all, await new Promise((resolve) => setTimeout(resolve, 300))];
+      same(said.all, last, 'what is told while nothing changes');
+      same(said.all.includes('note.txt'), false, 'whether a file that is no module is told');
     } finally {
       child.removeAllListeners('exit');
       child.kill();
