@@ -77,7 +77,7 @@ const WIDTH = 23;
 const entry = (words, text) => `  ${words.padEnd(WIDTH - 1)} ${text}`;
 const shown = ({ word, value }) => (value ? `${word} ${value}` : word);
 
-const ENDS = `It ends with 0 where there is nothing to tell but warnings, 1 where there are errors or differences, 2 where something cannot be read,
+const ENDS = `It ends with 0 where there is nothing to report but warnings, 1 where there are errors or differences, 2 where something cannot be read,
 3 where memory ran out, 5 where the program is not there, and 70 where this tool itself is at fault.
 `;
 
