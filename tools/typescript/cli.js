@@ -114,16 +114,27 @@ async function check([word], options, context) {
   return statusOf(world, messages);
 }
 
+/** Some skeletons of a folder and its declaration files. Why others have none is added to the folder's messages. */
+function declared(world, skeletons, { cwd }) {
+  const { shownName } = require('./analysis.js');
+  const { declarationFiles } = require('./declaration_files.js');
+  const { files, messages } = declarationFiles(world, (file) => shownName(file, cwd));
+  world.messages.push(...messages);
+  const names = new Set(files.map((it) => it.name));
+  return [...skeletons.filter((it) => !names.has(it.name)), ...files];
+}
+
 /** The printed skeletons of a folder; its messages go to standard error. */
 async function skeletonsOf(word, options, context) {
   const { analyse } = require('./analysis.js');
   const { printed } = require('./skeletons.js');
   const world = await analyse(folderOf(word, context), options, context);
   context.progress.begin('printing');
-  const skeletons = printed(world);
+  const skeletons = options.dts ? [] : printed(world);
+  const texts = options.dts || options.withDts ? declared(world, skeletons, context) : skeletons;
   context.progress.end();
   writeMessages(messagesOf(world), {}, { out: context.err, paint: context.paintErrors });
-  return { world, skeletons };
+  return { world, skeletons: texts };
 }
 
 async function skeleton([word, out], options, context) {

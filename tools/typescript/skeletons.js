@@ -53,4 +53,4 @@ function write(folder, skeletons) {
   }
 }
 
-module.exports = { joined, printed, write };
+module.exports = { joined, printed, printedModule, write };
