@@ -221,7 +221,7 @@ function declarationName(name) {
 /** Why a module has no declaration file, as messages. */
 function untoldMessages(untold, file, shown) {
   return untold.map(({ span, message }) => ({
-    level: 'Error', code: 'untold-type', message: `a declaration file has no value here, and ${message}`, hint: 'write its type', info: [],
+    level: 'Error', code: 'untold-type', message: `a declaration file wants a type here: ${message}`, hint: 'write its type', info: [],
     specifier: file.specifier, file: shown, lines: file.lines, start: file.lines.offset(span[0]), end: file.lines.offset(span[1]),
   }));
 }

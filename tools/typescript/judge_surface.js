@@ -131,6 +131,7 @@ function plainly(node) {
     if (at.kind === K.ObjectBindingPattern) return ts.factory.createObjectBindingPattern([]);
     if (at.kind === K.ArrayBindingPattern) return ts.factory.createArrayBindingPattern([]);
     if (MEMBERS.has(at.kind) && isPrivate(at)) return withoutType(at);
+    if (ts.isParameter(at) && at.name.kind !== K.Identifier) return visit(context)(namedParameter(at));
     if (at.kind === K.ParenthesizedType) return visit(context)(at.type);
     // Literals by their values, however they are written.
     if (at.kind === K.StringLiteral) return ts.factory.createStringLiteral(at.text);
@@ -142,6 +143,12 @@ function plainly(node) {
     return made.kind === K.TypeReference ? arrayOf(made) : made;
   };
   return ts.transform(node, [visit]).transformed[0];
+}
+
+/** A parameter that is a pattern, by a name. */
+function namedParameter(node) {
+  const name = `param${node.parent.parameters.indexOf(node)}`;
+  return ts.factory.createParameterDeclaration(undefined, node.dotDotDotToken, name, node.questionToken, node.type);
 }
 
 const MEMBERS = new Set([K.PropertyDeclaration, K.MethodDeclaration, K.GetAccessor, K.SetAccessor]);
@@ -194,6 +201,7 @@ class Surface {
     this.files = files;
     this.seen = new Set();
     this.shown = new Map();
+    this.nodes = new Map();
     this.lost = new Set();
   }
 
@@ -265,6 +273,7 @@ class Surface {
     const key = this.keyOf(node);
     if (!this.shown.has(key)) this.shown.set(key, new Set());
     this.shown.get(key).add(normalise(declarationText(node)));
+    this.nodes.set(key, [...(this.nodes.get(key) || []), node]);
     this.references(node);
   }
 

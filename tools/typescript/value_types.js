@@ -104,9 +104,9 @@ function operation({ op, left, right }) {
 }
 
 /**
- * Types of values in one scope. `scope.find(name)` says what a value that is a name stands for: `{form, ..}`, with the forms `typed` (with its `type`), `value`
- * (a constant without a written type: its `value` and its own `scope`), `member` of an enum, `other` (a class, a function, a namespace, a variable that is global), or
- * `unknown`, as what another package declares.
+ * Types of values in one scope. `scope.find(name)` says what a value that is a name stands for: `{form, ..}`, with the forms `typed` (with its `type`, which `isSaid`
+ * says may stand in its place), `value` (a constant without a written type: its `value` and its own `scope`), `member` of an enum, `other` (a class, a function, a
+ * namespace, a variable that is global), or `unknown`, as what another package declares.
  */
 class ValueTypes {
   constructor(scope) {
@@ -184,6 +184,8 @@ class ValueTypes {
     const span = print.variantOf(value)[1].span;
     if (!name) throw new Untold(span, 'the type of a member of a value that has no name');
     const found = this.scope.find(value);
+    if (found.isSaid) return found.type;
+    if (found.form === 'member' && holder !== WIDE) return reference(name);
     if (holder !== WIDE || found.form === 'other') return query(name);
     if (found.form === 'typed') return isUnique(found.type) ? keyword('Symbol') : query(name);
     if (found.form === 'value') return new ValueTypes(found.scope).again(found.value, name, span);
@@ -218,22 +220,22 @@ class ValueTypes {
     return { TsFnOrConstructorType: { TsFnType: { span: NONE, params: this.parameters(params || []), type_params, type_ann } } };
   }
 
-  /** Parameters without values: one with a default may be left out, where all behind it may. */
+  /** Parameters without values: one with a default may be left out, where all behind it may. A pattern that may be undefined cannot stand, and a name does. */
   parameters(list) {
     const patterns = list.map((it) => it.pat || it);
     const mayGo = (it) => it.Assign || it.Rest || (it.Ident && it.Ident.id.optional) || (it.Object || it.Array || {}).optional;
     return patterns.map((it, place) => {
-      const made = it.Assign ? this.withoutDefault(it.Assign, patterns.slice(place).every(mayGo)) : it;
+      const made = it.Assign ? this.withoutDefault(it.Assign, patterns.slice(place).every(mayGo), `param${place}`) : it;
       return list[place].pat ? { ...list[place], pat: made } : made;
     });
   }
 
-  withoutDefault({ left, right }, isOptional) {
+  withoutDefault({ left, right }, isOptional, name) {
     const [variant, node] = print.variantOf(left);
     const written = node.type_ann ? node.type_ann.type_ann : this.of(right, WIDE);
     const type_ann = annotated(isOptional ? written : unionOf([written, keyword('Undefined')]));
-    if (variant !== 'Ident') return { [variant]: { ...node, optional: isOptional, type_ann } };
-    return { Ident: { ...node, id: { ...node.id, optional: isOptional }, type_ann } };
+    const id = variant === 'Ident' ? node.id : { span: node.span, ctxt: 0, sym: name };
+    return { Ident: { id: { ...id, optional: isOptional }, type_ann } };
   }
 
   // ---- arrays and objects
