@@ -190,6 +190,7 @@ class Declarations {
 
   member(choice) {
     const [variant, node] = only(choice);
+    if (node.key && this.scope.isAnyKey(node.key)) return null;
     const made = this.attempt(() => (this[`member${variant}`] ? this[`member${variant}`](node) : node));
     return made && { [variant]: made };
   }

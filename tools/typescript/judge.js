@@ -21,7 +21,6 @@ const { Progress } = require('./progress');
 const { packagesBelow } = require('./sweep');
 const { parse } = require('./tree');
 const { programOf, resolverOf, declarationName, emitted, surfaceOf, compared, errorsIn, takeLooseTypes } = require('./judge_surface');
-
 const { judgeDeclarations } = require('./judge_declarations');
 
 const TOP = path.resolve(__dirname, '../..');
@@ -159,15 +158,15 @@ async function judge(dir, exports, work) {
   const skeletons = skeletonTexts(asked);
   const [source, skeleton] = [asked.programOf(sourceTexts), asked.programOf(skeletons)];
   const entries = asked.info.packages.flatMap((it) => it.exports.map(([, file]) => path.resolve(it.dir, file)));
+  const made = (program, texts) => ([...texts.keys()].every((it) => /\.d\.[cm]?ts$/.test(it)) ? texts : emitted(program, texts));
   const shown = (program, texts) => {
-    const isDeclared = [...texts.keys()].every((it) => /\.d\.[cm]?ts$/.test(it));
-    const made = isDeclared ? texts : emitted(program, texts);
-    return surfaceOf(isDeclared ? program : asked.programOf(made), made, entries.map(declarationName));
+    const all = made(program, texts);
+    return surfaceOf(all === texts ? program : asked.programOf(all), all, entries.map(declarationName));
   };
   const [before, after] = [shown(source, sourceTexts), shown(skeleton, skeletons)];
-  const view = { declared: after, source: before, texts: skeletons, entries, programOf: asked.programOf, skeletonProgram: skeleton };
+  const view = { source: before, skeletons, entries, programOf: asked.programOf, skeletonProgram: skeleton };
   return {
-    ...(isDeclaring ? { dts: judgeDeclarations(asked.world, view) } : {}),
+    ...(isDeclaring ? { dts: judgeDeclarations(asked.world, { ...view, declared: made(skeleton, skeletons) }) } : {}),
     way,
     codes,
     modules: asked.info.modules.length,

@@ -27,23 +27,40 @@ function isAlike(key, one, other) {
   return types(one) === types(other);
 }
 
-/**
- * Compares: `world` is a folder with its `skeletons`, `declared` what the compiler declares for these, `source` what for the sources, `texts` the skeletons by their paths.
- * A declaration counts as the same where its text is, or the types in it; where the skeleton parts from the source, it may be as the source's too.
- */
-function judgeDeclarations(world, { declared, source, texts, entries, programOf, skeletonProgram }) {
-  const { files, messages } = declarationFiles({ ...world, files: filesOf(world.info, world.dir) }, (file) => file);
-  const paths = new Map(world.info.modules.map((it) => [it.specifier, it.path]));
-  const made = new Map(files.map((it) => [declarationName(paths.get(it.specifier)), it.text]));
-  for (const [name, text] of texts) if (name.endsWith('.json')) made.set(name, text);
-  const program = programOf(made);
-  const known = new Set([...texts.keys()].flatMap((name) => errorsIn(skeletonProgram, name).map((it) => `${it.code} ${it.text}`)));
-  const errors = [...made.keys()].flatMap((name) => errorsIn(program, name).map((it) => `${it.code} ${it.text}`)).filter((it) => !known.has(it));
-  const shown = messages.length ? null : surfaceOf(program, made, entries.map(declarationName));
-  const apart = shown ? compared(declared, shown).filter(({ key }) => !isAlike(key, declared, shown)) : [];
-  const asSource = apart.filter(({ key }) => isAlike(key, source, shown));
-  const differ = apart.filter((it) => !asSource.includes(it)).map(({ key, missing, added }) => ({ key: key.replace(/^.*\//, ''), skeleton: missing, file: added }));
-  return { files: files.length, untold: messages.map((it) => it.message), errors, asSource: asSource.length, differ };
+/** What the compiler finds wrong in some files of a program, as it says it. */
+function errorsOf(program, names) {
+  return [...names].flatMap((name) => errorsIn(program, name).map((it) => ({ name, text: `${it.code} ${it.text}` })));
 }
 
-module.exports = { judgeDeclarations };
+/**
+ * Compares the declaration files `made` with what the compiler declares for the `skeletons`, `declared`, all by their paths: the errors that the skeletons have
+ * not, and the declarations that differ, by their texts and by the types in them.
+ */
+function judged({ made, declared, skeletons, skeletonProgram, entries, programOf }) {
+  const program = programOf(made);
+  const known = new Set(errorsOf(skeletonProgram, skeletons.keys()).map((it) => it.text));
+  const errors = errorsOf(program, made.keys()).filter((it) => !known.has(it.text));
+  const [before, shown] = [surfaceOf(programOf(declared), declared, entries), surfaceOf(program, made, entries)];
+  // Of a module with an error in its declarations the compiler emits none.
+  const stems = new Set([...declared.keys()].map((it) => it.replace(/(\.d)?\.[cm]?tsx?$/, '')));
+  const isDeclared = ({ key }) => stems.has(key.slice(0, key.lastIndexOf('#')));
+  return { errors, shown, differ: compared(before, shown).filter((it) => isDeclared(it) && !isAlike(it.key, before, shown)) };
+}
+
+/**
+ * Judges the declaration files of a package: `world` has its `skeletons`, `view` what the compiler declares for these and for the sources. A declaration of which the
+ * skeleton parts from the source may be as the source's.
+ */
+function judgeDeclarations(world, { declared, source, skeletons, entries, programOf, skeletonProgram }) {
+  const { files, messages } = declarationFiles({ ...world, files: filesOf(world.info, world.dir) }, (file) => file);
+  const paths = new Map(world.info.modules.map((it) => [it.specifier, it.path]));
+  const data = [...skeletons].filter(([name]) => name.endsWith('.json'));
+  const made = new Map([...files.map((it) => [declarationName(paths.get(it.specifier)), it.text]), ...data]);
+  if (messages.length) return { files: files.length, untold: messages.map((it) => it.message), errors: [], asSource: 0, differ: [] };
+  const found = judged({ made, declared, skeletons, skeletonProgram, entries: entries.map(declarationName), programOf });
+  const asSource = found.differ.filter(({ key }) => isAlike(key, source, found.shown));
+  const differ = found.differ.filter((it) => !asSource.includes(it)).map(({ key, missing, added }) => ({ key: key.replace(/^.*\//, ''), skeleton: missing, file: added }));
+  return { files: files.length, untold: [], errors: found.errors.map((it) => it.text), asSource: asSource.length, differ };
+}
+
+module.exports = { judgeDeclarations, judged };

@@ -30,7 +30,7 @@ const OPTIONS = {
 
 const LIBRARIES = path.dirname(ts.getDefaultLibFilePath(OPTIONS));
 const libraries = new Map();
-const ENDINGS = ['', '.ts', '.tsx', '.d.ts', '.mts', '.d.mts', '.cts', '.json', '/index.ts', '/index.tsx', '/index.d.ts'];
+const ENDINGS = ['', '.ts', '.tsx', '.d.ts', '.mts', '.d.mts', '.cts', '.d.cts', '.json', '/index.ts', '/index.tsx', '/index.d.ts'];
 
 /** Where a relative text leads among the texts. */
 function resolveIn(texts, from, text) {

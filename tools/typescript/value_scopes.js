@@ -48,6 +48,13 @@ class Scope {
     return declared.has(name) || imported.has(name);
   }
 
+  /** Whether a key in brackets may be any text or symbol: the compiler declares no member of such a key. */
+  isAnyKey({ Computed: computed }) {
+    const { form, type } = computed && (computed.expr.Ident || computed.expr.Member) ? this.find(computed.expr) : {};
+    const { TsUnionType: union } = (type && type.TsUnionOrIntersectionType) || {};
+    return form === 'typed' && (union ? union.types : [type]).some((it) => it.TsKeywordType);
+  }
+
   /** What a value that is a name, or a name with dots, stands for: see `ValueTypes`. */
   find(value) {
     if (value.Ident) return this.name(value.Ident.sym);

@@ -175,7 +175,16 @@ class ValueTypes {
   }
 
   Member(node, holder, value) {
-    return this.named(value, holder);
+    return node.prop.Computed ? this.indexed(node, holder) : this.named(value, holder);
+  }
+
+  /** A member under a literal, of what a name stands for that is no enum. */
+  indexed({ obj, prop, span }, holder) {
+    const [name, key] = [entityOf(obj), literalOf(prop.Computed.expr)];
+    const found = name && this.scope.find(obj);
+    const isTold = found && (found.form === 'typed' || found.form === 'value' || (holder !== WIDE && !found.nodes));
+    if (!isTold || !key || key.isNegative) throw new Untold(span, 'the type of a member of a value that has no name');
+    return { TsIndexedAccessType: { span: NONE, readonly: false, obj_type: query(name), index_type: literalType(key.lit) } };
   }
 
   /** The type of what a name stands for. A literal and a member of an enum that may be written again have a wider type than their own. */
@@ -249,12 +258,12 @@ class ValueTypes {
     return readonlyOf({ TsTupleType: { span: NONE, elem_types: types.map((ty) => ({ span: NONE, ty })) } });
   }
 
-  Object({ props, span }, holder) {
+  Object({ props, span }, holder, value, held = holder === FROZEN ? FROZEN : WIDE) {
     const members = (props || []).map((it) => {
       if (it.Spread) throw new Untold(span, 'the object has the properties of another one');
       const [variant, node] = print.variantOf(it.Prop);
-      if (variant === 'Shorthand') return this.property(node.span, { Ident: node }, { Ident: node }, holder);
-      return this.property(this.keySpan(node.key), node.key, node.value, holder);
+      if (variant === 'Shorthand') return this.property(node.span, { Ident: node }, { Ident: node }, held);
+      return this.property(this.keySpan(node.key), node.key, node.value, held);
     });
     return { TsTypeLit: { span, members } };
   }
@@ -264,9 +273,9 @@ class ValueTypes {
   }
 
   property(span, key, value, holder) {
-    const isFrozen = holder === FROZEN;
-    const named = key.Computed ? { key: this.computed(key.Computed), computed: true } : { key: key.Ident ? { Ident: { ...key.Ident, optional: false } } : { Lit: key }, computed: false };
-    return { TsPropertySignature: { span, readonly: isFrozen, optional: false, ...named, type_ann: annotated(this.of(value, isFrozen ? FROZEN : WIDE)) } };
+    const plain = key.Ident ? { Ident: { ...key.Ident, optional: false } } : { Lit: key };
+    const named = key.Computed ? { key: this.computed(key.Computed), computed: true } : { key: plain, computed: false };
+    return { TsPropertySignature: { span, readonly: holder === FROZEN, optional: false, ...named, type_ann: annotated(this.of(value, holder)) } };
   }
 
   /** A computed key that a type may have: a name of a symbol or of a literal. */
@@ -278,11 +287,12 @@ class ValueTypes {
     throw new Untold(span, 'the computed key is no symbol and no literal by its form');
   }
 
-  Call({ callee, args, span }) {
-    const isFreeze = callee.Expr && callee.Expr.Member && callee.Expr.Member.prop.Ident.sym === 'freeze';
-    const [{ expr }] = args;
-    if (isFreeze && expr.Array) return readonlyOf(this.of(expr, WIDE));
-    throw new Untold(span, 'the type of a frozen value depends on the compiler');
+  /** `Object.freeze(value)`, the one call that stays. The properties of a frozen object keep literals. */
+  Call({ args: [{ expr }], span }) {
+    if (expr.Array) return readonlyOf(this.of(expr, WIDE));
+    if (!expr.Object) throw new Untold(span, 'the type of a frozen value is told of an array and an object alone');
+    const params = [this.Object(expr.Object, WIDE, expr, CONSTANT)];
+    return { TsTypeRef: { span: NONE, type_name: { Ident: { span: NONE, sym: 'Readonly' } }, type_params: { span: NONE, params } } };
   }
 }
 
