@@ -3,6 +3,7 @@
 // Nothing here knows a rule of fast check.
 
 const path = require('path');
+const { rewritten } = require('./rewriting');
 const { ts } = require('./typescript');
 const { resolver } = require('./ways');
 
@@ -127,22 +128,21 @@ function eachVariable(node) {
  */
 function plainly(node) {
   const file = node.getSourceFile();
-  const visit = (context) => (at) => {
+  return rewritten(node, (at, visit, inside) => {
     if (at.kind === K.ObjectBindingPattern) return ts.factory.createObjectBindingPattern([]);
     if (at.kind === K.ArrayBindingPattern) return ts.factory.createArrayBindingPattern([]);
     if (MEMBERS.has(at.kind) && isPrivate(at)) return withoutType(at);
-    if (ts.isParameter(at) && at.name.kind !== K.Identifier) return visit(context)(namedParameter(at));
-    if (at.kind === K.ParenthesizedType) return visit(context)(at.type);
+    if (ts.isParameter(at) && at.name.kind !== K.Identifier) return inside(namedParameter(at));
+    if (at.kind === K.ParenthesizedType) return visit(at.type);
     // Literals by their values, however they are written.
     if (at.kind === K.StringLiteral) return ts.factory.createStringLiteral(at.text);
     if (at.kind === K.NumericLiteral) return ts.factory.createNumericLiteral(at.text);
-    if (at.kind === K.ModuleBlock) return ts.factory.createModuleBlock(at.statements.flatMap(eachVariable).map(visit(context)));
-    const made = ts.visitEachChild(at, visit(context), context);
+    if (at.kind === K.ModuleBlock) return ts.factory.createModuleBlock(at.statements.flatMap(eachVariable).map(visit));
+    const made = inside(at);
     if (made.kind === K.UnionType) return unionOf(made.types, file);
     if (ts.isClassDeclaration(made)) return withoutTwice(made, file);
     return made.kind === K.TypeReference ? arrayOf(made) : made;
-  };
-  return ts.transform(node, [visit]).transformed[0];
+  });
 }
 
 /** A parameter that is a pattern, by a name. */
