@@ -191,7 +191,8 @@ class Declarations {
   member(choice) {
     const [variant, node] = only(choice);
     if (node.key && this.scope.isAnyKey(node.key)) return null;
-    const made = this.attempt(() => (this[`member${variant}`] ? this[`member${variant}`](node) : node));
+    const plain = node.accessibility === 'Public' ? { ...node, accessibility: null } : node;
+    const made = this.attempt(() => (this[`member${variant}`] ? this[`member${variant}`](plain) : plain));
     return made && { [variant]: made };
   }
 

@@ -10,7 +10,7 @@ const FLAGS = ts.TypeFormatFlags.NoTruncation | ts.TypeFormatFlags.UseAliasDefin
 
 /** A text of types with the members of unions in order. */
 function inOrder(text) {
-  return text.split(/([;{}()[\]])/).map((it) => it.split(' | ').sort().join(' | ')).join('');
+  return text.split(/([;:,{}()[\]<>]|=>)/).map((it) => it.split(' | ').sort().join(' | ')).join('');
 }
 
 /** The types of a declaration, as the compiler resolves them: of a class member by member. */
@@ -44,7 +44,10 @@ function judged({ made, declared, skeletons, skeletonProgram, entries, programOf
   // Of a module with an error in its declarations the compiler emits none.
   const stems = new Set([...declared.keys()].map((it) => it.replace(/(\.d)?\.[cm]?tsx?$/, '')));
   const isDeclared = ({ key }) => stems.has(key.slice(0, key.lastIndexOf('#')));
-  return { errors, shown, differ: compared(before, shown).filter((it) => isDeclared(it) && !isAlike(it.key, before, shown)) };
+  // `typeof x` leads to `x`, the type that the compiler finds for the value does not.
+  const isMentioned = ({ key, isNew }) => isNew && !key.endsWith('#*');
+  const differ = compared(before, shown).filter((it) => isDeclared(it) && !isMentioned(it) && !isAlike(it.key, before, shown));
+  return { errors, shown, differ, count: before.shown.size };
 }
 
 /**
@@ -60,7 +63,7 @@ function judgeDeclarations(world, { declared, source, skeletons, entries, progra
   const found = judged({ made, declared, skeletons, skeletonProgram, entries: entries.map(declarationName), programOf });
   const asSource = found.differ.filter(({ key }) => isAlike(key, source, found.shown));
   const differ = found.differ.filter((it) => !asSource.includes(it)).map(({ key, missing, added }) => ({ key: key.replace(/^.*\//, ''), skeleton: missing, file: added }));
-  return { files: files.length, untold: [], errors: found.errors.map((it) => it.text), asSource: asSource.length, differ };
+  return { files: files.length, compared: found.count, untold: [], errors: found.errors.map((it) => it.text), asSource: asSource.length, differ };
 }
 
 module.exports = { judgeDeclarations, judged };

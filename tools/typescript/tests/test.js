@@ -373,7 +373,7 @@ async function declarationFiles() {
     const { errors, differ, count } = await declaredBoth(PACKAGES);
     const told = [...errors.map((it) => `${it.name}: ${it.text}`), ...differ.map((it) => JSON.stringify(it))];
     same(told.join('\n'), '', 'what the compiler finds');
-    holds(count > 100, `${count} modules have declaration files`);
+    holds(count > 80, `${count} modules have declaration files`);
   });
   await test('skeleton --dts and --with-dts write files that are the same when they are read again', () => withFolder(async (folder) => {
     const names = (part) => fs.readdirSync(path.join(folder, part)).sort().join(' ');
