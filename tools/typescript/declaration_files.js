@@ -5,7 +5,8 @@ const { blockOf, scopesOf } = require('./value_scopes');
 const { CONSTANT, WIDE, Untold, ValueTypes, annotated, literalOf } = require('./value_types');
 const { enumValues } = require('./enum_values');
 const { saysExports } = require('./ambient');
-const { printedModule } = require('./skeletons');
+const { withPartial } = require('./preview');
+const { byName, printedModule, shown } = require('./skeletons');
 
 const RELATIVE = /^\.{1,2}\//;
 const NONE = [0, 0];
@@ -233,18 +234,19 @@ function untoldMessages(untold, file, shown) {
  * `shownName(path)` is how messages name a file.
  */
 function declarationFiles(world, shownName) {
-  const scopes = scopesOf(world);
+  const scopes = scopesOf(withPartial(world));
   const [made, messages] = [[], []];
-  for (const [specifier, skeleton] of world.skeletons) {
+  for (const [specifier, skeleton, mark] of shown(world)) {
     const file = world.files.get(specifier);
     const isWritten = /\.d\.[cm]?ts$/.test(specifier);
     const declarations = new Declarations(scopes(specifier), { isWritten });
     const body = withSources(declarations.items(skeleton.program.body));
     messages.push(...untoldMessages(declarations.untold, file, shownName(file.path)));
     if (declarations.untold.length) continue;
-    made.push({ specifier, name: declarationName(file.name), text: printedModule(file.name, { ...skeleton, program: { ...skeleton.program, body } }, true) });
+    const text = printedModule(file.name, { ...skeleton, program: { ...skeleton.program, body } }, true);
+    made.push({ specifier, name: declarationName(file.name), text: mark + text });
   }
-  return { files: made.sort((a, b) => (a.name < b.name ? -1 : a.name > b.name ? 1 : 0)), messages };
+  return { files: byName(made), messages };
 }
 
 module.exports = { declarationFiles, declarationName };
