@@ -388,6 +388,13 @@ async function declarationFiles() {
     same((await run(words, { cwd: path.join(folder, 'a') })).status, 0, 'the status where declaration files are read');
     same(text('c'), text('a'), 'the declaration file of a declaration file');
   }));
+  await test('the examples of the page', () => {
+    const page = readOr(path.resolve(__dirname, '../../../docs/TYPESCRIPT.md'), '');
+    for (const [title, name] of [['Declaration files', 'dts'], ['A preview', 'preview']]) {
+      const [, example] = /```ts\n([^]*?)```/.exec(page.slice(page.indexOf(`\n## ${title}\n`)));
+      holds(readOr(expectedOf(name), '').includes(example), `the example of ${title} is what comes of ${name}`);
+    }
+  });
   await test('a module without a declaration file', async () => {
     const { status, err } = await run(['skeleton', '--dts', 'dts-untold']);
     same(`${status} ${err.split('error[untold-type]').length > 8}`, '1 true', err);
