@@ -1,5 +1,5 @@
 'use strict';
-// Times `fast-check-ts check` beside `tsc --declaration` on packages of growing size, and says where the time goes.
+// Times `fast-check-ts check` and `skeleton --dts` beside `tsc --declaration` on packages of growing size, and says where the time goes.
 //
 //   node tools/typescript/speed.js [MODULES ..]        (10 50 200 where nothing is given)
 //
@@ -116,9 +116,10 @@ async function measure(count) {
     const options = ['--declaration', '--emitDeclarationOnly', '--target', 'esnext', '--module', 'esnext', '--moduleResolution', 'node'];
     const tsc = best(['tsc', ...options, '--outDir', path.join(folder, 'out'), path.join(folder, 'mod.ts')]);
     const check = best([path.join(TOP, 'fast-check-ts'), 'check', folder]);
+    const dts = best([path.join(TOP, 'fast-check-ts'), 'skeleton', '--dts', folder, path.join(folder, 'files')]);
     const where = Object.entries(await parts(folder)).map(([name, each]) => `${name} ${each.toFixed(2)}`).join(', ');
     const lines = fs.readFileSync(path.join(folder, 'm0.ts'), 'utf8').split('\n').length;
-    console.log(`${count} modules of ${lines} lines: check ${check}, tsc --declaration ${tsc}; of one run ${where}`);
+    console.log(`${count} modules of ${lines} lines: check ${check}, skeleton --dts ${dts}, tsc --declaration ${tsc}; of one run ${where}`);
   } finally {
     fs.rmSync(folder, { recursive: true, force: true });
   }

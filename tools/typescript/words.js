@@ -17,6 +17,7 @@ options:
   --json                 check and diff: one object a line
   --markdown             diff: a text for a pull request
   --dry                  fix: show the changes, and write nothing
+  --dts, --with-dts      skeleton: declaration files (.d.ts) in place of skeletons, or beside them
   --list-externals       check: say which imports lead out of the folder, and are not followed
   --verify               check: have TypeScript's compiler check the skeletons, and tell what it finds there and not in the source
   --unproved             run the program without any proof
@@ -34,12 +35,12 @@ The variable FAST_CHECK names a program to run in place of ./fast-check, which i
 // The commands, with the least and the most words behind them.
 const COMMANDS = { check: [1, 1], fix: [1, 1], skeleton: [1, 2], input: [1, 1], diff: [2, 2], report: [2, 2] };
 const FLAGS = {
-  '--json': 'json', '--verify': 'verify', '--list-externals': 'externals', '--dry': 'dry', '--markdown': 'markdown', '--unproved': 'unproved',
+  '--json': 'json', '--verify': 'verify', '--list-externals': 'externals', '--dry': 'dry', '--markdown': 'markdown', '--dts': 'dts', '--with-dts': 'withDts', '--unproved': 'unproved',
   '--no-color': 'plain', '--no-own-compiler': 'noOwnCompiler', '--help': 'help', '-h': 'help',
 };
 const VALUES = { '--name': 'name', '--version': 'version', '--exports': 'exports' };
 // The flags that only some commands take.
-const ONLY = { '--json': ['check', 'diff'], '--verify': ['check'], '--list-externals': ['check'], '--dry': ['fix'], '--markdown': ['diff'] };
+const ONLY = { '--dts': ['skeleton'], '--with-dts': ['skeleton'], '--json': ['check', 'diff'], '--verify': ['check'], '--list-externals': ['check'], '--dry': ['fix'], '--markdown': ['diff'] };
 
 class UsageError extends Error {}
 
