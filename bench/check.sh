@@ -1,10 +1,9 @@
 #!/usr/bin/env bash
 # Runs all random checks of bench/check on the program, and prints one line for each: its name, how many inputs it made, of which seed, how many differ,
 # and the seconds. What differs stands below the line. Then come changed inputs (mutate.py), with how many breach, files and streams that are not as they
-# should be (files.py), the hostile shapes, with how many there are and how many take more time than they may, which stand below, and the shapes that are
-# known to grow with a square, with how many there are and how many do so no longer or have no answer, which stand below too. These shapes take minutes whatever
-# COUNT is, so they are run from a COUNT of 1000 on: with 20 all the rest ends within two minutes. The status is 1 where anything
-# differs, breaches, takes too much or is no longer what it is known for, and 2 where nothing does and a check could not be run.
+# should be (files.py), and the shapes of workspaces and of hostile tables, with how many there are and how many take more than they may, which stand below.
+# The shapes take minutes whatever COUNT is, so they are run from a COUNT of 1000 on: with 20 all the rest ends within two minutes. The status is 1 where
+# anything differs, breaches or takes too much, and 2 where nothing does and a check could not be run.
 # The checks of packages and of name sets, and the few builds in which who asks first decides, also need the program of crates/fast_check_vectors, which
 # `rt run` builds there and another one may be named for by VECTORS.
 # usage: bench/check.sh PROGRAM [COUNT [SEED]]        (1000 of seed 1 where nothing is given)
@@ -67,7 +66,7 @@ printf '%-16s %7s runs                %5s differ    %5s s\n' files "${runs:-?}" 
 judge "$ended" "${differ:-}" "$said"
 
 if [ "$count" -lt 1000 ]; then
-  printf '%-16s not run: from a COUNT of 1000 on\n' shapes squares
+  printf '%-16s not run: from a COUNT of 1000 on\n' shapes
   exit "$status"
 fi
 
@@ -78,12 +77,4 @@ read -r shapes above < <(sed -nE '$s/^shapes=([0-9]+) above=([0-9]+)$/\1 \2/p' <
 printf '%-16s %7s shapes              %5s above     %5s s\n' shapes "${shapes:-?}" "${above:-?}" $((SECONDS - began))
 [ "$ended" -ne 1 ] || [ -z "${above:-}" ] || said=$(grep 'too much$' <<< "$said")
 judge "$ended" "${above:-}" "$said"
-
-began=$SECONDS
-said=$("$check/squares.py" "$program" 2>&1)
-ended=$?
-read -r squares wrong < <(sed -nE '$s/^squares=([0-9]+) wrong=([0-9]+)$/\1 \2/p' <<< "$said")
-printf '%-16s %7s shapes              %5s wrong     %5s s\n' squares "${squares:-?}" "${wrong:-?}" $((SECONDS - began))
-[ "$ended" -ne 1 ] || [ -z "${wrong:-}" ] || said=$(grep -E 'no (longer|answer)$' <<< "$said")
-judge "$ended" "${wrong:-}" "$said"
 exit "$status"

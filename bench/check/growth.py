@@ -10,7 +10,7 @@ import tempfile
 
 from program_path import program_path
 
-MOST_BYTES, MOST_EXPONENT, RUNS = 4_000_000, 1.2, 3
+MOST_EXPONENT, RUNS = 1.2, 3
 
 
 def run(program, path, command="build"):
@@ -42,17 +42,6 @@ def exponent(points):
     xs, ys = [math.log(x) for x, _ in points], [math.log(max(y, 0.001)) for _, y in points]
     x, y = sum(xs) / len(xs), sum(ys) / len(ys)
     return sum((a - x) * (b - y) for a, b in zip(xs, ys)) / sum((a - x) ** 2 for a in xs)
-
-
-def in_three_sizes(spent_at, first, least_seconds, last=math.inf):
-    """The number of the first size, and what is spent at it, at twice and at four times that. It is the first that is given, and is doubled until a run
-    takes so many seconds, the input has 4 MB, or the number is the last."""
-    n = first
-    ran = spent_at(n)
-    while ran[2] < least_seconds and ran[0] < MOST_BYTES and ran[1] < 3 and n < last:
-        n *= 2
-        ran = spent_at(n)
-    return n, [ran, spent_at(2 * n), spent_at(4 * n)]
 
 
 HEADER = f"{'shape':40} {'largest':>8} {'MB':>8} {'status':>6} {'seconds':>8} {'twice':>8} {'4 times':>8} {'held':>8} {'exponent':>8}"

@@ -18,7 +18,7 @@ sys.setrecursionlimit(100_000)
 sys.path[:0] = [os.path.join(os.path.dirname(os.path.dirname(os.path.abspath(__file__))), folder) for folder in ("rules", "cases", "check", "time")]
 
 from program_path import program_path
-import shapes
+import hostile_shapes
 from function_cases import ONE, const, func, if_
 from module_trees import namespace
 from runs import request
@@ -89,15 +89,15 @@ def json_request(depth):
 
 # Of tables: no JSON is nested. Each with the depths that are tried.
 TABLES = {
-    "nested namespaces of tables": (shapes.nested_namespaces, (10, 1000, 100_000)),
-    "chain of aliases": (shapes.alias_chain, (10, 1000, 1_000_000)),
-    "path of names": (shapes.path_of_names, (10, 1000, 100_000)),
-    "own parents": (shapes.own_parents, (10, 1000, 100_000)),
-    "path behind a file": (shapes.path_behind_a_file, (10, 1000, 1_000_000)),
-    "paths that part behind a file": (shapes.paths_that_part_behind_a_file, (10, 1000, 10_000)),
-    "namespaces behind a file": (shapes.namespaces_behind_a_file, (10, 1000, 100_000)),
-    "path through files": (shapes.path_through_files, (10, 100, 1000)),
-    "paths covered": (shapes.paths_covered_of_many_lengths, (10, 100, 1000)),
+    "nested namespaces of tables": (hostile_shapes.nested_namespaces, (10, 1000, 100_000)),
+    "chain of aliases": (hostile_shapes.alias_chain, (10, 1000, 1_000_000)),
+    "path of names": (hostile_shapes.path_of_names, (10, 1000, 100_000)),
+    "own parents": (hostile_shapes.own_parents, (10, 1000, 100_000)),
+    "path behind a file": (hostile_shapes.path_behind_a_file, (10, 1000, 1_000_000)),
+    "paths that part behind a file": (hostile_shapes.paths_that_part_behind_a_file, (10, 1000, 10_000)),
+    "namespaces behind a file": (hostile_shapes.namespaces_behind_a_file, (10, 1000, 100_000)),
+    "path through files": (hostile_shapes.path_through_files, (10, 100, 1000)),
+    "paths covered": (hostile_shapes.paths_covered_of_many_lengths, (10, 100, 1000)),
 }
 
 

@@ -2,7 +2,8 @@
 """Times `fast-check build` on workspaces of growing size.
 
 For each shape and size it prints the input's megabytes, the modules that are answered, the program's processor seconds and peak memory, the processor
-seconds that a JSON library of Python (orjson, or json where that isn't there) takes to load and dump the same text, and the ratio of both.
+seconds that a JSON library of Python (orjson, or json where that isn't there) takes to load and dump the same text, those of Node's JSON (where there
+is a Node), and the program's ratio to the first.
 The program has to be built: run `./fast-check build examples/build_hello.json` once.
 
     packages   packages of three modules, each of which asks for two other packages
@@ -35,7 +36,7 @@ from module_trees import export, export_all, import_, interface, named_export, n
 from package_worlds import HOST
 from programs import fast_check
 from growth import spent
-from transform import LOAD, NAME, library_seconds
+from transform import COLUMNS, LOAD, columns
 from trees import (
     array, array_of, binary, call, class_method, class_stmt, constructor, declarator, default, exported, fn_stmt, hash_prop, lit, name, named, param_prop, prop,
     ref, returned, run, type_params, unexported, union, var_stmt,
@@ -141,10 +142,9 @@ def measure(program, shape, packages, modules):
     made = workspace(shape, packages, modules)
     shown = sum("Ok" in answer for _, answer in answers_of(program, made))
     size, _, seconds, held = spent(program, made)
-    library = library_seconds(json.dumps(made, separators=(",", ":")).encode())
     count = 2 if shape == "names" else packages * modules
-    print(f"{shape:9} {packages:8} {count:8} {shown:9} {size / 1e6:8.2f} {seconds:9.3f} {held / 1e6:9.0f} {held / size:14.1f} {library:18.3f} "
-          f"{seconds / library:7.2f}", flush=True)
+    figures = columns(size, seconds, held, json.dumps(made, separators=(",", ":")).encode())
+    print(f"{shape:9} {packages:8} {count:8} {shown:9} {figures}", flush=True)
 
 
 def measure_cached(driver, shape, packages, modules):
@@ -168,7 +168,7 @@ def main(words):
         return
     others = [word for word in words if word not in SHAPES and not word.isdigit() and not word.startswith("modules=")]
     program = program_path((others + [PROGRAM])[0])
-    print(f"shape     packages  modules  answered    MB in   seconds   MB peak   bytes a byte   {NAME} load+dump   ratio")
+    print(f"shape     packages  modules  answered {COLUMNS}")
     for shape in shapes or SHAPES:
         for packages in sizes or SIZES.get(shape, [10, 100, 1000]):
             measure(program, shape, packages, (modules + [3])[0])

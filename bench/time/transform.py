@@ -2,7 +2,8 @@
 """Times `fast-check transform` on modules of growing size.
 
 For each shape and size it prints the input's megabytes, the program's processor seconds and peak memory, the processor seconds that a JSON library of
-Python (orjson, or json where that isn't there) takes to load and dump the same text, and the ratio of both.
+Python (orjson, or json where that isn't there) takes to load and dump the same text, those of Node's JSON (where there is a Node), and the program's ratio
+to the first.
 The program has to be built: run `./fast-check transform examples/first.json` once.
 
 Usage: bench/time/transform.py [MEGABYTES ..] [PROGRAM]        (1 2 5 10 20 where none is given)
@@ -10,6 +11,8 @@ Usage: bench/time/transform.py [MEGABYTES ..] [PROGRAM]        (1 2 5 10 20 wher
 import gc
 import json
 import os
+import shutil
+import subprocess
 import sys
 import time
 
@@ -203,19 +206,36 @@ def library_seconds(text):
     return min(found)
 
 
+def node_seconds(text):
+    """The processor seconds that Node's JSON.parse and JSON.stringify take over a text, None where there is no Node."""
+    if not shutil.which("node"):
+        return None
+    script = os.path.join(os.path.dirname(os.path.abspath(__file__)), "node_json.js")
+    return float(subprocess.run(["node", script], input=text, stdout=subprocess.PIPE, check=True).stdout)
+
+
+def columns(size, seconds, held, text):
+    """The figures of a run on a text of so many bytes, beside those of the JSON libraries."""
+    library, node = library_seconds(text), node_seconds(text)
+    beside = f"{node:10.3f}" if node is not None else f"{'-':>10}"
+    return f"{size / 1e6:8.2f} {seconds:9.3f} {held / 1e6:9.0f} {held / size:14.1f} {library:18.3f} {beside} {seconds / library:7.2f}"
+
+
+COLUMNS = f"   MB in   seconds   MB peak   bytes a byte   {NAME} load+dump  node JSON   ratio"
+
+
 def main(words):
     """The sizes in megabytes, and behind them a program."""
     program = program_path(words.pop() if words and not words[-1].isdigit() else programs.transform())
     sizes = [int(word) for word in words] or [1, 2, 5, 10, 20]
-    print(f"shape       MB in   seconds   MB peak   bytes a byte   {NAME} load+dump   ratio")
+    print(f"shape    {COLUMNS}")
     for shape in ("items", "wide", "deep", "functions", "classes", "modules", "symbols"):
         for size in sizes:
             made = module(shape, size * 1000000)
             count, status, seconds, held = spent(program, made, "transform")
             if status != 0:
                 sys.exit(f"status {status} on {shape} of {size} MB")
-            library = library_seconds(json.dumps(made, separators=(",", ":")).encode())
-            print(f"{shape:9} {count / 1e6:7.2f} {seconds:9.3f} {held / 1e6:9.0f} {held / count:14.1f} {library:18.3f} {seconds / library:7.2f}", flush=True)
+            print(f"{shape:9} {columns(count, seconds, held, json.dumps(made, separators=(',', ':')).encode())}", flush=True)
 
 
 if __name__ == "__main__":

@@ -7,6 +7,7 @@ const { INTERNAL } = require('./faults.js');
 const { isInside, readText } = require('./files.js');
 const { inputOf } = require('./input.js');
 const { Lines } = require('./lines.js');
+const { previewOf } = require('./preview.js');
 const typescript = require('./typescript.js');
 
 /** A folder that cannot be read; `messages` say why, and `text` says it where there is no place. */
@@ -164,10 +165,18 @@ async function analyse(dir, options, context) {
   const { cwd, progress, environment } = context;
   const world = read(dir, options, context);
   const tell = (line) => progress.line(line);
-  const stage = 'the program is at work';
-  const answers = await progress.during(stage, build(world.request, { unproved: options.unproved, environment, tell }));
+  const ask = (request) => progress.during('the program is at work', build(request, { unproved: options.unproved, environment, tell }));
+  const answers = await ask(world.request);
   const { skeletons, messages } = part(answers, world, cwd);
-  return { ...world, answers, skeletons: withoutFaulty({ ...world, skeletons }), messages: [...world.faults, ...messages] };
+  const made = { ...world, answers, skeletons: withoutFaulty({ ...world, skeletons }), messages: [...world.faults, ...messages] };
+  return options.preview ? { ...made, preview: await previewFor(made, ask) } : made;
+}
+
+/** The preview of the packages that have no skeletons, since they have messages; null where there are none, or nothing can be shown. */
+async function previewFor({ request, answers, skeletons, messages }, ask) {
+  if (!messages.some((it) => it.level !== 'Warning')) return null;
+  const found = await previewOf(request, answers, ask);
+  return found && { ...found, skeletons: new Map([...found.skeletons].filter(([specifier]) => !skeletons.has(specifier))) };
 }
 
 /** The status of messages that say why something cannot be read. */

@@ -53,16 +53,27 @@ function statusOf(world, told) {
   return statusOfBroken(world.broken) || (told.some(({ level }) => level !== 'Warning') ? 1 : 0);
 }
 
+/** Some skeletons of a folder and its declaration files. Why others have none is added to the folder's messages. */
+function declared(world, skeletons, { cwd }) {
+  const { shownName } = require('./analysis.js');
+  const { declarationFiles } = require('./declaration_files.js');
+  const { files, messages } = declarationFiles(world, (file) => shownName(file, cwd));
+  world.messages.push(...messages);
+  const names = new Set(files.map((it) => it.name));
+  return [...skeletons.filter((it) => !names.has(it.name)), ...files];
+}
+
 /** The printed skeletons of a folder; its messages go to standard error. */
 async function skeletonsOf(word, options, context) {
   const { analyse } = require('./analysis.js');
   const { printed } = require('./skeletons.js');
-  const world = await analyse(folderOf(word, context), options, context);
+  const world = await analyse(folderOf(word, context), { ...options, preview: true }, context);
   context.progress.begin('printing');
-  const skeletons = printed(world);
+  const skeletons = options.dts ? [] : printed(world);
+  const texts = options.dts || options.withDts ? declared(world, skeletons, context) : skeletons;
   context.progress.end();
   writeMessages(messagesOf(world), {}, { out: context.err, paint: context.paintErrors });
-  return { world, skeletons };
+  return { world, skeletons: texts };
 }
 
 async function skeleton([word, out], options, context) {
@@ -121,14 +132,16 @@ async function withFolder(word, beside, context, call) {
   }
 }
 
-/** The public names of a folder, and its messages, which go to standard error. */
+/** The public names of a folder, which are `unknown` since something is wrong with them, and its messages, which go to standard error. Null where no name is known. */
 async function namesOf(folder, options, context) {
   const { analyse } = require('./analysis.js');
+  const { withPartial } = require('./preview.js');
   const { publicNames } = require('./public_names.js');
-  const world = await analyse(folder, options, context);
+  const world = await analyse(folder, { ...options, preview: true }, context);
   context.progress.end();
   writeMessages(messagesOf(world), {}, { out: context.err, paint: context.paintErrors });
-  return world.broken.length || world.messages.length ? null : publicNames(world);
+  if (world.broken.length || (world.messages.length && !world.preview)) return null;
+  return { names: publicNames(withPartial(world)), isPreview: world.messages.length > 0, unknown: world.preview ? world.preview.unknown : new Set() };
 }
 
 const REASONS = {
@@ -146,9 +159,15 @@ function writeChange({ name, module, change, parts }, { out, paint }) {
   }
 }
 
+/** Why there is no advice: which names are left out, since something is wrong with them. */
+function previewReason(unknown) {
+  const names = [...unknown].map((it) => it.split('\n')).map(([specifier, name]) => `${name} (${specifier.replace(/^file:\/\/\//, '')})`).sort();
+  return `a package has messages, and no advice comes${names.length ? `; not compared: ${names.join(', ')}, and what leads to them` : ''}`;
+}
+
 /** All changes as a text for a pull request. */
-function writeMarkdown(changes, advice, { out }) {
-  out.write(`**${advice}**: ${REASONS[advice]}\n`);
+function writeMarkdown(changes, advice, reason, { out }) {
+  out.write(`**${advice}**: ${reason}\n`);
   for (const { name, module, change, parts } of changes) {
     const by = parts.filter((part) => part.name !== null).map((part) => `\`${part.name}\` (${part.module})`);
     out.write(`\n- ${change} \`${name}\` (${module})${by.length ? ` by ${by.join(', ')}` : ''}\n`);
@@ -165,15 +184,17 @@ async function diff([old, now], options, context) {
     context.err.write('fast-check-ts: a package with messages has no skeletons to compare\n');
     return 2;
   }
-  const changes = nameChanges(before, after);
-  const advice = adviceFor(changes);
-  if (options.markdown) writeMarkdown(changes, advice, context);
-  else if (options.json) for (const each of [...changes, { advice, reason: REASONS[advice] }]) context.out.write(`${JSON.stringify(each)}\n`);
+  const unknown = new Set([...before.unknown, ...after.unknown]);
+  const isPreview = before.isPreview || after.isPreview;
+  const changes = nameChanges(before.names, after.names, unknown);
+  const [advice, reason] = isPreview ? ['preview', previewReason(unknown)] : [adviceFor(changes), REASONS[adviceFor(changes)]];
+  if (options.markdown) writeMarkdown(changes, advice, reason, context);
+  else if (options.json) for (const each of [...changes, { advice, reason }]) context.out.write(`${JSON.stringify(each)}\n`);
   else {
     for (const each of changes) writeChange(each, context);
-    context.out.write(`${context.paint('bold', advice)}: ${REASONS[advice]}\n`);
+    context.out.write(`${context.paint('bold', advice)}: ${reason}\n`);
   }
-  return changes.length ? 1 : 0;
+  return isPreview ? 2 : changes.length ? 1 : 0;
 }
 
 const COLOURS = { ' ': 'gray', '-': 'red', '+': 'green' };
@@ -182,7 +203,7 @@ async function report([word, file], options, context) {
   const { analyse } = require('./analysis.js');
   const { page } = require('./report.js');
   const { summary } = require('./formats.js');
-  const world = await analyse(folderOf(word, context), options, context);
+  const world = await analyse(folderOf(word, context), { ...options, preview: true }, context);
   context.progress.begin('writing the page');
   fs.writeFileSync(path.resolve(context.cwd, file), page(world));
   context.progress.end();

@@ -92,8 +92,22 @@ function changedParts(old, now, told) {
   });
 }
 
-/** The public names that differ, each `{name, module, change, parts}`: names that are gone first, then those that changed, then those that are new. */
-function nameChanges(before, after) {
+/** Some public names without those that are or lead to a declaration of which something is wrong: `specifier\nname` in `unknown`. */
+function withoutUnknown(names, unknown) {
+  return unknown.size ? new Map([...names].filter(([, { closure }]) => ![...closure.keys()].some((it) => unknown.has(it)))) : names;
+}
+
+/**
+ * The public names that differ, each `{name, module, change, parts}`: names that are gone first, then those that changed, then those that are new. Names that lead to a
+ * declaration of which something is wrong in either are left out of both.
+ */
+function nameChanges(old, now, unknown = new Set()) {
+  const [known, others] = [old, now].map((it) => withoutUnknown(it, unknown));
+  const both = (names, others) => new Map([...names].filter(([name]) => known.has(name) || !old.has(name)).filter(([name]) => others.has(name) || !now.has(name)));
+  return changesOf(both(known, others), both(others, others));
+}
+
+function changesOf(before, after) {
   const told = new Set();
   const only = (some, others, change) => [...some].filter(([name]) => !others.has(name)).map(([name, { module }]) => ({ name, module, change, parts: [] }));
   const differing = [...after].filter(([name, now]) => before.has(name) && textsIn(before.get(name).closure) !== textsIn(now.closure));

@@ -1,6 +1,7 @@
 'use strict';
 // The edits that give a declaration the type that TypeScript's compiler infers, for each message that asks for one.
 
+const { rewritten } = require('./rewriting');
 const { ts } = require('./typescript');
 
 const { SyntaxKind: K } = ts;
@@ -80,11 +81,11 @@ class TypeWriter {
 
   /** Types of other modules by names that are imported, where these are free. */
   named(node) {
-    const visit = (context) => (at) => {
-      if (at.kind !== K.ImportType) return ts.visitEachChild(at, visit(context), context);
+    return rewritten(node, (at, visit, inside) => {
+      if (at.kind !== K.ImportType) return inside(at);
       const source = this.sourceOf(at.argument.literal.text);
       if (source === null) throw new NotFixed('its type names what this module cannot name');
-      const args = at.typeArguments && at.typeArguments.map((it) => ts.visitNode(it, visit(context)));
+      const args = at.typeArguments && at.typeArguments.map((it) => ts.visitNode(it, visit));
       const name = !at.isTypeOf && at.qualifier && firstName(at.qualifier).text;
       const isFree = name && (this.imports.get(name) === source || !(this.taken.has(name) || this.imports.has(name)));
       if (isFree) {
@@ -94,8 +95,7 @@ class TypeWriter {
       }
       const text = `${at.isTypeOf ? 'typeof ' : ''}import(${JSON.stringify(source)})${at.qualifier ? `.${entityText(at.qualifier)}` : ''}`;
       return ts.factory.createTypeReferenceNode(text, args);
-    };
-    return ts.transform(node, [visit]).transformed[0];
+    });
   }
 
   text(node) {

@@ -26,6 +26,7 @@ const sum = (list) => list.reduce((all, each) => all + each, 0);
 function summary(results, context) {
   const worlds = results.map((each) => each.world).filter(Boolean);
   const [files, modules] = [sum(worlds.map(({ files: all }) => all.size)), sum(worlds.map(({ skeletons }) => skeletons.size))];
+  const previews = sum(worlds.map(({ preview }) => (preview ? preview.skeletons.size : 0)));
   const externals = worlds.flatMap(({ info }) => info.externals);
   const names = new Set(externals.map((each) => each.name));
   const parts = [
@@ -33,6 +34,7 @@ function summary(results, context) {
     count(files, 'file'),
     ...(context.kept && context.kept.round > 1 ? [`${context.kept.made} read again`] : []),
     ...(modules ? [count(modules, 'public module')] : []),
+    ...(previews ? [`a preview of ${count(previews, 'module')}`] : []),
     ...(names.size ? [`${count(externals.length, 'import')} of ${count(names.size, 'package')} not followed`] : []),
     count(sum(results.map(({ messages }) => messages.length)), 'message'),
     ...['allowed', 'known'].map((it) => [sum(results.map((each) => each[it])), it]).filter(([number]) => number).map(([number, it]) => `${number} ${it}`),

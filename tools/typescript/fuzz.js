@@ -152,7 +152,7 @@ async function wrong(seed, modules, folder) {
   for (const words of [...COMMANDS, ...(seed % VERIFIED ? [] : [['check', '--verify', '.']])]) {
     const { status, out, err } = await run(words, folder);
     if (status === 2 && (out + err).includes('[nested-too-deep]')) return null;
-    const isStatus = status === 0 || status === 1 || (words[0] === 'diff' && err.includes('has no skeletons to compare'));
+    const isStatus = status === 0 || status === 1 || (words[0] === 'diff' && (out + err).match(/has no skeletons to compare|^preview: /m));
     if (!isStatus) return `${words.join(' ')} ends with status ${status}: ${out.slice(-400)}${err.slice(-400)}`;
   }
   return wrongSkeleton(folder);

@@ -3,6 +3,7 @@
 // for both are compared for all that the entry points lead to, and its errors in the skeletons have to be those of the source.
 //
 //   node judge.js FOLDER [--modules]     the packages below FOLDER, or each of their modules by itself
+//   node judge.js FOLDER --dts           and what `skeleton --dts` declares beside what the compiler declares for the skeletons
 //   node judge.js FOLDER --drop N        the same with each Nth dependency left out of the tables, to see that the judge notices
 //
 // Where a package leaves types to inference, they are written first, as the compiler finds them; where that is not enough, the
@@ -20,8 +21,10 @@ const { Progress } = require('./progress');
 const { packagesBelow } = require('./sweep');
 const { parse } = require('./tree');
 const { programOf, resolverOf, declarationName, emitted, surfaceOf, compared, errorsIn, takeLooseTypes } = require('./judge_surface');
+const { judgeDeclarations } = require('./judge_declarations');
 
 const TOP = path.resolve(__dirname, '../..');
+let isDeclaring = false;
 
 function command(file) {
   return process.env.FAST_CHECK ? [process.env.FAST_CHECK, 'build', file] : [path.join(TOP, 'fast-check'), 'build', file];
@@ -75,8 +78,9 @@ function ask(dir, exports, work) {
   const { request, info } = inputOf(dir, { exports });
   if (!request) throw new Error(`${info.errors[0].path}: ${info.errors[0].message}`);
   const answers = build(request, work);
-  const world = { request, info, files: new Map(info.modules.map((it) => [it.specifier, it])) };
-  return { info, answers, messages: messagesOf(answers), programOf: (texts) => programOf(texts, resolverOf(world, texts)) };
+  const world = { dir, request, info, files: new Map(info.modules.map((it) => [it.specifier, it])) };
+  const skeletons = new Map(answers.filter(([, answer]) => answer.Ok).map(([specifier, answer]) => [specifier, answer.Ok]));
+  return { world: { ...world, skeletons }, info, answers, messages: messagesOf(answers), programOf: (texts) => programOf(texts, resolverOf(world, texts)) };
 }
 
 function textsOf(info) {
@@ -154,13 +158,15 @@ async function judge(dir, exports, work) {
   const skeletons = skeletonTexts(asked);
   const [source, skeleton] = [asked.programOf(sourceTexts), asked.programOf(skeletons)];
   const entries = asked.info.packages.flatMap((it) => it.exports.map(([, file]) => path.resolve(it.dir, file)));
+  const made = (program, texts) => ([...texts.keys()].every((it) => /\.d\.[cm]?ts$/.test(it)) ? texts : emitted(program, texts));
   const shown = (program, texts) => {
-    const isDeclared = [...texts.keys()].every((it) => /\.d\.[cm]?ts$/.test(it));
-    const made = isDeclared ? texts : emitted(program, texts);
-    return surfaceOf(isDeclared ? program : asked.programOf(made), made, entries.map(declarationName));
+    const all = made(program, texts);
+    return surfaceOf(all === texts ? program : asked.programOf(all), all, entries.map(declarationName));
   };
   const [before, after] = [shown(source, sourceTexts), shown(skeleton, skeletons)];
+  const view = { source: before, skeletons, entries, programOf: asked.programOf, skeletonProgram: skeleton };
   return {
+    ...(isDeclaring ? { dts: judgeDeclarations(asked.world, { ...view, declared: made(skeleton, skeletons) }) } : {}),
     way,
     codes,
     modules: asked.info.modules.length,
@@ -271,6 +277,7 @@ async function judgeModules(root) {
 if (require.main === module) {
   const [root, ...words] = process.argv.slice(2);
   if (words.includes('--drop')) dropped.each = Number(words[words.indexOf('--drop') + 1]);
+  isDeclaring = words.includes('--dts');
   if (words.includes('--modules')) judgeModules(root);
   else judgePackages(root);
 }

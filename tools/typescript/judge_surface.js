@@ -3,6 +3,7 @@
 // Nothing here knows a rule of fast check.
 
 const path = require('path');
+const { rewritten } = require('./rewriting');
 const { ts } = require('./typescript');
 const { resolver } = require('./ways');
 
@@ -30,7 +31,7 @@ const OPTIONS = {
 
 const LIBRARIES = path.dirname(ts.getDefaultLibFilePath(OPTIONS));
 const libraries = new Map();
-const ENDINGS = ['', '.ts', '.tsx', '.d.ts', '.mts', '.d.mts', '.cts', '.json', '/index.ts', '/index.tsx', '/index.d.ts'];
+const ENDINGS = ['', '.ts', '.tsx', '.d.ts', '.mts', '.d.mts', '.cts', '.d.cts', '.json', '/index.ts', '/index.tsx', '/index.d.ts'];
 
 /** Where a relative text leads among the texts. */
 function resolveIn(texts, from, text) {
@@ -127,21 +128,27 @@ function eachVariable(node) {
  */
 function plainly(node) {
   const file = node.getSourceFile();
-  const visit = (context) => (at) => {
+  return rewritten(node, (at, visit, inside) => {
     if (at.kind === K.ObjectBindingPattern) return ts.factory.createObjectBindingPattern([]);
     if (at.kind === K.ArrayBindingPattern) return ts.factory.createArrayBindingPattern([]);
     if (MEMBERS.has(at.kind) && isPrivate(at)) return withoutType(at);
-    if (at.kind === K.ParenthesizedType) return visit(context)(at.type);
+    if (ts.isParameter(at) && at.name.kind !== K.Identifier) return inside(namedParameter(at));
+    if (at.kind === K.ParenthesizedType) return visit(at.type);
     // Literals by their values, however they are written.
     if (at.kind === K.StringLiteral) return ts.factory.createStringLiteral(at.text);
     if (at.kind === K.NumericLiteral) return ts.factory.createNumericLiteral(at.text);
-    if (at.kind === K.ModuleBlock) return ts.factory.createModuleBlock(at.statements.flatMap(eachVariable).map(visit(context)));
-    const made = ts.visitEachChild(at, visit(context), context);
+    if (at.kind === K.ModuleBlock) return ts.factory.createModuleBlock(at.statements.flatMap(eachVariable).map(visit));
+    const made = inside(at);
     if (made.kind === K.UnionType) return unionOf(made.types, file);
     if (ts.isClassDeclaration(made)) return withoutTwice(made, file);
     return made.kind === K.TypeReference ? arrayOf(made) : made;
-  };
-  return ts.transform(node, [visit]).transformed[0];
+  });
+}
+
+/** A parameter that is a pattern, by a name. */
+function namedParameter(node) {
+  const name = `param${node.parent.parameters.indexOf(node)}`;
+  return ts.factory.createParameterDeclaration(undefined, node.dotDotDotToken, name, node.questionToken, node.type);
 }
 
 const MEMBERS = new Set([K.PropertyDeclaration, K.MethodDeclaration, K.GetAccessor, K.SetAccessor]);
@@ -194,6 +201,7 @@ class Surface {
     this.files = files;
     this.seen = new Set();
     this.shown = new Map();
+    this.nodes = new Map();
     this.lost = new Set();
   }
 
@@ -265,6 +273,7 @@ class Surface {
     const key = this.keyOf(node);
     if (!this.shown.has(key)) this.shown.set(key, new Set());
     this.shown.get(key).add(normalise(declarationText(node)));
+    this.nodes.set(key, [...(this.nodes.get(key) || []), node]);
     this.references(node);
   }
 

@@ -67,6 +67,8 @@ const OPTIONS = [
   { word: '--no-cache', key: 'noCache', commands: ALL, text: 'keep nothing between runs, and use nothing that was kept' },
   { word: '--dry', key: 'dry', commands: ['fix'], text: 'fix: show the changes, and write nothing' },
   { word: '--markdown', key: 'markdown', commands: ['diff'], text: 'diff: a text for a pull request' },
+  { word: '--dts', key: 'dts', commands: ['skeleton'], text: 'skeleton: declaration files (.d.ts) in place of skeletons' },
+  { word: '--with-dts', key: 'withDts', commands: ['skeleton'], text: 'skeleton: declaration files beside skeletons' },
   { word: '--unproved', key: 'unproved', commands: READING, text: 'run the program without any proof' },
   { word: '--no-own-compiler', key: 'noOwnCompiler', commands: ALL, text: "pass over the compiler in the folder's node_modules, whose code would be run" },
   { word: '--no-color', key: 'plain', commands: ALL, text: 'no colours on a terminal' },

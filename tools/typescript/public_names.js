@@ -121,4 +121,4 @@ function publicNames(world) {
   return new PublicNames(world).all();
 }
 
-module.exports = { publicNames };
+module.exports = { PublicNames, publicNames };

@@ -4,6 +4,7 @@ const fs = require('fs');
 const path = require('path');
 const { LABELS } = require('./messages.js');
 const { Marks } = require('./marks.js');
+const { withPartial } = require('./preview.js');
 const { printed } = require('./skeletons.js');
 const { parse, toTree } = require('./tree.js');
 const { told, ways } = require('./ways.js');
@@ -104,11 +105,11 @@ function programOf(file) {
 function section(world, known, file, skeleton) {
   const messages = world.messages.filter((each) => each.specifier === file.specifier);
   const placed = messages.filter((each) => each.lines);
-  const answer = world.skeletons.get(file.specifier);
+  const answer = world.skeletons.get(file.specifier) || (skeleton && world.preview.skeletons.get(file.specifier));
   const marks = answer ? new Marks(programOf(file), answer.program, Buffer.byteLength(file.text) + 1).marks : null;
   const source = listing(file.lines, classesOf(file, marks, placed), placed);
   const { Lines } = require('./lines.js');
-  const beside = skeleton ? `<div class="pane"><h3>skeleton</h3>${listing(new Lines(skeleton.text), [], [])}</div>` : '';
+  const beside = skeleton ? `<div class="pane"><h3>skeleton${skeleton.isPreview ? ' (a preview)' : ''}</h3>${listing(new Lines(skeleton.text), [], [])}</div>` : '';
   return `<section id="${idOf(file.name)}"><h2>${escape(file.name)}</h2>
 ${messages.filter((each) => !each.lines).map(message).join('')}${skeleton ? reasons(world, known, file.specifier) : ''}
 <div class="panes${skeleton ? '' : ' alone'}"><div class="pane"><h3>source</h3>${source}</div>${beside}</div></section>`;
@@ -122,7 +123,7 @@ function contents(world, shown) {
     return `<li><a href="#${idOf(file.name)}">${escape(file.name)}</a>${count ? ` (${count})` : ''}</li>`;
   });
   const which = others.length === 1 ? 'this file' : 'these files';
-  const what = world.skeletons.size ? 'nothing is public' : 'nothing is public, or nothing is wrong with it';
+  const what = world.skeletons.size || world.preview ? 'nothing is public' : 'nothing is public, or nothing is wrong with it';
   const rest = others.length ? `<p>Of ${which} ${what}: ${others.join(', ')}</p>` : '';
   return `<nav><ul>${links.join('')}</ul>${rest}</nav>`;
 }
@@ -133,11 +134,13 @@ const LEGEND = '<p class="legend"><span class="kept">public</span><span class="g
 function page(analysed) {
   const world = { ...analysed, messages: [...analysed.warnings, ...analysed.broken, ...analysed.messages] };
   const skeletons = new Map(printed(world).map((each) => [each.specifier, each]));
-  const known = ways(world);
+  const known = ways(withPartial(world));
   const files = [...world.files.values()].sort((a, b) => (a.name < b.name ? -1 : 1));
   const shown = files.filter((file) => skeletons.has(file.specifier) || world.messages.some((each) => each.specifier === file.specifier));
   const title = world.info.packages.map(({ name, version }) => `${name}@${version}`).join(', ');
-  const shows = skeletons.size ? `${skeletons.size} public module${skeletons.size === 1 ? '' : 's'}` : 'a package with messages has no skeletons';
+  const modules = `${skeletons.size} public module${skeletons.size === 1 ? '' : 's'}`;
+  const previewed = [...skeletons.values()].filter((each) => each.isPreview).length;
+  const shows = !skeletons.size ? 'a package with messages has no skeletons' : previewed ? `${modules}, of which ${previewed} in a preview` : modules;
   const said = world.messages.length ? `${world.messages.length} message${world.messages.length === 1 ? '' : 's'}; ${shows}` : shows;
   const elsewhere = world.messages.filter((each) => !world.files.has(each.specifier)).map(message).join('');
   return `<!DOCTYPE html>

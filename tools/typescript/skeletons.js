@@ -14,15 +14,28 @@ function printedModule(name, { program, comments }, isDeclaration) {
   }
 }
 
-/** The printed skeletons of a folder, in the order of their names: `{specifier, name, text}`. */
+const PREVIEW = '// A preview: something is wrong with another module of the package.\n';
+
+/** The skeletons of a folder that are shown, those of a preview too: `[specifier, skeleton, mark]`, with a line that marks a preview. */
+function shown(world) {
+  const preview = world.preview ? [...world.preview.skeletons] : [];
+  return [...[...world.skeletons].map((it) => [...it, '']), ...preview.map((it) => [...it, PREVIEW])];
+}
+
+/** Texts in the order of their names. */
+function byName(texts) {
+  return texts.sort((a, b) => (a.name < b.name ? -1 : a.name > b.name ? 1 : 0));
+}
+
+/** The printed skeletons of a folder, in the order of their names: `{specifier, name, text, isPreview}`. */
 function printed(world) {
   const made = [];
-  for (const [specifier, skeleton] of world.skeletons) {
+  for (const [specifier, skeleton, mark] of shown(world)) {
     const file = world.files.get(specifier);
     const name = file ? file.name : specifier;
-    made.push({ specifier, name, text: printedModule(name, skeleton, /\.d\.[cm]?ts$/.test(specifier)) });
+    made.push({ specifier, name, text: mark + printedModule(name, skeleton, /\.d\.[cm]?ts$/.test(specifier)), isPreview: mark !== '' });
   }
-  return made.sort((a, b) => (a.name < b.name ? -1 : a.name > b.name ? 1 : 0));
+  return byName(made);
 }
 
 /** All skeletons as one text, each behind a line that names its module. */
@@ -40,4 +53,4 @@ function write(folder, skeletons) {
   }
 }
 
-module.exports = { joined, printed, write };
+module.exports = { byName, joined, printed, printedModule, shown, write };

@@ -1,5 +1,5 @@
 'use strict';
-// Times `fast-check-ts check` beside `tsc` on packages of growing size: from nothing, with what both keep, once a module has changed, and watching. It says
+// Times `fast-check-ts check` and `skeleton --dts` beside `tsc` on packages of growing size: from nothing, with what both keep, once a module has changed, and watching. It says
 // where the time goes.
 //
 //   node tools/typescript/speed.js [MODULES ..]        (10 50 200 where nothing is given)
@@ -152,6 +152,7 @@ async function measure(count) {
     const lines = fs.readFileSync(path.join(folder, 'm0.ts'), 'utf8').split('\n').length;
     console.log(`${count} modules of ${lines} lines`);
     console.log(`  check --no-cache ${best([LAUNCHER, 'check', '--no-cache', folder])}; tsc --declaration ${best(tsc)}`);
+    console.log(`  skeleton --dts --no-cache ${best([LAUNCHER, 'skeleton', '--dts', '--no-cache', folder, path.join(folder, 'files')])}`);
     console.log(`  check ${thrice([LAUNCHER, 'check', folder], folder, forget([kept]))}`);
     console.log(`  tsc --incremental ${thrice([...tsc, '--incremental', '--tsBuildInfoFile', info], folder, forget([info]))}`);
     console.log(`  check --watch, one module changed ${await watched(folder)}`);

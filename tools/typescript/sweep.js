@@ -124,7 +124,7 @@ async function sweep(folders, words) {
   return sums.wrong ? 1 : 0;
 }
 
-module.exports = { packagesBelow };
+module.exports = { check, fixed, packagesBelow };
 if (require.main === module) {
   const words = process.argv.slice(2);
   const isOption = (it) => it.startsWith('--');

@@ -22,7 +22,7 @@ use std::collections::VecDeque;
 fn build_seeded(
     alloc: Global,
     cache: &mut dyn FastCheckCache,
-    seed: &str,
+    seed: &'static str,
     jsr_url_provider: &dyn JsrUrlProvider,
     input: BuildInput<'_>,
     pending_nvs: VecDeque<PackageNv>,

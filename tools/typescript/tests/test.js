@@ -86,7 +86,8 @@ const MORE = {
  * what can be written instead, what the compiler finds in the skeletons too. */
 async function said(name) {
   const parts = [];
-  const commands = [['check'], ['skeleton'], ...(/^(apart|instead)-/.test(name) ? [['check', '--verify']] : []), ...(MORE[name] || [])];
+  const commands = [['check'], ['skeleton'], ...(/^(apart|instead)-/.test(name) ? [['check', '--verify']] : []), ...(MORE[name] || []),
+    ...(/^dts/.test(name) ? [['skeleton', '--dts']] : [])];
   for (const words of commands) {
     const { status, out, err: told } = await run([...words, '.'], { cwd: path.join(PACKAGES, name) });
     const err = told.replace(NEWER_COMPILER, '').replace(ts.version, 'VERSION');
@@ -407,6 +408,41 @@ async function verified() {
   }
 }
 
+/** The declaration files of the stored packages: the compiler declares the same for the skeletons, and finds no further error. */
+async function declarationFiles() {
+  const { declaredBoth } = require('./declared.js');
+  await test('declaration files beside skeletons', async () => {
+    const { errors, differ, count } = await declaredBoth(PACKAGES);
+    const told = [...errors.map((it) => `${it.name}: ${it.text}`), ...differ.map((it) => JSON.stringify(it))];
+    same(told.join('\n'), '', 'what the compiler finds');
+    holds(count > 80, `${count} modules have declaration files`);
+  });
+  await test('skeleton --dts and --with-dts write files that are the same when they are read again', () => withFolder(async (folder) => {
+    const names = (part) => fs.readdirSync(path.join(folder, part)).sort().join(' ');
+    const once = (words, part) => run(['skeleton', ...words, 'dts', path.join(folder, part)]);
+    same((await once(['--dts'], 'a')).status, 0, 'the status');
+    same(names('a'), 'mod.d.ts options.d.ts');
+    same((await once(['--with-dts'], 'b')).status, 0, 'the status');
+    same(names('b'), 'mod.d.ts mod.ts options.d.ts options.ts');
+    const text = (part) => fs.readFileSync(path.join(folder, part, 'mod.d.ts'), 'utf8');
+    holds(!text('a').includes('as never') && text('a') === text('b'), 'no value stands in for another');
+    const words = ['skeleton', '--dts', '--name', '@test/dts', '--version', '1.0.0', '--exports', './mod.d.ts', '.', path.join(folder, 'c')];
+    same((await run(words, { cwd: path.join(folder, 'a') })).status, 0, 'the status where declaration files are read');
+    same(text('c'), text('a'), 'the declaration file of a declaration file');
+  }));
+  await test('the examples of the page', () => {
+    const page = readOr(path.resolve(__dirname, '../../../docs/TYPESCRIPT.md'), '');
+    for (const [title, name] of [['Declaration files', 'dts'], ['A preview', 'preview']]) {
+      const [, example] = /```ts\n([^]*?)```/.exec(page.slice(page.indexOf(`\n## ${title}\n`)));
+      holds(readOr(expectedOf(name), '').includes(example), `the example of ${title} is what comes of ${name}`);
+    }
+  });
+  await test('a module without a declaration file', async () => {
+    const { status, err } = await run(['skeleton', '--dts', 'dts-untold']);
+    same(`${status} ${err.split('error[untold-type]').length > 8}`, '1 true', err);
+  });
+}
+
 /** Which compiler is taken: each run in a process of its own, since a process has one. */
 async function compilers() {
   const from = (folder, words, environment = {}) => {
@@ -487,7 +523,7 @@ async function all(words) {
     return;
   }
   await storedPackages(names);
-  if (!asked.length) for (const part of [trees, () => everyDiagnostic(names), edits, revisions, commandLine, checks, oddFolders, faults, compilers, fixes, fuzzed, programs, pages, verified]) await part();
+  if (!asked.length) for (const part of [trees, () => everyDiagnostic(names), edits, revisions, commandLine, checks, oddFolders, faults, compilers, fixes, declarationFiles, fuzzed, programs, pages, verified]) await part();
   const not = names.filter((name) => !isCompared(name));
   if (not.length) console.log(`not compared under TypeScript ${ts.version}: ${not.join(', ')}`);
   console.log(`${passed} passed, ${failed.length} failed`);

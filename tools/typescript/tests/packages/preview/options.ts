@@ -1,0 +1,4 @@
+/** What there is to choose. */
+export interface Options {
+  size?: number;
+}
