@@ -7,6 +7,7 @@ const { enumValues } = require('./enum_values');
 const { saysExports } = require('./ambient');
 const { withPartial } = require('./preview');
 const { byName, printedModule, shown } = require('./skeletons');
+const { mentioned } = require('./ways');
 
 const RELATIVE = /^\.{1,2}\//;
 const NONE = [0, 0];
@@ -216,6 +217,18 @@ class Declarations {
   }
 }
 
+/** The items of a module without imports of names that values alone mentioned. */
+function withoutUnused(items) {
+  const isImport = (it) => Boolean(it.ModuleDecl && it.ModuleDecl.Import);
+  const { names } = mentioned(items.filter((it) => !isImport(it)));
+  return items.flatMap((it) => {
+    if (!isImport(it)) return [it];
+    const { Import: node } = it.ModuleDecl;
+    const specifiers = node.specifiers.filter((each) => names.has(only(each)[1].local.sym));
+    return specifiers.length ? [{ ModuleDecl: { Import: { ...node, specifiers } } }] : [];
+  });
+}
+
 /** The name of the declaration file of a module. */
 function declarationName(name) {
   return name.replace(/(\.d)?\.([cm]?)tsx?$/, '.d.$2ts');
@@ -240,7 +253,7 @@ function declarationFiles(world, shownName) {
     const file = world.files.get(specifier);
     const isWritten = /\.d\.[cm]?ts$/.test(specifier);
     const declarations = new Declarations(scopes(specifier), { isWritten });
-    const body = withSources(declarations.items(skeleton.program.body));
+    const body = withSources(withoutUnused(declarations.items(skeleton.program.body)));
     messages.push(...untoldMessages(declarations.untold, file, shownName(file.path)));
     if (declarations.untold.length) continue;
     const text = printedModule(file.name, { ...skeleton, program: { ...skeleton.program, body } }, true);

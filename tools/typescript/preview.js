@@ -48,7 +48,7 @@ class Lessened {
     if (JAVASCRIPT.has(code) || !range) return this.withoutModule(specifier);
     if (!REFERENCES.has(code)) return this.change((it) => it === specifier, (module) => this.withoutItem(module, range));
     // The message names what was asked for, and its place is where that was sought, in whatever module.
-    const [name] = /'([^']+)'/.exec(message).slice(1);
+    const [, name] = /'([^']+)'/.exec(message) || /\(([^()]*)\)$/.exec(message) || [null, ''];
     const last = (text) => text.split('.').pop();
     const all = () => true;
     return this.change(all, (module) => this.withoutReferences(module, (it) => it === name))

@@ -273,7 +273,7 @@ class ValueTypes {
   }
 
   property(span, key, value, holder) {
-    const plain = key.Ident ? { Ident: { ...key.Ident, optional: false } } : { Lit: key };
+    const plain = key.Ident ? { Ident: { span: key.Ident.span, sym: key.Ident.sym, optional: false } } : { Lit: key };
     const named = key.Computed ? { key: this.computed(key.Computed), computed: true } : { key: plain, computed: false };
     return { TsPropertySignature: { span, readonly: holder === FROZEN, optional: false, ...named, type_ann: annotated(this.of(value, holder)) } };
   }
