@@ -28,6 +28,14 @@ class Project {
   constructor(dir) {
     this.options = optionsOf(dir);
     this.libraries = new Map();
+    this.sources = new Map();
+  }
+
+  /** A text as a source file: that of the last program, where the text is the same. */
+  source(name, text, target) {
+    const known = this.sources.get(name);
+    if (!known || known.text !== text) this.sources.set(name, ts.createSourceFile(name, text, target, true));
+    return this.sources.get(name);
   }
 
   program(world, texts) {
@@ -36,7 +44,7 @@ class Project {
     const paths = new Map([...world.files.values()].map((it) => [it.specifier, it.path]));
     const specifiers = new Map([...paths].map(([specifier, file]) => [file, specifier]));
     const sourceFile = (name, target) => {
-      if (texts.has(name)) return ts.createSourceFile(name, texts.get(name), target, true);
+      if (texts.has(name)) return this.source(name, texts.get(name), target);
       if (!this.libraries.has(name)) this.libraries.set(name, base.getSourceFile(name, target));
       return this.libraries.get(name);
     };
@@ -165,36 +173,44 @@ class Fixer {
     return new Map(world.info.modules.map((it) => [it.path, it.text]));
   }
 
-  /** The errors of all files, as they are told. */
+  /** The errors of all files, each with its file, as they are told. */
   errors(world, texts) {
     const program = this.project.program(world, texts);
-    return [...texts.keys()].flatMap((name) => errorsOf(program, name).map((it) => `${name} ${it}`));
+    return [...texts.keys()].flatMap((name) => errorsOf(program, name).map((text) => ({ name, text: `${name} ${text}` })));
   }
 
   /** One round: the edits of all files that bring no error. Answers how many there are. */
   round(world) {
     const texts = this.textsOf(world);
-    if (!this.known) this.known = new Set(this.errors(world, texts));
+    if (!this.known) this.known = new Set(this.errors(world, texts).map((it) => it.text));
     const program = this.project.program(world, texts);
     const ending = endingOf(world);
     const made = [...fixable(world)].flatMap(([name, messages]) => {
       const sourceOf = sourceNamer(world, name, { ending, options: this.project.options });
       return fileEdits({ program, file: program.getSourceFile(name), messages, sourceOf, rejected: this.rejected, notes: this.notes });
     });
-    const isClean = (some) => this.errors(world, new Map([...texts, ...changedTexts(some)])).every((it) => this.known.has(it));
-    const kept = this.cleanPart([], made, isClean);
-    for (const each of made) if (!kept.includes(each)) this.reject(each);
+    const wrongFiles = (some) => {
+      const found = this.errors(world, new Map([...texts, ...changedTexts(some)])).filter((it) => !this.known.has(it.text));
+      return new Set(found.map((it) => it.name));
+    };
+    const clean = new Set(this.cleanPart([], made, wrongFiles));
+    const kept = made.filter((it) => clean.has(it));
+    for (const each of made) if (!clean.has(each)) this.reject(each);
     for (const [name, text] of changedTexts(kept)) this.texts.set(name, text);
     return kept.length;
   }
 
-  /** Those of some edits that bring no error beside others, found by halves. */
-  cleanPart(others, made, isClean) {
-    if (!made.length || isClean([...others, ...made])) return made;
+  /** Those of some edits that bring no error beside others: first those of files without further errors, else by halves. `wrongFiles(edits)` are the files with one. */
+  cleanPart(others, made, wrongFiles) {
+    const wrong = made.length ? wrongFiles([...others, ...made]) : new Set();
+    if (!wrong.size) return made;
     if (made.length === 1) return [];
+    const isSuspect = (it) => wrong.has(it.file.fileName);
+    const [rest, suspects] = [made.filter((it) => !isSuspect(it)), made.filter(isSuspect)];
     const middle = made.length >> 1;
-    const first = this.cleanPart(others, made.slice(0, middle), isClean);
-    return [...first, ...this.cleanPart([...others, ...first], made.slice(middle), isClean)];
+    const [one, other] = rest.length && suspects.length ? [rest, suspects] : [made.slice(0, middle), made.slice(middle)];
+    const first = this.cleanPart(others, one, wrongFiles);
+    return [...first, ...this.cleanPart([...others, ...first], other, wrongFiles)];
   }
 
   reject({ key }) {
