@@ -1,5 +1,5 @@
 import { Level, base, type Options } from "./options.ts";
-import * as options from "./options.ts";
+import * as every from "./options.ts";
 export * from "./options.ts";
 
 /** A shape. */
@@ -50,7 +50,7 @@ export function* numbers(from = 0, to: number): Generator<number> {
 export const isText = (it: unknown): it is string => typeof it === "string";
 export const same = <T>(it: T) => it;
 export const day = 24 * 60 * 60;
-export let low = Level.Low, other = base, another = options.base;
+export let low = Level.Low, other = base, another = every.base;
 export const high = Level.High, minus = -1n;
 export const table = { [Symbol.iterator]: 1, "a-b": { c: [true, false] }, base, 3: /a/ };
 export const fixed = { kinds: ["a", -1], level: Level.Low } as const;
