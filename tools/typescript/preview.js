@@ -109,8 +109,8 @@ function diagnosticsOf(answers) {
 }
 
 /**
- * What is right of a folder of which something is wrong: `skeletons` of the modules that nothing is wrong with, `partial` with those of the others, as far as they go, and
- * `unknown`, the declarations that are not in them, as `specifier\nname`. Null where that cannot be told. `ask(request)` answers for the program.
+ * What is right of a folder of which something is wrong: `skeletons` of the modules that nothing is wrong with, `partial` with those of the others, as far as
+ * they go, and `unknown`, the declarations that are not in them, as `specifier\nname`. Null where that cannot be told. `ask(request)` answers for the program.
  */
 async function previewOf(request, answers, ask) {
   const less = new Lessened(request);
