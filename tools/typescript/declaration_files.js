@@ -138,7 +138,9 @@ class Declarations {
   }
 
   declarator(node, holder) {
-    return { ...node, definite: false, ...this.held(node.init, node.name.Ident.type_ann, holder, (type_ann) => ({ name: { Ident: { ...node.name.Ident, type_ann } } }), 'init') };
+    const { Ident: name } = node.name;
+    const typed = (type_ann) => ({ name: { Ident: { ...name, type_ann } } });
+    return { ...node, definite: false, ...this.held(node.init, name.type_ann, holder, typed, 'init') };
   }
 
   /** What holds a value, with the written type or that of the value; a constant keeps a literal, as the compiler's own declarations do. */
@@ -170,7 +172,8 @@ class Declarations {
   TsEnum(node) {
     if (node.declare || this.isWritten) return node;
     const values = enumValues(node, this.scope);
-    const init = (value) => (value === undefined ? null : { Lit: typeof value === 'number' ? { Num: { span: NONE, raw: String(value) } } : { Str: { span: NONE, value, raw: null } } });
+    const literal = (value) => (typeof value === 'number' ? { Num: { span: NONE, raw: String(value) } } : { Str: { span: NONE, value, raw: null } });
+    const init = (value) => (value === undefined ? null : { Lit: literal(value) });
     return { ...node, declare: !this.isInside, members: node.members.map((it, place) => ({ ...it, init: init(values[place]) })) };
   }
 
@@ -180,7 +183,9 @@ class Declarations {
     const inner = this.inside(items).items(items);
     const isPlain = inner.some((it) => it.Stmt);
     const body = isPlain && !saysExports(inner) ? [...inner, EMPTY_LIST] : inner;
-    const rebuilt = (at) => (at.TsNamespaceDecl ? { TsNamespaceDecl: { ...at.TsNamespaceDecl, body: rebuilt(at.TsNamespaceDecl.body) } } : { TsModuleBlock: { ...at.TsModuleBlock, body } });
+    const rebuilt = ({ TsNamespaceDecl: nested, TsModuleBlock: block }) => {
+      return nested ? { TsNamespaceDecl: { ...nested, body: rebuilt(nested.body) } } : { TsModuleBlock: { ...block, body } };
+    };
     return { ...node, declare: !this.isInside, body: rebuilt(node.body) };
   }
 

@@ -51,8 +51,8 @@ function judged({ made, declared, skeletons, skeletonProgram, entries, programOf
 }
 
 /**
- * Judges the declaration files of a package: `world` has its `skeletons`, `view` what the compiler declares for these and for the sources. A declaration of which the
- * skeleton parts from the source may be as the source's.
+ * Judges the declaration files of a package: `world` has its `skeletons`, `view` what the compiler declares for these and for the sources. A declaration of
+ * which the skeleton parts from the source may be as the source's.
  */
 function judgeDeclarations(world, { declared, source, skeletons, entries, programOf, skeletonProgram }) {
   const { files, messages } = declarationFiles({ ...world, files: filesOf(world.info, world.dir) }, (file) => file);

@@ -1,6 +1,6 @@
 'use strict';
-// Skeletons of the modules that nothing is wrong with, of packages of which something is wrong elsewhere: a preview. The program is asked again, without the items that
-// its messages point to. What these items refer to stays public, so far as a reference was found.
+// Skeletons of the modules that nothing is wrong with, of packages of which something is wrong elsewhere: a preview. The program is asked again, without the
+// items that its messages point to. What these items refer to stays public, so far as a reference was found.
 
 const { valueOf } = require('./request.js');
 const { Names } = require('./ways.js');
@@ -68,9 +68,10 @@ class Lessened {
   withoutItem(module, range) {
     const source = valueOf(module.source);
     const [[variant, program]] = Object.entries(source.program);
-    const found = (program.body || []).filter((it) => holds(spanOf(variant === 'Script' ? { Stmt: it } : it), range));
+    const asItem = (it) => (variant === 'Script' ? { Stmt: it } : it);
+    const found = (program.body || []).filter((it) => holds(spanOf(asItem(it)), range));
     if (!found.length) return null;
-    for (const it of found) for (const name of new Names({ body: [variant === 'Script' ? { Stmt: it } : it] }).declared.keys()) this.unknown.add(`${module.specifier}\n${name}`);
+    for (const name of new Names({ body: found.map(asItem) }).declared.keys()) this.unknown.add(`${module.specifier}\n${name}`);
     const body = program.body.filter((it) => !found.includes(it));
     return { ...module, source: { ...source, program: { [variant]: { ...program, body } } } };
   }
@@ -109,8 +110,8 @@ function diagnosticsOf(answers) {
 }
 
 /**
- * What is right of a folder of which something is wrong: `skeletons` of the modules that nothing is wrong with, `partial` with those of the others, as far as they go, and
- * `unknown`, the declarations that are not in them, as `specifier\nname`. Null where that cannot be told. `ask(request)` answers for the program.
+ * What is right of a folder of which something is wrong: `skeletons` of the modules that nothing is wrong with, `partial` with those of the others, as far as
+ * they go, and `unknown`, the declarations that are not in them, as `specifier\nname`. Null where that cannot be told. `ask(request)` answers for the program.
  */
 async function previewOf(request, answers, ask) {
   const less = new Lessened(request);

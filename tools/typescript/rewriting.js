@@ -11,7 +11,10 @@ const NO_NAMES = {
   endLexicalEnvironment() {},
 };
 
-/** A node as a call makes it: `make(node, visit, inside)` gets `visit(other)`, which makes another one, and `inside(node)`, the node with its parts as they are made. */
+/**
+ * A node as a call makes it: `make(node, visit, inside)` gets `visit(other)`, which makes another one, and `inside(node)`, the node with its parts as they are
+ * made.
+ */
 function rewritten(node, make) {
   const factory = (context) => {
     const quiet = { ...context, ...NO_NAMES };

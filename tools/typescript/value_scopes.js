@@ -81,7 +81,8 @@ class Scope {
   classify(declared) {
     const [{ node }] = declared;
     if (node.module_ref) return UNKNOWN;
-    if (!node.name) return { form: node.id || node.class || node.function || node.ident !== undefined ? 'other' : 'value', value: node, scope: this, nodes: declared.map((it) => it.node) };
+    const isDeclaration = node.id || node.class || node.function || node.ident !== undefined;
+    if (!node.name) return { form: isDeclaration ? 'other' : 'value', value: node, scope: this, nodes: declared.map((it) => it.node) };
     const { type_ann } = node.name.Ident;
     if (type_ann) return { form: 'typed', type: type_ann.type_ann, isSaid: Boolean(node.isParameter && !node.name.Ident.id.optional) };
     return node.init ? { form: 'value', value: node.init, scope: this } : { form: node.isParameter ? 'unknown' : 'other' };
