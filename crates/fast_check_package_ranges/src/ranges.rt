@@ -218,12 +218,12 @@ fn all_ranges(
 ) -> Result<BTreeMap<PackageNv, PackagePublicRanges>, AllocError>
     ensures { IfOk result (λ made. (nv : Nv) → ArePackageAnswers (lookup_package nv packages.entries) (lookup_package nv made.entries)) }
 {
-    let mut made = Vec::new(alloc);
+    let mut made = BTreeMap::new(alloc);
     for (package, parts) in packages {
         let ranges = ranges_of(alloc, parts)?;
-        made.push((package, ranges))?;
+        made.insert(package, ranges)?;
     }
-    made.into_iter().collect(alloc)
+    Ok(made)
 }
 
 /// What was found, by package and module. A package is there exactly if it was entered, or if anything was found of it. One whose item is used is
