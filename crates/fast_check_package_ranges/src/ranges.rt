@@ -226,8 +226,9 @@ fn all_ranges(
     Ok(made)
 }
 
-/// What was found, by package and module. A package is there exactly if it was entered, or if anything was found of it. One whose item is used is
-/// answered by its entry points and the item alone: what other packages ask of its modules goes, as the item stands in place of what was found.
+/// What was found, by package and module. A package is there exactly if it was entered, or if anything was found of it. One whose item is used and
+/// has modules is answered by its entry points and the item alone: what other packages ask of its modules goes, as the item stands in place of what
+/// was found. An item without modules tells the entry points and the dependencies, beside what other packages ask of the modules.
 ///
 /// No diagnostic is told twice of a module. Those of the module as a whole come first, and then the faults of demands by their places in the text.
 /// That the types of a module are not known is told where nothing else is told of it.

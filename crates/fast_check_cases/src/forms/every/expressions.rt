@@ -1,8 +1,8 @@
-//! The forms of expressions, properties and patterns, made.
+//! The forms of expressions, properties and patterns, made and read.
 // Written by forms/write.py from forms/forms.txt.
 
-use crate::forms::every::classes::made_classes;
-use crate::forms::every::{part, span, text};
+use crate::forms::every::classes::{is_read_classes, made_classes};
+use crate::forms::every::{Seen, are_as_made, part, span, text};
 use fast_check_expression_forms::{
     ArrayLit, ArrayPat, ArrowExpr, AssignExpr, AssignPat, AssignPatProp, AssignProp, AwaitExpr,
     BinExpr, CallExpr, ClassExpr, ComputedPropName, CondExpr, ExprOrSpread, FnExpr, GetterProp,
@@ -13,7 +13,7 @@ use fast_check_expression_forms::{
     TsConstAssertion, TsInstantiation, TsNonNullExpr, TsSatisfiesExpr, TsTypeAssertion, UnaryExpr,
     UpdateExpr, YieldExpr,
 };
-use fast_check_syntax::{Kind, SyntaxContext, Tree};
+use fast_check_syntax::{Kind, Part, SyntaxContext, Tree};
 use std::alloc::{AllocError, Global};
 
 /// The node of a form of these, or of one behind them, by its kind.
@@ -45,11 +45,11 @@ pub fn made_expressions(alloc: Global, kind: Kind) -> Result<Tree, AllocError> {
             class: part(1),
         }
         .into_tree(alloc),
-        _ => more_expressions_1(alloc, kind),
+        _ => made_expressions_1(alloc, kind),
     }
 }
 
-fn more_expressions_1(alloc: Global, kind: Kind) -> Result<Tree, AllocError> {
+fn made_expressions_1(alloc: Global, kind: Kind) -> Result<Tree, AllocError> {
     match kind {
         Kind::ArrowExpr => ArrowExpr {
             span: span(0),
@@ -78,11 +78,11 @@ fn more_expressions_1(alloc: Global, kind: Kind) -> Result<Tree, AllocError> {
             delegate: true,
         }
         .into_tree(alloc),
-        _ => more_expressions_2(alloc, kind),
+        _ => made_expressions_2(alloc, kind),
     }
 }
 
-fn more_expressions_2(alloc: Global, kind: Kind) -> Result<Tree, AllocError> {
+fn made_expressions_2(alloc: Global, kind: Kind) -> Result<Tree, AllocError> {
     match kind {
         Kind::AwaitExpr => AwaitExpr {
             span: span(0),
@@ -108,11 +108,11 @@ fn more_expressions_2(alloc: Global, kind: Kind) -> Result<Tree, AllocError> {
             arg: part(3),
         }
         .into_tree(alloc),
-        _ => more_expressions_3(alloc, kind),
+        _ => made_expressions_3(alloc, kind),
     }
 }
 
-fn more_expressions_3(alloc: Global, kind: Kind) -> Result<Tree, AllocError> {
+fn made_expressions_3(alloc: Global, kind: Kind) -> Result<Tree, AllocError> {
     match kind {
         Kind::BinExpr => BinExpr {
             span: span(0),
@@ -141,11 +141,11 @@ fn more_expressions_3(alloc: Global, kind: Kind) -> Result<Tree, AllocError> {
             prop: part(2),
         }
         .into_tree(alloc),
-        _ => more_expressions_4(alloc, kind),
+        _ => made_expressions_4(alloc, kind),
     }
 }
 
-fn more_expressions_4(alloc: Global, kind: Kind) -> Result<Tree, AllocError> {
+fn made_expressions_4(alloc: Global, kind: Kind) -> Result<Tree, AllocError> {
     match kind {
         Kind::SuperPropExpr => SuperPropExpr {
             span: span(0),
@@ -174,11 +174,11 @@ fn more_expressions_4(alloc: Global, kind: Kind) -> Result<Tree, AllocError> {
             type_args: part(4),
         }
         .into_tree(alloc),
-        _ => more_expressions_5(alloc, kind),
+        _ => made_expressions_5(alloc, kind),
     }
 }
 
-fn more_expressions_5(alloc: Global, kind: Kind) -> Result<Tree, AllocError> {
+fn made_expressions_5(alloc: Global, kind: Kind) -> Result<Tree, AllocError> {
     match kind {
         Kind::OptChainExpr => OptChainExpr {
             span: span(0),
@@ -207,11 +207,11 @@ fn more_expressions_5(alloc: Global, kind: Kind) -> Result<Tree, AllocError> {
             raw: text(alloc)?,
         }
         .into_tree(alloc),
-        _ => more_expressions_6(alloc, kind),
+        _ => made_expressions_6(alloc, kind),
     }
 }
 
-fn more_expressions_6(alloc: Global, kind: Kind) -> Result<Tree, AllocError> {
+fn made_expressions_6(alloc: Global, kind: Kind) -> Result<Tree, AllocError> {
     match kind {
         Kind::TaggedTpl => TaggedTpl {
             span: span(0),
@@ -241,11 +241,11 @@ fn more_expressions_6(alloc: Global, kind: Kind) -> Result<Tree, AllocError> {
             raw: text(alloc)?,
         }
         .into_tree(alloc),
-        _ => more_expressions_7(alloc, kind),
+        _ => made_expressions_7(alloc, kind),
     }
 }
 
-fn more_expressions_7(alloc: Global, kind: Kind) -> Result<Tree, AllocError> {
+fn made_expressions_7(alloc: Global, kind: Kind) -> Result<Tree, AllocError> {
     match kind {
         Kind::JSXFragment => JSXFragment {
             span: span(0),
@@ -275,11 +275,11 @@ fn more_expressions_7(alloc: Global, kind: Kind) -> Result<Tree, AllocError> {
             expr: part(1),
         }
         .into_tree(alloc),
-        _ => more_expressions_8(alloc, kind),
+        _ => made_expressions_8(alloc, kind),
     }
 }
 
-fn more_expressions_8(alloc: Global, kind: Kind) -> Result<Tree, AllocError> {
+fn made_expressions_8(alloc: Global, kind: Kind) -> Result<Tree, AllocError> {
     match kind {
         Kind::TsNonNullExpr => TsNonNullExpr {
             span: span(0),
@@ -308,11 +308,11 @@ fn more_expressions_8(alloc: Global, kind: Kind) -> Result<Tree, AllocError> {
             value: part(2),
         }
         .into_tree(alloc),
-        _ => more_expressions_9(alloc, kind),
+        _ => made_expressions_9(alloc, kind),
     }
 }
 
-fn more_expressions_9(alloc: Global, kind: Kind) -> Result<Tree, AllocError> {
+fn made_expressions_9(alloc: Global, kind: Kind) -> Result<Tree, AllocError> {
     match kind {
         Kind::GetterProp => GetterProp {
             span: span(0),
@@ -338,11 +338,11 @@ fn more_expressions_9(alloc: Global, kind: Kind) -> Result<Tree, AllocError> {
             expr: part(1),
         }
         .into_tree(alloc),
-        _ => more_expressions_10(alloc, kind),
+        _ => made_expressions_10(alloc, kind),
     }
 }
 
-fn more_expressions_10(alloc: Global, kind: Kind) -> Result<Tree, AllocError> {
+fn made_expressions_10(alloc: Global, kind: Kind) -> Result<Tree, AllocError> {
     match kind {
         Kind::ArrayPat => ArrayPat {
             span: span(0),
@@ -371,11 +371,11 @@ fn more_expressions_10(alloc: Global, kind: Kind) -> Result<Tree, AllocError> {
             right: part(2),
         }
         .into_tree(alloc),
-        _ => more_expressions_11(alloc, kind),
+        _ => made_expressions_11(alloc, kind),
     }
 }
 
-fn more_expressions_11(alloc: Global, kind: Kind) -> Result<Tree, AllocError> {
+fn made_expressions_11(alloc: Global, kind: Kind) -> Result<Tree, AllocError> {
     match kind {
         Kind::KeyValuePatProp => KeyValuePatProp {
             key: part(0),
@@ -391,5 +391,431 @@ fn more_expressions_11(alloc: Global, kind: Kind) -> Result<Tree, AllocError> {
         Kind::PatExpr => PatExpr { expr: part(0) }.into_tree(alloc),
         Kind::TargetPat => TargetPat { pat: part(0) }.into_tree(alloc),
         _ => made_classes(alloc, kind),
+    }
+}
+
+/// Whether each field of such a node gives what it was made of.
+pub fn is_read_expressions(node: Part<'_>, kind: Kind) -> bool {
+    match kind {
+        Kind::ThisExpr => {
+            let it = ThisExpr::of(node);
+            are_as_made(&[Seen::Range(it.span)])
+        }
+        Kind::ArrayLit => {
+            let it = ArrayLit::of(node);
+            are_as_made(&[Seen::Range(it.span), Seen::Part(it.elems)])
+        }
+        Kind::ExprOrSpread => {
+            let it = ExprOrSpread::of(node);
+            are_as_made(&[Seen::Part(it.spread), Seen::Part(it.expr)])
+        }
+        Kind::ObjectLit => {
+            let it = ObjectLit::of(node);
+            are_as_made(&[Seen::Range(it.span), Seen::Part(it.props)])
+        }
+        Kind::FnExpr => {
+            let it = FnExpr::of(node);
+            are_as_made(&[Seen::Part(it.ident), Seen::Part(it.function)])
+        }
+        Kind::ClassExpr => {
+            let it = ClassExpr::of(node);
+            are_as_made(&[Seen::Part(it.ident), Seen::Part(it.class)])
+        }
+        _ => is_read_expressions_1(node, kind),
+    }
+}
+
+fn is_read_expressions_1(node: Part<'_>, kind: Kind) -> bool {
+    match kind {
+        Kind::ArrowExpr => {
+            let it = ArrowExpr::of(node);
+            are_as_made(&[
+                Seen::Range(it.span),
+                Seen::Scope(it.ctxt),
+                Seen::Part(it.params),
+                Seen::Part(it.body),
+                Seen::Flag(it.is_async),
+                Seen::Flag(it.is_generator),
+                Seen::Part(it.type_params),
+                Seen::Part(it.return_type),
+            ])
+        }
+        Kind::SeqExpr => {
+            let it = SeqExpr::of(node);
+            are_as_made(&[Seen::Range(it.span), Seen::Part(it.exprs)])
+        }
+        Kind::ParenExpr => {
+            let it = ParenExpr::of(node);
+            are_as_made(&[Seen::Range(it.span), Seen::Part(it.expr)])
+        }
+        Kind::YieldExpr => {
+            let it = YieldExpr::of(node);
+            are_as_made(&[
+                Seen::Range(it.span),
+                Seen::Part(it.arg),
+                Seen::Flag(it.delegate),
+            ])
+        }
+        _ => is_read_expressions_2(node, kind),
+    }
+}
+
+fn is_read_expressions_2(node: Part<'_>, kind: Kind) -> bool {
+    match kind {
+        Kind::AwaitExpr => {
+            let it = AwaitExpr::of(node);
+            are_as_made(&[Seen::Range(it.span), Seen::Part(it.arg)])
+        }
+        Kind::MetaPropExpr => {
+            let it = MetaPropExpr::of(node);
+            are_as_made(&[Seen::Range(it.span), Seen::Text(it.kind)])
+        }
+        Kind::Invalid => {
+            let it = Invalid::of(node);
+            are_as_made(&[Seen::Range(it.span)])
+        }
+        Kind::UnaryExpr => {
+            let it = UnaryExpr::of(node);
+            are_as_made(&[Seen::Range(it.span), Seen::Text(it.op), Seen::Part(it.arg)])
+        }
+        Kind::UpdateExpr => {
+            let it = UpdateExpr::of(node);
+            are_as_made(&[
+                Seen::Range(it.span),
+                Seen::Text(it.op),
+                Seen::Flag(it.prefix),
+                Seen::Part(it.arg),
+            ])
+        }
+        _ => is_read_expressions_3(node, kind),
+    }
+}
+
+fn is_read_expressions_3(node: Part<'_>, kind: Kind) -> bool {
+    match kind {
+        Kind::BinExpr => {
+            let it = BinExpr::of(node);
+            are_as_made(&[
+                Seen::Range(it.span),
+                Seen::Text(it.op),
+                Seen::Part(it.left),
+                Seen::Part(it.right),
+            ])
+        }
+        Kind::AssignExpr => {
+            let it = AssignExpr::of(node);
+            are_as_made(&[
+                Seen::Range(it.span),
+                Seen::Text(it.op),
+                Seen::Part(it.left),
+                Seen::Part(it.right),
+            ])
+        }
+        Kind::CondExpr => {
+            let it = CondExpr::of(node);
+            are_as_made(&[
+                Seen::Range(it.span),
+                Seen::Part(it.test),
+                Seen::Part(it.cons),
+                Seen::Part(it.alt),
+            ])
+        }
+        _ => is_read_expressions_4(node, kind),
+    }
+}
+
+fn is_read_expressions_4(node: Part<'_>, kind: Kind) -> bool {
+    match kind {
+        Kind::MemberExpr => {
+            let it = MemberExpr::of(node);
+            are_as_made(&[
+                Seen::Range(it.span),
+                Seen::Part(it.obj),
+                Seen::Part(it.prop),
+            ])
+        }
+        Kind::SuperPropExpr => {
+            let it = SuperPropExpr::of(node);
+            are_as_made(&[Seen::Range(it.span), Seen::Part(it.prop)])
+        }
+        Kind::CallExpr => {
+            let it = CallExpr::of(node);
+            are_as_made(&[
+                Seen::Range(it.span),
+                Seen::Scope(it.ctxt),
+                Seen::Part(it.callee),
+                Seen::Part(it.args),
+                Seen::Part(it.type_args),
+            ])
+        }
+        Kind::Super => {
+            let it = Super::of(node);
+            are_as_made(&[Seen::Range(it.span)])
+        }
+        Kind::Import => {
+            let it = Import::of(node);
+            are_as_made(&[Seen::Range(it.span), Seen::Text(it.phase)])
+        }
+        _ => is_read_expressions_5(node, kind),
+    }
+}
+
+fn is_read_expressions_5(node: Part<'_>, kind: Kind) -> bool {
+    match kind {
+        Kind::NewExpr => {
+            let it = NewExpr::of(node);
+            are_as_made(&[
+                Seen::Range(it.span),
+                Seen::Scope(it.ctxt),
+                Seen::Part(it.callee),
+                Seen::Part(it.args),
+                Seen::Part(it.type_args),
+            ])
+        }
+        Kind::OptChainExpr => {
+            let it = OptChainExpr::of(node);
+            are_as_made(&[
+                Seen::Range(it.span),
+                Seen::Flag(it.optional),
+                Seen::Part(it.base),
+            ])
+        }
+        Kind::OptCall => {
+            let it = OptCall::of(node);
+            are_as_made(&[
+                Seen::Range(it.span),
+                Seen::Scope(it.ctxt),
+                Seen::Part(it.callee),
+                Seen::Part(it.args),
+                Seen::Part(it.type_args),
+            ])
+        }
+        _ => is_read_expressions_6(node, kind),
+    }
+}
+
+fn is_read_expressions_6(node: Part<'_>, kind: Kind) -> bool {
+    match kind {
+        Kind::Tpl => {
+            let it = Tpl::of(node);
+            are_as_made(&[
+                Seen::Range(it.span),
+                Seen::Part(it.exprs),
+                Seen::Part(it.quasis),
+            ])
+        }
+        Kind::TplElement => {
+            let it = TplElement::of(node);
+            are_as_made(&[
+                Seen::Range(it.span),
+                Seen::Flag(it.tail),
+                Seen::Part(it.cooked),
+                Seen::Text(it.raw),
+            ])
+        }
+        Kind::TaggedTpl => {
+            let it = TaggedTpl::of(node);
+            are_as_made(&[
+                Seen::Range(it.span),
+                Seen::Scope(it.ctxt),
+                Seen::Part(it.tag),
+                Seen::Part(it.type_params),
+                Seen::Part(it.tpl),
+            ])
+        }
+        _ => is_read_expressions_7(node, kind),
+    }
+}
+
+fn is_read_expressions_7(node: Part<'_>, kind: Kind) -> bool {
+    match kind {
+        Kind::JSXMember => {
+            let it = JSXMember::of(node);
+            are_as_made(&[Seen::Range(it.span), Seen::Text(it.raw)])
+        }
+        Kind::JSXNamespacedName => {
+            let it = JSXNamespacedName::of(node);
+            are_as_made(&[Seen::Range(it.span), Seen::Text(it.raw)])
+        }
+        Kind::JSXEmpty => {
+            let it = JSXEmpty::of(node);
+            are_as_made(&[Seen::Range(it.span), Seen::Text(it.raw)])
+        }
+        Kind::JSXElement => {
+            let it = JSXElement::of(node);
+            are_as_made(&[Seen::Range(it.span), Seen::Text(it.raw)])
+        }
+        Kind::JSXFragment => {
+            let it = JSXFragment::of(node);
+            are_as_made(&[Seen::Range(it.span), Seen::Text(it.raw)])
+        }
+        Kind::TsTypeAssertion => {
+            let it = TsTypeAssertion::of(node);
+            are_as_made(&[
+                Seen::Range(it.span),
+                Seen::Part(it.expr),
+                Seen::Part(it.type_ann),
+            ])
+        }
+        _ => is_read_expressions_8(node, kind),
+    }
+}
+
+fn is_read_expressions_8(node: Part<'_>, kind: Kind) -> bool {
+    match kind {
+        Kind::TsAsExpr => {
+            let it = TsAsExpr::of(node);
+            are_as_made(&[
+                Seen::Range(it.span),
+                Seen::Part(it.expr),
+                Seen::Part(it.type_ann),
+            ])
+        }
+        Kind::TsSatisfiesExpr => {
+            let it = TsSatisfiesExpr::of(node);
+            are_as_made(&[
+                Seen::Range(it.span),
+                Seen::Part(it.expr),
+                Seen::Part(it.type_ann),
+            ])
+        }
+        Kind::TsConstAssertion => {
+            let it = TsConstAssertion::of(node);
+            are_as_made(&[Seen::Range(it.span), Seen::Part(it.expr)])
+        }
+        Kind::TsNonNullExpr => {
+            let it = TsNonNullExpr::of(node);
+            are_as_made(&[Seen::Range(it.span), Seen::Part(it.expr)])
+        }
+        _ => is_read_expressions_9(node, kind),
+    }
+}
+
+fn is_read_expressions_9(node: Part<'_>, kind: Kind) -> bool {
+    match kind {
+        Kind::TsInstantiation => {
+            let it = TsInstantiation::of(node);
+            are_as_made(&[
+                Seen::Range(it.span),
+                Seen::Part(it.expr),
+                Seen::Part(it.type_args),
+            ])
+        }
+        Kind::SpreadElement => {
+            let it = SpreadElement::of(node);
+            are_as_made(&[Seen::Range(it.dot3_token), Seen::Part(it.expr)])
+        }
+        Kind::KeyValueProp => {
+            let it = KeyValueProp::of(node);
+            are_as_made(&[Seen::Part(it.key), Seen::Part(it.value)])
+        }
+        Kind::AssignProp => {
+            let it = AssignProp::of(node);
+            are_as_made(&[
+                Seen::Range(it.span),
+                Seen::Part(it.key),
+                Seen::Part(it.value),
+            ])
+        }
+        _ => is_read_expressions_10(node, kind),
+    }
+}
+
+fn is_read_expressions_10(node: Part<'_>, kind: Kind) -> bool {
+    match kind {
+        Kind::GetterProp => {
+            let it = GetterProp::of(node);
+            are_as_made(&[
+                Seen::Range(it.span),
+                Seen::Part(it.key),
+                Seen::Part(it.type_ann),
+                Seen::Part(it.body),
+            ])
+        }
+        Kind::SetterProp => {
+            let it = SetterProp::of(node);
+            are_as_made(&[
+                Seen::Range(it.span),
+                Seen::Part(it.key),
+                Seen::Part(it.param),
+                Seen::Part(it.body),
+            ])
+        }
+        Kind::MethodProp => {
+            let it = MethodProp::of(node);
+            are_as_made(&[Seen::Part(it.key), Seen::Part(it.function)])
+        }
+        Kind::ComputedPropName => {
+            let it = ComputedPropName::of(node);
+            are_as_made(&[Seen::Range(it.span), Seen::Part(it.expr)])
+        }
+        _ => is_read_expressions_11(node, kind),
+    }
+}
+
+fn is_read_expressions_11(node: Part<'_>, kind: Kind) -> bool {
+    match kind {
+        Kind::ArrayPat => {
+            let it = ArrayPat::of(node);
+            are_as_made(&[
+                Seen::Range(it.span),
+                Seen::Part(it.elems),
+                Seen::Flag(it.optional),
+                Seen::Part(it.type_ann),
+            ])
+        }
+        Kind::RestPat => {
+            let it = RestPat::of(node);
+            are_as_made(&[
+                Seen::Range(it.span),
+                Seen::Range(it.dot3_token),
+                Seen::Part(it.arg),
+                Seen::Part(it.type_ann),
+            ])
+        }
+        Kind::ObjectPat => {
+            let it = ObjectPat::of(node);
+            are_as_made(&[
+                Seen::Range(it.span),
+                Seen::Part(it.props),
+                Seen::Flag(it.optional),
+                Seen::Part(it.type_ann),
+            ])
+        }
+        _ => is_read_expressions_12(node, kind),
+    }
+}
+
+fn is_read_expressions_12(node: Part<'_>, kind: Kind) -> bool {
+    match kind {
+        Kind::AssignPat => {
+            let it = AssignPat::of(node);
+            are_as_made(&[
+                Seen::Range(it.span),
+                Seen::Part(it.left),
+                Seen::Part(it.right),
+            ])
+        }
+        Kind::KeyValuePatProp => {
+            let it = KeyValuePatProp::of(node);
+            are_as_made(&[Seen::Part(it.key), Seen::Part(it.value)])
+        }
+        Kind::AssignPatProp => {
+            let it = AssignPatProp::of(node);
+            are_as_made(&[
+                Seen::Range(it.span),
+                Seen::Part(it.key),
+                Seen::Part(it.value),
+            ])
+        }
+        Kind::PatExpr => {
+            let it = PatExpr::of(node);
+            are_as_made(&[Seen::Part(it.expr)])
+        }
+        Kind::TargetPat => {
+            let it = TargetPat::of(node);
+            are_as_made(&[Seen::Part(it.pat)])
+        }
+        _ => is_read_classes(node, kind),
     }
 }
