@@ -88,6 +88,10 @@ item_says : (k : KeptPackage) → has_modules (item_of k.item) ≡ false → (q 
     finding_says (Kept k) q ≡ asks_item k.entry_points.keys (item_of k.item) q
 item_says k none q = ap (λ b. list_any (says q) (cond b [] (kept_yields k))) none ∙ or_none (asks_item k.entry_points.keys (item_of k.item) q)
 
+-- one with modules says nothing here
+pub item_untold : (k : KeptPackage) → has_modules (item_of k.item) ≡ true → (q : Question) → finding_says (Kept k) q ≡ false
+item_untold k filled q = ap (λ b. list_any (says q) (cond b [] (kept_yields k))) filled
+
 pub kept_found : (k : KeptPackage) (found : FoundPackage) → has_modules (item_of k.item) ≡ false →
     found.entry_points.items ≡ k.entry_points.keys → found.modules.items ≡ [] →
     ((nv : Nv) → list_any (is_shared nv) found.dependencies.items ≡ list_any (is_package nv) k.item.dependencies.keys) →
