@@ -21,7 +21,7 @@ use Rattle.fast_check_findings.specs.declared.finding.FollowedModule.{FollowedMo
 use Rattle.fast_check_findings.specs.declared.finding.KeptPackage.{KeptPackage}
 use Rattle.fast_check_findings.specs.declared.finding.Finding.{Finding}
 use Rattle.fast_check_findings.specs.declared.finding.Finding.TheVariants.{Entered, Followed, Untyped, Kept}
-use Rattle.fast_check_findings.proofs.Bools.{or_none, and_none}
+use Rattle.fast_check_findings.proofs.Bools.{and_none}
 use Rattle.fast_check_findings.proofs.Lists.{any_map, any_flat, any_none}
 use Rattle.fast_check_package_ranges.specs.Questions.{Question, about, whether_faulty, package_of, yield_says, keeps, is_kept, yields_say}
 use Rattle.fast_check_package_ranges.specs.Questions.{is_said, ModuleQuestion, IsTextless, has_modules}

@@ -1,8 +1,8 @@
-use Rattle.std.proofs.Common.{◌≡◌, ◌∙◌, sym, subst, map, rules}
+use Rattle.std.proofs.Common.{◌≡◌, ◌∙◌, sym, map, rules}
 use Rattle.std.proofs.lemmas.List.{map-id}
 use Rattle.std.proofs.lemmas.Map.Iter.{iter_end, btree_map_turn}
 use Rattle.fast_check_package_ranges.specs.Parts.{is_package}
-use Rattle.fast_check_package_ranges.specs.Made.{IsPackageAnswer, ArePackageAnswers}
+use Rattle.fast_check_package_ranges.specs.Made.{ArePackageAnswers}
 use Rattle.fast_check_package_ranges.proofs.Maps.{package_one, package_total}
 use Rattle.fast_check_package_ranges.proofs.Converted.{convert_none, convert_more, convert_all}
 use Rattle.fast_check_package_ranges.proofs.ranges.all_ranges.Goals as goal
