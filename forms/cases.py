@@ -1,6 +1,6 @@
 """The case that makes every form, each of whose fields tells its place, and reads it."""
 from form_crates import struct_literal
-from layout import brackets, indented, use_list
+from layout import brackets, indented, snake, use_list
 
 BASE = "crates/fast_check_cases/src/forms/every"
 # The crates, each with the file of its forms. What is not of a crate is of the next one.
@@ -22,11 +22,15 @@ def arm(form):
     return lines + [".into_tree(alloc),"]
 
 
-def reading_arm(form):
-    """The arm that reads a form, and compares what its fields give."""
+def reading(form):
+    """The function that reads a form, and compares what its fields give."""
     seen = [f"Seen::{SEEN[field.leaf]}(it.{field.name})" for field in form.fields]
-    lines = [f"Kind::{form.name} => {{", f"    let it = {form.name}::of(node);"]
-    return lines + indented(brackets("are_as_made(&[", seen, "])", 12, 60), 4) + ["}"]
+    head = [f"fn is_read_{snake(form.name)}(node: Part<'_>) -> bool {{", f"    let it = {form.name}::of(node);"]
+    return head + indented(brackets("are_as_made(&[", seen, "])", 4, 60), 4) + ["}"]
+
+
+def reading_arm(form):
+    return [f"Kind::{form.name} => is_read_{snake(form.name)}(node),"]
 
 
 def groups(forms, arm):
@@ -61,25 +65,38 @@ MADE = ("alloc: Global, kind: Kind", "alloc, kind", "Result<Tree, AllocError>")
 READ = ("node: Part<'_>, kind: Kind", "node, kind", "bool")
 
 
-def made_file(table, crate, file, behind_file):
+def uses_of(crate, forms, helpers, behind, taken):
+    """What a file of one of the crates takes: calls from above, those of the file behind it, the forms, and the tree."""
+    uses = [use_list("use crate::forms::every::{", helpers, "};")]
+    if behind:
+        uses.append([f"use crate::forms::every::{behind};"])
+    uses.append(use_list(f"use fast_check_{crate}::{{", sorted(form.name for form in forms), "};"))
+    uses.append(["use fast_check_syntax::{" + ", ".join(taken) + "};"])
+    return [line for use in sorted(uses, key=lambda use: use[0].replace("{", "~")) for line in use]
+
+
+def made_file(table, crate, file, behind):
     """`every/FILE.rt`."""
     forms = [form for it in table.files_of(crate) for form in table.forms_of(it)]
     has = lambda leaf: any(form.has(leaf) for form in forms)
-    helpers = ["Seen", "are_as_made"] + [name for name, leaf in (("part", None), ("span", "range"), ("text", "text")) if has(leaf)]
-    taken = ["Kind", "Part"] + (["SyntaxContext"] if has("scope") else []) + ["Tree"]
-    uses = [use_list("use crate::forms::every::{", helpers, "};")]
-    if behind_file:
-        uses.append([f"use crate::forms::every::{behind_file}::{{is_read_{behind_file}, made_{behind_file}}};"])
-    uses.append(use_list(f"use fast_check_{crate}::{{", sorted(form.name for form in forms), "};"))
-    uses.append(["use fast_check_syntax::{" + ", ".join(taken) + "};"])
-    lines = [f"//! {table.crates[crate][:-1]}, made and read.", ""]
-    for use in sorted(uses, key=lambda use: use[0].replace("{", "~")):
-        lines += use
+    helpers = [name for name, leaf in (("part", None), ("span", "range"), ("text", "text")) if has(leaf)]
+    taken = ["Kind"] + (["SyntaxContext"] if has("scope") else []) + ["Tree"]
+    lines = [f"//! {table.crates[crate][:-1]}, made.", ""]
+    lines += uses_of(crate, forms, helpers, behind and f"{behind}::made_{behind}", taken)
     lines.append("use std::alloc::{AllocError, Global};")
-    behind = f"made_{behind_file}(alloc, kind)" if behind_file else "Ok(Tree::Absent)"
-    lines += functions(f"made_{file}", "The node of a form of these, or of one behind them, by its kind.", MADE, forms, arm, behind)
-    behind = f"is_read_{behind_file}(node, kind)" if behind_file else "false"
-    return lines + functions(f"is_read_{file}", "Whether each field of such a node gives what it was made of.", READ, forms, reading_arm, behind)
+    last = f"made_{behind}(alloc, kind)" if behind else "Ok(Tree::Absent)"
+    return lines + functions(f"made_{file}", "The node of a form of these, or of one behind them, by its kind.", MADE, forms, arm, last)
+
+
+def read_file(table, crate, file, behind):
+    """`every/read_FILE.rt`."""
+    forms = [form for it in table.files_of(crate) for form in table.forms_of(it)]
+    lines = [f"//! {table.crates[crate][:-1]}, read.", ""]
+    lines += uses_of(crate, forms, ["Seen", "are_as_made"], behind and f"read_{behind}::is_read_{behind}", ["Kind", "Part"])
+    for form in forms:
+        lines += [""] + reading(form)
+    last = f"is_read_{behind}(node, kind)" if behind else "false"
+    return lines + functions(f"is_read_{file}", "Whether each field of such a node gives what it was made of.", READ, forms, reading_arm, last)
 
 
 def write_cases(table, out):
@@ -87,3 +104,4 @@ def write_cases(table, out):
     for place, (crate, file) in enumerate(files):
         behind = files[place + 1][1] if place + 1 < len(files) else None
         out.whole(f"{BASE}/{file}.rt", made_file(table, crate, file, behind))
+        out.whole(f"{BASE}/read_{file}.rt", read_file(table, crate, file, behind))

@@ -3,10 +3,16 @@
 mod classes;
 mod expressions;
 mod programs;
+mod read_classes;
+mod read_expressions;
+mod read_programs;
+mod read_statements;
+mod read_types;
 mod statements;
 mod types;
 
-use crate::forms::every::programs::{is_read_programs, made_programs};
+use crate::forms::every::programs::made_programs;
+use crate::forms::every::read_programs::is_read_programs;
 use crate::said::Said;
 use fast_check_schema::Form;
 use fast_check_syntax::{Atom, Kind, Part, SourcePos, SourceRange, SyntaxContext, Tree};
