@@ -24,9 +24,11 @@ def arm(form):
 
 def reading(form):
     """The function that reads a form, and compares what its fields give."""
-    seen = [f"Seen::{SEEN[field.leaf]}(it.{field.name})" for field in form.fields]
-    head = [f"fn is_read_{snake(form.name)}(node: Part<'_>) -> bool {{", f"    let it = {form.name}::of(node);"]
-    return head + indented(brackets("are_as_made(&[", seen, "])", 4, 60), 4) + ["}"]
+    names = [field.name for field in form.fields]
+    seen = [f"Seen::{SEEN[field.leaf]}({field.name})" for field in form.fields]
+    lines = struct_literal(f"let {form.name} {{ ", names, f" }} = {form.name}::of(node);", 4)
+    lines += brackets("are_as_made(&[", seen, "])", 4, 60)
+    return [f"fn is_read_{snake(form.name)}(node: Part<'_>) -> bool {{"] + indented(lines, 4) + ["}"]
 
 
 def reading_arm(form):

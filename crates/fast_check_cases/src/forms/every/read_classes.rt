@@ -10,170 +10,269 @@ use fast_check_class_forms::{
 use fast_check_syntax::{Kind, Part};
 
 fn is_read_function(node: Part<'_>) -> bool {
-    let it = Function::of(node);
+    let Function {
+        span,
+        params,
+        decorators,
+        ctxt,
+        body,
+        is_generator,
+        is_async,
+        type_params,
+        return_type,
+    } = Function::of(node);
     are_as_made(&[
-        Seen::Range(it.span),
-        Seen::Part(it.params),
-        Seen::Part(it.decorators),
-        Seen::Scope(it.ctxt),
-        Seen::Part(it.body),
-        Seen::Flag(it.is_generator),
-        Seen::Flag(it.is_async),
-        Seen::Part(it.type_params),
-        Seen::Part(it.return_type),
+        Seen::Range(span),
+        Seen::Part(params),
+        Seen::Part(decorators),
+        Seen::Scope(ctxt),
+        Seen::Part(body),
+        Seen::Flag(is_generator),
+        Seen::Flag(is_async),
+        Seen::Part(type_params),
+        Seen::Part(return_type),
     ])
 }
 
 fn is_read_param(node: Part<'_>) -> bool {
-    let it = Param::of(node);
-    are_as_made(&[
-        Seen::Range(it.span),
-        Seen::Part(it.decorators),
-        Seen::Part(it.pat),
-    ])
+    let Param {
+        span,
+        decorators,
+        pat,
+    } = Param::of(node);
+    are_as_made(&[Seen::Range(span), Seen::Part(decorators), Seen::Part(pat)])
 }
 
 fn is_read_decorator(node: Part<'_>) -> bool {
-    let it = Decorator::of(node);
-    are_as_made(&[Seen::Range(it.span), Seen::Part(it.expr)])
+    let Decorator { span, expr } = Decorator::of(node);
+    are_as_made(&[Seen::Range(span), Seen::Part(expr)])
 }
 
 fn is_read_class(node: Part<'_>) -> bool {
-    let it = Class::of(node);
+    let Class {
+        span,
+        ctxt,
+        decorators,
+        body,
+        super_class,
+        is_abstract,
+        type_params,
+        super_type_params,
+        implements,
+    } = Class::of(node);
     are_as_made(&[
-        Seen::Range(it.span),
-        Seen::Scope(it.ctxt),
-        Seen::Part(it.decorators),
-        Seen::Part(it.body),
-        Seen::Part(it.super_class),
-        Seen::Flag(it.is_abstract),
-        Seen::Part(it.type_params),
-        Seen::Part(it.super_type_params),
-        Seen::Part(it.implements),
+        Seen::Range(span),
+        Seen::Scope(ctxt),
+        Seen::Part(decorators),
+        Seen::Part(body),
+        Seen::Part(super_class),
+        Seen::Flag(is_abstract),
+        Seen::Part(type_params),
+        Seen::Part(super_type_params),
+        Seen::Part(implements),
     ])
 }
 
 fn is_read_constructor(node: Part<'_>) -> bool {
-    let it = Constructor::of(node);
+    let Constructor {
+        span,
+        ctxt,
+        key,
+        params,
+        body,
+        accessibility,
+        is_optional,
+    } = Constructor::of(node);
     are_as_made(&[
-        Seen::Range(it.span),
-        Seen::Scope(it.ctxt),
-        Seen::Part(it.key),
-        Seen::Part(it.params),
-        Seen::Part(it.body),
-        Seen::Part(it.accessibility),
-        Seen::Flag(it.is_optional),
+        Seen::Range(span),
+        Seen::Scope(ctxt),
+        Seen::Part(key),
+        Seen::Part(params),
+        Seen::Part(body),
+        Seen::Part(accessibility),
+        Seen::Flag(is_optional),
     ])
 }
 
 fn is_read_ts_param_prop(node: Part<'_>) -> bool {
-    let it = TsParamProp::of(node);
+    let TsParamProp {
+        span,
+        decorators,
+        accessibility,
+        is_override,
+        readonly,
+        param,
+    } = TsParamProp::of(node);
     are_as_made(&[
-        Seen::Range(it.span),
-        Seen::Part(it.decorators),
-        Seen::Part(it.accessibility),
-        Seen::Flag(it.is_override),
-        Seen::Flag(it.readonly),
-        Seen::Part(it.param),
+        Seen::Range(span),
+        Seen::Part(decorators),
+        Seen::Part(accessibility),
+        Seen::Flag(is_override),
+        Seen::Flag(readonly),
+        Seen::Part(param),
     ])
 }
 
 fn is_read_static_block(node: Part<'_>) -> bool {
-    let it = StaticBlock::of(node);
-    are_as_made(&[Seen::Range(it.span), Seen::Part(it.body)])
+    let StaticBlock { span, body } = StaticBlock::of(node);
+    are_as_made(&[Seen::Range(span), Seen::Part(body)])
 }
 
 fn is_read_ts_index_signature(node: Part<'_>) -> bool {
-    let it = TsIndexSignature::of(node);
+    let TsIndexSignature {
+        span,
+        params,
+        type_ann,
+        readonly,
+        is_static,
+    } = TsIndexSignature::of(node);
     are_as_made(&[
-        Seen::Range(it.span),
-        Seen::Part(it.params),
-        Seen::Part(it.type_ann),
-        Seen::Flag(it.readonly),
-        Seen::Flag(it.is_static),
+        Seen::Range(span),
+        Seen::Part(params),
+        Seen::Part(type_ann),
+        Seen::Flag(readonly),
+        Seen::Flag(is_static),
     ])
 }
 
 fn is_read_class_method(node: Part<'_>) -> bool {
-    let it = ClassMethod::of(node);
+    let ClassMethod {
+        span,
+        key,
+        function,
+        kind,
+        is_static,
+        accessibility,
+        is_abstract,
+        is_optional,
+        is_override,
+    } = ClassMethod::of(node);
     are_as_made(&[
-        Seen::Range(it.span),
-        Seen::Part(it.key),
-        Seen::Part(it.function),
-        Seen::Part(it.kind),
-        Seen::Flag(it.is_static),
-        Seen::Part(it.accessibility),
-        Seen::Flag(it.is_abstract),
-        Seen::Flag(it.is_optional),
-        Seen::Flag(it.is_override),
+        Seen::Range(span),
+        Seen::Part(key),
+        Seen::Part(function),
+        Seen::Part(kind),
+        Seen::Flag(is_static),
+        Seen::Part(accessibility),
+        Seen::Flag(is_abstract),
+        Seen::Flag(is_optional),
+        Seen::Flag(is_override),
     ])
 }
 
 fn is_read_private_method(node: Part<'_>) -> bool {
-    let it = PrivateMethod::of(node);
+    let PrivateMethod {
+        span,
+        key,
+        function,
+        kind,
+        is_static,
+        accessibility,
+        is_abstract,
+        is_optional,
+        is_override,
+    } = PrivateMethod::of(node);
     are_as_made(&[
-        Seen::Range(it.span),
-        Seen::Part(it.key),
-        Seen::Part(it.function),
-        Seen::Part(it.kind),
-        Seen::Flag(it.is_static),
-        Seen::Part(it.accessibility),
-        Seen::Flag(it.is_abstract),
-        Seen::Flag(it.is_optional),
-        Seen::Flag(it.is_override),
+        Seen::Range(span),
+        Seen::Part(key),
+        Seen::Part(function),
+        Seen::Part(kind),
+        Seen::Flag(is_static),
+        Seen::Part(accessibility),
+        Seen::Flag(is_abstract),
+        Seen::Flag(is_optional),
+        Seen::Flag(is_override),
     ])
 }
 
 fn is_read_class_prop(node: Part<'_>) -> bool {
-    let it = ClassProp::of(node);
+    let ClassProp {
+        span,
+        key,
+        value,
+        type_ann,
+        is_static,
+        decorators,
+        accessibility,
+        is_abstract,
+        is_optional,
+        is_override,
+        readonly,
+        declare,
+        definite,
+    } = ClassProp::of(node);
     are_as_made(&[
-        Seen::Range(it.span),
-        Seen::Part(it.key),
-        Seen::Part(it.value),
-        Seen::Part(it.type_ann),
-        Seen::Flag(it.is_static),
-        Seen::Part(it.decorators),
-        Seen::Part(it.accessibility),
-        Seen::Flag(it.is_abstract),
-        Seen::Flag(it.is_optional),
-        Seen::Flag(it.is_override),
-        Seen::Flag(it.readonly),
-        Seen::Flag(it.declare),
-        Seen::Flag(it.definite),
+        Seen::Range(span),
+        Seen::Part(key),
+        Seen::Part(value),
+        Seen::Part(type_ann),
+        Seen::Flag(is_static),
+        Seen::Part(decorators),
+        Seen::Part(accessibility),
+        Seen::Flag(is_abstract),
+        Seen::Flag(is_optional),
+        Seen::Flag(is_override),
+        Seen::Flag(readonly),
+        Seen::Flag(declare),
+        Seen::Flag(definite),
     ])
 }
 
 fn is_read_private_prop(node: Part<'_>) -> bool {
-    let it = PrivateProp::of(node);
+    let PrivateProp {
+        span,
+        ctxt,
+        key,
+        value,
+        type_ann,
+        is_static,
+        decorators,
+        accessibility,
+        is_optional,
+        is_override,
+        readonly,
+        definite,
+    } = PrivateProp::of(node);
     are_as_made(&[
-        Seen::Range(it.span),
-        Seen::Scope(it.ctxt),
-        Seen::Part(it.key),
-        Seen::Part(it.value),
-        Seen::Part(it.type_ann),
-        Seen::Flag(it.is_static),
-        Seen::Part(it.decorators),
-        Seen::Part(it.accessibility),
-        Seen::Flag(it.is_optional),
-        Seen::Flag(it.is_override),
-        Seen::Flag(it.readonly),
-        Seen::Flag(it.definite),
+        Seen::Range(span),
+        Seen::Scope(ctxt),
+        Seen::Part(key),
+        Seen::Part(value),
+        Seen::Part(type_ann),
+        Seen::Flag(is_static),
+        Seen::Part(decorators),
+        Seen::Part(accessibility),
+        Seen::Flag(is_optional),
+        Seen::Flag(is_override),
+        Seen::Flag(readonly),
+        Seen::Flag(definite),
     ])
 }
 
 fn is_read_auto_accessor(node: Part<'_>) -> bool {
-    let it = AutoAccessor::of(node);
+    let AutoAccessor {
+        span,
+        key,
+        value,
+        type_ann,
+        is_static,
+        decorators,
+        accessibility,
+        is_abstract,
+        is_override,
+        definite,
+    } = AutoAccessor::of(node);
     are_as_made(&[
-        Seen::Range(it.span),
-        Seen::Part(it.key),
-        Seen::Part(it.value),
-        Seen::Part(it.type_ann),
-        Seen::Flag(it.is_static),
-        Seen::Part(it.decorators),
-        Seen::Part(it.accessibility),
-        Seen::Flag(it.is_abstract),
-        Seen::Flag(it.is_override),
-        Seen::Flag(it.definite),
+        Seen::Range(span),
+        Seen::Part(key),
+        Seen::Part(value),
+        Seen::Part(type_ann),
+        Seen::Flag(is_static),
+        Seen::Part(decorators),
+        Seen::Part(accessibility),
+        Seen::Flag(is_abstract),
+        Seen::Flag(is_override),
+        Seen::Flag(definite),
     ])
 }
 

@@ -16,405 +16,472 @@ use fast_check_expression_forms::{
 use fast_check_syntax::{Kind, Part};
 
 fn is_read_this_expr(node: Part<'_>) -> bool {
-    let it = ThisExpr::of(node);
-    are_as_made(&[Seen::Range(it.span)])
+    let ThisExpr { span } = ThisExpr::of(node);
+    are_as_made(&[Seen::Range(span)])
 }
 
 fn is_read_array_lit(node: Part<'_>) -> bool {
-    let it = ArrayLit::of(node);
-    are_as_made(&[Seen::Range(it.span), Seen::Part(it.elems)])
+    let ArrayLit { span, elems } = ArrayLit::of(node);
+    are_as_made(&[Seen::Range(span), Seen::Part(elems)])
 }
 
 fn is_read_expr_or_spread(node: Part<'_>) -> bool {
-    let it = ExprOrSpread::of(node);
-    are_as_made(&[Seen::Part(it.spread), Seen::Part(it.expr)])
+    let ExprOrSpread { spread, expr } = ExprOrSpread::of(node);
+    are_as_made(&[Seen::Part(spread), Seen::Part(expr)])
 }
 
 fn is_read_object_lit(node: Part<'_>) -> bool {
-    let it = ObjectLit::of(node);
-    are_as_made(&[Seen::Range(it.span), Seen::Part(it.props)])
+    let ObjectLit { span, props } = ObjectLit::of(node);
+    are_as_made(&[Seen::Range(span), Seen::Part(props)])
 }
 
 fn is_read_fn_expr(node: Part<'_>) -> bool {
-    let it = FnExpr::of(node);
-    are_as_made(&[Seen::Part(it.ident), Seen::Part(it.function)])
+    let FnExpr { ident, function } = FnExpr::of(node);
+    are_as_made(&[Seen::Part(ident), Seen::Part(function)])
 }
 
 fn is_read_class_expr(node: Part<'_>) -> bool {
-    let it = ClassExpr::of(node);
-    are_as_made(&[Seen::Part(it.ident), Seen::Part(it.class)])
+    let ClassExpr { ident, class } = ClassExpr::of(node);
+    are_as_made(&[Seen::Part(ident), Seen::Part(class)])
 }
 
 fn is_read_arrow_expr(node: Part<'_>) -> bool {
-    let it = ArrowExpr::of(node);
+    let ArrowExpr {
+        span,
+        ctxt,
+        params,
+        body,
+        is_async,
+        is_generator,
+        type_params,
+        return_type,
+    } = ArrowExpr::of(node);
     are_as_made(&[
-        Seen::Range(it.span),
-        Seen::Scope(it.ctxt),
-        Seen::Part(it.params),
-        Seen::Part(it.body),
-        Seen::Flag(it.is_async),
-        Seen::Flag(it.is_generator),
-        Seen::Part(it.type_params),
-        Seen::Part(it.return_type),
+        Seen::Range(span),
+        Seen::Scope(ctxt),
+        Seen::Part(params),
+        Seen::Part(body),
+        Seen::Flag(is_async),
+        Seen::Flag(is_generator),
+        Seen::Part(type_params),
+        Seen::Part(return_type),
     ])
 }
 
 fn is_read_seq_expr(node: Part<'_>) -> bool {
-    let it = SeqExpr::of(node);
-    are_as_made(&[Seen::Range(it.span), Seen::Part(it.exprs)])
+    let SeqExpr { span, exprs } = SeqExpr::of(node);
+    are_as_made(&[Seen::Range(span), Seen::Part(exprs)])
 }
 
 fn is_read_paren_expr(node: Part<'_>) -> bool {
-    let it = ParenExpr::of(node);
-    are_as_made(&[Seen::Range(it.span), Seen::Part(it.expr)])
+    let ParenExpr { span, expr } = ParenExpr::of(node);
+    are_as_made(&[Seen::Range(span), Seen::Part(expr)])
 }
 
 fn is_read_yield_expr(node: Part<'_>) -> bool {
-    let it = YieldExpr::of(node);
-    are_as_made(&[
-        Seen::Range(it.span),
-        Seen::Part(it.arg),
-        Seen::Flag(it.delegate),
-    ])
+    let YieldExpr {
+        span,
+        arg,
+        delegate,
+    } = YieldExpr::of(node);
+    are_as_made(&[Seen::Range(span), Seen::Part(arg), Seen::Flag(delegate)])
 }
 
 fn is_read_await_expr(node: Part<'_>) -> bool {
-    let it = AwaitExpr::of(node);
-    are_as_made(&[Seen::Range(it.span), Seen::Part(it.arg)])
+    let AwaitExpr { span, arg } = AwaitExpr::of(node);
+    are_as_made(&[Seen::Range(span), Seen::Part(arg)])
 }
 
 fn is_read_meta_prop_expr(node: Part<'_>) -> bool {
-    let it = MetaPropExpr::of(node);
-    are_as_made(&[Seen::Range(it.span), Seen::Text(it.kind)])
+    let MetaPropExpr { span, kind } = MetaPropExpr::of(node);
+    are_as_made(&[Seen::Range(span), Seen::Text(kind)])
 }
 
 fn is_read_invalid(node: Part<'_>) -> bool {
-    let it = Invalid::of(node);
-    are_as_made(&[Seen::Range(it.span)])
+    let Invalid { span } = Invalid::of(node);
+    are_as_made(&[Seen::Range(span)])
 }
 
 fn is_read_unary_expr(node: Part<'_>) -> bool {
-    let it = UnaryExpr::of(node);
-    are_as_made(&[Seen::Range(it.span), Seen::Text(it.op), Seen::Part(it.arg)])
+    let UnaryExpr { span, op, arg } = UnaryExpr::of(node);
+    are_as_made(&[Seen::Range(span), Seen::Text(op), Seen::Part(arg)])
 }
 
 fn is_read_update_expr(node: Part<'_>) -> bool {
-    let it = UpdateExpr::of(node);
+    let UpdateExpr {
+        span,
+        op,
+        prefix,
+        arg,
+    } = UpdateExpr::of(node);
     are_as_made(&[
-        Seen::Range(it.span),
-        Seen::Text(it.op),
-        Seen::Flag(it.prefix),
-        Seen::Part(it.arg),
+        Seen::Range(span),
+        Seen::Text(op),
+        Seen::Flag(prefix),
+        Seen::Part(arg),
     ])
 }
 
 fn is_read_bin_expr(node: Part<'_>) -> bool {
-    let it = BinExpr::of(node);
+    let BinExpr {
+        span,
+        op,
+        left,
+        right,
+    } = BinExpr::of(node);
     are_as_made(&[
-        Seen::Range(it.span),
-        Seen::Text(it.op),
-        Seen::Part(it.left),
-        Seen::Part(it.right),
+        Seen::Range(span),
+        Seen::Text(op),
+        Seen::Part(left),
+        Seen::Part(right),
     ])
 }
 
 fn is_read_assign_expr(node: Part<'_>) -> bool {
-    let it = AssignExpr::of(node);
+    let AssignExpr {
+        span,
+        op,
+        left,
+        right,
+    } = AssignExpr::of(node);
     are_as_made(&[
-        Seen::Range(it.span),
-        Seen::Text(it.op),
-        Seen::Part(it.left),
-        Seen::Part(it.right),
+        Seen::Range(span),
+        Seen::Text(op),
+        Seen::Part(left),
+        Seen::Part(right),
     ])
 }
 
 fn is_read_cond_expr(node: Part<'_>) -> bool {
-    let it = CondExpr::of(node);
+    let CondExpr {
+        span,
+        test,
+        cons,
+        alt,
+    } = CondExpr::of(node);
     are_as_made(&[
-        Seen::Range(it.span),
-        Seen::Part(it.test),
-        Seen::Part(it.cons),
-        Seen::Part(it.alt),
+        Seen::Range(span),
+        Seen::Part(test),
+        Seen::Part(cons),
+        Seen::Part(alt),
     ])
 }
 
 fn is_read_member_expr(node: Part<'_>) -> bool {
-    let it = MemberExpr::of(node);
-    are_as_made(&[
-        Seen::Range(it.span),
-        Seen::Part(it.obj),
-        Seen::Part(it.prop),
-    ])
+    let MemberExpr { span, obj, prop } = MemberExpr::of(node);
+    are_as_made(&[Seen::Range(span), Seen::Part(obj), Seen::Part(prop)])
 }
 
 fn is_read_super_prop_expr(node: Part<'_>) -> bool {
-    let it = SuperPropExpr::of(node);
-    are_as_made(&[Seen::Range(it.span), Seen::Part(it.prop)])
+    let SuperPropExpr { span, prop } = SuperPropExpr::of(node);
+    are_as_made(&[Seen::Range(span), Seen::Part(prop)])
 }
 
 fn is_read_call_expr(node: Part<'_>) -> bool {
-    let it = CallExpr::of(node);
+    let CallExpr {
+        span,
+        ctxt,
+        callee,
+        args,
+        type_args,
+    } = CallExpr::of(node);
     are_as_made(&[
-        Seen::Range(it.span),
-        Seen::Scope(it.ctxt),
-        Seen::Part(it.callee),
-        Seen::Part(it.args),
-        Seen::Part(it.type_args),
+        Seen::Range(span),
+        Seen::Scope(ctxt),
+        Seen::Part(callee),
+        Seen::Part(args),
+        Seen::Part(type_args),
     ])
 }
 
 fn is_read_super(node: Part<'_>) -> bool {
-    let it = Super::of(node);
-    are_as_made(&[Seen::Range(it.span)])
+    let Super { span } = Super::of(node);
+    are_as_made(&[Seen::Range(span)])
 }
 
 fn is_read_import(node: Part<'_>) -> bool {
-    let it = Import::of(node);
-    are_as_made(&[Seen::Range(it.span), Seen::Text(it.phase)])
+    let Import { span, phase } = Import::of(node);
+    are_as_made(&[Seen::Range(span), Seen::Text(phase)])
 }
 
 fn is_read_new_expr(node: Part<'_>) -> bool {
-    let it = NewExpr::of(node);
+    let NewExpr {
+        span,
+        ctxt,
+        callee,
+        args,
+        type_args,
+    } = NewExpr::of(node);
     are_as_made(&[
-        Seen::Range(it.span),
-        Seen::Scope(it.ctxt),
-        Seen::Part(it.callee),
-        Seen::Part(it.args),
-        Seen::Part(it.type_args),
+        Seen::Range(span),
+        Seen::Scope(ctxt),
+        Seen::Part(callee),
+        Seen::Part(args),
+        Seen::Part(type_args),
     ])
 }
 
 fn is_read_opt_chain_expr(node: Part<'_>) -> bool {
-    let it = OptChainExpr::of(node);
-    are_as_made(&[
-        Seen::Range(it.span),
-        Seen::Flag(it.optional),
-        Seen::Part(it.base),
-    ])
+    let OptChainExpr {
+        span,
+        optional,
+        base,
+    } = OptChainExpr::of(node);
+    are_as_made(&[Seen::Range(span), Seen::Flag(optional), Seen::Part(base)])
 }
 
 fn is_read_opt_call(node: Part<'_>) -> bool {
-    let it = OptCall::of(node);
+    let OptCall {
+        span,
+        ctxt,
+        callee,
+        args,
+        type_args,
+    } = OptCall::of(node);
     are_as_made(&[
-        Seen::Range(it.span),
-        Seen::Scope(it.ctxt),
-        Seen::Part(it.callee),
-        Seen::Part(it.args),
-        Seen::Part(it.type_args),
+        Seen::Range(span),
+        Seen::Scope(ctxt),
+        Seen::Part(callee),
+        Seen::Part(args),
+        Seen::Part(type_args),
     ])
 }
 
 fn is_read_tpl(node: Part<'_>) -> bool {
-    let it = Tpl::of(node);
-    are_as_made(&[
-        Seen::Range(it.span),
-        Seen::Part(it.exprs),
-        Seen::Part(it.quasis),
-    ])
+    let Tpl {
+        span,
+        exprs,
+        quasis,
+    } = Tpl::of(node);
+    are_as_made(&[Seen::Range(span), Seen::Part(exprs), Seen::Part(quasis)])
 }
 
 fn is_read_tpl_element(node: Part<'_>) -> bool {
-    let it = TplElement::of(node);
+    let TplElement {
+        span,
+        tail,
+        cooked,
+        raw,
+    } = TplElement::of(node);
     are_as_made(&[
-        Seen::Range(it.span),
-        Seen::Flag(it.tail),
-        Seen::Part(it.cooked),
-        Seen::Text(it.raw),
+        Seen::Range(span),
+        Seen::Flag(tail),
+        Seen::Part(cooked),
+        Seen::Text(raw),
     ])
 }
 
 fn is_read_tagged_tpl(node: Part<'_>) -> bool {
-    let it = TaggedTpl::of(node);
+    let TaggedTpl {
+        span,
+        ctxt,
+        tag,
+        type_params,
+        tpl,
+    } = TaggedTpl::of(node);
     are_as_made(&[
-        Seen::Range(it.span),
-        Seen::Scope(it.ctxt),
-        Seen::Part(it.tag),
-        Seen::Part(it.type_params),
-        Seen::Part(it.tpl),
+        Seen::Range(span),
+        Seen::Scope(ctxt),
+        Seen::Part(tag),
+        Seen::Part(type_params),
+        Seen::Part(tpl),
     ])
 }
 
 fn is_read_jsx_member(node: Part<'_>) -> bool {
-    let it = JSXMember::of(node);
-    are_as_made(&[Seen::Range(it.span), Seen::Text(it.raw)])
+    let JSXMember { span, raw } = JSXMember::of(node);
+    are_as_made(&[Seen::Range(span), Seen::Text(raw)])
 }
 
 fn is_read_jsx_namespaced_name(node: Part<'_>) -> bool {
-    let it = JSXNamespacedName::of(node);
-    are_as_made(&[Seen::Range(it.span), Seen::Text(it.raw)])
+    let JSXNamespacedName { span, raw } = JSXNamespacedName::of(node);
+    are_as_made(&[Seen::Range(span), Seen::Text(raw)])
 }
 
 fn is_read_jsx_empty(node: Part<'_>) -> bool {
-    let it = JSXEmpty::of(node);
-    are_as_made(&[Seen::Range(it.span), Seen::Text(it.raw)])
+    let JSXEmpty { span, raw } = JSXEmpty::of(node);
+    are_as_made(&[Seen::Range(span), Seen::Text(raw)])
 }
 
 fn is_read_jsx_element(node: Part<'_>) -> bool {
-    let it = JSXElement::of(node);
-    are_as_made(&[Seen::Range(it.span), Seen::Text(it.raw)])
+    let JSXElement { span, raw } = JSXElement::of(node);
+    are_as_made(&[Seen::Range(span), Seen::Text(raw)])
 }
 
 fn is_read_jsx_fragment(node: Part<'_>) -> bool {
-    let it = JSXFragment::of(node);
-    are_as_made(&[Seen::Range(it.span), Seen::Text(it.raw)])
+    let JSXFragment { span, raw } = JSXFragment::of(node);
+    are_as_made(&[Seen::Range(span), Seen::Text(raw)])
 }
 
 fn is_read_ts_type_assertion(node: Part<'_>) -> bool {
-    let it = TsTypeAssertion::of(node);
-    are_as_made(&[
-        Seen::Range(it.span),
-        Seen::Part(it.expr),
-        Seen::Part(it.type_ann),
-    ])
+    let TsTypeAssertion {
+        span,
+        expr,
+        type_ann,
+    } = TsTypeAssertion::of(node);
+    are_as_made(&[Seen::Range(span), Seen::Part(expr), Seen::Part(type_ann)])
 }
 
 fn is_read_ts_as_expr(node: Part<'_>) -> bool {
-    let it = TsAsExpr::of(node);
-    are_as_made(&[
-        Seen::Range(it.span),
-        Seen::Part(it.expr),
-        Seen::Part(it.type_ann),
-    ])
+    let TsAsExpr {
+        span,
+        expr,
+        type_ann,
+    } = TsAsExpr::of(node);
+    are_as_made(&[Seen::Range(span), Seen::Part(expr), Seen::Part(type_ann)])
 }
 
 fn is_read_ts_satisfies_expr(node: Part<'_>) -> bool {
-    let it = TsSatisfiesExpr::of(node);
-    are_as_made(&[
-        Seen::Range(it.span),
-        Seen::Part(it.expr),
-        Seen::Part(it.type_ann),
-    ])
+    let TsSatisfiesExpr {
+        span,
+        expr,
+        type_ann,
+    } = TsSatisfiesExpr::of(node);
+    are_as_made(&[Seen::Range(span), Seen::Part(expr), Seen::Part(type_ann)])
 }
 
 fn is_read_ts_const_assertion(node: Part<'_>) -> bool {
-    let it = TsConstAssertion::of(node);
-    are_as_made(&[Seen::Range(it.span), Seen::Part(it.expr)])
+    let TsConstAssertion { span, expr } = TsConstAssertion::of(node);
+    are_as_made(&[Seen::Range(span), Seen::Part(expr)])
 }
 
 fn is_read_ts_non_null_expr(node: Part<'_>) -> bool {
-    let it = TsNonNullExpr::of(node);
-    are_as_made(&[Seen::Range(it.span), Seen::Part(it.expr)])
+    let TsNonNullExpr { span, expr } = TsNonNullExpr::of(node);
+    are_as_made(&[Seen::Range(span), Seen::Part(expr)])
 }
 
 fn is_read_ts_instantiation(node: Part<'_>) -> bool {
-    let it = TsInstantiation::of(node);
-    are_as_made(&[
-        Seen::Range(it.span),
-        Seen::Part(it.expr),
-        Seen::Part(it.type_args),
-    ])
+    let TsInstantiation {
+        span,
+        expr,
+        type_args,
+    } = TsInstantiation::of(node);
+    are_as_made(&[Seen::Range(span), Seen::Part(expr), Seen::Part(type_args)])
 }
 
 fn is_read_spread_element(node: Part<'_>) -> bool {
-    let it = SpreadElement::of(node);
-    are_as_made(&[Seen::Range(it.dot3_token), Seen::Part(it.expr)])
+    let SpreadElement { dot3_token, expr } = SpreadElement::of(node);
+    are_as_made(&[Seen::Range(dot3_token), Seen::Part(expr)])
 }
 
 fn is_read_key_value_prop(node: Part<'_>) -> bool {
-    let it = KeyValueProp::of(node);
-    are_as_made(&[Seen::Part(it.key), Seen::Part(it.value)])
+    let KeyValueProp { key, value } = KeyValueProp::of(node);
+    are_as_made(&[Seen::Part(key), Seen::Part(value)])
 }
 
 fn is_read_assign_prop(node: Part<'_>) -> bool {
-    let it = AssignProp::of(node);
-    are_as_made(&[
-        Seen::Range(it.span),
-        Seen::Part(it.key),
-        Seen::Part(it.value),
-    ])
+    let AssignProp { span, key, value } = AssignProp::of(node);
+    are_as_made(&[Seen::Range(span), Seen::Part(key), Seen::Part(value)])
 }
 
 fn is_read_getter_prop(node: Part<'_>) -> bool {
-    let it = GetterProp::of(node);
+    let GetterProp {
+        span,
+        key,
+        type_ann,
+        body,
+    } = GetterProp::of(node);
     are_as_made(&[
-        Seen::Range(it.span),
-        Seen::Part(it.key),
-        Seen::Part(it.type_ann),
-        Seen::Part(it.body),
+        Seen::Range(span),
+        Seen::Part(key),
+        Seen::Part(type_ann),
+        Seen::Part(body),
     ])
 }
 
 fn is_read_setter_prop(node: Part<'_>) -> bool {
-    let it = SetterProp::of(node);
+    let SetterProp {
+        span,
+        key,
+        param,
+        body,
+    } = SetterProp::of(node);
     are_as_made(&[
-        Seen::Range(it.span),
-        Seen::Part(it.key),
-        Seen::Part(it.param),
-        Seen::Part(it.body),
+        Seen::Range(span),
+        Seen::Part(key),
+        Seen::Part(param),
+        Seen::Part(body),
     ])
 }
 
 fn is_read_method_prop(node: Part<'_>) -> bool {
-    let it = MethodProp::of(node);
-    are_as_made(&[Seen::Part(it.key), Seen::Part(it.function)])
+    let MethodProp { key, function } = MethodProp::of(node);
+    are_as_made(&[Seen::Part(key), Seen::Part(function)])
 }
 
 fn is_read_computed_prop_name(node: Part<'_>) -> bool {
-    let it = ComputedPropName::of(node);
-    are_as_made(&[Seen::Range(it.span), Seen::Part(it.expr)])
+    let ComputedPropName { span, expr } = ComputedPropName::of(node);
+    are_as_made(&[Seen::Range(span), Seen::Part(expr)])
 }
 
 fn is_read_array_pat(node: Part<'_>) -> bool {
-    let it = ArrayPat::of(node);
+    let ArrayPat {
+        span,
+        elems,
+        optional,
+        type_ann,
+    } = ArrayPat::of(node);
     are_as_made(&[
-        Seen::Range(it.span),
-        Seen::Part(it.elems),
-        Seen::Flag(it.optional),
-        Seen::Part(it.type_ann),
+        Seen::Range(span),
+        Seen::Part(elems),
+        Seen::Flag(optional),
+        Seen::Part(type_ann),
     ])
 }
 
 fn is_read_rest_pat(node: Part<'_>) -> bool {
-    let it = RestPat::of(node);
+    let RestPat {
+        span,
+        dot3_token,
+        arg,
+        type_ann,
+    } = RestPat::of(node);
     are_as_made(&[
-        Seen::Range(it.span),
-        Seen::Range(it.dot3_token),
-        Seen::Part(it.arg),
-        Seen::Part(it.type_ann),
+        Seen::Range(span),
+        Seen::Range(dot3_token),
+        Seen::Part(arg),
+        Seen::Part(type_ann),
     ])
 }
 
 fn is_read_object_pat(node: Part<'_>) -> bool {
-    let it = ObjectPat::of(node);
+    let ObjectPat {
+        span,
+        props,
+        optional,
+        type_ann,
+    } = ObjectPat::of(node);
     are_as_made(&[
-        Seen::Range(it.span),
-        Seen::Part(it.props),
-        Seen::Flag(it.optional),
-        Seen::Part(it.type_ann),
+        Seen::Range(span),
+        Seen::Part(props),
+        Seen::Flag(optional),
+        Seen::Part(type_ann),
     ])
 }
 
 fn is_read_assign_pat(node: Part<'_>) -> bool {
-    let it = AssignPat::of(node);
-    are_as_made(&[
-        Seen::Range(it.span),
-        Seen::Part(it.left),
-        Seen::Part(it.right),
-    ])
+    let AssignPat { span, left, right } = AssignPat::of(node);
+    are_as_made(&[Seen::Range(span), Seen::Part(left), Seen::Part(right)])
 }
 
 fn is_read_key_value_pat_prop(node: Part<'_>) -> bool {
-    let it = KeyValuePatProp::of(node);
-    are_as_made(&[Seen::Part(it.key), Seen::Part(it.value)])
+    let KeyValuePatProp { key, value } = KeyValuePatProp::of(node);
+    are_as_made(&[Seen::Part(key), Seen::Part(value)])
 }
 
 fn is_read_assign_pat_prop(node: Part<'_>) -> bool {
-    let it = AssignPatProp::of(node);
-    are_as_made(&[
-        Seen::Range(it.span),
-        Seen::Part(it.key),
-        Seen::Part(it.value),
-    ])
+    let AssignPatProp { span, key, value } = AssignPatProp::of(node);
+    are_as_made(&[Seen::Range(span), Seen::Part(key), Seen::Part(value)])
 }
 
 fn is_read_pat_expr(node: Part<'_>) -> bool {
-    let it = PatExpr::of(node);
-    are_as_made(&[Seen::Part(it.expr)])
+    let PatExpr { expr } = PatExpr::of(node);
+    are_as_made(&[Seen::Part(expr)])
 }
 
 fn is_read_target_pat(node: Part<'_>) -> bool {
-    let it = TargetPat::of(node);
-    are_as_made(&[Seen::Part(it.pat)])
+    let TargetPat { pat } = TargetPat::of(node);
+    are_as_made(&[Seen::Part(pat)])
 }
 
 /// Whether each field of such a node gives what it was made of.

@@ -13,203 +13,234 @@ use fast_check_program_forms::{
 use fast_check_syntax::{Kind, Part};
 
 fn is_read_ident(node: Part<'_>) -> bool {
-    let it = Ident::of(node);
+    let Ident {
+        span,
+        ctxt,
+        sym,
+        optional,
+    } = Ident::of(node);
     are_as_made(&[
-        Seen::Range(it.span),
-        Seen::Scope(it.ctxt),
-        Seen::Text(it.sym),
-        Seen::Flag(it.optional),
+        Seen::Range(span),
+        Seen::Scope(ctxt),
+        Seen::Text(sym),
+        Seen::Flag(optional),
     ])
 }
 
 fn is_read_ident_name(node: Part<'_>) -> bool {
-    let it = IdentName::of(node);
-    are_as_made(&[Seen::Range(it.span), Seen::Text(it.sym)])
+    let IdentName { span, sym } = IdentName::of(node);
+    are_as_made(&[Seen::Range(span), Seen::Text(sym)])
 }
 
 fn is_read_binding_ident(node: Part<'_>) -> bool {
-    let it = BindingIdent::of(node);
-    are_as_made(&[Seen::Part(it.id), Seen::Part(it.type_ann)])
+    let BindingIdent { id, type_ann } = BindingIdent::of(node);
+    are_as_made(&[Seen::Part(id), Seen::Part(type_ann)])
 }
 
 fn is_read_private_name(node: Part<'_>) -> bool {
-    let it = PrivateName::of(node);
-    are_as_made(&[Seen::Range(it.span), Seen::Text(it.name)])
+    let PrivateName { span, name } = PrivateName::of(node);
+    are_as_made(&[Seen::Range(span), Seen::Text(name)])
 }
 
 fn is_read_str(node: Part<'_>) -> bool {
-    let it = Str::of(node);
-    are_as_made(&[
-        Seen::Range(it.span),
-        Seen::Text(it.value),
-        Seen::Part(it.raw),
-    ])
+    let Str { span, value, raw } = Str::of(node);
+    are_as_made(&[Seen::Range(span), Seen::Text(value), Seen::Part(raw)])
 }
 
 fn is_read_bool(node: Part<'_>) -> bool {
-    let it = Bool::of(node);
-    are_as_made(&[Seen::Range(it.span), Seen::Flag(it.value)])
+    let Bool { span, value } = Bool::of(node);
+    are_as_made(&[Seen::Range(span), Seen::Flag(value)])
 }
 
 fn is_read_null(node: Part<'_>) -> bool {
-    let it = Null::of(node);
-    are_as_made(&[Seen::Range(it.span)])
+    let Null { span } = Null::of(node);
+    are_as_made(&[Seen::Range(span)])
 }
 
 fn is_read_number(node: Part<'_>) -> bool {
-    let it = Number::of(node);
-    are_as_made(&[Seen::Range(it.span), Seen::Text(it.raw)])
+    let Number { span, raw } = Number::of(node);
+    are_as_made(&[Seen::Range(span), Seen::Text(raw)])
 }
 
 fn is_read_big_int(node: Part<'_>) -> bool {
-    let it = BigInt::of(node);
-    are_as_made(&[Seen::Range(it.span), Seen::Text(it.raw)])
+    let BigInt { span, raw } = BigInt::of(node);
+    are_as_made(&[Seen::Range(span), Seen::Text(raw)])
 }
 
 fn is_read_regex(node: Part<'_>) -> bool {
-    let it = Regex::of(node);
-    are_as_made(&[
-        Seen::Range(it.span),
-        Seen::Text(it.exp),
-        Seen::Text(it.flags),
-    ])
+    let Regex { span, exp, flags } = Regex::of(node);
+    are_as_made(&[Seen::Range(span), Seen::Text(exp), Seen::Text(flags)])
 }
 
 fn is_read_jsx_text(node: Part<'_>) -> bool {
-    let it = JSXText::of(node);
-    are_as_made(&[Seen::Range(it.span), Seen::Text(it.raw)])
+    let JSXText { span, raw } = JSXText::of(node);
+    are_as_made(&[Seen::Range(span), Seen::Text(raw)])
 }
 
 fn is_read_module(node: Part<'_>) -> bool {
-    let it = Module::of(node);
-    are_as_made(&[
-        Seen::Range(it.span),
-        Seen::Part(it.body),
-        Seen::Part(it.shebang),
-    ])
+    let Module {
+        span,
+        body,
+        shebang,
+    } = Module::of(node);
+    are_as_made(&[Seen::Range(span), Seen::Part(body), Seen::Part(shebang)])
 }
 
 fn is_read_script(node: Part<'_>) -> bool {
-    let it = Script::of(node);
-    are_as_made(&[
-        Seen::Range(it.span),
-        Seen::Part(it.body),
-        Seen::Part(it.shebang),
-    ])
+    let Script {
+        span,
+        body,
+        shebang,
+    } = Script::of(node);
+    are_as_made(&[Seen::Range(span), Seen::Part(body), Seen::Part(shebang)])
 }
 
 fn is_read_import_decl(node: Part<'_>) -> bool {
-    let it = ImportDecl::of(node);
+    let ImportDecl {
+        span,
+        specifiers,
+        src,
+        type_only,
+        with,
+        phase,
+    } = ImportDecl::of(node);
     are_as_made(&[
-        Seen::Range(it.span),
-        Seen::Part(it.specifiers),
-        Seen::Part(it.src),
-        Seen::Flag(it.type_only),
-        Seen::Part(it.with),
-        Seen::Text(it.phase),
+        Seen::Range(span),
+        Seen::Part(specifiers),
+        Seen::Part(src),
+        Seen::Flag(type_only),
+        Seen::Part(with),
+        Seen::Text(phase),
     ])
 }
 
 fn is_read_import_named_specifier(node: Part<'_>) -> bool {
-    let it = ImportNamedSpecifier::of(node);
+    let ImportNamedSpecifier {
+        span,
+        local,
+        imported,
+        is_type_only,
+    } = ImportNamedSpecifier::of(node);
     are_as_made(&[
-        Seen::Range(it.span),
-        Seen::Part(it.local),
-        Seen::Part(it.imported),
-        Seen::Flag(it.is_type_only),
+        Seen::Range(span),
+        Seen::Part(local),
+        Seen::Part(imported),
+        Seen::Flag(is_type_only),
     ])
 }
 
 fn is_read_import_default_specifier(node: Part<'_>) -> bool {
-    let it = ImportDefaultSpecifier::of(node);
-    are_as_made(&[Seen::Range(it.span), Seen::Part(it.local)])
+    let ImportDefaultSpecifier { span, local } = ImportDefaultSpecifier::of(node);
+    are_as_made(&[Seen::Range(span), Seen::Part(local)])
 }
 
 fn is_read_import_star_as_specifier(node: Part<'_>) -> bool {
-    let it = ImportStarAsSpecifier::of(node);
-    are_as_made(&[Seen::Range(it.span), Seen::Part(it.local)])
+    let ImportStarAsSpecifier { span, local } = ImportStarAsSpecifier::of(node);
+    are_as_made(&[Seen::Range(span), Seen::Part(local)])
 }
 
 fn is_read_ts_import_equals_decl(node: Part<'_>) -> bool {
-    let it = TsImportEqualsDecl::of(node);
+    let TsImportEqualsDecl {
+        span,
+        is_export,
+        is_type_only,
+        id,
+        module_ref,
+    } = TsImportEqualsDecl::of(node);
     are_as_made(&[
-        Seen::Range(it.span),
-        Seen::Flag(it.is_export),
-        Seen::Flag(it.is_type_only),
-        Seen::Part(it.id),
-        Seen::Part(it.module_ref),
+        Seen::Range(span),
+        Seen::Flag(is_export),
+        Seen::Flag(is_type_only),
+        Seen::Part(id),
+        Seen::Part(module_ref),
     ])
 }
 
 fn is_read_ts_external_module_ref(node: Part<'_>) -> bool {
-    let it = TsExternalModuleRef::of(node);
-    are_as_made(&[Seen::Range(it.span), Seen::Part(it.expr)])
+    let TsExternalModuleRef { span, expr } = TsExternalModuleRef::of(node);
+    are_as_made(&[Seen::Range(span), Seen::Part(expr)])
 }
 
 fn is_read_export_decl(node: Part<'_>) -> bool {
-    let it = ExportDecl::of(node);
-    are_as_made(&[Seen::Range(it.span), Seen::Part(it.decl)])
+    let ExportDecl { span, decl } = ExportDecl::of(node);
+    are_as_made(&[Seen::Range(span), Seen::Part(decl)])
 }
 
 fn is_read_named_export(node: Part<'_>) -> bool {
-    let it = NamedExport::of(node);
+    let NamedExport {
+        span,
+        specifiers,
+        src,
+        type_only,
+        with,
+    } = NamedExport::of(node);
     are_as_made(&[
-        Seen::Range(it.span),
-        Seen::Part(it.specifiers),
-        Seen::Part(it.src),
-        Seen::Flag(it.type_only),
-        Seen::Part(it.with),
+        Seen::Range(span),
+        Seen::Part(specifiers),
+        Seen::Part(src),
+        Seen::Flag(type_only),
+        Seen::Part(with),
     ])
 }
 
 fn is_read_export_namespace_specifier(node: Part<'_>) -> bool {
-    let it = ExportNamespaceSpecifier::of(node);
-    are_as_made(&[Seen::Range(it.span), Seen::Part(it.name)])
+    let ExportNamespaceSpecifier { span, name } = ExportNamespaceSpecifier::of(node);
+    are_as_made(&[Seen::Range(span), Seen::Part(name)])
 }
 
 fn is_read_export_default_specifier(node: Part<'_>) -> bool {
-    let it = ExportDefaultSpecifier::of(node);
-    are_as_made(&[Seen::Part(it.exported)])
+    let ExportDefaultSpecifier { exported } = ExportDefaultSpecifier::of(node);
+    are_as_made(&[Seen::Part(exported)])
 }
 
 fn is_read_export_named_specifier(node: Part<'_>) -> bool {
-    let it = ExportNamedSpecifier::of(node);
+    let ExportNamedSpecifier {
+        span,
+        orig,
+        exported,
+        is_type_only,
+    } = ExportNamedSpecifier::of(node);
     are_as_made(&[
-        Seen::Range(it.span),
-        Seen::Part(it.orig),
-        Seen::Part(it.exported),
-        Seen::Flag(it.is_type_only),
+        Seen::Range(span),
+        Seen::Part(orig),
+        Seen::Part(exported),
+        Seen::Flag(is_type_only),
     ])
 }
 
 fn is_read_export_default_decl(node: Part<'_>) -> bool {
-    let it = ExportDefaultDecl::of(node);
-    are_as_made(&[Seen::Range(it.span), Seen::Part(it.decl)])
+    let ExportDefaultDecl { span, decl } = ExportDefaultDecl::of(node);
+    are_as_made(&[Seen::Range(span), Seen::Part(decl)])
 }
 
 fn is_read_export_default_expr(node: Part<'_>) -> bool {
-    let it = ExportDefaultExpr::of(node);
-    are_as_made(&[Seen::Range(it.span), Seen::Part(it.expr)])
+    let ExportDefaultExpr { span, expr } = ExportDefaultExpr::of(node);
+    are_as_made(&[Seen::Range(span), Seen::Part(expr)])
 }
 
 fn is_read_export_all(node: Part<'_>) -> bool {
-    let it = ExportAll::of(node);
+    let ExportAll {
+        span,
+        src,
+        type_only,
+        with,
+    } = ExportAll::of(node);
     are_as_made(&[
-        Seen::Range(it.span),
-        Seen::Part(it.src),
-        Seen::Flag(it.type_only),
-        Seen::Part(it.with),
+        Seen::Range(span),
+        Seen::Part(src),
+        Seen::Flag(type_only),
+        Seen::Part(with),
     ])
 }
 
 fn is_read_ts_export_assignment(node: Part<'_>) -> bool {
-    let it = TsExportAssignment::of(node);
-    are_as_made(&[Seen::Range(it.span), Seen::Part(it.expr)])
+    let TsExportAssignment { span, expr } = TsExportAssignment::of(node);
+    are_as_made(&[Seen::Range(span), Seen::Part(expr)])
 }
 
 fn is_read_ts_namespace_export_decl(node: Part<'_>) -> bool {
-    let it = TsNamespaceExportDecl::of(node);
-    are_as_made(&[Seen::Range(it.span), Seen::Part(it.id)])
+    let TsNamespaceExportDecl { span, id } = TsNamespaceExportDecl::of(node);
+    are_as_made(&[Seen::Range(span), Seen::Part(id)])
 }
 
 /// Whether each field of such a node gives what it was made of.

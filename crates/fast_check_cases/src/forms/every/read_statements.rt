@@ -13,290 +13,336 @@ use fast_check_statement_forms::{
 use fast_check_syntax::{Kind, Part};
 
 fn is_read_block_stmt(node: Part<'_>) -> bool {
-    let it = BlockStmt::of(node);
-    are_as_made(&[
-        Seen::Range(it.span),
-        Seen::Scope(it.ctxt),
-        Seen::Part(it.stmts),
-    ])
+    let BlockStmt { span, ctxt, stmts } = BlockStmt::of(node);
+    are_as_made(&[Seen::Range(span), Seen::Scope(ctxt), Seen::Part(stmts)])
 }
 
 fn is_read_empty_stmt(node: Part<'_>) -> bool {
-    let it = EmptyStmt::of(node);
-    are_as_made(&[Seen::Range(it.span)])
+    let EmptyStmt { span } = EmptyStmt::of(node);
+    are_as_made(&[Seen::Range(span)])
 }
 
 fn is_read_debugger_stmt(node: Part<'_>) -> bool {
-    let it = DebuggerStmt::of(node);
-    are_as_made(&[Seen::Range(it.span)])
+    let DebuggerStmt { span } = DebuggerStmt::of(node);
+    are_as_made(&[Seen::Range(span)])
 }
 
 fn is_read_with_stmt(node: Part<'_>) -> bool {
-    let it = WithStmt::of(node);
-    are_as_made(&[
-        Seen::Range(it.span),
-        Seen::Part(it.obj),
-        Seen::Part(it.body),
-    ])
+    let WithStmt { span, obj, body } = WithStmt::of(node);
+    are_as_made(&[Seen::Range(span), Seen::Part(obj), Seen::Part(body)])
 }
 
 fn is_read_return_stmt(node: Part<'_>) -> bool {
-    let it = ReturnStmt::of(node);
-    are_as_made(&[Seen::Range(it.span), Seen::Part(it.arg)])
+    let ReturnStmt { span, arg } = ReturnStmt::of(node);
+    are_as_made(&[Seen::Range(span), Seen::Part(arg)])
 }
 
 fn is_read_labeled_stmt(node: Part<'_>) -> bool {
-    let it = LabeledStmt::of(node);
-    are_as_made(&[
-        Seen::Range(it.span),
-        Seen::Part(it.label),
-        Seen::Part(it.body),
-    ])
+    let LabeledStmt { span, label, body } = LabeledStmt::of(node);
+    are_as_made(&[Seen::Range(span), Seen::Part(label), Seen::Part(body)])
 }
 
 fn is_read_break_stmt(node: Part<'_>) -> bool {
-    let it = BreakStmt::of(node);
-    are_as_made(&[Seen::Range(it.span), Seen::Part(it.label)])
+    let BreakStmt { span, label } = BreakStmt::of(node);
+    are_as_made(&[Seen::Range(span), Seen::Part(label)])
 }
 
 fn is_read_continue_stmt(node: Part<'_>) -> bool {
-    let it = ContinueStmt::of(node);
-    are_as_made(&[Seen::Range(it.span), Seen::Part(it.label)])
+    let ContinueStmt { span, label } = ContinueStmt::of(node);
+    are_as_made(&[Seen::Range(span), Seen::Part(label)])
 }
 
 fn is_read_if_stmt(node: Part<'_>) -> bool {
-    let it = IfStmt::of(node);
+    let IfStmt {
+        span,
+        test,
+        cons,
+        alt,
+    } = IfStmt::of(node);
     are_as_made(&[
-        Seen::Range(it.span),
-        Seen::Part(it.test),
-        Seen::Part(it.cons),
-        Seen::Part(it.alt),
+        Seen::Range(span),
+        Seen::Part(test),
+        Seen::Part(cons),
+        Seen::Part(alt),
     ])
 }
 
 fn is_read_switch_stmt(node: Part<'_>) -> bool {
-    let it = SwitchStmt::of(node);
+    let SwitchStmt {
+        span,
+        discriminant,
+        cases,
+    } = SwitchStmt::of(node);
     are_as_made(&[
-        Seen::Range(it.span),
-        Seen::Part(it.discriminant),
-        Seen::Part(it.cases),
+        Seen::Range(span),
+        Seen::Part(discriminant),
+        Seen::Part(cases),
     ])
 }
 
 fn is_read_switch_case(node: Part<'_>) -> bool {
-    let it = SwitchCase::of(node);
-    are_as_made(&[
-        Seen::Range(it.span),
-        Seen::Part(it.test),
-        Seen::Part(it.cons),
-    ])
+    let SwitchCase { span, test, cons } = SwitchCase::of(node);
+    are_as_made(&[Seen::Range(span), Seen::Part(test), Seen::Part(cons)])
 }
 
 fn is_read_throw_stmt(node: Part<'_>) -> bool {
-    let it = ThrowStmt::of(node);
-    are_as_made(&[Seen::Range(it.span), Seen::Part(it.arg)])
+    let ThrowStmt { span, arg } = ThrowStmt::of(node);
+    are_as_made(&[Seen::Range(span), Seen::Part(arg)])
 }
 
 fn is_read_try_stmt(node: Part<'_>) -> bool {
-    let it = TryStmt::of(node);
+    let TryStmt {
+        span,
+        block,
+        handler,
+        finalizer,
+    } = TryStmt::of(node);
     are_as_made(&[
-        Seen::Range(it.span),
-        Seen::Part(it.block),
-        Seen::Part(it.handler),
-        Seen::Part(it.finalizer),
+        Seen::Range(span),
+        Seen::Part(block),
+        Seen::Part(handler),
+        Seen::Part(finalizer),
     ])
 }
 
 fn is_read_catch_clause(node: Part<'_>) -> bool {
-    let it = CatchClause::of(node);
-    are_as_made(&[
-        Seen::Range(it.span),
-        Seen::Part(it.param),
-        Seen::Part(it.body),
-    ])
+    let CatchClause { span, param, body } = CatchClause::of(node);
+    are_as_made(&[Seen::Range(span), Seen::Part(param), Seen::Part(body)])
 }
 
 fn is_read_expr_stmt(node: Part<'_>) -> bool {
-    let it = ExprStmt::of(node);
-    are_as_made(&[Seen::Range(it.span), Seen::Part(it.expr)])
+    let ExprStmt { span, expr } = ExprStmt::of(node);
+    are_as_made(&[Seen::Range(span), Seen::Part(expr)])
 }
 
 fn is_read_while_stmt(node: Part<'_>) -> bool {
-    let it = WhileStmt::of(node);
-    are_as_made(&[
-        Seen::Range(it.span),
-        Seen::Part(it.test),
-        Seen::Part(it.body),
-    ])
+    let WhileStmt { span, test, body } = WhileStmt::of(node);
+    are_as_made(&[Seen::Range(span), Seen::Part(test), Seen::Part(body)])
 }
 
 fn is_read_do_while_stmt(node: Part<'_>) -> bool {
-    let it = DoWhileStmt::of(node);
-    are_as_made(&[
-        Seen::Range(it.span),
-        Seen::Part(it.test),
-        Seen::Part(it.body),
-    ])
+    let DoWhileStmt { span, test, body } = DoWhileStmt::of(node);
+    are_as_made(&[Seen::Range(span), Seen::Part(test), Seen::Part(body)])
 }
 
 fn is_read_for_stmt(node: Part<'_>) -> bool {
-    let it = ForStmt::of(node);
+    let ForStmt {
+        span,
+        init,
+        test,
+        update,
+        body,
+    } = ForStmt::of(node);
     are_as_made(&[
-        Seen::Range(it.span),
-        Seen::Part(it.init),
-        Seen::Part(it.test),
-        Seen::Part(it.update),
-        Seen::Part(it.body),
+        Seen::Range(span),
+        Seen::Part(init),
+        Seen::Part(test),
+        Seen::Part(update),
+        Seen::Part(body),
     ])
 }
 
 fn is_read_for_in_stmt(node: Part<'_>) -> bool {
-    let it = ForInStmt::of(node);
+    let ForInStmt {
+        span,
+        left,
+        right,
+        body,
+    } = ForInStmt::of(node);
     are_as_made(&[
-        Seen::Range(it.span),
-        Seen::Part(it.left),
-        Seen::Part(it.right),
-        Seen::Part(it.body),
+        Seen::Range(span),
+        Seen::Part(left),
+        Seen::Part(right),
+        Seen::Part(body),
     ])
 }
 
 fn is_read_for_of_stmt(node: Part<'_>) -> bool {
-    let it = ForOfStmt::of(node);
+    let ForOfStmt {
+        span,
+        is_await,
+        left,
+        right,
+        body,
+    } = ForOfStmt::of(node);
     are_as_made(&[
-        Seen::Range(it.span),
-        Seen::Flag(it.is_await),
-        Seen::Part(it.left),
-        Seen::Part(it.right),
-        Seen::Part(it.body),
+        Seen::Range(span),
+        Seen::Flag(is_await),
+        Seen::Part(left),
+        Seen::Part(right),
+        Seen::Part(body),
     ])
 }
 
 fn is_read_class_decl(node: Part<'_>) -> bool {
-    let it = ClassDecl::of(node);
-    are_as_made(&[
-        Seen::Part(it.ident),
-        Seen::Flag(it.declare),
-        Seen::Part(it.class),
-    ])
+    let ClassDecl {
+        ident,
+        declare,
+        class,
+    } = ClassDecl::of(node);
+    are_as_made(&[Seen::Part(ident), Seen::Flag(declare), Seen::Part(class)])
 }
 
 fn is_read_fn_decl(node: Part<'_>) -> bool {
-    let it = FnDecl::of(node);
-    are_as_made(&[
-        Seen::Part(it.ident),
-        Seen::Flag(it.declare),
-        Seen::Part(it.function),
-    ])
+    let FnDecl {
+        ident,
+        declare,
+        function,
+    } = FnDecl::of(node);
+    are_as_made(&[Seen::Part(ident), Seen::Flag(declare), Seen::Part(function)])
 }
 
 fn is_read_var_decl(node: Part<'_>) -> bool {
-    let it = VarDecl::of(node);
+    let VarDecl {
+        span,
+        ctxt,
+        kind,
+        declare,
+        decls,
+    } = VarDecl::of(node);
     are_as_made(&[
-        Seen::Range(it.span),
-        Seen::Scope(it.ctxt),
-        Seen::Part(it.kind),
-        Seen::Flag(it.declare),
-        Seen::Part(it.decls),
+        Seen::Range(span),
+        Seen::Scope(ctxt),
+        Seen::Part(kind),
+        Seen::Flag(declare),
+        Seen::Part(decls),
     ])
 }
 
 fn is_read_var_declarator(node: Part<'_>) -> bool {
-    let it = VarDeclarator::of(node);
+    let VarDeclarator {
+        span,
+        name,
+        init,
+        definite,
+    } = VarDeclarator::of(node);
     are_as_made(&[
-        Seen::Range(it.span),
-        Seen::Part(it.name),
-        Seen::Part(it.init),
-        Seen::Flag(it.definite),
+        Seen::Range(span),
+        Seen::Part(name),
+        Seen::Part(init),
+        Seen::Flag(definite),
     ])
 }
 
 fn is_read_using_decl(node: Part<'_>) -> bool {
-    let it = UsingDecl::of(node);
-    are_as_made(&[
-        Seen::Range(it.span),
-        Seen::Flag(it.is_await),
-        Seen::Part(it.decls),
-    ])
+    let UsingDecl {
+        span,
+        is_await,
+        decls,
+    } = UsingDecl::of(node);
+    are_as_made(&[Seen::Range(span), Seen::Flag(is_await), Seen::Part(decls)])
 }
 
 fn is_read_ts_interface_decl(node: Part<'_>) -> bool {
-    let it = TsInterfaceDecl::of(node);
+    let TsInterfaceDecl {
+        span,
+        id,
+        declare,
+        type_params,
+        extends,
+        body,
+    } = TsInterfaceDecl::of(node);
     are_as_made(&[
-        Seen::Range(it.span),
-        Seen::Part(it.id),
-        Seen::Flag(it.declare),
-        Seen::Part(it.type_params),
-        Seen::Part(it.extends),
-        Seen::Part(it.body),
+        Seen::Range(span),
+        Seen::Part(id),
+        Seen::Flag(declare),
+        Seen::Part(type_params),
+        Seen::Part(extends),
+        Seen::Part(body),
     ])
 }
 
 fn is_read_ts_expr_with_type_args(node: Part<'_>) -> bool {
-    let it = TsExprWithTypeArgs::of(node);
-    are_as_made(&[
-        Seen::Range(it.span),
-        Seen::Part(it.expr),
-        Seen::Part(it.type_args),
-    ])
+    let TsExprWithTypeArgs {
+        span,
+        expr,
+        type_args,
+    } = TsExprWithTypeArgs::of(node);
+    are_as_made(&[Seen::Range(span), Seen::Part(expr), Seen::Part(type_args)])
 }
 
 fn is_read_ts_interface_body(node: Part<'_>) -> bool {
-    let it = TsInterfaceBody::of(node);
-    are_as_made(&[Seen::Range(it.span), Seen::Part(it.body)])
+    let TsInterfaceBody { span, body } = TsInterfaceBody::of(node);
+    are_as_made(&[Seen::Range(span), Seen::Part(body)])
 }
 
 fn is_read_ts_type_alias_decl(node: Part<'_>) -> bool {
-    let it = TsTypeAliasDecl::of(node);
+    let TsTypeAliasDecl {
+        span,
+        declare,
+        id,
+        type_params,
+        type_ann,
+    } = TsTypeAliasDecl::of(node);
     are_as_made(&[
-        Seen::Range(it.span),
-        Seen::Flag(it.declare),
-        Seen::Part(it.id),
-        Seen::Part(it.type_params),
-        Seen::Part(it.type_ann),
+        Seen::Range(span),
+        Seen::Flag(declare),
+        Seen::Part(id),
+        Seen::Part(type_params),
+        Seen::Part(type_ann),
     ])
 }
 
 fn is_read_ts_enum_decl(node: Part<'_>) -> bool {
-    let it = TsEnumDecl::of(node);
+    let TsEnumDecl {
+        span,
+        declare,
+        is_const,
+        id,
+        members,
+    } = TsEnumDecl::of(node);
     are_as_made(&[
-        Seen::Range(it.span),
-        Seen::Flag(it.declare),
-        Seen::Flag(it.is_const),
-        Seen::Part(it.id),
-        Seen::Part(it.members),
+        Seen::Range(span),
+        Seen::Flag(declare),
+        Seen::Flag(is_const),
+        Seen::Part(id),
+        Seen::Part(members),
     ])
 }
 
 fn is_read_ts_enum_member(node: Part<'_>) -> bool {
-    let it = TsEnumMember::of(node);
-    are_as_made(&[Seen::Range(it.span), Seen::Part(it.id), Seen::Part(it.init)])
+    let TsEnumMember { span, id, init } = TsEnumMember::of(node);
+    are_as_made(&[Seen::Range(span), Seen::Part(id), Seen::Part(init)])
 }
 
 fn is_read_ts_module_decl(node: Part<'_>) -> bool {
-    let it = TsModuleDecl::of(node);
+    let TsModuleDecl {
+        span,
+        declare,
+        global,
+        namespace,
+        id,
+        body,
+    } = TsModuleDecl::of(node);
     are_as_made(&[
-        Seen::Range(it.span),
-        Seen::Flag(it.declare),
-        Seen::Flag(it.global),
-        Seen::Flag(it.namespace),
-        Seen::Part(it.id),
-        Seen::Part(it.body),
+        Seen::Range(span),
+        Seen::Flag(declare),
+        Seen::Flag(global),
+        Seen::Flag(namespace),
+        Seen::Part(id),
+        Seen::Part(body),
     ])
 }
 
 fn is_read_ts_module_block(node: Part<'_>) -> bool {
-    let it = TsModuleBlock::of(node);
-    are_as_made(&[Seen::Range(it.span), Seen::Part(it.body)])
+    let TsModuleBlock { span, body } = TsModuleBlock::of(node);
+    are_as_made(&[Seen::Range(span), Seen::Part(body)])
 }
 
 fn is_read_ts_namespace_decl(node: Part<'_>) -> bool {
-    let it = TsNamespaceDecl::of(node);
+    let TsNamespaceDecl {
+        span,
+        declare,
+        global,
+        id,
+        body,
+    } = TsNamespaceDecl::of(node);
     are_as_made(&[
-        Seen::Range(it.span),
-        Seen::Flag(it.declare),
-        Seen::Flag(it.global),
-        Seen::Part(it.id),
-        Seen::Part(it.body),
+        Seen::Range(span),
+        Seen::Flag(declare),
+        Seen::Flag(global),
+        Seen::Part(id),
+        Seen::Part(body),
     ])
 }
 

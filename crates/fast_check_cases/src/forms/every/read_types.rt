@@ -14,285 +14,364 @@ use fast_check_type_forms::{
 };
 
 fn is_read_ts_keyword_type(node: Part<'_>) -> bool {
-    let it = TsKeywordType::of(node);
-    are_as_made(&[Seen::Range(it.span), Seen::Part(it.kind)])
+    let TsKeywordType { span, kind } = TsKeywordType::of(node);
+    are_as_made(&[Seen::Range(span), Seen::Part(kind)])
 }
 
 fn is_read_ts_this_type(node: Part<'_>) -> bool {
-    let it = TsThisType::of(node);
-    are_as_made(&[Seen::Range(it.span)])
+    let TsThisType { span } = TsThisType::of(node);
+    are_as_made(&[Seen::Range(span)])
 }
 
 fn is_read_ts_type_ref(node: Part<'_>) -> bool {
-    let it = TsTypeRef::of(node);
+    let TsTypeRef {
+        span,
+        type_name,
+        type_params,
+    } = TsTypeRef::of(node);
     are_as_made(&[
-        Seen::Range(it.span),
-        Seen::Part(it.type_name),
-        Seen::Part(it.type_params),
+        Seen::Range(span),
+        Seen::Part(type_name),
+        Seen::Part(type_params),
     ])
 }
 
 fn is_read_ts_qualified_name(node: Part<'_>) -> bool {
-    let it = TsQualifiedName::of(node);
-    are_as_made(&[
-        Seen::Range(it.span),
-        Seen::Part(it.left),
-        Seen::Part(it.right),
-    ])
+    let TsQualifiedName { span, left, right } = TsQualifiedName::of(node);
+    are_as_made(&[Seen::Range(span), Seen::Part(left), Seen::Part(right)])
 }
 
 fn is_read_ts_type_query(node: Part<'_>) -> bool {
-    let it = TsTypeQuery::of(node);
+    let TsTypeQuery {
+        span,
+        expr_name,
+        type_args,
+    } = TsTypeQuery::of(node);
     are_as_made(&[
-        Seen::Range(it.span),
-        Seen::Part(it.expr_name),
-        Seen::Part(it.type_args),
+        Seen::Range(span),
+        Seen::Part(expr_name),
+        Seen::Part(type_args),
     ])
 }
 
 fn is_read_ts_import_type(node: Part<'_>) -> bool {
-    let it = TsImportType::of(node);
+    let TsImportType {
+        span,
+        arg,
+        qualifier,
+        type_args,
+    } = TsImportType::of(node);
     are_as_made(&[
-        Seen::Range(it.span),
-        Seen::Part(it.arg),
-        Seen::Part(it.qualifier),
-        Seen::Part(it.type_args),
+        Seen::Range(span),
+        Seen::Part(arg),
+        Seen::Part(qualifier),
+        Seen::Part(type_args),
     ])
 }
 
 fn is_read_ts_type_lit(node: Part<'_>) -> bool {
-    let it = TsTypeLit::of(node);
-    are_as_made(&[Seen::Range(it.span), Seen::Part(it.members)])
+    let TsTypeLit { span, members } = TsTypeLit::of(node);
+    are_as_made(&[Seen::Range(span), Seen::Part(members)])
 }
 
 fn is_read_ts_array_type(node: Part<'_>) -> bool {
-    let it = TsArrayType::of(node);
-    are_as_made(&[Seen::Range(it.span), Seen::Part(it.elem_type)])
+    let TsArrayType { span, elem_type } = TsArrayType::of(node);
+    are_as_made(&[Seen::Range(span), Seen::Part(elem_type)])
 }
 
 fn is_read_ts_tuple_type(node: Part<'_>) -> bool {
-    let it = TsTupleType::of(node);
-    are_as_made(&[Seen::Range(it.span), Seen::Part(it.elem_types)])
+    let TsTupleType { span, elem_types } = TsTupleType::of(node);
+    are_as_made(&[Seen::Range(span), Seen::Part(elem_types)])
 }
 
 fn is_read_ts_tuple_element(node: Part<'_>) -> bool {
-    let it = TsTupleElement::of(node);
-    are_as_made(&[
-        Seen::Range(it.span),
-        Seen::Part(it.label),
-        Seen::Part(it.ty),
-    ])
+    let TsTupleElement { span, label, ty } = TsTupleElement::of(node);
+    are_as_made(&[Seen::Range(span), Seen::Part(label), Seen::Part(ty)])
 }
 
 fn is_read_ts_optional_type(node: Part<'_>) -> bool {
-    let it = TsOptionalType::of(node);
-    are_as_made(&[Seen::Range(it.span), Seen::Part(it.type_ann)])
+    let TsOptionalType { span, type_ann } = TsOptionalType::of(node);
+    are_as_made(&[Seen::Range(span), Seen::Part(type_ann)])
 }
 
 fn is_read_ts_rest_type(node: Part<'_>) -> bool {
-    let it = TsRestType::of(node);
-    are_as_made(&[Seen::Range(it.span), Seen::Part(it.type_ann)])
+    let TsRestType { span, type_ann } = TsRestType::of(node);
+    are_as_made(&[Seen::Range(span), Seen::Part(type_ann)])
 }
 
 fn is_read_ts_parenthesized_type(node: Part<'_>) -> bool {
-    let it = TsParenthesizedType::of(node);
-    are_as_made(&[Seen::Range(it.span), Seen::Part(it.type_ann)])
+    let TsParenthesizedType { span, type_ann } = TsParenthesizedType::of(node);
+    are_as_made(&[Seen::Range(span), Seen::Part(type_ann)])
 }
 
 fn is_read_ts_union_type(node: Part<'_>) -> bool {
-    let it = TsUnionType::of(node);
-    are_as_made(&[Seen::Range(it.span), Seen::Part(it.types)])
+    let TsUnionType { span, types } = TsUnionType::of(node);
+    are_as_made(&[Seen::Range(span), Seen::Part(types)])
 }
 
 fn is_read_ts_intersection_type(node: Part<'_>) -> bool {
-    let it = TsIntersectionType::of(node);
-    are_as_made(&[Seen::Range(it.span), Seen::Part(it.types)])
+    let TsIntersectionType { span, types } = TsIntersectionType::of(node);
+    are_as_made(&[Seen::Range(span), Seen::Part(types)])
 }
 
 fn is_read_ts_lit_type(node: Part<'_>) -> bool {
-    let it = TsLitType::of(node);
-    are_as_made(&[Seen::Range(it.span), Seen::Part(it.lit)])
+    let TsLitType { span, lit } = TsLitType::of(node);
+    are_as_made(&[Seen::Range(span), Seen::Part(lit)])
 }
 
 fn is_read_ts_tpl_lit_type(node: Part<'_>) -> bool {
-    let it = TsTplLitType::of(node);
-    are_as_made(&[
-        Seen::Range(it.span),
-        Seen::Part(it.types),
-        Seen::Part(it.quasis),
-    ])
+    let TsTplLitType {
+        span,
+        types,
+        quasis,
+    } = TsTplLitType::of(node);
+    are_as_made(&[Seen::Range(span), Seen::Part(types), Seen::Part(quasis)])
 }
 
 fn is_read_ts_conditional_type(node: Part<'_>) -> bool {
-    let it = TsConditionalType::of(node);
+    let TsConditionalType {
+        span,
+        check_type,
+        extends_type,
+        true_type,
+        false_type,
+    } = TsConditionalType::of(node);
     are_as_made(&[
-        Seen::Range(it.span),
-        Seen::Part(it.check_type),
-        Seen::Part(it.extends_type),
-        Seen::Part(it.true_type),
-        Seen::Part(it.false_type),
+        Seen::Range(span),
+        Seen::Part(check_type),
+        Seen::Part(extends_type),
+        Seen::Part(true_type),
+        Seen::Part(false_type),
     ])
 }
 
 fn is_read_ts_infer_type(node: Part<'_>) -> bool {
-    let it = TsInferType::of(node);
-    are_as_made(&[Seen::Range(it.span), Seen::Part(it.type_param)])
+    let TsInferType { span, type_param } = TsInferType::of(node);
+    are_as_made(&[Seen::Range(span), Seen::Part(type_param)])
 }
 
 fn is_read_ts_type_operator(node: Part<'_>) -> bool {
-    let it = TsTypeOperator::of(node);
-    are_as_made(&[
-        Seen::Range(it.span),
-        Seen::Part(it.op),
-        Seen::Part(it.type_ann),
-    ])
+    let TsTypeOperator { span, op, type_ann } = TsTypeOperator::of(node);
+    are_as_made(&[Seen::Range(span), Seen::Part(op), Seen::Part(type_ann)])
 }
 
 fn is_read_ts_indexed_access_type(node: Part<'_>) -> bool {
-    let it = TsIndexedAccessType::of(node);
+    let TsIndexedAccessType {
+        span,
+        readonly,
+        obj_type,
+        index_type,
+    } = TsIndexedAccessType::of(node);
     are_as_made(&[
-        Seen::Range(it.span),
-        Seen::Flag(it.readonly),
-        Seen::Part(it.obj_type),
-        Seen::Part(it.index_type),
+        Seen::Range(span),
+        Seen::Flag(readonly),
+        Seen::Part(obj_type),
+        Seen::Part(index_type),
     ])
 }
 
 fn is_read_ts_mapped_type(node: Part<'_>) -> bool {
-    let it = TsMappedType::of(node);
+    let TsMappedType {
+        span,
+        readonly,
+        type_param,
+        name_type,
+        optional,
+        type_ann,
+    } = TsMappedType::of(node);
     are_as_made(&[
-        Seen::Range(it.span),
-        Seen::Part(it.readonly),
-        Seen::Part(it.type_param),
-        Seen::Part(it.name_type),
-        Seen::Part(it.optional),
-        Seen::Part(it.type_ann),
+        Seen::Range(span),
+        Seen::Part(readonly),
+        Seen::Part(type_param),
+        Seen::Part(name_type),
+        Seen::Part(optional),
+        Seen::Part(type_ann),
     ])
 }
 
 fn is_read_ts_type_predicate(node: Part<'_>) -> bool {
-    let it = TsTypePredicate::of(node);
+    let TsTypePredicate {
+        span,
+        asserts,
+        param_name,
+        type_ann,
+    } = TsTypePredicate::of(node);
     are_as_made(&[
-        Seen::Range(it.span),
-        Seen::Flag(it.asserts),
-        Seen::Part(it.param_name),
-        Seen::Part(it.type_ann),
+        Seen::Range(span),
+        Seen::Flag(asserts),
+        Seen::Part(param_name),
+        Seen::Part(type_ann),
     ])
 }
 
 fn is_read_ts_fn_type(node: Part<'_>) -> bool {
-    let it = TsFnType::of(node);
+    let TsFnType {
+        span,
+        params,
+        type_params,
+        type_ann,
+        is_abstract,
+    } = TsFnType::of(node);
     are_as_made(&[
-        Seen::Range(it.span),
-        Seen::Part(it.params),
-        Seen::Part(it.type_params),
-        Seen::Part(it.type_ann),
-        Seen::Flag(it.is_abstract),
+        Seen::Range(span),
+        Seen::Part(params),
+        Seen::Part(type_params),
+        Seen::Part(type_ann),
+        Seen::Flag(is_abstract),
     ])
 }
 
 fn is_read_ts_constructor_type(node: Part<'_>) -> bool {
-    let it = TsConstructorType::of(node);
+    let TsConstructorType {
+        span,
+        params,
+        type_params,
+        type_ann,
+        is_abstract,
+    } = TsConstructorType::of(node);
     are_as_made(&[
-        Seen::Range(it.span),
-        Seen::Part(it.params),
-        Seen::Part(it.type_params),
-        Seen::Part(it.type_ann),
-        Seen::Flag(it.is_abstract),
+        Seen::Range(span),
+        Seen::Part(params),
+        Seen::Part(type_params),
+        Seen::Part(type_ann),
+        Seen::Flag(is_abstract),
     ])
 }
 
 fn is_read_ts_call_signature_decl(node: Part<'_>) -> bool {
-    let it = TsCallSignatureDecl::of(node);
+    let TsCallSignatureDecl {
+        span,
+        params,
+        type_ann,
+        type_params,
+    } = TsCallSignatureDecl::of(node);
     are_as_made(&[
-        Seen::Range(it.span),
-        Seen::Part(it.params),
-        Seen::Part(it.type_ann),
-        Seen::Part(it.type_params),
+        Seen::Range(span),
+        Seen::Part(params),
+        Seen::Part(type_ann),
+        Seen::Part(type_params),
     ])
 }
 
 fn is_read_ts_construct_signature_decl(node: Part<'_>) -> bool {
-    let it = TsConstructSignatureDecl::of(node);
+    let TsConstructSignatureDecl {
+        span,
+        params,
+        type_ann,
+        type_params,
+    } = TsConstructSignatureDecl::of(node);
     are_as_made(&[
-        Seen::Range(it.span),
-        Seen::Part(it.params),
-        Seen::Part(it.type_ann),
-        Seen::Part(it.type_params),
+        Seen::Range(span),
+        Seen::Part(params),
+        Seen::Part(type_ann),
+        Seen::Part(type_params),
     ])
 }
 
 fn is_read_ts_property_signature(node: Part<'_>) -> bool {
-    let it = TsPropertySignature::of(node);
+    let TsPropertySignature {
+        span,
+        key,
+        computed,
+        readonly,
+        optional,
+        type_ann,
+    } = TsPropertySignature::of(node);
     are_as_made(&[
-        Seen::Range(it.span),
-        Seen::Part(it.key),
-        Seen::Flag(it.computed),
-        Seen::Flag(it.readonly),
-        Seen::Flag(it.optional),
-        Seen::Part(it.type_ann),
+        Seen::Range(span),
+        Seen::Part(key),
+        Seen::Flag(computed),
+        Seen::Flag(readonly),
+        Seen::Flag(optional),
+        Seen::Part(type_ann),
     ])
 }
 
 fn is_read_ts_getter_signature(node: Part<'_>) -> bool {
-    let it = TsGetterSignature::of(node);
+    let TsGetterSignature {
+        span,
+        key,
+        computed,
+        type_ann,
+    } = TsGetterSignature::of(node);
     are_as_made(&[
-        Seen::Range(it.span),
-        Seen::Part(it.key),
-        Seen::Flag(it.computed),
-        Seen::Part(it.type_ann),
+        Seen::Range(span),
+        Seen::Part(key),
+        Seen::Flag(computed),
+        Seen::Part(type_ann),
     ])
 }
 
 fn is_read_ts_setter_signature(node: Part<'_>) -> bool {
-    let it = TsSetterSignature::of(node);
+    let TsSetterSignature {
+        span,
+        key,
+        computed,
+        params,
+    } = TsSetterSignature::of(node);
     are_as_made(&[
-        Seen::Range(it.span),
-        Seen::Part(it.key),
-        Seen::Flag(it.computed),
-        Seen::Part(it.params),
+        Seen::Range(span),
+        Seen::Part(key),
+        Seen::Flag(computed),
+        Seen::Part(params),
     ])
 }
 
 fn is_read_ts_method_signature(node: Part<'_>) -> bool {
-    let it = TsMethodSignature::of(node);
+    let TsMethodSignature {
+        span,
+        key,
+        computed,
+        optional,
+        params,
+        type_ann,
+        type_params,
+    } = TsMethodSignature::of(node);
     are_as_made(&[
-        Seen::Range(it.span),
-        Seen::Part(it.key),
-        Seen::Flag(it.computed),
-        Seen::Flag(it.optional),
-        Seen::Part(it.params),
-        Seen::Part(it.type_ann),
-        Seen::Part(it.type_params),
+        Seen::Range(span),
+        Seen::Part(key),
+        Seen::Flag(computed),
+        Seen::Flag(optional),
+        Seen::Part(params),
+        Seen::Part(type_ann),
+        Seen::Part(type_params),
     ])
 }
 
 fn is_read_ts_type_param(node: Part<'_>) -> bool {
-    let it = TsTypeParam::of(node);
+    let TsTypeParam {
+        span,
+        name,
+        is_in,
+        is_out,
+        is_const,
+        constraint,
+        default,
+    } = TsTypeParam::of(node);
     are_as_made(&[
-        Seen::Range(it.span),
-        Seen::Part(it.name),
-        Seen::Flag(it.is_in),
-        Seen::Flag(it.is_out),
-        Seen::Flag(it.is_const),
-        Seen::Part(it.constraint),
-        Seen::Part(it.default),
+        Seen::Range(span),
+        Seen::Part(name),
+        Seen::Flag(is_in),
+        Seen::Flag(is_out),
+        Seen::Flag(is_const),
+        Seen::Part(constraint),
+        Seen::Part(default),
     ])
 }
 
 fn is_read_ts_type_param_decl(node: Part<'_>) -> bool {
-    let it = TsTypeParamDecl::of(node);
-    are_as_made(&[Seen::Range(it.span), Seen::Part(it.params)])
+    let TsTypeParamDecl { span, params } = TsTypeParamDecl::of(node);
+    are_as_made(&[Seen::Range(span), Seen::Part(params)])
 }
 
 fn is_read_ts_type_param_instantiation(node: Part<'_>) -> bool {
-    let it = TsTypeParamInstantiation::of(node);
-    are_as_made(&[Seen::Range(it.span), Seen::Part(it.params)])
+    let TsTypeParamInstantiation { span, params } = TsTypeParamInstantiation::of(node);
+    are_as_made(&[Seen::Range(span), Seen::Part(params)])
 }
 
 fn is_read_ts_type_ann(node: Part<'_>) -> bool {
-    let it = TsTypeAnn::of(node);
-    are_as_made(&[Seen::Range(it.span), Seen::Part(it.type_ann)])
+    let TsTypeAnn { span, type_ann } = TsTypeAnn::of(node);
+    are_as_made(&[Seen::Range(span), Seen::Part(type_ann)])
 }
 
 /// Whether each field of such a node gives what it was made of.
