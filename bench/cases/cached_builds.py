@@ -4,10 +4,10 @@ import json
 
 import random_builds
 from build_cases import drawing, faulty, let, single
-from build_worlds import Module, World, sources_of
+from build_worlds import JsonModule, Module, World, sources_of
 from cache_cases import OWN, RULES, hash_of
 from function_cases import const, func, unknown
-from module_trees import export_all
+from module_trees import export, export_all
 from package_accounts import Closure, without_nested
 from package_rules import World as Rules, join, order_of
 from package_worlds import nv_of, url_of
@@ -122,7 +122,7 @@ class Built:
             if modules:
                 self.answers += [(url, [f"cached of {url}"] if tree is None else [], tree) for _, _, url, tree in modules]
             elif nv in self.used:
-                self.keep(nv, urls, (needs, []))
+                self.find(nv, of(nv) + [("entry", url) for url in urls] + [("depends", needed) for needed in needs])
             else:
                 self.find(nv, of(nv))
 
@@ -175,6 +175,13 @@ def pair(**of):
     """Two packages: p exports all of q."""
     return with_hashes(World({"p": ["./mod.ts"], "q": ["./mod.ts"]}, Module("p/mod.ts", export_all("@q"), let("x", value=lit("1")), resolved={"@q": "q/mod.ts"}),
                              Module("q/mod.ts", let("y", value=lit("1"))), pending=of.pop("pending", ["p", "q"])), **of)
+
+
+def re_exported(word):
+    """A package q whose only entry point is of JSON, and p, which exports one name of another module of q, through a re-export of all of it."""
+    return with_hashes(World({"p": ["./mod.ts"], "q": ["./d.json"]}, Module("p/mod.ts", export("y", src="./all"), resolved={"./all": "p/all.ts"}),
+                             Module("p/all.ts", export_all("@q/mod"), resolved={"@q/mod": "q/mod.ts"}),
+                             Module("q/mod.ts", let("y", value=lit("1")), let("z", value=lit("1"))), JsonModule("q/d.json"), pending=[word]))
 
 
 def chained(count):
@@ -249,6 +256,8 @@ def runs():
     yield "two_entry_points_with_faults", {}, [with_hashes(faulty()), with_hashes(faulty())]
     yield "a_cache_with_a_seed_of_its_own", {"own_seed": True}, [three(), three()]
     yield "an_item_without_modules", needed, [pair(pending=["p"]), pair(pending=["p"])]
+    # the item of q is made where nothing asks for its module; the second build answers the module as without a cache, and sets it
+    yield "an_item_without_modules_of_a_package_whose_module_another_exports", {}, [re_exported(word) for word in "qpp"]
     yield "the_second_get_is_refused", {"refused_get": 2}, [pair(), pair(), pair()]
     yield "the_second_set_is_refused", {"refused_set": 2}, [pair(), pair(), pair()]
     yield "a_refused_set_leaves_the_item_that_was_there", {"refused_set": 2}, [sound(), sound("m2"), sound()]

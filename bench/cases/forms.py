@@ -154,11 +154,11 @@ def forms_are_made():
     remark("types that no transform makes, and an identifier of a copied id")
     for name, made in MADE.items():
         case(f"make {name}", text_of(made))
-    remark("every form and every mark, made of fields that tell their places: those of ranges in brackets, flags are true")
+    remark("every form and every mark, made of fields that tell their places, and read: those of ranges in brackets, flags are true")
     for form, fields in FORMS.items():
-        case(f"form {form}", " ".join([form] + [place_told(place, field) for place, field in enumerate(fields)]))
+        case(f"form {form}", " ".join([form] + [place_told(place, field) for place, field in enumerate(fields)]) + ", as read")
     for mark in MARKS.values():
-        case(f"form {mark}", f"{mark} 0")
+        case(f"form {mark}", f"{mark} 0, as read")
 
 
 def place_told(place, field):

@@ -2,7 +2,6 @@
 """Runs a program with each of its requests for memory refused in turn, and tells which runs do not end as a want of memory has to.
 
     bench/check/refuse.py PROGRAM COMMAND FILE..
-    bench/check/refuse.py --ahead PROGRAM COMMAND FILE..
     bench/check/refuse.py --where NUMBER PROGRAM COMMAND FILE
     bench/check/refuse.py --stored COUNT PROGRAM COMMAND
 
@@ -10,13 +9,10 @@ PROGRAM COMMAND FILE is run with its first request refused, then with its second
 the request that it was to be refused; each once with this request refused alone, and once with all from there on. Each run has to end with
 status 3, the line `error: out of memory`, and nothing on standard output.
 A line for each file says how many requests there are, how many runs were made, and how many differ; the lines below it say in what.
-A run that answers as if nothing had been refused has passed a want of memory over, or has asked again for less. The status is 1 where any
-run differs, and where no request was counted: then the program has an allocator of its own, and nothing was tried.
+A run that answers as if nothing had been refused has passed a want of memory over, or has asked again for less: it differs too. The status is 1
+where any run differs, and where no request was counted: then the program has an allocator of its own, and nothing was tried.
 
-`--ahead` counts the runs that answer as if nothing had been refused where one request alone is, and does not take them for wrong: lists and maps ask
-for room ahead, and go on where that is refused. Each other run has to end as above.
-
-`--stored COUNT` takes so many of the stored runs of a command on less than 20 KB, evenly spread, and goes on ahead; a line for all of them stands below.
+`--stored COUNT` takes so many of the stored runs of a command on less than 20 KB, evenly spread. A line for all files stands below.
 
 `--where NUMBER` refuses this request alone, and tells which calls it came from, by the names that the program has kept (`nm`).
 
@@ -83,8 +79,8 @@ def each_request(program, behind):
             return
 
 
-def refuse_each(program, ahead):
-    """Refuses each request of a run in turn, and prints what differs. Answers whether none did, but for requests ahead where these may be passed over."""
+def refuse_each(program):
+    """Refuses each request of a run in turn, and prints what differs. Answers whether none did."""
     answer, runs, requests, differing = program.run(0)[0], 1, 0, collections.defaultdict(list)
     for how, behind in MODES.items():
         for number, ended in each_request(program, behind):
@@ -96,7 +92,7 @@ def refuse_each(program, ahead):
     for (how, what), found in differing.items():
         print(f"    {how}: {what}: {len(found)} of the requests, {spans(found)}")
     sys.stdout.flush()
-    return requests > 0 and all(ahead and (how, what) == ("alone", PASSED_OVER) for how, what in differing)
+    return requests > 0 and not differing
 
 
 def tell_where(file, program, number, calls):
@@ -123,10 +119,7 @@ def stored_runs(command, count):
 def main():
     words, where = sys.argv[1:], None
     if words[:1] == ["--stored"] and len(words) == 4:
-        words = ["--ahead", *words[2:], *stored_runs(words[3], int(words[1]))]
-    ahead = words[:1] == ["--ahead"]
-    if ahead:
-        words = words[1:]
+        words = [*words[2:], *stored_runs(words[3], int(words[1]))]
     if words[:1] == ["--where"] and words[1:2] and words[1].isdigit():
         where, words = int(words[1]), words[2:]
     if len(words) < 3 or words[0].startswith("-") or where is not None and len(words) > 3:
@@ -139,7 +132,7 @@ def main():
         if where is not None:
             tell_where(file, Program(server, command, paths[0]), where, calls)
             return 0
-        refused = [refuse_each(Program(server, command, path), ahead) for path in paths]
+        refused = [refuse_each(Program(server, command, path)) for path in paths]
         print(" ".join(f"{what}={number}" for what, number in TOTAL.items()))
         return 0 if all(refused) else 1
 

@@ -21,7 +21,7 @@ ghost use Rattle.fast_check_finder.specs.Refusals.{IsRefusal, IsRefusedOf, JoinA
 use fast_check_cache::FastCheckCache;
 use fast_check_packages::{BuildFault, JsrUrlProvider, PackageNv};
 use fast_check_turns::{
-    FinderInput, Finding, KeptModules, MemberEntries, MetPackages, Progress, enter, follow,
+    FinderInput, Finding, KeptSearches, MemberEntries, MetPackages, Progress, enter, follow,
 };
 use fast_check_worklists::{begin, copy_of};
 use std::alloc::{AllocError, Global};
@@ -29,7 +29,7 @@ use std::alloc::{AllocError, Global};
 /// What is kept from turn to turn, so that it is not worked out again.
 #[derive(Drop)]
 struct Kept<'a> {
-    modules: KeptModules<'a>,
+    searches: KeptSearches<'a>,
     members: MemberEntries,
 }
 
@@ -79,8 +79,8 @@ fn turn<'a>(
     ensures turned { let i = input.entry in
         let used = used_of cache.entry (λ c. used_item (hash_of c.now i.seed.now) (stored c.now) i.sources.graph.now) in
         let k = with_used used (known i.sources (url_of provider.now) (nv_at provider.now)) in
-        IfOk result (λ after. (done : List Followed) → AreKeptOf k done kept.old.modules → AreKept k.workspace_members kept.old.members
-        → IsTurn (world k) (gives k) done (λ all. AreKeptOf k all kept.new.modules) next (state_of progress.old.worklist)
+        IfOk result (λ after. (done : List Followed) → AreKeptOf k done kept.old.searches → AreKept k.workspace_members kept.old.members
+        → IsTurn (world k) (gives k) done (λ all. AreKeptOf k all kept.new.searches) next (state_of progress.old.worklist)
         (state_of progress.new.worklist) (flat_map yields_of progress.old.found.items) (flat_map yields_of progress.new.found.items) after) }
     ensures kept { let ours = members_in input.entry.sources.workspace_members.now in
         OnOk result (AreKept ours kept.old.members → AreKept ours kept.new.members) }
@@ -108,7 +108,7 @@ fn turn<'a>(
                 input.sources,
                 provider,
                 trace,
-                &mut kept.modules,
+                &mut kept.searches,
                 progress,
             )?;
             Ok(Some(next))
@@ -148,9 +148,9 @@ pub fn find_all<'a>(
         found,
         owners: MetPackages::new(alloc),
     };
-    let modules = KeptModules::new(alloc);
+    let searches = KeptSearches::new(alloc);
     let members = MemberEntries::new(alloc);
-    let mut kept = Kept { modules, members };
+    let mut kept = Kept { searches, members };
     let mut next = 0;
     'turns: while let Some(after) = turn(
         alloc,

@@ -1,5 +1,6 @@
 -- Answers say what findings say.
-use Rattle.std.proofs.Common.{◌≡◌, ◌∙◌, refl, sym, ap, ℕ, Bool, true, false, ◌&&◌, ◌||◌, List, [], ◌∷◌, ◌++◌, map, Option, Some, None}
+use Rattle.std.proofs.Common.{◌≡◌, ◌∙◌, refl, sym, ap, ℕ, Bool, true, false, cond, ◌&&◌, ◌||◌, List, [], ◌∷◌, ◌++◌, map, Option, Some}
+use Rattle.std.proofs.Common.{None}
 use Rattle.std.specs.List.{list_any, flat_map}
 use Rattle.std.specs.Prelude.{not}
 use Rattle.std.specs.BTreeMap.{BTreeMap}
@@ -13,19 +14,21 @@ use Rattle.fast_check_findings.specs.Faults.{PlacedFault, placed_in}
 use Rattle.fast_check_worklists.specs.Demands.{same_nv}
 use Rattle.fast_check_findings.specs.declared.finding.EnteredPackage.{EnteredPackage}
 use Rattle.fast_check_findings.specs.declared.finding.FollowedModule.{FollowedModule}
+use Rattle.fast_check_cache.specs.Cache.{item_of}
+use Rattle.fast_check_findings.specs.declared.finding.KeptPackage.{KeptPackage}
 use Rattle.fast_check_findings.specs.declared.finding.Finding.{Finding}
 use Rattle.fast_check_findings.specs.declared.finding.Finding.TheVariants.{Entered, Followed, Untyped, Kept}
 use Rattle.fast_check_findings.specs.Yields.{ModuleFault, untyped_module}
-use Rattle.fast_check_findings.specs.Yields.{Yield, known_package, entry_point, dependency, recorded, public, implementing, faulty}
+use Rattle.fast_check_findings.specs.Yields.{Yield, known_package, entry_point, dependency, recorded, public, implementing, faulty, kept}
 use Rattle.fast_check_findings.specs.Findings.{entry_fault, faulty_module, entered_yields, placed_yield, placed_yields, followed_yields}
-use Rattle.fast_check_findings.specs.Findings.{yields_of}
+use Rattle.fast_check_findings.specs.Findings.{kept_yields, yields_of}
 use Rattle.fast_check_package_ranges.specs.declared.parts.JoinedModule.{JoinedModule}
 use Rattle.fast_check_package_ranges.specs.declared.parts.JoinedPackage.{JoinedPackage}
 use Rattle.fast_check_package_ranges.specs.Questions.{ModuleQuestion, whether_recorded, whether_public, whether_implementing}
 use Rattle.fast_check_package_ranges.specs.Questions.{whether_missing, whether_untyped_entry, whether_untyped, whether_faulty}
 use Rattle.fast_check_package_ranges.specs.Questions.{whether_otherwise_faulty, Question, whether_known, whether_entry_point}
 use Rattle.fast_check_package_ranges.specs.Questions.{whether_dependency, whether_refused, about, package_of, yield_says, yields_say}
-use Rattle.fast_check_package_ranges.specs.Questions.{is_kept, is_said, IsTextless, IsTextlessAbout}
+use Rattle.fast_check_package_ranges.specs.Questions.{is_kept, is_said, IsTextless, IsTextlessAbout, has_modules}
 use Rattle.fast_check_findings.specs.Diagnostics.{where_found}
 use Rattle.fast_check_package_ranges.specs.Parts.{module_says, package_says, packages_say, lookup_text, lookup_package}
 use Rattle.fast_check_package_ranges.specs.Parts.{package_found, followed_in, findings_say}
@@ -88,11 +91,15 @@ own_followed nv f =
     (own_both nv n faults asked (own_map nv n (placed_yield n t) (λ x. refl) (map placed_in f.found.faults.items))
     (own_map nv n (λ p. dependency n (nv_of p.value)) (λ p. refl) f.dependencies.items))))
 
+own_kept : (nv : Nv) (k : KeptPackage) (filled : Bool) → Owned nv (nv_of k.package) (cond filled [] (kept_yields k))
+own_kept nv k true = own_none nv (nv_of k.package)
+own_kept nv k false = own_one nv (kept (nv_of k.package) k.entry_points.keys (item_of k.item))
+
 own_finding : (nv : Nv) (f : Finding) → Owned nv (package_found f) (followed_in f)
 own_finding nv (Entered e) = own_entered nv e
 own_finding nv (Followed f) = own_followed nv f
 own_finding nv (Untyped u) = own_faulty nv (nv_of u.package) (serialize u.specifier) untyped_module
-own_finding nv (Kept k) = own_none nv (nv_of k.package)
+own_finding nv (Kept k) = own_kept nv k (has_modules (item_of k.item))
 
 -- findings say what their yields say
 all_yields : (found : List Finding) (nv : Nv) (q : Question) →

@@ -1,5 +1,5 @@
 -- What the yields of a finding say of its package.
-use Rattle.std.proofs.Common.{◌≡◌, ◌∙◌, refl, sym, ap, ℕ, Bool, true, false, ◌&&◌, ◌||◌, List, [], ◌∷◌, ◌++◌, map}
+use Rattle.std.proofs.Common.{◌≡◌, ◌∙◌, refl, sym, ap, ℕ, Bool, true, false, cond, ◌&&◌, ◌||◌, List, [], ◌∷◌, ◌++◌, map}
 use Rattle.std.specs.List.{list_any, flat_map}
 use Rattle.std.specs.Str.{bytes_eq}
 use Rattle.std.specs.declared.alloc.Global.{Global}
@@ -15,11 +15,15 @@ use Rattle.fast_check_findings.specs.declared.finding.EntryFault.{EntryFault}
 use Rattle.fast_check_findings.specs.declared.finding.EnteredPackage.{EnteredPackage}
 use Rattle.fast_check_findings.specs.declared.finding.FollowedModule.{FollowedModule}
 use Rattle.fast_check_findings.specs.declared.finding.FoundModule.{FoundModule}
+use Rattle.fast_check_findings.specs.declared.finding.KeptPackage.{KeptPackage}
 use Rattle.fast_check_findings.specs.declared.finding.UntypedModule.{UntypedModule}
-use Rattle.fast_check_findings.specs.declared.finding.Finding.TheVariants.{Entered, Followed, Untyped}
+use Rattle.fast_check_findings.specs.declared.finding.Finding.TheVariants.{Entered, Followed, Untyped, Kept}
 use Rattle.fast_check_findings.specs.Yields.{ModuleFault, untyped_module, of_demand}
 use Rattle.fast_check_findings.specs.Yields.{Yield, entry_point, dependency, public, implementing}
 use Rattle.fast_check_findings.specs.Findings.{entry_fault, faulty_module, entered_yields, placed_yield, placed_yields, followed_yields}
+use Rattle.fast_check_findings.specs.Findings.{kept_yields}
+use Rattle.fast_check_cache.specs.Cache.{item_of}
+use Rattle.fast_check_worklists.specs.Demands.{same_nv}
 use Rattle.fast_check_package_ranges.specs.declared.parts.JoinedModule.{JoinedModule}
 use Rattle.fast_check_package_ranges.specs.declared.parts.FoundPackage.{FoundPackage}
 use Rattle.fast_check_package_ranges.specs.Questions.{ModuleQuestion, whether_recorded, whether_public, whether_implementing}
@@ -27,9 +31,9 @@ use Rattle.fast_check_package_ranges.specs.Questions.{whether_missing, whether_u
 use Rattle.fast_check_package_ranges.specs.Questions.{whether_otherwise_faulty, Question, whether_known, whether_entry_point}
 use Rattle.fast_check_package_ranges.specs.Questions.{whether_dependency, whether_refused, about, fault_says, is_recorded, range_says}
 use Rattle.fast_check_package_ranges.specs.Questions.{implementation_says, asks_known, asks_entry_point, asks_dependency, asks_module}
-use Rattle.fast_check_package_ranges.specs.Questions.{yield_says}
+use Rattle.fast_check_package_ranges.specs.Questions.{asks_item, has_modules, yield_says}
 use Rattle.fast_check_findings.specs.Diagnostics.{any_fault, passes}
-use Rattle.fast_check_package_ranges.specs.Parts.{is_text, is_shared, module_says, found_module_says, found_says, finding_says}
+use Rattle.fast_check_package_ranges.specs.Parts.{is_text, is_package, is_shared, module_says, found_module_says, found_says, finding_says}
 use Rattle.fast_check_findings.proofs.Bools.{or_none, and_or}
 use Rattle.fast_check_findings.proofs.Lists.{any_map, any_flat, any_alike, any_false, any_none}
 
@@ -78,6 +82,28 @@ entered_found e found p d h (whether_refused t) = sym (entered_says e (whether_r
     (ap (λ b. b || faults_say (whether_refused t) e.faults.items) (any_false e.entry_points.items) ∙ any_false e.faults.items))
 entered_found e found p d h (about t m) = h t m ∙ sym (entered_says e (about t m) ∙
     ap (λ b. b || faults_say (about t m) e.faults.items) (any_false e.entry_points.items))
+
+-- what an item without modules says of its package
+item_says : (k : KeptPackage) → has_modules (item_of k.item) ≡ false → (q : Question) →
+    finding_says (Kept k) q ≡ asks_item k.entry_points.keys (item_of k.item) q
+item_says k none q = ap (λ b. list_any (says q) (cond b [] (kept_yields k))) none ∙ or_none (asks_item k.entry_points.keys (item_of k.item) q)
+
+-- one with modules says nothing here
+pub item_untold : (k : KeptPackage) → has_modules (item_of k.item) ≡ true → (q : Question) → finding_says (Kept k) q ≡ false
+item_untold k filled q = ap (λ b. list_any (says q) (cond b [] (kept_yields k))) filled
+
+pub kept_found : (k : KeptPackage) (found : FoundPackage) → has_modules (item_of k.item) ≡ false →
+    found.entry_points.items ≡ k.entry_points.keys → found.modules.items ≡ [] →
+    ((nv : Nv) → list_any (is_shared nv) found.dependencies.items ≡ list_any (is_package nv) k.item.dependencies.keys) →
+    (q : Question) → found_says found q ≡ finding_says (Kept k) q
+kept_found k found none urls modules dependencies whether_known = sym (item_says k none whether_known)
+kept_found k found none urls modules dependencies (whether_entry_point t) =
+    ap (list_any (is_text t)) urls ∙ sym (item_says k none (whether_entry_point t))
+kept_found k found none urls modules dependencies (whether_dependency nv) =
+    dependencies nv ∙ (sym (any_map (same_nv nv) nv_of k.item.dependencies.keys) ∙ sym (item_says k none (whether_dependency nv)))
+kept_found k found none urls modules dependencies (whether_refused t) = sym (item_says k none (whether_refused t))
+kept_found k found none urls modules dependencies (about t m) =
+    ap (list_any (found_module_says t m)) modules ∙ sym (item_says k none (about t m))
 
 -- what is found of one module
 pub record IsOne (found : FoundPackage) (specifier : Parts) (parts : JoinedModule) (dependencies : List (Rc PackageNv Global)) : Type 0 where

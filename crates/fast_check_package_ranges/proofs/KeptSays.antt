@@ -1,5 +1,5 @@
 -- Packages whose items are used, among findings and among answers.
-use Rattle.std.proofs.Common.{◌≡◌, ◌∙◌, refl, sym, ap, subst, Bool, true, false, ◌&&◌, ◌||◌, List, [], ◌∷◌, ◌++◌, map, Option, Some}
+use Rattle.std.proofs.Common.{◌≡◌, ◌∙◌, refl, sym, ap, subst, Bool, true, false, cond, ◌&&◌, ◌||◌, List, [], ◌∷◌, ◌++◌, map, Option, Some}
 use Rattle.std.proofs.Common.{None, ⊎_elim, arith, append-nil, append_assoc}
 use Rattle.std.specs.List.{list_any, flat_map, Contains, IsDistinct}
 use Rattle.std.proofs.lemmas.Bool.{false≢true}
@@ -21,10 +21,10 @@ use Rattle.fast_check_findings.specs.declared.finding.FollowedModule.{FollowedMo
 use Rattle.fast_check_findings.specs.declared.finding.KeptPackage.{KeptPackage}
 use Rattle.fast_check_findings.specs.declared.finding.Finding.{Finding}
 use Rattle.fast_check_findings.specs.declared.finding.Finding.TheVariants.{Entered, Followed, Untyped, Kept}
-use Rattle.fast_check_findings.proofs.Bools.{or_none}
+use Rattle.fast_check_findings.proofs.Bools.{and_none}
 use Rattle.fast_check_findings.proofs.Lists.{any_map, any_flat, any_none}
 use Rattle.fast_check_package_ranges.specs.Questions.{Question, about, whether_faulty, package_of, yield_says, keeps, is_kept, yields_say}
-use Rattle.fast_check_package_ranges.specs.Questions.{is_said, ModuleQuestion, IsTextless}
+use Rattle.fast_check_package_ranges.specs.Questions.{is_said, ModuleQuestion, IsTextless, has_modules}
 use Rattle.fast_check_package_ranges.specs.Parts.{lookup_text, kept_in, followed_in}
 use Rattle.fast_check_package_ranges.specs.Answers.{diagnose_alike, is_so, module_answer, package_answer, module_diagnostics}
 use Rattle.fast_check_package_ranges.specs.Answers.{package_diagnostics, cached_of, IsKeptIn}
@@ -47,7 +47,14 @@ or_right : (b c : Bool) → (b || c) ≡ false → c ≡ false
 or_right true c h = absurd (false≢true (sym h))
 or_right false c h = h
 
--- of a package whose item is not used the findings of items say nothing
+-- a yield that is left out where it has modules says nothing of a package that it does not keep
+left_out : (says : Yield → Bool) (y : Yield) (at filled it : Bool) → says y ≡ (at && it) → ((at && filled) || false) ≡ false →
+    list_any says (cond filled [] (y ∷ [])) ≡ list_any says (y ∷ [])
+left_out says y at false it e h = refl
+left_out says y true true it e h = absurd (false≢true (sym h))
+left_out says y false true it e h = sym (ap (λ b. b || false) e)
+
+-- of a package of which no item with modules is used the findings of such items say nothing
 not_kept_one : (nv : Nv) (q : Question) (f : Finding) → list_any (keeps nv) (yields_of f) ≡ false →
     list_any (λ y. same_nv nv (package_of y) && yield_says y q) (followed_in f) ≡ list_any
     (λ y. same_nv nv (package_of y) && yield_says y q) (yields_of f)
@@ -55,8 +62,9 @@ not_kept_one nv q (Entered e) h = refl
 not_kept_one nv q (Followed f) h = refl
 not_kept_one nv q (Untyped u) h = refl
 not_kept_one nv q (Kept k) h =
-    let says : Bool = yield_says (kept (nv_of k.package) k.entry_points.keys (item_of k.item)) q in
-    sym (ap (λ b. (b && says) || false) (sym (or_none (same_nv nv (nv_of k.package))) ∙ h))
+    let y = kept (nv_of k.package) k.entry_points.keys (item_of k.item) in
+    left_out (λ x. same_nv nv (package_of x) && yield_says x q) y (same_nv nv (nv_of k.package)) (has_modules (item_of k.item))
+    (yield_says y q) refl h
 
 pub not_kept_says : (nv : Nv) (q : Question) (found : List Finding) → is_kept (flat_map yields_of found) nv ≡ false →
     yields_say (flat_map followed_in found) nv q ≡ yields_say (flat_map yields_of found) nv q
@@ -102,12 +110,20 @@ not_followed nv f =
     (not_both nv faults asked (not_map nv (placed_yield n t) (λ x. refl) (map placed_in f.found.faults.items))
     (not_map nv (λ p. dependency n (nv_of p.value)) (λ p. refl) f.dependencies.items)))
 
--- an item is used by the yields exactly where it is among the findings of items
+and_true : (b : Bool) → (b && true) ≡ b
+and_true true = refl
+and_true false = refl
+
+kept_if : (nv : Nv) (k : KeptPackage) (filled : Bool) → list_any (is_of nv) (cond filled (k ∷ []) []) ≡ ((is_of nv k && filled) || false)
+kept_if nv k true = ap (λ b. b || false) (sym (and_true (is_of nv k)))
+kept_if nv k false = sym (ap (λ b. b || false) (and_none (is_of nv k)))
+
+-- an item with modules is used by the yields exactly where it is among the findings of items
 same_one : (nv : Nv) (f : Finding) → list_any (is_of nv) (kept_in f) ≡ list_any (keeps nv) (yields_of f)
 same_one nv (Entered e) = sym (not_entered nv e)
 same_one nv (Followed f) = sym (not_followed nv f)
 same_one nv (Untyped u) = refl
-same_one nv (Kept k) = refl
+same_one nv (Kept k) = kept_if nv k (has_modules (item_of k.item))
 
 pub same_kept : (nv : Nv) (found : List Finding) → list_any (is_of nv) (flat_map kept_in found) ≡ is_kept (flat_map yields_of found) nv
 same_kept nv [] = refl
@@ -130,12 +146,16 @@ first_in x xs = (0, omega arith, refl)
 abbrev yield_of : KeptPackage → Yield
 yield_of k = kept (nv_of k.package) k.entry_points.keys (item_of k.item)
 
+one_kept : (filled : Bool) (j k : KeptPackage) → Contains (cond filled (j ∷ []) []) k → Contains (yield_of j ∷ []) (yield_of k)
+one_kept true j k c = ⊎_elim (λ n. absurd (none_in k n))
+    (λ e. subst (λ (x : KeptPackage). Contains (yield_of j ∷ []) (yield_of x)) e (first_in (yield_of j) [])) (Contains-push_cases [] j k c)
+one_kept false j k c = absurd (none_in k c)
+
 one_yield : (f : Finding) (k : KeptPackage) → Contains (kept_in f) k → Contains (yields_of f) (yield_of k)
 one_yield (Entered e) k c = absurd (none_in k c)
 one_yield (Followed f) k c = absurd (none_in k c)
 one_yield (Untyped u) k c = absurd (none_in k c)
-one_yield (Kept j) k c = ⊎_elim (λ n. absurd (none_in k n))
-    (λ e. subst (λ (x : KeptPackage). Contains (yield_of j ∷ []) (yield_of x)) e (first_in (yield_of j) [])) (Contains-push_cases [] j k c)
+one_yield (Kept j) k c = one_kept (has_modules (item_of j.item)) j k c
 
 all_yield : (found : List Finding) (k : KeptPackage) → Contains (flat_map kept_in found) k →
     Contains (flat_map yields_of found) (yield_of k)

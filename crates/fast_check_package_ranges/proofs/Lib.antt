@@ -2,7 +2,6 @@ pub mod Maps
 pub mod Sets
 pub mod Dependencies
 pub mod Converted
-pub mod Collected
 pub mod Joined
 pub mod FoundSays
 pub mod Diagnosed

@@ -113,7 +113,7 @@ IsKeptIn yields nv (Some p) = (q : Nv) × (entry_points : List Parts) × (item :
 
 -- The answers say what the yields say, and nothing else. What is told of a fault is, with its source text, what some
 -- yield tells; every diagnostic of a module tells what its yields say, and no two tell the same; and nothing comes from
--- a cache. But the item of a package that is used is answered in place of all that the yields say of it.
+-- a cache. But an item that is used and has modules is answered in place of all that the yields say of its package.
 pub record AreAnswers (yields : List Yield) (answers : BTreeMap PackageNv PackagePublicRanges) : Type 0 where
   pub said : (nv : Nv) (q : Question) → is_kept yields nv ≡ false → IsTextless q →
       answer answers nv q ≡ is_said yields nv q

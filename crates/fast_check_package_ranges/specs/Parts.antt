@@ -1,5 +1,5 @@
 -- What is known of packages while their findings are joined.
-use Rattle.std.specs.Prelude.{Bool, true, false, ◌&&◌, ◌||◌, List, [], ◌∷◌, Option, Some, None}
+use Rattle.std.specs.Prelude.{Bool, true, false, cond, ◌&&◌, ◌||◌, List, [], ◌∷◌, Option, Some, None}
 use Rattle.std.specs.List.{list_any}
 use Rattle.std.specs.Map.{lookup}
 use Rattle.std.specs.Str.{bytes_eq}
@@ -15,7 +15,8 @@ use Rattle.fast_check_findings.specs.declared.finding.Finding.{Finding}
 use Rattle.fast_check_findings.specs.declared.finding.Finding.TheVariants.{Entered, Followed, Untyped, Kept}
 use Rattle.fast_check_findings.specs.declared.finding.KeptPackage.{KeptPackage}
 use Rattle.fast_check_findings.specs.Yields.{Yield}
-use Rattle.fast_check_findings.specs.Findings.{yields_of}
+use Rattle.fast_check_findings.specs.Findings.{kept_yields, yields_of}
+use Rattle.fast_check_cache.specs.Cache.{item_of}
 use Rattle.fast_check_package_ranges.specs.declared.parts.JoinedModule.{JoinedModule}
 use Rattle.fast_check_package_ranges.specs.declared.parts.JoinedPackage.{JoinedPackage}
 use Rattle.fast_check_package_ranges.specs.declared.parts.FoundPackage.{FoundPackage}
@@ -24,7 +25,7 @@ use Rattle.fast_check_package_ranges.specs.Questions.{ModuleQuestion, whether_re
 use Rattle.fast_check_package_ranges.specs.Questions.{whether_implementing, whether_missing, whether_untyped_entry}
 use Rattle.fast_check_package_ranges.specs.Questions.{whether_untyped, whether_faulty, whether_otherwise_faulty}
 use Rattle.fast_check_package_ranges.specs.Questions.{Question, whether_known, whether_entry_point, whether_dependency}
-use Rattle.fast_check_package_ranges.specs.Questions.{whether_refused, about, yield_says}
+use Rattle.fast_check_package_ranges.specs.Questions.{whether_refused, about, yield_says, has_modules}
 
 abbrev pub is_text : Text → Parts → Bool
 is_text t url = bytes_eq t (serialize url)
@@ -93,17 +94,17 @@ package_found (Followed f) = nv_of f.package
 package_found (Untyped u) = nv_of u.package
 package_found (Kept k) = nv_of k.package
 
--- the packages whose items are used
+-- the packages whose items are used, and have modules
 abbrev pub kept_in : Finding → List KeptPackage
-kept_in (Kept k) = k ∷ []
+kept_in (Kept k) = cond (has_modules (item_of k.item)) (k ∷ []) []
 kept_in _ = []
 
 -- what is said by findings but those
 abbrev pub followed_in : Finding → List Yield
-followed_in (Kept k) = []
+followed_in (Kept k) = cond (has_modules (item_of k.item)) [] (kept_yields k)
 followed_in f = yields_of f
 
--- what a finding says of its package, if it is none of an item that is used
+-- what a finding says of its package, if it is none of those
 abbrev pub finding_says : Finding → Question → Bool
 finding_says f q = list_any (λ y. yield_says y q) (followed_in f)
 

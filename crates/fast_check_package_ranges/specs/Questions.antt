@@ -1,9 +1,11 @@
 -- What can be asked about packages, and which yields say that it is so.
-use Rattle.std.specs.Prelude.{◌≡◌, ⊤, Bool, true, false, ◌&&◌, not, List}
+use Rattle.std.specs.Prelude.{◌≡◌, ⊤, Bool, true, false, ◌&&◌, not, List, [], ◌∷◌}
 use Rattle.std.specs.List.{list_any}
 use Rattle.std.specs.Str.{bytes_eq}
 use Rattle.fast_check_syntax.specs.declared.source.SourceRange.{SourceRange}
+use Rattle.url.specs.Parts.{Parts, serialize}
 use Rattle.fast_check_packages.specs.Package.{Nv}
+use Rattle.fast_check_cache.specs.Cache.{ItemView}
 use Rattle.fast_check_diagnostics.specs.PublicRanges.{same_range}
 use Rattle.fast_check_findings.specs.Faults.{PlacedFault}
 use Rattle.fast_check_findings.specs.Diagnostics.{same_fault}
@@ -78,6 +80,13 @@ asks_dependency e whether_known = true
 asks_dependency e (whether_dependency d) = same_nv d e
 asks_dependency e _ = false
 
+-- an item says which entry points its package has, and on which packages that depends
+abbrev pub asks_item : List Parts → ItemView → Question → Bool
+asks_item urls item whether_known = true
+asks_item urls item (whether_entry_point t) = list_any (λ u. bytes_eq t (serialize u)) urls
+asks_item urls item (whether_dependency d) = list_any (same_nv d) item.0
+asks_item urls item _ = false
+
 -- a question about the module has to pass the test
 abbrev pub asks_module : Text → (ModuleQuestion → Bool) → Question → Bool
 asks_module u says whether_known = true
@@ -105,11 +114,18 @@ yield_says (recorded nv t) = asks_module t is_recorded
 yield_says (public nv t r) = asks_module t (range_says r)
 yield_says (implementing nv t r) = asks_module t (implementation_says r)
 yield_says (faulty nv t f) = asks_module t (fault_says f)
-yield_says (kept nv entry_points item) = asks_known
+yield_says (kept nv entry_points item) = asks_item entry_points item
 
--- the item of the package is used
+abbrev pub is_filled : {X : Type 0} → List X → Bool
+is_filled [] = false
+is_filled (x ∷ xs) = true
+
+abbrev pub has_modules : ItemView → Bool
+has_modules item = is_filled item.1
+
+-- an item of the package is used, and has modules: such an item stands in place of what is found
 abbrev pub keeps : Nv → Yield → Bool
-keeps nv (kept p entry_points item) = same_nv nv p
+keeps nv (kept p entry_points item) = same_nv nv p && has_modules item
 keeps nv _ = false
 
 abbrev pub is_kept : List Yield → Nv → Bool

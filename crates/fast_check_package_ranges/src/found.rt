@@ -1,23 +1,25 @@
 //! What the findings of each package come to.
 
-ghost use Rattle.std.specs.Prelude.{◌≡◌, [], ◌∷◌, ◌++◌, ◌&&◌, ◌||◌, OnOk, IfOk};
+ghost use Rattle.std.specs.Prelude.{◌≡◌, false, [], ◌∷◌, ◌++◌, ◌&&◌, ◌||◌, OnOk, IfOk};
 ghost use Rattle.std.specs.List.{list_any, flat_map};
 ghost use Rattle.fast_check_packages.specs.Package.{Nv, nv_of};
-ghost use Rattle.fast_check_findings.specs.declared.finding.Finding.TheVariants.{Entered, Followed, Untyped};
+ghost use Rattle.fast_check_cache.specs.Cache.{item_of};
+ghost use Rattle.fast_check_findings.specs.declared.finding.Finding.TheVariants.{Entered, Followed, Untyped, Kept};
 ghost use Rattle.fast_check_findings.specs.Yields.{untyped_module};
 ghost use Rattle.fast_check_worklists.specs.Demands.{Text};
 ghost use Rattle.fast_check_findings.specs.Findings.{entry_fault};
-ghost use Rattle.fast_check_package_ranges.specs.Questions.{ModuleQuestion, Question, is_recorded, fault_says};
-ghost use Rattle.fast_check_package_ranges.specs.Parts.{is_text, module_says, packages_say, found_module_says, found_says};
+ghost use Rattle.fast_check_package_ranges.specs.Questions.{ModuleQuestion, Question, is_recorded, fault_says, has_modules};
+ghost use Rattle.fast_check_package_ranges.specs.Parts.{is_text, is_package, is_shared, module_says, packages_say, found_module_says, found_says};
 ghost use Rattle.fast_check_package_ranges.specs.Parts.{package_found, kept_in, joined_say, finding_says, finding_says_of, findings_say};
 
 use crate::parts::{FoundPackage, JoinedModule, JoinedPackage, JoinedPackages};
+use fast_check_cache::FastCheckCacheItem;
 use fast_check_findings::{
     EnteredPackage, EntryFault, Finding, FollowedModule, FoundModule, KeptPackage, PackageNv,
     UntypedModule,
 };
 use std::alloc::{AllocError, Global};
-use std::collections::BTreeMap;
+use std::collections::{BTreeMap, BTreeSet};
 use std::rc::Rc;
 use url::Url;
 
@@ -140,6 +142,82 @@ fn one_module(
     })
 }
 
+fn urls_in(alloc: Global, set: BTreeSet<Url>) -> Result<Vec<Url>, AllocError>
+    ensures { IfOk result (λ urls. urls.items ≡ set.keys) }
+{
+    let mut urls = Vec::new(alloc);
+    for url in set {
+        urls.push(url)?;
+    }
+    Ok(urls)
+}
+
+fn packages_in(alloc: Global, set: BTreeSet<PackageNv>) -> Result<Vec<Rc<PackageNv>>, AllocError>
+    ensures { IfOk result (λ packages. (nv : Nv) → list_any (is_shared nv) packages.items ≡ list_any (is_package nv) set.keys) }
+{
+    let mut packages = Vec::new(alloc);
+    for nv in set {
+        let shared = Rc::new(alloc, nv)?;
+        packages.push(shared)?;
+    }
+    Ok(packages)
+}
+
+fn has_modules(item: &FastCheckCacheItem) -> bool
+    ensures { result ≡ has_modules (item_of item.now) }
+{
+    match item.modules.as_slice().split_first() {
+        None => false,
+        Some(_) => true,
+    }
+}
+
+/// What an item without modules says of its package: its entry points, and the packages that it depends on.
+fn found_kept(alloc: Global, used: KeptPackage) -> Result<(PackageNv, FoundPackage), AllocError>
+    ensures nv { IfOk result (λ r. nv_of r.0 ≡ package_found (Kept used)) }
+    ensures says { has_modules (item_of used.item) ≡ false →
+        IfOk result (λ r. (q : Question) → found_says r.1 q ≡ finding_says (Kept used) q) }
+{
+    let KeptPackage {
+        package,
+        entry_points,
+        item,
+    } = used;
+    let FastCheckCacheItem {
+        dependencies,
+        modules: _,
+    } = item;
+    let entry_points = urls_in(alloc, entry_points)?;
+    let dependencies = packages_in(alloc, dependencies)?;
+    Ok((
+        package,
+        FoundPackage {
+            entry_points,
+            modules: Vec::new(alloc),
+            dependencies,
+        },
+    ))
+}
+
+/// Adds a package whose item is used. An item without modules stands in place of nothing: what other packages ask of its modules is answered beside it.
+fn add_kept(
+    alloc: Global,
+    packages: &mut JoinedPackages,
+    kept: &mut Vec<KeptPackage>,
+    used: KeptPackage,
+) -> Result<(), AllocError>
+    ensures says { OnOk result ((nv : Nv) (q : Question) →
+        joined_say packages.new nv q ≡ (joined_say packages.old nv q || finding_says_of nv q (Kept used))) }
+    ensures kept { OnOk result (kept.new.items ≡ kept.old.items ++ kept_in (Kept used)) }
+{
+    if has_modules(&used.item) {
+        kept.push(used)?;
+        return Ok(());
+    }
+    let (package, found) = found_kept(alloc, used)?;
+    packages.add(alloc, package, found)
+}
+
 /// Adds what was found of a package in a turn.
 fn add_finding(
     alloc: Global,
@@ -164,10 +242,7 @@ fn add_finding(
             let (package, found) = found_untyped(alloc, untyped)?;
             packages.add(alloc, package, found)
         }
-        Finding::Kept(package) => {
-            kept.push(package)?;
-            Ok(())
-        }
+        Finding::Kept(used) => add_kept(alloc, packages, kept, used),
     }
 }
 
@@ -176,11 +251,11 @@ fn add_finding(
 pub struct FoundPackages {
     /// What was found of each, joined.
     pub joined: BTreeMap<PackageNv, JoinedPackage>,
-    /// Those whose items are used.
+    /// Those whose items are used, and have modules.
     pub kept: Vec<KeptPackage>,
 }
 
-/// What was found of each package, and the packages whose items are used.
+/// What was found of each package, and the packages whose items are used and have modules.
 pub fn packages_found(
     alloc: Global,
     findings: Vec<Finding<'_>>,

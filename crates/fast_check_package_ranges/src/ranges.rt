@@ -218,16 +218,17 @@ fn all_ranges(
 ) -> Result<BTreeMap<PackageNv, PackagePublicRanges>, AllocError>
     ensures { IfOk result (λ made. (nv : Nv) → ArePackageAnswers (lookup_package nv packages.entries) (lookup_package nv made.entries)) }
 {
-    let mut made = Vec::new(alloc);
+    let mut made = BTreeMap::new(alloc);
     for (package, parts) in packages {
         let ranges = ranges_of(alloc, parts)?;
-        made.push((package, ranges))?;
+        made.insert(package, ranges)?;
     }
-    made.into_iter().collect(alloc)
+    Ok(made)
 }
 
-/// What was found, by package and module. A package is there exactly if it was entered, or if anything was found of it. One whose item is used is
-/// answered by its entry points and the item alone: what other packages ask of its modules goes, as the item stands in place of what was found.
+/// What was found, by package and module. A package is there exactly if it was entered, or if anything was found of it. One whose item is used and
+/// has modules is answered by its entry points and the item alone: what other packages ask of its modules goes, as the item stands in place of what
+/// was found. An item without modules tells the entry points and the dependencies, beside what other packages ask of the modules.
 ///
 /// No diagnostic is told twice of a module. Those of the module as a whole come first, and then the faults of demands by their places in the text.
 /// That the types of a module are not known is told where nothing else is told of it.

@@ -67,7 +67,7 @@ all_items (Some xs) = ap Some (behind [] xs)
 
 -- ---- two readings
 
--- both values are those of both, and the error is that of the first that has one
+-- both values are those of both, and the error is that of one of them
 pub both_reads : {A B C D : Type 0} (f : C → A) (g : D → B) (first : Option A) (second : Option B) (r : Result C ReadError)
     (s : Result D ReadError)
     (both : Result (C × D) ReadError) → both ≡ both_read r s → Reads f first r → Reads g second s
@@ -76,8 +76,12 @@ both_reads f g first second (Ok a) (Ok b) both e h k = subst (Reads (λ p. (f p.
     (given_some _ h ∙ map_some _ k)
 both_reads f g first second (Ok a) (Err error) both e h k =
     subst (Reads (λ p. (f p.0, g p.1)) (both_given first second)) (sym e) (λ bad. given_some _ h ∙ ap (option_map (λ b. (f a, b))) (k bad))
-both_reads f g first second (Err error) s both e h k =
+both_reads f g first second (Err error) (Ok b) both e h k =
     subst (Reads (λ p. (f p.0, g p.1)) (both_given first second)) (sym e) (λ bad. given_none _ (h bad))
+both_reads f g first second (Err error) (Err BadForm) both e h k =
+    subst (Reads (λ p. (f p.0, g p.1)) (both_given first second)) (sym e) (λ bad. given_none _ (h bad))
+both_reads f g first second (Err error) (Err OutOfMemory) both e h k =
+    subst (Reads (λ p. (f p.0, g p.1)) (both_given first second)) (sym e) (λ bad. cc)
 
 -- ---- readings by another name
 

@@ -1,5 +1,7 @@
 -- What is put together of what is read.
 use Rattle.std.specs.Prelude.{List, [], ◌∷◌, Option, option_map, Result, Ok, Err}
+use Rattle.fast_check_read.specs.declared.error.ReadError.{ReadError}
+use Rattle.fast_check_read.specs.declared.error.ReadError.TheVariants.{OutOfMemory}
 use Rattle.fast_check_read_graph.specs.Reads.{given}
 
 -- items put one after another
@@ -11,8 +13,13 @@ all_gathered with gathered (x ∷ xs) = all_gathered with (with gathered x) xs
 abbrev pub both_given : {A B : Type 0} → Option A → Option B → Option (A × B)
 both_given first second = given first (λ a. option_map (λ b. (a, b)) second)
 
--- both values, or the first error
-abbrev pub both_read : {A B E : Type 0} → Result A E → Result B E → Result (A × B) E
+-- an error beside what else is read: want of memory goes before
+abbrev pub error_beside : {B : Type 0} → ReadError → Result B ReadError → ReadError
+error_beside error (Err OutOfMemory) = OutOfMemory
+error_beside error _ = error
+
+-- both values, or the error
+abbrev pub both_read : {A B : Type 0} → Result A ReadError → Result B ReadError → Result (A × B) ReadError
 both_read (Ok a) (Ok b) = Ok (a, b)
 both_read (Ok a) (Err error) = Err error
-both_read (Err error) second = Err error
+both_read (Err error) second = Err (error_beside error second)

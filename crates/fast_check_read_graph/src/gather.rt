@@ -4,7 +4,7 @@ ghost use Rattle.std.specs.Prelude.{◌≡◌, List, [], ◌∷◌, ◌++◌, Op
 ghost use Rattle.serde_json.specs.Data.{Data};
 ghost use Rattle.serde_json.specs.View.{view};
 ghost use Rattle.fast_check_read_graph.specs.Reads.{Reads, list_of};
-ghost use Rattle.fast_check_read_graph.specs.Gathered.{all_gathered, both_read};
+ghost use Rattle.fast_check_read_graph.specs.Gathered.{all_gathered, error_beside, both_read};
 
 use crate::by::FromJsonBy;
 use fast_check_read::{ReadError, read_array};
@@ -70,13 +70,25 @@ pub fn read_items_by<W, T: FromJsonBy<W>>(alloc: Global, value: &Value) -> Resul
     gather_all::<W, Vec<T>>(alloc, value, Vec::with_capacity(alloc, room)?)
 }
 
-/// Both values, or the first error. Values that are read this way go up at one place, so none that owns memory is left beside an error.
+/// An error beside what else is read: want of memory goes before.
+fn error_beside<B: Drop>(error: ReadError, second: Result<B, ReadError>) -> ReadError
+    ensures { result ≡ error_beside error second }
+{
+    match second {
+        Err(ReadError::OutOfMemory) => ReadError::OutOfMemory,
+        _ => error,
+    }
+}
+
+/// Both values, or the error. Values that are read this way go up at one place, so none that owns memory is left beside an error.
 pub fn both<A: Drop, B: Drop>(
     first: Result<A, ReadError>,
     second: Result<B, ReadError>,
 ) -> Result<(A, B), ReadError>
     ensures { result ≡ both_read first second }
 {
-    let first = first?;
-    Ok((first, second?))
+    match first {
+        Ok(first) => Ok((first, second?)),
+        Err(error) => Err(error_beside(error, second)),
+    }
 }

@@ -19,14 +19,8 @@ pub record IsContinued (t : Tables) (roots before more : List Demand) : Type 0 w
 abbrev pub IsAsked : List Demand → Demand → Type 0
 IsAsked demands d = IsTrue (list_any (alike d) demands)
 
-abbrev pub IsNameless : Asked → Type 0
-IsNameless (by_reference n) = Unit {0}
-IsNameless (as_child n) = Unit {0}
-IsNameless (by_path [] x) = Unit {0}
-IsNameless (by_path (n ∷ p) x) = ⊥
-
--- what is kept was met; nothing is forgotten, and each new demand without names is kept
+-- what is kept was met; nothing is forgotten, and each new demand is kept
 pub record IsKeptWith (before more after : List Demand) : Type 0 where
   pub met : (d : Demand) → IsAsked after d → IsAsked (before ++ more) d
   pub kept : (d : Demand) → IsAsked before d → IsAsked after d
-  pub added : (d : Demand) → Contains more d → IsNameless d.asked → IsAsked after d
+  pub added : (d : Demand) → Contains more d → IsAsked after d

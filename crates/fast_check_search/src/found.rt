@@ -14,7 +14,6 @@ ghost use Rattle.fast_check_search.specs.SymbolWorklist.{demanded, met, IsKept, 
 ghost use Rattle.fast_check_search.specs.Wanted.{AreFilesWanted};
 
 use crate::done::NumberedDemand;
-use crate::effort::effort_of;
 use crate::numbers::{NumberedPath, PathNumbers};
 use crate::parts::{AskedParts, ask_parts};
 use crate::searched::Searched;
@@ -149,7 +148,6 @@ pub fn search<'a>(
     ensures own_ranges { IfOk result (λ r. AreTableRanges tables.now r.1.ranges.items) }
     ensures own_implementations { IfOk result (λ r. AreTableRanges tables.now r.1.implementations.items) }
 {
-    let keeps_names = before.was_searched();
     let mut work = SymbolWorklist::after(alloc, before);
     work.ask_all(NumberedPath::none(), roots)?;
     let mut found = Found::new(alloc);
@@ -172,8 +170,5 @@ pub fn search<'a>(
         next += 1;
     }
     noted.push_untold(tables, told, &mut found.ranges)?;
-    let effort = effort_of(tables, work.as_slice());
-    let searched = work.into_searched(alloc, keeps_names, effort)?;
-    parts.keep_if(alloc, keeps_names);
-    Ok((searched, found))
+    Ok((work.into_searched(), found))
 }

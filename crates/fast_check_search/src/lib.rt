@@ -2,7 +2,6 @@
 #![tactic(auto)]
 
 mod done;
-mod effort;
 mod found;
 mod numbers;
 mod parts;

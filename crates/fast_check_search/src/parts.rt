@@ -1,5 +1,5 @@
 //! The own parts of aliases, which are asked for once for all paths that one symbol asks of another.
-ghost use Rattle.std.specs.Prelude.{◌≡◌, List, IsTrue, OnOk};
+ghost use Rattle.std.specs.Prelude.{◌≡◌, List, OnOk};
 ghost use Rattle.fast_check_symbols.specs.Tables.{Tables};
 ghost use Rattle.fast_check_name_demands.specs.demands.Demands.{Demand, asked_of};
 ghost use Rattle.fast_check_name_demands.specs.demands.Parts.{own_parts, parts_beside};
@@ -33,16 +33,6 @@ impl AskedParts {
         AskedParts {
             askers: BTreeSet::new(alloc),
         }
-    }
-
-    /// Forgets all of them, unless the parts are kept.
-    pub fn keep_if(&mut self, alloc: Global, are_kept: bool)
-        ensures { (t : Tables) (account : List Demand) → (IsTrue are_kept → ArePartsCovered t self.old account) → ArePartsCovered t self.new account }
-    {
-        if are_kept {
-            return;
-        }
-        *self = AskedParts::new(alloc);
     }
 }
 

@@ -1,12 +1,11 @@
 //! The demands of a search: those that were asked for, with a cursor.
-ghost use Rattle.std.specs.Prelude.{◌≡◌, [], ◌∷◌, length, map, slice_get, Some, true, false, ◌<◌, IfOk, OnOk};
+ghost use Rattle.std.specs.Prelude.{◌≡◌, [], ◌∷◌, length, map, slice_get, Some, ◌<◌, OnOk};
 ghost use Rattle.std.specs.List.{list_any, Contains};
 ghost use Rattle.fast_check_lattice.specs.Names.{path_of};
 ghost use Rattle.fast_check_name_demands.specs.demands.Demands.{Demand, asked_of, demand_of};
 ghost use Rattle.fast_check_name_demands.specs.demands.Account.{referred as referred_of, alike, IsCovered};
 ghost use Rattle.fast_check_search.specs.Done.{asked_path, IsNumbered};
 ghost use Rattle.fast_check_search.specs.Numbers.{number_of, Follows};
-ghost use Rattle.fast_check_search.specs.Searched.{IsKeptWith};
 ghost use Rattle.fast_check_search.specs.SymbolWorklist.{demanded, asked, met, IsKept, Grows, CoversEach};
 
 use crate::done::{DoneDemand, NumberedDemand, done_demand};
@@ -71,26 +70,12 @@ impl<'a> SymbolWorklist<'a> {
         self.demands.len()
     }
 
-    /// All of them.
-    pub fn as_slice(&self) -> &[NumberedDemand<'a>] {
-        self.demands.as_slice()
-    }
-
-    /// What searches came to with these, where so much was gone over for them: all that was met, or else those that ask for no names.
-    pub fn into_searched(
-        self,
-        alloc: Global,
-        keeps_names: bool,
-        effort: usize,
-    ) -> Result<Searched, AllocError>
+    /// What searches came to with these: all that was met.
+    pub fn into_searched(self) -> Searched
         requires { IsKept self }
-        ensures all { IfOk result (λ searched. keeps_names ≡ true → searched ≡ met self.entry) }
-        ensures nameless { IfOk result (λ searched. keeps_names ≡ false → IsKeptWith [] (asked self.entry) searched) }
+        ensures { result ≡ met self.entry }
     {
-        if keeps_names {
-            return Ok(Searched::of(self.met, self.paths, effort));
-        }
-        Searched::without_names(alloc, self.demands.as_slice(), effort)
+        Searched::of(self.met, self.paths)
     }
 
     /// The demand at a place.

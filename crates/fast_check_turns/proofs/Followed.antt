@@ -47,7 +47,6 @@ use Rattle.fast_check_entries.specs.findings.Findings.{placed_yield, placed_yiel
 use Rattle.fast_check_turns.specs.Yields.{dependency_of, dependencies, public_at, implementing_at, source_in, fault_yields}
 use Rattle.fast_check_turns.specs.Yields.{placed_all, faults_at, names_yields, symbol_yields, untyped_yields, gives}
 use Rattle.fast_check_turns.specs.Searches.{IsFollowedAt, IsShownAmong}
-use Rattle.fast_check_turns.specs.Stars.{AreRootsMet}
 use Rattle.fast_check_turns.specs.Traced.{IsTraced}
 use Rattle.fast_check_turns.proofs.Lists.{flat_contains}
 use Rattle.fast_check_turns.proofs.Led.{asked_led}
@@ -545,8 +544,7 @@ module _ (k : Known) (nv : Nv) (t : Text) (m : TracedModule) (here : module_at k
 
   pub followed_there : (Holds : List Followed → Type 0) (outer : List OuterWant) (b c : State) (old new_found : List Yield) →
       wants ≡ map want_of outer → AsksAll outer b c → new_found ≡ old ++ given →
-      (((r : SourceRange) → Contains (told_ranges (own_tables m) is_told) r → IsShownAmong k now nv m r) →
-      ((d : NameDemand) → asked x d ≡ true → AreRootsMet now nv m d) → Holds now) →
+      (((r : SourceRange) → Contains (told_ranges (own_tables m) is_told) r → IsShownAmong k now nv m r) → Holds now) →
       IsFollowed (world k) (gives k) earlier Holds new.trace b c old new_found
   followed_there Holds outer b c old new_found e asks is holds = record {
     name = name;
@@ -558,5 +556,5 @@ module _ (k : Known) (nv : Nv) (t : Text) (m : TracedModule) (here : module_at k
     yields = are_given;
     asks = asks;
     new_is = is;
-    holds = holds shown_now roots_met;
+    holds = holds shown_now;
   }

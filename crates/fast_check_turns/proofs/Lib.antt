@@ -11,4 +11,3 @@ pub mod Touched
 mod Led
 mod Followed
 pub mod Turns
-mod Again

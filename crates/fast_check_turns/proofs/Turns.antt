@@ -30,7 +30,6 @@ use Rattle.fast_check_sources.specs.Sources.{Known, node_at, named_at, typed_inf
 use Rattle.fast_check_turns.specs.Rules.{own_text, module_of, names_wants, entrance_at, world}
 use Rattle.fast_check_turns.specs.Yields.{dependencies, names_yields, untyped_yields, gives}
 use Rattle.fast_check_turns.specs.Searches.{IsFollowedAt, IsShownAmong}
-use Rattle.fast_check_turns.specs.Stars.{AreRootsMet}
 use Rattle.fast_check_turns.proofs.Followed.{followed_there}
 use Rattle.fast_check_turns.specs.Traced.{IsTracedFor}
 use Rattle.fast_check_turns.specs.Turns.{Enters}
@@ -124,8 +123,6 @@ pub followed_one : (k : Known) (x : Trace) (info : AnyModuleInfo) → info_at k.
     ((more : List SymbolDemand) → IsKeptWith before more after →
     ((r : SourceRange) → Contains (told_ranges (own_tables (traced_as k info)) is_told) r →
     IsShownAmong k (earlier ++ record { trace = x; name = own_text (traced_as k info); symbols = more } ∷ []) x.nv (traced_as k info) r) →
-    ((d : NameDemand) → asked x.exports d ≡ true →
-    AreRootsMet (earlier ++ record { trace = x; name = own_text (traced_as k info); symbols = more } ∷ []) x.nv (traced_as k info) d) →
     Holds (earlier ++ record { trace = x; name = own_text (traced_as k info); symbols = more } ∷ [])) →
     (a b : State) → AsksAll outer a b → (old new : List Yield) →
     new ≡ old ++ module_yields x.nv (own_text (traced_as k info)) found (dependencies x.nv (map want_of outer)) →

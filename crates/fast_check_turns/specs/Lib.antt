@@ -3,7 +3,6 @@ pub use Rattle.fast_check_sources.specs as wants
 pub use Rattle.fast_check_entries.specs as entries
 pub mod Rules
 pub mod Yields
-pub mod Stars
 pub mod Searches
 pub mod Traced
 pub mod Own

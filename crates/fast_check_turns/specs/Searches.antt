@@ -26,8 +26,6 @@ use Rattle.fast_check_turns.specs.contracts.searches.ModuleOfPackageOrd.TheImpl 
 use Rattle.fast_check_turns.specs.declared.searches.ModuleOfPackage.{ModuleOfPackage}
 use Rattle.fast_check_turns.specs.declared.searches.KeptSearch.{KeptSearch}
 use Rattle.fast_check_turns.specs.declared.searches.KeptSearches.{KeptSearches}
-use Rattle.fast_check_turns.specs.declared.kept.KeptModules.{KeptModules}
-use Rattle.fast_check_turns.specs.Stars.{AreStarsFollowed}
 
 -- nothing, where nothing is kept
 abbrev pub searched_of : Option KeptSearch → List SymbolDemand
@@ -78,7 +76,6 @@ pub record AreKeptFor (k : Known) (s : KeptSearches) : Type 0 where
       IsKeptFor (traced_as k info) (get order.cmp-value.it s.searches m)
 
 -- what is kept was followed and given, and is kept for the right modules
-pub record AreKeptOf (k : Known) (done : List Followed) (s : KeptModules) : Type 0 where
-  pub followed : AreFollowed k done s.searches
-  pub rightly : AreKeptFor k s.searches
-  pub stars : AreStarsFollowed k done s.stars
+pub record AreKeptOf (k : Known) (done : List Followed) (s : KeptSearches) : Type 0 where
+  pub followed : AreFollowed k done s
+  pub rightly : AreKeptFor k s

@@ -2,12 +2,10 @@
 #![tactic(auto)]
 
 mod input;
-mod kept;
 mod modules;
 mod packages;
 mod progress;
 mod searches;
-mod stars;
 mod traced;
 
 pub use fast_check_entries::MemberEntries;
@@ -16,7 +14,7 @@ pub use fast_check_entries::findings::{
 };
 pub use fast_check_sources::{MetPackages, Sources};
 pub use input::FinderInput;
-pub use kept::KeptModules;
 pub use modules::follow;
 pub use packages::enter;
 pub use progress::Progress;
+pub use searches::KeptSearches;

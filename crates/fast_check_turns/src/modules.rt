@@ -18,9 +18,8 @@ ghost use Rattle.fast_check_turns.specs.Searches.{IsKeptFor, AreKeptOf};
 ghost use Rattle.fast_check_turns.specs.Traced.{IsTracedFor};
 ghost use Rattle.fast_check_turns.specs.Yields.{untyped_yields, gives};
 
-use crate::kept::KeptModules;
 use crate::progress::{Progress, push_finding};
-use crate::searches::{KeptSearch, ModuleOfPackage};
+use crate::searches::{KeptSearch, KeptSearches, ModuleOfPackage};
 use crate::traced::{dependencies_of, found_of};
 use fast_check_entries::findings::{Finding, FollowedModule, FoundModule, UntypedModule};
 use fast_check_graph::{AnyModuleInfo, ModuleGraph};
@@ -59,7 +58,7 @@ struct AskedNames<'m> {
 }
 
 /// Follows names of a module with tables, for a package, from what earlier searches of it came to: what is to be kept now, what it wants of others, and what
-/// is found of it and was not told before, with how many demands were faulty.
+/// is found of it and was not told before.
 fn follow_in<'a, 'm: 'a>(
     alloc: Global,
     sources: Sources<'m>,
@@ -68,7 +67,7 @@ fn follow_in<'a, 'm: 'a>(
     asked: &'a AskedNames<'m>,
     kept: KeptSearch<'m>,
     owners: &mut MetPackages,
-) -> Result<(KeptSearch<'m>, Vec<OuterWant<'a>>, FoundModule, usize), AllocError>
+) -> Result<(KeptSearch<'m>, Vec<OuterWant<'a>>, FoundModule), AllocError>
     ensures traced { let without = known sources.entry (url_of provider.now) (nv_at provider.now) in
         IfOk result (λ r. (used : Used) (exports : ExportsSeen) → Holds exports asked.now.held → let k = with_used used without in
         IsKeptFor (traced_as k info.now) (Some kept.entry)
@@ -97,7 +96,6 @@ fn follow_in<'a, 'm: 'a>(
         &mut origins,
         demands.as_slice(),
     )?;
-    let faulty = traced.found.faults.len();
     let asker = Asker {
         sources,
         package: &asked.followed.nv,
@@ -109,7 +107,7 @@ fn follow_in<'a, 'm: 'a>(
         told,
         origins,
     };
-    Ok((kept, outer, found, faulty))
+    Ok((kept, outer, found))
 }
 
 /// Tells a module whose types are not known, under the name by which it was asked for.
@@ -136,26 +134,6 @@ fn leave_out(
     push_finding(found, Finding::Untyped(module))
 }
 
-/// Where a search came to less than so many demands, wants, ranges and faulty demands, and a name is looked for behind its re-exports of all in fewer steps, it
-/// is as cheap to repeat as to keep.
-const MUCH: usize = 16;
-
-/// Whether the searches of a module came to much: the last one, or one before it, which was kept. Nothing that is found depends on it.
-fn is_much(
-    was_kept: bool,
-    kept: &KeptSearch<'_>,
-    outer: &[OuterWant],
-    found: &FoundModule,
-    faulty: usize,
-) -> bool {
-    was_kept
-        || kept.origins.steps() >= MUCH
-        || kept.searched.len() >= MUCH
-        || outer.len() >= MUCH
-        || found.ranges.len() >= MUCH
-        || faulty >= MUCH
-}
-
 /// Follows names of a module with tables: asks for what follows from them, adds what is found, and keeps what the search came to.
 fn follow_at<'a>(
     alloc: Global,
@@ -164,7 +142,7 @@ fn follow_at<'a>(
     info: &'a AnyModuleInfo,
     followed: ModuleOfPackage<'a>,
     exports: &ImportedExports,
-    kept: &mut KeptModules<'a>,
+    kept: &mut KeptSearches<'a>,
     progress: &mut Progress<'a>,
 ) -> Result<(), AllocError>
     requires { followed.specifier.now ≡ specifier_of info.now }
@@ -178,10 +156,9 @@ fn follow_at<'a>(
 {
     sources.root_symbol.own_names_find();
     let held = hold(alloc, exports)?;
-    let was_kept = kept.searches.has(&followed);
-    let before = kept.searches.take(alloc, &followed);
+    let before = kept.take(alloc, &followed);
     let asked = AskedNames { followed, held };
-    let (search, outer, found, faulty) = follow_in(
+    let (search, outer, found) = follow_in(
         alloc,
         sources,
         provider,
@@ -190,25 +167,23 @@ fn follow_at<'a>(
         before,
         &mut progress.owners,
     )?;
-    let is_much = is_much(was_kept, &search, outer.as_slice(), &found, faulty);
     let dependencies = dependencies_of(alloc, &asked.followed.nv, outer.as_slice())?;
     progress.worklist.ask_all(alloc, outer)?;
     let AskedNames { followed, .. } = asked;
-    kept.searches.keep(&followed, search, is_much)?;
-    kept.stars.note(&followed, exports, is_much)?;
+    kept.keep(&followed, search)?;
     let finding = followed_module(followed.nv, info, found, dependencies);
     push_finding(&mut progress.found, finding)?;
     Ok(())
 }
 
-/// Follows names of a module with tables, unless they are all names of it, and were followed before under another specifier.
+/// Follows names of a module with tables.
 fn follow_module<'a>(
     alloc: Global,
     sources: Sources<'a>,
     provider: &dyn JsrUrlProvider,
     info: &'a AnyModuleInfo,
     trace: PendingTrace,
-    kept: &mut KeptModules<'a>,
+    kept: &mut KeptSearches<'a>,
     progress: &mut Progress<'a>,
 ) -> Result<(), AllocError>
     ensures { let without = known sources.entry (url_of provider.now) (nv_at provider.now) in
@@ -228,9 +203,6 @@ fn follow_module<'a>(
         specifier: info.specifier(),
         nv: package_nv,
     };
-    if kept.stars.has(&followed, &exports_to_trace) {
-        return Ok(());
-    }
     follow_at(
         alloc,
         sources,
@@ -250,7 +222,7 @@ pub fn follow<'a>(
     sources: Sources<'a>,
     provider: &dyn JsrUrlProvider,
     trace: PendingTrace,
-    kept: &mut KeptModules<'a>,
+    kept: &mut KeptSearches<'a>,
     progress: &mut Progress<'a>,
 ) -> Result<(), AllocError>
     ensures { let without = known sources.entry (url_of provider.now) (nv_at provider.now) in

@@ -13,7 +13,7 @@ ghost use Rattle.fast_check_traces.specs.declared.modules.TracedModule.{TracedMo
 ghost use Rattle.fast_check_traces.specs.Told.{told_ranges};
 ghost use Rattle.fast_check_worklists.specs.Demands.{Text};
 ghost use Rattle.fast_check_sources.specs.Sources.{Known, named_at, traced_as};
-ghost use Rattle.fast_check_turns.specs.Searches.{IsKeptAt, IsToldAt, IsKeptFor, AreFollowed, AreKeptFor};
+ghost use Rattle.fast_check_turns.specs.Searches.{IsKeptAt, IsToldAt, IsKeptFor, AreKeptFor, AreKeptOf};
 
 use fast_check_packages::PackageNv;
 use fast_check_traces::{KeptOrigins, Searched, ToldRanges};
@@ -66,7 +66,7 @@ impl<'a> KeptSearch<'a> {
     }
 }
 
-/// What the searches of modules came to, where that is much.
+/// What the searches of modules came to.
 #[derive(Drop)]
 pub struct KeptSearches<'a> {
     searches: BTreeMap<ModuleOfPackage<'a>, KeptSearch<'a>>,
@@ -75,19 +75,14 @@ pub struct KeptSearches<'a> {
 impl<'a> KeptSearches<'a> {
     /// Nothing was searched.
     pub fn new(alloc: Global) -> KeptSearches<'a>
-        ensures { (k : Known) → AreFollowed k [] result × AreKeptFor k result }
+        ensures { (k : Known) → AreKeptOf k [] result }
     {
         KeptSearches {
             searches: BTreeMap::new(alloc),
         }
     }
 
-    /// Whether something is kept of a module. Nothing that is found depends on it.
-    pub fn has(&self, followed: &ModuleOfPackage<'a>) -> bool {
-        self.searches.contains_key(followed)
-    }
-
-    /// Takes what is kept of a module: nothing, where it was not searched or came to little.
+    /// Takes what is kept of a module: nothing, where it was not searched.
     pub fn take(&mut self, alloc: Global, followed: &ModuleOfPackage<'a>) -> KeptSearch<'a>
         ensures taken { (d : Demand) → IsAsked result.searched d → IsKeptAt self.old (nv_of followed.now.nv) (serialize followed.now.specifier.now) d }
         ensures left { (nv : Nv) (t : Text) (d : Demand) → IsKeptAt self.new nv t d → IsKeptAt self.old nv t d }
@@ -106,12 +101,11 @@ impl<'a> KeptSearches<'a> {
         }
     }
 
-    /// Keeps what the searches of a module came to, and what was told of it, where it is much.
+    /// Keeps what the searches of a module came to, and what was told of it.
     pub fn keep(
         &mut self,
         followed: &ModuleOfPackage<'a>,
         kept: KeptSearch<'a>,
-        is_much: bool,
     ) -> Result<(), AllocError>
         ensures searched { OnOk result ((nv : Nv) (t : Text) (d : Demand) → IsKeptAt self.new nv t d → IsKeptAt self.old nv t d
             ⊎ ((nv_of followed.now.nv ≡ nv) × (serialize followed.now.specifier.now ≡ t) × IsAsked kept.entry.searched d)) }
@@ -122,9 +116,6 @@ impl<'a> KeptSearches<'a> {
             → named_at k.root_symbol (serialize followed.now.specifier.now) ≡ Some info → IsKeptFor (traced_as k info) (Some kept.entry))
             → AreKeptFor k self.old → AreKeptFor k self.new) }
     {
-        if !is_much {
-            return Ok(());
-        }
         if let Some(before) = self.searches.get_mut(followed) {
             *before = kept;
             return Ok(());

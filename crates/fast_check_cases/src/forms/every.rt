@@ -1,15 +1,21 @@
-//! Every form, made of fields that tell their places.
+//! Every form, made of fields that tell their places, and read.
 
 mod classes;
 mod expressions;
 mod programs;
+mod read_classes;
+mod read_expressions;
+mod read_programs;
+mod read_statements;
+mod read_types;
 mod statements;
 mod types;
 
 use crate::forms::every::programs::made_programs;
+use crate::forms::every::read_programs::is_read_programs;
 use crate::said::Said;
 use fast_check_schema::Form;
-use fast_check_syntax::{Atom, Kind, SourcePos, SourceRange, SyntaxContext, Tree};
+use fast_check_syntax::{Atom, Kind, Part, SourcePos, SourceRange, SyntaxContext, Tree};
 use std::alloc::{AllocError, Global};
 
 /// The range of a field by its place.
@@ -30,6 +36,39 @@ fn text(alloc: Global) -> Result<Atom, AllocError> {
     Atom::from_str(alloc, "text")
 }
 
+/// What a field gives that is read.
+#[derive(Clone, Copy)]
+pub enum Seen<'a> {
+    Range(SourceRange),
+    Scope(SyntaxContext),
+    Flag(bool),
+    Text(&'a str),
+    Part(Part<'a>),
+}
+
+/// Whether the field gives what one at this place is made of.
+fn is_as_made(place: u32, field: &Seen<'_>) -> bool {
+    match field {
+        Seen::Range(range) => *range == span(place),
+        Seen::Scope(scope) => scope.0 == place,
+        Seen::Flag(flag) => *flag,
+        Seen::Text(text) => *text == "text",
+        Seen::Part(part) => part.context().0 == place && part.kind() == Kind::Leaf,
+    }
+}
+
+/// Whether the fields give what those of a form are made of.
+fn are_as_made(fields: &[Seen<'_>]) -> bool {
+    let mut place = 0;
+    for field in fields {
+        if !is_as_made(place, field) {
+            return false;
+        }
+        place = place.wrapping_add(1);
+    }
+    true
+}
+
 /// The kind of a form, or of a mark by its name.
 fn kind_of(form: Option<Form>, name: &str) -> Kind {
     match form {
@@ -39,10 +78,18 @@ fn kind_of(form: Option<Form>, name: &str) -> Kind {
     }
 }
 
-/// Says the fields of a form that is made, which stands under this name.
+/// Says the fields of a form that is made, which stands under this name, and whether they are read as they are made.
 pub fn say_every(alloc: Global, form: Option<Form>, name: &str, said: &mut Said) {
-    match made_programs(alloc, kind_of(form, name)) {
-        Ok(tree) => say_fields(alloc, &tree, said),
+    let kind = kind_of(form, name);
+    match made_programs(alloc, kind) {
+        Ok(tree) => {
+            say_fields(alloc, &tree, said);
+            said.say(if is_read_programs(tree.read(), kind) {
+                ", as read"
+            } else {
+                ", not as read"
+            });
+        }
         Err(_) => said.lack(),
     }
 }

@@ -36,11 +36,11 @@ pub fn made_classes(alloc: Global, kind: Kind) -> Result<Tree, AllocError> {
             expr: part(1),
         }
         .into_tree(alloc),
-        _ => more_classes_1(alloc, kind),
+        _ => made_classes_1(alloc, kind),
     }
 }
 
-fn more_classes_1(alloc: Global, kind: Kind) -> Result<Tree, AllocError> {
+fn made_classes_1(alloc: Global, kind: Kind) -> Result<Tree, AllocError> {
     match kind {
         Kind::Class => Class {
             span: span(0),
@@ -64,11 +64,11 @@ fn more_classes_1(alloc: Global, kind: Kind) -> Result<Tree, AllocError> {
             is_optional: true,
         }
         .into_tree(alloc),
-        _ => more_classes_2(alloc, kind),
+        _ => made_classes_2(alloc, kind),
     }
 }
 
-fn more_classes_2(alloc: Global, kind: Kind) -> Result<Tree, AllocError> {
+fn made_classes_2(alloc: Global, kind: Kind) -> Result<Tree, AllocError> {
     match kind {
         Kind::TsParamProp => TsParamProp {
             span: span(0),
@@ -92,11 +92,11 @@ fn more_classes_2(alloc: Global, kind: Kind) -> Result<Tree, AllocError> {
             is_static: true,
         }
         .into_tree(alloc),
-        _ => more_classes_3(alloc, kind),
+        _ => made_classes_3(alloc, kind),
     }
 }
 
-fn more_classes_3(alloc: Global, kind: Kind) -> Result<Tree, AllocError> {
+fn made_classes_3(alloc: Global, kind: Kind) -> Result<Tree, AllocError> {
     match kind {
         Kind::ClassMethod => ClassMethod {
             span: span(0),
@@ -122,11 +122,11 @@ fn more_classes_3(alloc: Global, kind: Kind) -> Result<Tree, AllocError> {
             is_override: true,
         }
         .into_tree(alloc),
-        _ => more_classes_4(alloc, kind),
+        _ => made_classes_4(alloc, kind),
     }
 }
 
-fn more_classes_4(alloc: Global, kind: Kind) -> Result<Tree, AllocError> {
+fn made_classes_4(alloc: Global, kind: Kind) -> Result<Tree, AllocError> {
     match kind {
         Kind::ClassProp => ClassProp {
             span: span(0),
@@ -144,11 +144,11 @@ fn more_classes_4(alloc: Global, kind: Kind) -> Result<Tree, AllocError> {
             definite: true,
         }
         .into_tree(alloc),
-        _ => more_classes_5(alloc, kind),
+        _ => made_classes_5(alloc, kind),
     }
 }
 
-fn more_classes_5(alloc: Global, kind: Kind) -> Result<Tree, AllocError> {
+fn made_classes_5(alloc: Global, kind: Kind) -> Result<Tree, AllocError> {
     match kind {
         Kind::PrivateProp => PrivateProp {
             span: span(0),

@@ -45,11 +45,11 @@ pub fn made_expressions(alloc: Global, kind: Kind) -> Result<Tree, AllocError> {
             class: part(1),
         }
         .into_tree(alloc),
-        _ => more_expressions_1(alloc, kind),
+        _ => made_expressions_1(alloc, kind),
     }
 }
 
-fn more_expressions_1(alloc: Global, kind: Kind) -> Result<Tree, AllocError> {
+fn made_expressions_1(alloc: Global, kind: Kind) -> Result<Tree, AllocError> {
     match kind {
         Kind::ArrowExpr => ArrowExpr {
             span: span(0),
@@ -78,11 +78,11 @@ fn more_expressions_1(alloc: Global, kind: Kind) -> Result<Tree, AllocError> {
             delegate: true,
         }
         .into_tree(alloc),
-        _ => more_expressions_2(alloc, kind),
+        _ => made_expressions_2(alloc, kind),
     }
 }
 
-fn more_expressions_2(alloc: Global, kind: Kind) -> Result<Tree, AllocError> {
+fn made_expressions_2(alloc: Global, kind: Kind) -> Result<Tree, AllocError> {
     match kind {
         Kind::AwaitExpr => AwaitExpr {
             span: span(0),
@@ -108,11 +108,11 @@ fn more_expressions_2(alloc: Global, kind: Kind) -> Result<Tree, AllocError> {
             arg: part(3),
         }
         .into_tree(alloc),
-        _ => more_expressions_3(alloc, kind),
+        _ => made_expressions_3(alloc, kind),
     }
 }
 
-fn more_expressions_3(alloc: Global, kind: Kind) -> Result<Tree, AllocError> {
+fn made_expressions_3(alloc: Global, kind: Kind) -> Result<Tree, AllocError> {
     match kind {
         Kind::BinExpr => BinExpr {
             span: span(0),
@@ -141,11 +141,11 @@ fn more_expressions_3(alloc: Global, kind: Kind) -> Result<Tree, AllocError> {
             prop: part(2),
         }
         .into_tree(alloc),
-        _ => more_expressions_4(alloc, kind),
+        _ => made_expressions_4(alloc, kind),
     }
 }
 
-fn more_expressions_4(alloc: Global, kind: Kind) -> Result<Tree, AllocError> {
+fn made_expressions_4(alloc: Global, kind: Kind) -> Result<Tree, AllocError> {
     match kind {
         Kind::SuperPropExpr => SuperPropExpr {
             span: span(0),
@@ -174,11 +174,11 @@ fn more_expressions_4(alloc: Global, kind: Kind) -> Result<Tree, AllocError> {
             type_args: part(4),
         }
         .into_tree(alloc),
-        _ => more_expressions_5(alloc, kind),
+        _ => made_expressions_5(alloc, kind),
     }
 }
 
-fn more_expressions_5(alloc: Global, kind: Kind) -> Result<Tree, AllocError> {
+fn made_expressions_5(alloc: Global, kind: Kind) -> Result<Tree, AllocError> {
     match kind {
         Kind::OptChainExpr => OptChainExpr {
             span: span(0),
@@ -207,11 +207,11 @@ fn more_expressions_5(alloc: Global, kind: Kind) -> Result<Tree, AllocError> {
             raw: text(alloc)?,
         }
         .into_tree(alloc),
-        _ => more_expressions_6(alloc, kind),
+        _ => made_expressions_6(alloc, kind),
     }
 }
 
-fn more_expressions_6(alloc: Global, kind: Kind) -> Result<Tree, AllocError> {
+fn made_expressions_6(alloc: Global, kind: Kind) -> Result<Tree, AllocError> {
     match kind {
         Kind::TaggedTpl => TaggedTpl {
             span: span(0),
@@ -241,11 +241,11 @@ fn more_expressions_6(alloc: Global, kind: Kind) -> Result<Tree, AllocError> {
             raw: text(alloc)?,
         }
         .into_tree(alloc),
-        _ => more_expressions_7(alloc, kind),
+        _ => made_expressions_7(alloc, kind),
     }
 }
 
-fn more_expressions_7(alloc: Global, kind: Kind) -> Result<Tree, AllocError> {
+fn made_expressions_7(alloc: Global, kind: Kind) -> Result<Tree, AllocError> {
     match kind {
         Kind::JSXFragment => JSXFragment {
             span: span(0),
@@ -275,11 +275,11 @@ fn more_expressions_7(alloc: Global, kind: Kind) -> Result<Tree, AllocError> {
             expr: part(1),
         }
         .into_tree(alloc),
-        _ => more_expressions_8(alloc, kind),
+        _ => made_expressions_8(alloc, kind),
     }
 }
 
-fn more_expressions_8(alloc: Global, kind: Kind) -> Result<Tree, AllocError> {
+fn made_expressions_8(alloc: Global, kind: Kind) -> Result<Tree, AllocError> {
     match kind {
         Kind::TsNonNullExpr => TsNonNullExpr {
             span: span(0),
@@ -308,11 +308,11 @@ fn more_expressions_8(alloc: Global, kind: Kind) -> Result<Tree, AllocError> {
             value: part(2),
         }
         .into_tree(alloc),
-        _ => more_expressions_9(alloc, kind),
+        _ => made_expressions_9(alloc, kind),
     }
 }
 
-fn more_expressions_9(alloc: Global, kind: Kind) -> Result<Tree, AllocError> {
+fn made_expressions_9(alloc: Global, kind: Kind) -> Result<Tree, AllocError> {
     match kind {
         Kind::GetterProp => GetterProp {
             span: span(0),
@@ -338,11 +338,11 @@ fn more_expressions_9(alloc: Global, kind: Kind) -> Result<Tree, AllocError> {
             expr: part(1),
         }
         .into_tree(alloc),
-        _ => more_expressions_10(alloc, kind),
+        _ => made_expressions_10(alloc, kind),
     }
 }
 
-fn more_expressions_10(alloc: Global, kind: Kind) -> Result<Tree, AllocError> {
+fn made_expressions_10(alloc: Global, kind: Kind) -> Result<Tree, AllocError> {
     match kind {
         Kind::ArrayPat => ArrayPat {
             span: span(0),
@@ -371,11 +371,11 @@ fn more_expressions_10(alloc: Global, kind: Kind) -> Result<Tree, AllocError> {
             right: part(2),
         }
         .into_tree(alloc),
-        _ => more_expressions_11(alloc, kind),
+        _ => made_expressions_11(alloc, kind),
     }
 }
 
-fn more_expressions_11(alloc: Global, kind: Kind) -> Result<Tree, AllocError> {
+fn made_expressions_11(alloc: Global, kind: Kind) -> Result<Tree, AllocError> {
     match kind {
         Kind::KeyValuePatProp => KeyValuePatProp {
             key: part(0),

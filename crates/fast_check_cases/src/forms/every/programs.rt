@@ -44,11 +44,11 @@ pub fn made_programs(alloc: Global, kind: Kind) -> Result<Tree, AllocError> {
             raw: part(2),
         }
         .into_tree(alloc),
-        _ => more_programs_1(alloc, kind),
+        _ => made_programs_1(alloc, kind),
     }
 }
 
-fn more_programs_1(alloc: Global, kind: Kind) -> Result<Tree, AllocError> {
+fn made_programs_1(alloc: Global, kind: Kind) -> Result<Tree, AllocError> {
     match kind {
         Kind::Bool => Bool {
             span: span(0),
@@ -77,11 +77,11 @@ fn more_programs_1(alloc: Global, kind: Kind) -> Result<Tree, AllocError> {
             raw: text(alloc)?,
         }
         .into_tree(alloc),
-        _ => more_programs_2(alloc, kind),
+        _ => made_programs_2(alloc, kind),
     }
 }
 
-fn more_programs_2(alloc: Global, kind: Kind) -> Result<Tree, AllocError> {
+fn made_programs_2(alloc: Global, kind: Kind) -> Result<Tree, AllocError> {
     match kind {
         Kind::Module => Module {
             span: span(0),
@@ -111,11 +111,11 @@ fn more_programs_2(alloc: Global, kind: Kind) -> Result<Tree, AllocError> {
             is_type_only: true,
         }
         .into_tree(alloc),
-        _ => more_programs_3(alloc, kind),
+        _ => made_programs_3(alloc, kind),
     }
 }
 
-fn more_programs_3(alloc: Global, kind: Kind) -> Result<Tree, AllocError> {
+fn made_programs_3(alloc: Global, kind: Kind) -> Result<Tree, AllocError> {
     match kind {
         Kind::ImportDefaultSpecifier => ImportDefaultSpecifier {
             span: span(0),
@@ -145,11 +145,11 @@ fn more_programs_3(alloc: Global, kind: Kind) -> Result<Tree, AllocError> {
             decl: part(1),
         }
         .into_tree(alloc),
-        _ => more_programs_4(alloc, kind),
+        _ => made_programs_4(alloc, kind),
     }
 }
 
-fn more_programs_4(alloc: Global, kind: Kind) -> Result<Tree, AllocError> {
+fn made_programs_4(alloc: Global, kind: Kind) -> Result<Tree, AllocError> {
     match kind {
         Kind::NamedExport => NamedExport {
             span: span(0),
@@ -179,11 +179,11 @@ fn more_programs_4(alloc: Global, kind: Kind) -> Result<Tree, AllocError> {
             decl: part(1),
         }
         .into_tree(alloc),
-        _ => more_programs_5(alloc, kind),
+        _ => made_programs_5(alloc, kind),
     }
 }
 
-fn more_programs_5(alloc: Global, kind: Kind) -> Result<Tree, AllocError> {
+fn made_programs_5(alloc: Global, kind: Kind) -> Result<Tree, AllocError> {
     match kind {
         Kind::ExportDefaultExpr => ExportDefaultExpr {
             span: span(0),

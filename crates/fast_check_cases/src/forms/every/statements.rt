@@ -46,11 +46,11 @@ pub fn made_statements(alloc: Global, kind: Kind) -> Result<Tree, AllocError> {
             label: part(1),
         }
         .into_tree(alloc),
-        _ => more_statements_1(alloc, kind),
+        _ => made_statements_1(alloc, kind),
     }
 }
 
-fn more_statements_1(alloc: Global, kind: Kind) -> Result<Tree, AllocError> {
+fn made_statements_1(alloc: Global, kind: Kind) -> Result<Tree, AllocError> {
     match kind {
         Kind::ContinueStmt => ContinueStmt {
             span: span(0),
@@ -81,11 +81,11 @@ fn more_statements_1(alloc: Global, kind: Kind) -> Result<Tree, AllocError> {
             arg: part(1),
         }
         .into_tree(alloc),
-        _ => more_statements_2(alloc, kind),
+        _ => made_statements_2(alloc, kind),
     }
 }
 
-fn more_statements_2(alloc: Global, kind: Kind) -> Result<Tree, AllocError> {
+fn made_statements_2(alloc: Global, kind: Kind) -> Result<Tree, AllocError> {
     match kind {
         Kind::TryStmt => TryStmt {
             span: span(0),
@@ -117,11 +117,11 @@ fn more_statements_2(alloc: Global, kind: Kind) -> Result<Tree, AllocError> {
             body: part(2),
         }
         .into_tree(alloc),
-        _ => more_statements_3(alloc, kind),
+        _ => made_statements_3(alloc, kind),
     }
 }
 
-fn more_statements_3(alloc: Global, kind: Kind) -> Result<Tree, AllocError> {
+fn made_statements_3(alloc: Global, kind: Kind) -> Result<Tree, AllocError> {
     match kind {
         Kind::ForStmt => ForStmt {
             span: span(0),
@@ -152,11 +152,11 @@ fn more_statements_3(alloc: Global, kind: Kind) -> Result<Tree, AllocError> {
             class: part(2),
         }
         .into_tree(alloc),
-        _ => more_statements_4(alloc, kind),
+        _ => made_statements_4(alloc, kind),
     }
 }
 
-fn more_statements_4(alloc: Global, kind: Kind) -> Result<Tree, AllocError> {
+fn made_statements_4(alloc: Global, kind: Kind) -> Result<Tree, AllocError> {
     match kind {
         Kind::FnDecl => FnDecl {
             ident: part(0),
@@ -185,11 +185,11 @@ fn more_statements_4(alloc: Global, kind: Kind) -> Result<Tree, AllocError> {
             decls: part(2),
         }
         .into_tree(alloc),
-        _ => more_statements_5(alloc, kind),
+        _ => made_statements_5(alloc, kind),
     }
 }
 
-fn more_statements_5(alloc: Global, kind: Kind) -> Result<Tree, AllocError> {
+fn made_statements_5(alloc: Global, kind: Kind) -> Result<Tree, AllocError> {
     match kind {
         Kind::TsInterfaceDecl => TsInterfaceDecl {
             span: span(0),
@@ -219,11 +219,11 @@ fn more_statements_5(alloc: Global, kind: Kind) -> Result<Tree, AllocError> {
             type_ann: part(4),
         }
         .into_tree(alloc),
-        _ => more_statements_6(alloc, kind),
+        _ => made_statements_6(alloc, kind),
     }
 }
 
-fn more_statements_6(alloc: Global, kind: Kind) -> Result<Tree, AllocError> {
+fn made_statements_6(alloc: Global, kind: Kind) -> Result<Tree, AllocError> {
     match kind {
         Kind::TsEnumDecl => TsEnumDecl {
             span: span(0),
@@ -253,11 +253,11 @@ fn more_statements_6(alloc: Global, kind: Kind) -> Result<Tree, AllocError> {
             body: part(1),
         }
         .into_tree(alloc),
-        _ => more_statements_7(alloc, kind),
+        _ => made_statements_7(alloc, kind),
     }
 }
 
-fn more_statements_7(alloc: Global, kind: Kind) -> Result<Tree, AllocError> {
+fn made_statements_7(alloc: Global, kind: Kind) -> Result<Tree, AllocError> {
     match kind {
         Kind::TsNamespaceDecl => TsNamespaceDecl {
             span: span(0),

@@ -41,11 +41,11 @@ pub fn made_types(alloc: Global, kind: Kind) -> Result<Tree, AllocError> {
             type_args: part(2),
         }
         .into_tree(alloc),
-        _ => more_types_1(alloc, kind),
+        _ => made_types_1(alloc, kind),
     }
 }
 
-fn more_types_1(alloc: Global, kind: Kind) -> Result<Tree, AllocError> {
+fn made_types_1(alloc: Global, kind: Kind) -> Result<Tree, AllocError> {
     match kind {
         Kind::TsImportType => TsImportType {
             span: span(0),
@@ -75,11 +75,11 @@ fn more_types_1(alloc: Global, kind: Kind) -> Result<Tree, AllocError> {
             ty: part(2),
         }
         .into_tree(alloc),
-        _ => more_types_2(alloc, kind),
+        _ => made_types_2(alloc, kind),
     }
 }
 
-fn more_types_2(alloc: Global, kind: Kind) -> Result<Tree, AllocError> {
+fn made_types_2(alloc: Global, kind: Kind) -> Result<Tree, AllocError> {
     match kind {
         Kind::TsOptionalType => TsOptionalType {
             span: span(0),
@@ -111,11 +111,11 @@ fn more_types_2(alloc: Global, kind: Kind) -> Result<Tree, AllocError> {
             lit: part(1),
         }
         .into_tree(alloc),
-        _ => more_types_3(alloc, kind),
+        _ => made_types_3(alloc, kind),
     }
 }
 
-fn more_types_3(alloc: Global, kind: Kind) -> Result<Tree, AllocError> {
+fn made_types_3(alloc: Global, kind: Kind) -> Result<Tree, AllocError> {
     match kind {
         Kind::TsTplLitType => TsTplLitType {
             span: span(0),
@@ -142,11 +142,11 @@ fn more_types_3(alloc: Global, kind: Kind) -> Result<Tree, AllocError> {
             type_ann: part(2),
         }
         .into_tree(alloc),
-        _ => more_types_4(alloc, kind),
+        _ => made_types_4(alloc, kind),
     }
 }
 
-fn more_types_4(alloc: Global, kind: Kind) -> Result<Tree, AllocError> {
+fn made_types_4(alloc: Global, kind: Kind) -> Result<Tree, AllocError> {
     match kind {
         Kind::TsIndexedAccessType => TsIndexedAccessType {
             span: span(0),
@@ -171,11 +171,11 @@ fn more_types_4(alloc: Global, kind: Kind) -> Result<Tree, AllocError> {
             type_ann: part(3),
         }
         .into_tree(alloc),
-        _ => more_types_5(alloc, kind),
+        _ => made_types_5(alloc, kind),
     }
 }
 
-fn more_types_5(alloc: Global, kind: Kind) -> Result<Tree, AllocError> {
+fn made_types_5(alloc: Global, kind: Kind) -> Result<Tree, AllocError> {
     match kind {
         Kind::TsFnType => TsFnType {
             span: span(0),
@@ -207,11 +207,11 @@ fn more_types_5(alloc: Global, kind: Kind) -> Result<Tree, AllocError> {
             type_params: part(3),
         }
         .into_tree(alloc),
-        _ => more_types_6(alloc, kind),
+        _ => made_types_6(alloc, kind),
     }
 }
 
-fn more_types_6(alloc: Global, kind: Kind) -> Result<Tree, AllocError> {
+fn made_types_6(alloc: Global, kind: Kind) -> Result<Tree, AllocError> {
     match kind {
         Kind::TsPropertySignature => TsPropertySignature {
             span: span(0),
@@ -236,11 +236,11 @@ fn more_types_6(alloc: Global, kind: Kind) -> Result<Tree, AllocError> {
             params: part(3),
         }
         .into_tree(alloc),
-        _ => more_types_7(alloc, kind),
+        _ => made_types_7(alloc, kind),
     }
 }
 
-fn more_types_7(alloc: Global, kind: Kind) -> Result<Tree, AllocError> {
+fn made_types_7(alloc: Global, kind: Kind) -> Result<Tree, AllocError> {
     match kind {
         Kind::TsMethodSignature => TsMethodSignature {
             span: span(0),
@@ -272,11 +272,11 @@ fn more_types_7(alloc: Global, kind: Kind) -> Result<Tree, AllocError> {
             params: part(1),
         }
         .into_tree(alloc),
-        _ => more_types_8(alloc, kind),
+        _ => made_types_8(alloc, kind),
     }
 }
 
-fn more_types_8(alloc: Global, kind: Kind) -> Result<Tree, AllocError> {
+fn made_types_8(alloc: Global, kind: Kind) -> Result<Tree, AllocError> {
     match kind {
         Kind::TsTypeAnn => TsTypeAnn {
             span: span(0),

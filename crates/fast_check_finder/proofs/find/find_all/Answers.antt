@@ -51,7 +51,7 @@ turns-smaller g c =
     (later (world k) (gives k) k.owner (orderly k) rs (reach k ds rs) (universe k ds rs has) i.way.0 c.turns.next
     (state_of c.turns.progress.worklist) (state_of c.turn.new.progress.worklist)
     (flat_map yields_of c.turns.progress.found.items) (flat_map yields_of c.turn.new.progress.found.items) i.way.1 i.bounded
-    (λ all. AreKeptOf k all c.turn.new.kept.modules) c.in-Some.after (rw c.in-Some.is at c.in_ok-after.ensures.turned i.way.0 i.way.2 i.members)).falls
+    (λ all. AreKeptOf k all c.turn.new.kept.searches) c.in-Some.after (rw c.in-Some.is at c.in_ok-after.ensures.turned i.way.0 i.way.2 i.members)).falls
 
 pub turns-preserved : goal.turns-preserved
 turns-preserved g c =
@@ -68,7 +68,7 @@ turns-preserved g c =
     (state_of c.turns.progress.worklist)
     (state_of c.turn.new.progress.worklist) (flat_map yields_of c.turns.progress.found.items)
     (flat_map yields_of c.turn.new.progress.found.items) i.way.1 i.bounded
-    (λ all. AreKeptOf k all c.turn.new.kept.modules) c.in-Some.after (rw c.in-Some.is at c.in_ok-after.ensures.turned i.way.0 i.way.2 i.members) in
+    (λ all. AreKeptOf k all c.turn.new.kept.searches) c.in-Some.after (rw c.in-Some.is at c.in_ok-after.ensures.turned i.way.0 i.way.2 i.members) in
     record { way = (l.traces, l.next_way, l.holds); bounded = l.still; members = c.in_ok-after.ensures.kept i.members }
 
 pub returns-clause-found : goal.returns-clause-found

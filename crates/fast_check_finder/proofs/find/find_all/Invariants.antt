@@ -27,7 +27,7 @@ invariant-turns g l =
       way : (done : List Followed)
           × IsOnTheWay (world k) (gives k) k.owner (map nv_of l.roots) done l.next (state_of l.progress.worklist)
           (flat_map yields_of l.progress.found.items)
-          × AreKeptOf k done l.kept.modules;
+          × AreKeptOf k done l.kept.searches;
       bounded : IsBounded (state_of l.progress.worklist);
       members : AreKept (members_in l.input.sources.workspace_members.now) l.kept.members;
     }

@@ -20,7 +20,7 @@ returns-in_ok-after-in-None-clause-turned g c done are mine =
     let used = used_of c.args.cache (λ x. let n = goal.FastCheckCache-dyn g x.now in
     used_item (n.hash_of x.now.1 c.args.input.seed.now) (n.stored x.now.1) c.args.input.sources.graph.now) in
     let k = with_used used (known c.args.input.sources (m.url_of c.args.provider.now.1) (m.nv_at c.args.provider.now.1)) in
-    same_turn (world k) (gives k) done (λ all. AreKeptOf k all c.args.kept.now.modules) c.args.next (handled c.args.progress.now.worklist.handled)
+    same_turn (world k) (gives k) done (λ all. AreKeptOf k all c.args.kept.now.searches) c.args.next (handled c.args.progress.now.worklist.handled)
     (map nv_of c.args.progress.now.worklist.packages) (pending c.args.progress.now.worklist.waiting)
     (pending c.pop.new.self) (state_of c.enter_next.new.progress.worklist) (flat_map yields_of c.args.progress.now.found.items)
     (flat_map yields_of c.enter_next.new.progress.found.items)

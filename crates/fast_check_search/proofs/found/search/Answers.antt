@@ -1,5 +1,4 @@
-use Rattle.std.proofs.Common.{◌≡◌, ◌∙◌, sym, ap, refl, subst, List, [], ◌++◌, inl, ⊎_elim, map, length, arith, ◌≤◌, true, false}
-use Rattle.std.proofs.lemmas.Bool.{cases_Bool}
+use Rattle.std.proofs.Common.{◌≡◌, ◌∙◌, sym, ap, refl, subst, List, [], ◌++◌, inl, ⊎_elim, map, length, arith, ◌≤◌}
 use Rattle.std.specs.Option.{option_copied}
 use Rattle.std.proofs.lemmas.Option.{get_or_from_slice_get}
 use Rattle.fast_check_name_demands.specs.demands.Demands.{Demand, demand_of}
@@ -114,18 +113,12 @@ at_end c = ended (option_copied c.args.texts) c.args.tables.now (map demand_of c
     (c.loop-next.invariant.came d h))
     c.loop-next.invariant.way c.in_ok-push_untold.ensures refl refl refl
 
-kept_all : (c : goal.After-drop-wanted-4) → IsKeptWith c.args.before (asked c.loop-next.work) c.in_ok-searched.searched
+kept_all : (c : goal.After-drop-wanted-4) → IsKeptWith c.args.before (asked c.loop-next.work) c.into_searched.result
 kept_all c =
     let i = c.loop-next.invariant in
     let work : SymbolWorklist = c.loop-next.work in
-    ⊎_elim
-    (λ (keeps : c.was_searched-keeps_names.result ≡ true).
-    subst (λ (ds : List Demand). IsKeptWith c.args.before (asked work) ds) (sym (c.in_ok-searched.ensures.all keeps))
-    (kept_met c.args.before (asked work) (met work) i.came i.stays i.kept.own))
-    (λ (first : c.was_searched-keeps_names.result ≡ false).
-    subst (λ (ds : List Demand). IsKeptWith ds (asked work) c.in_ok-searched.searched) (sym (c.was_searched-keeps_names.ensures first))
-    (c.in_ok-searched.ensures.nameless first))
-    (cases_Bool c.was_searched-keeps_names.result)
+    subst (λ (ds : List Demand). IsKeptWith c.args.before (asked work) ds) (sym c.into_searched.ensures)
+    (kept_met c.args.before (asked work) (met work) i.came i.stays i.kept.own)
 
 pub returns-clause-continued : goal.returns-clause-continued
 returns-clause-continued c =
@@ -137,9 +130,8 @@ returns-clause-continued c =
     )
 
 pub returns-clause-parts : goal.returns-clause-parts
-returns-clause-parts c = λ are. c.keep_if.ensures c.args.tables.now c.in_ok-searched.searched (λ keeps.
-    subst (λ (ds : List Demand). ArePartsCovered c.args.tables.now c.loop-next.parts ds) (sym (c.in_ok-searched.ensures.all keeps))
-    (c.loop-next.invariant.parts are))
+returns-clause-parts c = λ are. subst (λ (ds : List Demand). ArePartsCovered c.args.tables.now c.loop-next.parts ds)
+    (sym c.into_searched.ensures) (c.loop-next.invariant.parts are)
 
 pub returns-clause-own_ranges : goal.returns-clause-own_ranges
 returns-clause-own_ranges c = own_found c.args.tables.now (asked c.loop-next.work) (noted_ranges c.args.tables.now c.args.told.now)

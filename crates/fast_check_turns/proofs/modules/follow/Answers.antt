@@ -7,7 +7,6 @@ use Rattle.fast_check_worklists.specs.State.{state_of, trace_of}
 use Rattle.fast_check_sources.specs.Sources.{known, with_used}
 use Rattle.fast_check_turns.specs.Searches.{AreKeptOf}
 use Rattle.fast_check_turns.proofs.WereFollowed.{followed_more}
-use Rattle.fast_check_turns.proofs.Again.{stars_more}
 use Rattle.fast_check_turns.proofs.Turns.{followed_nowhere}
 use Rattle.fast_check_turns.proofs.modules.follow.Goals as goal
 
@@ -21,11 +20,9 @@ returns-in_ok-leave_out-in-None g c used earlier are =
     (sym c.info_of.ensures ∙ ap option_copied c.in-None.is) refl c.in_ok-leave_out-in-None.ensures earlier
     (λ done. AreKeptOf k done c.args.kept.now)
     (record {
-      followed = followed_more k earlier (earlier ++ record { trace = x; name = x.specifier; symbols = [] } ∷ []) c.args.kept.now.searches
+      followed = followed_more k earlier (earlier ++ record { trace = x; name = x.specifier; symbols = [] } ∷ []) c.args.kept.now
           (λ y i. Contains-append_left earlier (record { trace = x; name = x.specifier; symbols = [] } ∷ []) y i) are.followed;
       rightly = are.rightly;
-      stars = stars_more k earlier (earlier ++ record { trace = x; name = x.specifier; symbols = [] } ∷ []) c.args.kept.now.stars
-          (λ y i. Contains-append_left earlier (record { trace = x; name = x.specifier; symbols = [] } ∷ []) y i) are.stars;
     })
 
 pub returns-in_ok-follow_module-in-Some : goal.returns-in_ok-follow_module-in-Some

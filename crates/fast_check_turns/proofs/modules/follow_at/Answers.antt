@@ -1,4 +1,4 @@
-use Rattle.std.proofs.Common.{◌≡◌, ◌∙◌, sym, ap, subst, List, ◌++◌, ◌∷◌, Some, option_map, ⊎_elim, inl, inr}
+use Rattle.std.proofs.Common.{◌≡◌, ◌∙◌, sym, ap, subst, List, ◌++◌, ⊎_elim, inl, inr}
 use Rattle.std.specs.List.{flat_map}
 use Rattle.url.specs.Parts.{serialize}
 use Rattle.fast_check_packages.specs.Package.{nv_of}
@@ -14,7 +14,6 @@ use Rattle.fast_check_turns.specs.Rules.{own_text}
 use Rattle.fast_check_turns.specs.Searches.{IsKeptAt, IsToldAt, AreKeptOf}
 use Rattle.fast_check_turns.proofs.OwnYields.{own_module, named_own}
 use Rattle.fast_check_turns.proofs.WereFollowed.{still_followed, kept_here}
-use Rattle.fast_check_turns.proofs.Again.{still_noted}
 use Rattle.fast_check_turns.proofs.Turns.{followed_one}
 use Rattle.fast_check_turns.proofs.modules.follow_at.Goals as goal
 
@@ -36,14 +35,14 @@ returns g c used earlier t are here =
     let ys = flat_map yields_of c.args.progress.now.found.items in
     followed_one k x info here own b.result.searched s.search.searched b.result.told s.search.told s.outer.items s.found
     (s.ensures.traced used c.args.exports.now c.in_ok-held.ensures rightly)
-    earlier (λ d h. are.followed.searched nv (own_text n) d (subst (λ (v : Text). IsKeptAt old.searches nv v d) same (b.ensures.taken d h)))
+    earlier (λ d h. are.followed.searched nv (own_text n) d (subst (λ (v : Text). IsKeptAt old nv v d) same (b.ensures.taken d h)))
     (λ r h. are.followed.told nv (own_text n) n own r
-    (subst (λ (v : Text). IsToldAt old.searches nv v (own_tables n) r) same (b.ensures.told (own_tables n) r h)))
-    (λ done. AreKeptOf k done (record { searches = c.keep.new.self; stars = c.note.new.self }))
-    (λ more kept shown met. record {
+    (subst (λ (v : Text). IsToldAt old nv v (own_tables n) r) same (b.ensures.told (own_tables n) r h)))
+    (λ done. AreKeptOf k done c.keep.new.self)
+    (λ more kept shown. record {
       followed = still_followed k earlier (record { trace = x; name = own_text n; symbols = more }) n own b.result.searched s.search
-          old.searches b.new.self c.keep.new.self are.followed
-          (λ d h. subst (λ (v : Text). IsKeptAt old.searches nv v d) same (b.ensures.taken d h))
+          old b.new.self c.keep.new.self are.followed
+          (λ d h. subst (λ (v : Text). IsKeptAt old nv v d) same (b.ensures.taken d h))
           b.ensures.left b.ensures.left_told
           (λ p u d h. ⊎_elim (λ l. inl l) (λ r. inr (r.0, sym same ∙ r.1, r.2)) (c.in_ok-keep.ensures.searched p u d h))
           (λ p u ts r h. ⊎_elim (λ l. inl l) (λ q. inr (q.0, sym same ∙ q.1, q.2)) (c.in_ok-keep.ensures.told p u ts r h))
@@ -51,10 +50,6 @@ returns g c used earlier t are here =
       rightly = c.in_ok-keep.ensures.rightly k
           (kept_here k (serialize c.args.followed.specifier.now) info s.search is (s.ensures.rightly used rightly))
           (b.ensures.left_rightly k are.rightly);
-      stars = still_noted k earlier (record { trace = x; name = own_text n; symbols = more }) n own (ap (option_map (traced_as k)) here)
-          old.stars c.note.new.self are.stars
-          (λ p u d h. ⊎_elim (λ l. inl l) (λ r. inr (r.0, sym same ∙ r.1, r.2)) (c.in_ok-note.ensures p u d h))
-          met;
     })
     (state_of c.args.progress.now.worklist) (state_of c.ask_all.new.self) c.in_ok-ask_all.ensures ys
     (flat_map yields_of c.push_finding.new.found.items)

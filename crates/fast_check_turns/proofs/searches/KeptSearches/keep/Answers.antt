@@ -1,16 +1,10 @@
-use Rattle.std.proofs.Common.{inl, refl, subst, Option, IsSome}
+use Rattle.std.proofs.Common.{refl, subst, Option, IsSome}
 use Rattle.std.specs.List.{Contains}
 use Rattle.fast_check_search.specs.Searched.{IsAsked}
 use Rattle.fast_check_turns.specs.declared.searches.KeptSearch.{KeptSearch}
 use Rattle.fast_check_turns.specs.Searches.{searched_of, told_of}
 use Rattle.fast_check_turns.proofs.WereFollowed.{put_kept, put_copied, put_for, copied_for}
 use Rattle.fast_check_turns.proofs.searches.KeptSearches.keep.Goals as goal
-
-pub returns-then-not-is_much-clause-searched : goal.returns-then-not-is_much-clause-searched
-returns-then-not-is_much-clause-searched c nv t d h = inl h
-
-pub returns-then-not-is_much-clause-told : goal.returns-then-not-is_much-clause-told
-returns-then-not-is_much-clause-told c nv t tables r h = inl h
 
 pub returns-in-Some-clause-searched : goal.returns-in-Some-clause-searched
 returns-in-Some-clause-searched c nv t d =
@@ -37,9 +31,6 @@ returns-clause-told c nv t tables r =
     (record { searches = c.get_mut.follows.lender-at-none }) (record { searches = c.insert.new.self })
     c.in_ok-copy.copy c.args.followed.now c.in_ok-copy.ensures.nv c.in_ok-copy.ensures.specifier
     c.get_mut.follows.holds-at-none c.args.kept c.in_ok-insert.ensures.updates.0 nv t
-
-pub returns-then-not-is_much-clause-rightly : goal.returns-then-not-is_much-clause-rightly
-returns-then-not-is_much-clause-rightly c = λ k mine are. are
 
 pub returns-in-Some-clause-rightly : goal.returns-in-Some-clause-rightly
 returns-in-Some-clause-rightly c =
