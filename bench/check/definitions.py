@@ -46,18 +46,23 @@ WORD = re.compile(r"[^\s(){}\[\],.;]+")
 
 
 @cache
-def passed_on(crate):
-    """The names under which a crate passes on the definitions of others."""
-    lib = CRATES / crate / "specs/Lib.antt"
-    text = lib.read_text() if lib.exists() else ""
-    return dict((name, other) for other, name in re.findall(r"^pub use Rattle\.(\w+)\.specs as (\w+)", text, re.M))
+def passed_on(crate, module=""):
+    """The names under which a crate, or a module of its definitions, passes on those of others: each with its crate and the path there."""
+    file = CRATES / crate / "specs" / (f"{module}.antt" if module else "Lib.antt")
+    text = file.read_text() if file.exists() else ""
+    lines = re.findall(r"^pub use Rattle\.(\w+)\.specs((?:\.\w+)*)(?: as (\w+))?$", text, re.M)
+    return {name or path.rpartition(".")[2]: (other, path.split(".")[1:]) for other, path, name in lines}
 
 
 def file_of(crate, path):
     """The file that a path below a crate's `specs` names, None where it is no file of definitions of this repository."""
-    parts = path.split(".")
-    while parts and parts[0] in passed_on(crate):
-        crate = passed_on(crate)[parts.pop(0)]
+    parts, at = path.split("."), 0
+    while at < len(parts):
+        found = passed_on(crate, "/".join(parts[:at])).get(parts[at])
+        if found:
+            crate, parts, at = found[0], found[1] + parts[at + 1 :], 0
+        else:
+            at += 1
     file = CRATES / crate / "specs" / ("/".join(parts) + ".antt")
     return file if parts and file.exists() else None
 
@@ -241,9 +246,14 @@ def page(every):
         print(fill(f"- **{chapter}**, {size(found)} lines. " + "; ".join(words) + ".", 160, subsequent_indent="  ", break_on_hyphens=False))
 
 
+def is_list(file):
+    """Whether a file only lists the files of a crate or of a module, and passes on others'."""
+    return file.name == "Lib.antt" or all(not line or line.startswith(("pub mod ", "pub use ")) for line in file.read_text().splitlines())
+
+
 def every_file():
     """The files of definitions, but for lists of files and what is written from the table of forms."""
-    found = [it for it in sorted(CRATES.glob("*/specs/**/*.antt")) if it.name != "Lib.antt" and "out" not in it.parts]
+    found = [it for it in sorted(CRATES.glob("*/specs/**/*.antt")) if "out" not in it.parts and not is_list(it)]
     return [it for it in found if not it.read_text().startswith("-- Written by forms/write.py") and not CASES.search(it.parts[len(CRATES.parts)])]
 
 
