@@ -56,4 +56,4 @@ returns g c used earlier t are here =
     (c.in_ok-push_finding.ensures ∙ ap (λ (zs : List Yield). ys ++ zs)
     (c.followed_module-finding.ensures
     ∙ ap (module_yields nv (serialize (specifier_of info)) s.found)
-    (rw c.as_slice-2.ensures.value at c.in_ok-dependencies.ensures)))
+    (rw c.as_slice.ensures.value at c.in_ok-dependencies.ensures)))
