@@ -31,7 +31,7 @@ turns-init g c =
         [],
         rw c.new-found.ensures.items (started (world k) (gives k) k.owner (map nv_of c.args.roots.now)
             (state_of c.in_ok-worklist.worklist) c.in_ok-worklist.ensures),
-        c.new-modules.ensures k,
+        c.new-searches.ensures k,
       );
       bounded = record { distinct = c.in_ok-worklist.ensures.distinct };
       members = c.new-members.ensures (members_in c.args.input.sources.workspace_members.now);
