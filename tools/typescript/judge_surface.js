@@ -84,11 +84,15 @@ function takeLooseTypes() {
   OPTIONS.strict = false;
 }
 
-/** The declarations that the compiler emits, by their paths; declaration files are their own. */
-function emitted(program, texts) {
+/** The declarations that the compiler emits of the texts that are wanted, by their paths; declaration files are their own. */
+function emitted(program, texts, isWanted = () => true) {
   const made = new Map();
-  for (const [name, text] of texts) if (/\.d\.[cm]?ts$/.test(name)) made.set(name, text);
-  program.emit(undefined, (name, text) => made.set(name, text), undefined, true);
+  const write = (name, text) => made.set(name, text);
+  for (const [name, text] of texts) {
+    if (/\.d\.[cm]?ts$/.test(name)) made.set(name, text);
+    // File by file: of all at once the compiler checks those too that are not wanted.
+    else if (!name.endsWith('.json') && isWanted(name)) program.emit(program.getSourceFile(name), write, undefined, true);
+  }
   return made;
 }
 

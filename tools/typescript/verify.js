@@ -14,17 +14,18 @@ const HINT = 'refer to what is meant by a name of its own; docs/TYPESCRIPT.md li
 const TYPE_HINT = 'write the type; docs/TYPESCRIPT.md says what to write where the rules part from TypeScript';
 const LONGEST = 200;
 
-/** The compiler's view of the modules of a folder, as sources or as skeletons. `texts` are by their paths. */
+/** The compiler's view of the modules of a folder, as sources or as skeletons. `texts` are by their paths; declarations are made of those that are `answered`. */
 class Side {
-  constructor(world, texts) {
+  constructor(world, texts, answered) {
     this.world = world;
     this.texts = texts;
+    this.answered = answered;
     this.program = programOf(texts, resolverOf(world, texts));
   }
 
   /** What the compiler declares for all that these entry points lead to. */
   surface(entries) {
-    const made = emitted(this.program, this.texts);
+    const made = emitted(this.program, this.texts, (name) => this.answered.has(name));
     this.declared = new Set(made.keys());
     for (const [name, text] of this.texts) if (name.endsWith('.json')) made.set(name, text);
     return surfaceOf(programOf(made, resolverOf(this.world, made)), made, entries.map(declarationName));
@@ -184,22 +185,30 @@ function referenceMessages(view) {
   }));
 }
 
-/** The texts of the skeletons; of a package without skeletons, since it has messages, the sources stand. */
-function skeletonTexts(world, modules) {
-  const shown = new Set(modules.map((each) => each.specifier));
+/**
+ * The files of the packages that have skeletons. What the compiler would declare for the others is asked for by nothing, and where no type is written their
+ * declarations may need more memory than there is.
+ */
+function answeredFiles(world, modules) {
   const around = (file) => world.info.packages.filter(({ url }) => file.specifier.startsWith(url)).sort((a, b) => b.url.length - a.url.length)[0];
-  const answered = new Set(modules.map((each) => around(world.files.get(each.specifier))));
-  const others = [...world.files.values()].filter((file) => !shown.has(file.specifier) && !answered.has(around(file)));
-  return [...modules.map((each) => [each.path, each.text]), ...others.map((file) => [file.path, file.text])];
+  const packages = new Set(modules.map((each) => around(world.files.get(each.specifier))));
+  return [...world.files.values()].filter((file) => packages.has(around(file)));
+}
+
+/** The texts of the skeletons; of a package without skeletons, since it has messages, the sources stand. */
+function skeletonTexts(world, modules, answered) {
+  const others = [...world.files.values()].filter((file) => !answered.has(file.path));
+  return [...modules, ...others].map((each) => [each.path, each.text]);
 }
 
 /** What the compiler finds in the skeletons, or declares for them, and not in and for the sources, as messages. */
 function verify(world, { cwd }) {
   const modules = printed(world).map((each) => ({ ...each, path: world.files.get(each.specifier).path }));
   const data = (world.info.jsonModules || []).map((each) => [each.path, each.text]);
-  const isTyped = ([name]) => !/\.[cm]?jsx?$/.test(name);
-  const sources = new Side(world, new Map([...[...world.files.values()].map((file) => [file.path, file.text]), ...data].filter(isTyped)));
-  const skeletons = new Side(world, new Map([...skeletonTexts(world, modules), ...data].filter(isTyped)));
+  const answered = new Set(answeredFiles(world, modules).map((each) => each.path));
+  const sideOf = (texts) => new Side(world, new Map([...texts, ...data].filter(([name]) => !/\.[cm]?jsx?$/.test(name))), answered);
+  const sources = sideOf([...world.files.values()].map((file) => [file.path, file.text]));
+  const skeletons = sideOf(skeletonTexts(world, modules, answered));
   const view = { world, cwd, modules, sources, skeletons, found: ways(world).found };
   const errors = errorMessages(view);
   return [...errors, ...differenceMessages(view, new Set(errors.map((each) => each.file))), ...referenceMessages(view)];

@@ -78,6 +78,7 @@ function holds(value, what) {
 const MORE = {
   fixed: [['fix', '--dry']],
   baseline: [['check', '--baseline', 'known.jsonl']],
+  'workspace-large': [['check', '--verify']],
   'javascript-entry': [['check', '--max-warnings', '0']],
   'several-messages': [['check', '--allow', 'missing-explicit-type'], ...['github', 'sarif', 'junit'].map((format) => ['check', '--format', format])],
 };

@@ -1,0 +1,45 @@
+// The type that comes has more members than memory holds: no declaration is made of a package without skeletons.
+export function large() {
+  const of0 = { value: 1 };
+  const of1 = { left: of0, right: of0 };
+  const of2 = { left: of1, right: of1 };
+  const of3 = { left: of2, right: of2 };
+  const of4 = { left: of3, right: of3 };
+  const of5 = { left: of4, right: of4 };
+  const of6 = { left: of5, right: of5 };
+  const of7 = { left: of6, right: of6 };
+  const of8 = { left: of7, right: of7 };
+  const of9 = { left: of8, right: of8 };
+  const of10 = { left: of9, right: of9 };
+  const of11 = { left: of10, right: of10 };
+  const of12 = { left: of11, right: of11 };
+  const of13 = { left: of12, right: of12 };
+  const of14 = { left: of13, right: of13 };
+  const of15 = { left: of14, right: of14 };
+  const of16 = { left: of15, right: of15 };
+  const of17 = { left: of16, right: of16 };
+  const of18 = { left: of17, right: of17 };
+  const of19 = { left: of18, right: of18 };
+  const of20 = { left: of19, right: of19 };
+  const of21 = { left: of20, right: of20 };
+  const of22 = { left: of21, right: of21 };
+  const of23 = { left: of22, right: of22 };
+  const of24 = { left: of23, right: of23 };
+  const of25 = { left: of24, right: of24 };
+  const of26 = { left: of25, right: of25 };
+  const of27 = { left: of26, right: of26 };
+  const of28 = { left: of27, right: of27 };
+  const of29 = { left: of28, right: of28 };
+  const of30 = { left: of29, right: of29 };
+  const of31 = { left: of30, right: of30 };
+  const of32 = { left: of31, right: of31 };
+  const of33 = { left: of32, right: of32 };
+  const of34 = { left: of33, right: of33 };
+  const of35 = { left: of34, right: of34 };
+  const of36 = { left: of35, right: of35 };
+  const of37 = { left: of36, right: of36 };
+  const of38 = { left: of37, right: of37 };
+  const of39 = { left: of38, right: of38 };
+  const of40 = { left: of39, right: of39 };
+  return of40;
+}
