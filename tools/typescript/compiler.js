@@ -54,4 +54,4 @@ function candidateFiles() {
   return files.filter(Boolean);
 }
 
-module.exports = { NO_COMPILER, candidateFiles, isVersionFrom, loadCompiler, lookIn };
+module.exports = { NO_COMPILER, candidateFiles, chosen, isVersionFrom, loadCompiler, lookIn };
