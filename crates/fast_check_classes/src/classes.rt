@@ -11,10 +11,10 @@ ghost use Rattle.fast_check_signatures.specs.Members.{ambient_members, is_privat
 ghost use Rattle.fast_check_modules.specs.diagnostics.PublicRanges.{is_implementation};
 ghost use Rattle.fast_check_values.specs.bindings.Bindings.{bindings_of};
 
+use crate::class_nodes::{is_computed, is_private, transform_superclass, two_trees};
 use crate::copies::three_trees;
 use crate::members::transform_members;
 use fast_check_class_forms::{AutoAccessor, Class, ClassMethod, ClassProp};
-use fast_check_class_nodes::{is_computed, is_private, transform_superclass, two_trees};
 use fast_check_modules::EsModuleInfo;
 use fast_check_modules::diagnostics::ModulePublicRanges;
 use fast_check_signatures::Fault;

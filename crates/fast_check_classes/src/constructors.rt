@@ -8,10 +8,10 @@ ghost use Rattle.fast_check_modules.specs.diagnostics.PublicRanges.{is_implement
 ghost use Rattle.fast_check_classes.specs.Parts.{first_pattern, signed_constructor};
 ghost use Rattle.fast_check_values.specs.bindings.Bindings.{bindings_of};
 
-use fast_check_class_forms::Constructor;
-use fast_check_class_nodes::{
+use crate::class_nodes::{
     constructor_body, is_private, param_target, plain_params, takes_apart, two_trees,
 };
+use fast_check_class_forms::Constructor;
 use fast_check_modules::EsModuleInfo;
 use fast_check_modules::diagnostics::ModulePublicRanges;
 use fast_check_ranges::range_of_node;

@@ -2,7 +2,7 @@
 ghost use Rattle.std.specs.Prelude.{◌≡◌, IfOk};
 ghost use Rattle.fast_check_syntax.specs.Part.{seen};
 
-use fast_check_class_nodes::two_trees;
+use crate::class_nodes::two_trees;
 use fast_check_syntax::{Part, Tree};
 use std::alloc::{AllocError, Global};
 

@@ -1,6 +1,7 @@
 //! What stands of classes and their members where a type checker is to read them without inference.
 #![tactic(auto)]
 
+pub mod class_nodes;
 mod classes;
 mod constructors;
 mod copies;
@@ -8,5 +9,4 @@ mod members;
 mod properties;
 
 pub use classes::{ambient_class, transform_class};
-pub use fast_check_class_nodes as class_nodes;
 pub use fast_check_values as values;

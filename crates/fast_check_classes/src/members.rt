@@ -11,13 +11,13 @@ ghost use Rattle.fast_check_modules.specs.diagnostics.PublicRanges.{is_implement
 ghost use Rattle.fast_check_classes.specs.Parts.{signed_method, declared_params, kept_answer};
 ghost use Rattle.fast_check_values.specs.bindings.Bindings.{bindings_of};
 
+use crate::class_nodes::{
+    hash_private, is_hash_named, is_private, kept_members, param_property, private_method_head,
+};
 use crate::constructors::{is_param_property, pattern_among, transform_constructor};
 use crate::copies::three_trees;
 use crate::properties::{transform_accessor, transform_property};
 use fast_check_class_forms::{ClassMethod, Constructor};
-use fast_check_class_nodes::{
-    hash_private, is_hash_named, is_private, kept_members, param_property, private_method_head,
-};
 use fast_check_helpers::any_type_ann;
 use fast_check_modules::EsModuleInfo;
 use fast_check_modules::diagnostics::ModulePublicRanges;

@@ -6,8 +6,8 @@ ghost use Rattle.fast_check_signatures.specs.Classes as classes;
 ghost use Rattle.fast_check_classes.specs.Parts.{value_answer, untyped_answer, property_answer, accessor_type, accessor_answer};
 ghost use Rattle.fast_check_values.specs.bindings.Bindings.{bindings_of};
 
+use crate::class_nodes::{accessor_head, is_private, mutability_of_property, property_head};
 use fast_check_class_forms::{AutoAccessor, ClassProp};
-use fast_check_class_nodes::{accessor_head, is_private, mutability_of_property, property_head};
 use fast_check_helpers::{DeclMutabilityKind, any_type_ann, maybe_infer_type, type_ann};
 use fast_check_modules::EsModuleInfo;
 use fast_check_ranges::range_of_node;
