@@ -4,7 +4,7 @@ use Rattle.fast_check_read.specs.declared.error.ReadError.{ReadError}
 use Rattle.fast_check_read_tables.specs.Reads.{Reads}
 use Rattle.fast_check_requests.specs.declared.request.EsModuleParts.{EsModuleParts}
 use Rattle.fast_check_requests.specs.Request.{Source, Module, Makes, HoldsModule, IsSource}
-use Rattle.fast_check_parsed_source.specs.declared.tables.parsed_source.ParsedSource.{ParsedSource}
+use Rattle.fast_check_diagnostics.specs.declared.parsed_source.tables.parsed_source.ParsedSource.{ParsedSource}
 use Rattle.fast_check_build_requests.specs.ModuleParts as parts
 
 source_seen : (asked : Source) (s : ParsedSource) → IsSource asked s → asked ≡ parts.source s

@@ -6,8 +6,8 @@ ghost use Rattle.fast_check_read_tables.specs.Reads.{Reads};
 ghost use Rattle.fast_check_requests.specs.Request.{module_of};
 ghost use Rattle.fast_check_build_requests.specs.ModuleParts as parts;
 
+use fast_check_diagnostics::parsed_source::ModuleSpecifier;
 use fast_check_modules::ModuleTables;
-use fast_check_parsed_source::ModuleSpecifier;
 use fast_check_read::ReadError;
 use fast_check_read_tables::{FromJson, read_member, read_module_tables, read_variant};
 use fast_check_requests::{EsModuleParts, read_es_module};

@@ -3,8 +3,8 @@ ghost use Rattle.std.specs.Prelude.{◌≡◌};
 ghost use Rattle.fast_check_cache.specs.Cache.{item_of, module_of, source_hash_of};
 
 use fast_check_comments::Comments;
+use fast_check_diagnostics::parsed_source::ModuleInfo;
 use fast_check_packages::PackageNv;
-use fast_check_parsed_source::ModuleInfo;
 use fast_check_syntax::{Tree, clone_tree};
 use std::alloc::AllocError;
 use std::collections::BTreeSet;

@@ -12,8 +12,8 @@ use fast_check_cache::{
 };
 use fast_check_cases::Said;
 use fast_check_comments::Comments;
+use fast_check_diagnostics::parsed_source::ModuleInfo;
 use fast_check_packages::PackageNv;
-use fast_check_parsed_source::ModuleInfo;
 use fast_check_syntax::{Atom, Tree};
 use semver::Version;
 use std::alloc::{AllocError, Global};

@@ -3,8 +3,8 @@
 use fast_check_build::package_answers::ModuleAnswer;
 use fast_check_cache::{FastCheckCacheItem, FastCheckCacheModuleItem};
 use fast_check_cases::Said;
+use fast_check_diagnostics::parsed_source::FastCheckModule;
 use fast_check_diagnostics::{Diagnostic, FastCheckDiagnostic};
-use fast_check_parsed_source::FastCheckModule;
 use std::alloc::Global;
 use url::Url;
 

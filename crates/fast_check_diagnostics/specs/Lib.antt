@@ -5,3 +5,4 @@ pub mod DiagnosticView
 pub mod Subject
 pub mod KindTexts
 pub mod Diagnostic
+pub mod parsed_source

@@ -2,6 +2,7 @@
 #![tactic(auto)]
 
 mod diagnostics;
+pub mod parsed_source;
 mod public_ranges;
 
 pub use diagnostics::{

@@ -9,7 +9,7 @@ use Rattle.fast_check_program_forms.specs.Literals.{Str-span, Str-value}
 use Rattle.fast_check_program_forms.specs.ModuleDecls.{ImportDecl-src, ImportDecl-type_only, NamedExport-src}
 use Rattle.fast_check_program_forms.specs.ModuleDecls.{NamedExport-type_only, ExportAll-src, ExportAll-type_only}
 use Rattle.fast_check_program_forms.specs.Programs.{Module-body}
-use Rattle.fast_check_parsed_source.specs.declared.tables.fast_check_module.StaticSource.{StaticSource}
+use Rattle.fast_check_diagnostics.specs.declared.parsed_source.tables.fast_check_module.StaticSource.{StaticSource}
 
 abbrev pub as_sources : Option StaticSource → List StaticSource
 as_sources (Some s) = s ∷ []

@@ -5,7 +5,7 @@ mod links;
 mod relative;
 mod sources;
 
-pub use fast_check_parsed_source::StaticSource;
+pub use fast_check_diagnostics::parsed_source::StaticSource;
 pub use links::keep_link;
 pub use relative::RelativeSources;
 pub use sources::static_sources;

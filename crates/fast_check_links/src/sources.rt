@@ -3,7 +3,7 @@ ghost use Rattle.std.specs.Prelude.{◌≡◌, IfOk};
 ghost use Rattle.fast_check_syntax.specs.Part.{seen};
 ghost use Rattle.fast_check_links.specs.StaticSources.{as_sources, source_of, item_source, static_sources};
 
-use fast_check_parsed_source::StaticSource;
+use fast_check_diagnostics::parsed_source::StaticSource;
 use fast_check_program_forms::{ExportAll, ImportDecl, Module, NamedExport, Str};
 use fast_check_syntax::{Atom, Kind, Part};
 use std::alloc::{AllocError, Global};

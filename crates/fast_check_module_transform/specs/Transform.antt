@@ -8,7 +8,7 @@ use Rattle.fast_check_declarations.specs.surroundings.Surroundings.{surroundings
 use Rattle.fast_check_declarations.specs.surroundings.skeleton.Surroundings.{Surroundings}
 use Rattle.fast_check_links.specs.StaticSources.{static_sources}
 use Rattle.fast_check_modules.specs.diagnostics.PublicRanges.{PublicRanges}
-use Rattle.fast_check_parsed_source.specs.declared.tables.fast_check_module.StaticSource.{StaticSource}
+use Rattle.fast_check_diagnostics.specs.declared.parsed_source.tables.fast_check_module.StaticSource.{StaticSource}
 use Rattle.fast_check_signatures.specs.declared.fault.Fault.{Fault}
 use Rattle.fast_check_declarations.specs.surroundings.skeleton.Skeleton.{skeleton_of, faults_of}
 use Rattle.fast_check_declarations.specs.surroundings.skeleton.KeptComments.{kept_comments}

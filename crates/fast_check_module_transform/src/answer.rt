@@ -1,19 +1,19 @@
 //! `transform`: the skeleton of a module, or all that is wrong with it.
 ghost use Rattle.std.specs.Prelude.{◌≡◌, ◌↔◌, [], IfOk, IsOk, IfErr};
 ghost use Rattle.fast_check_declarations.specs.surroundings.skeleton.Grammar.{IsSkeleton};
-ghost use Rattle.fast_check_parsed_source.specs.MediaType.{is_declaration};
+ghost use Rattle.fast_check_diagnostics.specs.parsed_source.MediaType.{is_declaration};
 ghost use Rattle.fast_check_modules.specs.EsModule.{Admits};
 ghost use Rattle.fast_check_declarations.specs.surroundings.bindings.Bindings.{bindings_of};
 ghost use Rattle.fast_check_module_transform.specs.Transform.{skeleton, sources, comments, faults};
 ghost use Rattle.fast_check_transform_faults.specs.Diagnostics.{AreDiagnosticsOf, diagnosed};
 
 use crate::program::{KeptModule, keep_module};
+use fast_check_diagnostics::parsed_source::{FastCheckModule, ModuleInfo};
 use fast_check_graph::ModuleGraph;
 use fast_check_links::static_sources;
 use fast_check_modules::EsModuleInfo;
 use fast_check_modules::diagnostics::{FastCheckDiagnostic, ModulePublicRanges};
 use fast_check_packages::WorkspaceMember;
-use fast_check_parsed_source::{FastCheckModule, ModuleInfo};
 use fast_check_transform_faults::diagnose;
 use std::alloc::{AllocError, Global};
 

@@ -6,5 +6,5 @@ mod items;
 mod program;
 
 pub use answer::{TransformOptions, transform};
-pub use fast_check_parsed_source::{FastCheckModule, ModuleInfo, StaticSource};
+pub use fast_check_diagnostics::parsed_source::{FastCheckModule, ModuleInfo, StaticSource};
 pub use program::{KeptModule, keep_module};

@@ -4,7 +4,7 @@ use Rattle.std.specs.List.{Contains, list_any}
 use Rattle.url.specs.Parts.{Parts}
 use Rattle.fast_check_syntax.specs.declared.source.SourceRange.{SourceRange}
 use Rattle.fast_check_syntax.specs.declared.tree.Tree.{Tree}
-use Rattle.fast_check_parsed_source.specs.declared.tables.parsed_source.ParsedSource.{ParsedSource}
+use Rattle.fast_check_diagnostics.specs.declared.parsed_source.tables.parsed_source.ParsedSource.{ParsedSource}
 use Rattle.fast_check_diagnostics.specs.PublicRanges.{PublicRanges, is_public, same_range}
 use Rattle.fast_check_modules.specs.declared.expandos.Expando.{Expando}
 use Rattle.fast_check_symbols.specs.declared.fault.TableFault.{TableFault}

@@ -1,4 +1,4 @@
-pub use Rattle.fast_check_parsed_source.specs.MediaType
+pub use Rattle.fast_check_diagnostics.specs.parsed_source.MediaType
 pub use Rattle.fast_check_symbols.specs as symbols
 pub use Rattle.fast_check_diagnostics.specs as diagnostics
 pub mod Expandos

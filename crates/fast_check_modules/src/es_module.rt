@@ -8,7 +8,7 @@ ghost use Rattle.fast_check_modules.specs.FitProgram.{FitProgram, IsModuleFault}
 use crate::expandos::Expando;
 use crate::unbound::{any_public_unbound, bound_expandos};
 use fast_check_diagnostics::ModulePublicRanges;
-use fast_check_parsed_source::ParsedSource;
+use fast_check_diagnostics::parsed_source::ParsedSource;
 use fast_check_symbols::{
     CheckedTables, ModuleTables, ReExportAllNode, Symbol, SymbolId, TableFault,
 };

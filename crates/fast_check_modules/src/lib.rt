@@ -10,7 +10,7 @@ mod unbound;
 pub use es_module::EsModuleInfo;
 pub use expandos::{Expando, expandos_of, is_expando_assignment};
 pub use fast_check_diagnostics as diagnostics;
-pub use fast_check_parsed_source::MediaType;
+pub use fast_check_diagnostics::parsed_source::MediaType;
 pub use fast_check_symbols as symbols;
 pub use fast_check_symbols::{
     CheckedTables, FileDepName, ModuleTables, ReExportAllNode, ReferenceNamespace, Symbol,

@@ -4,12 +4,12 @@ use Rattle.std.specs.Prelude.{Err, Vec}
 use Rattle.std.specs.List.{AllZip, AllByRecursion, flat_map}
 use Rattle.std.specs.declared.alloc.Global.{Global}
 use Rattle.url.specs.Parts.{Parts}
-use Rattle.fast_check_parsed_source.specs.MediaType.{is_declaration}
+use Rattle.fast_check_diagnostics.specs.parsed_source.MediaType.{is_declaration}
 use Rattle.fast_check_modules.specs.diagnostics.PublicRanges.{PublicRanges}
 use Rattle.fast_check_modules.specs.diagnostics.DiagnosticCopy.{IsDiagnosticCopy}
 use Rattle.fast_check_modules.specs.diagnostics.declared.diagnostics.FastCheckDiagnostic.{FastCheckDiagnostic}
 use Rattle.fast_check_modules.specs.diagnostics.declared.diagnostics.FastCheckDiagnostic.TheVariants.{Cached}
-use Rattle.fast_check_parsed_source.specs.declared.tables.fast_check_module.FastCheckModule.{FastCheckModule}
+use Rattle.fast_check_diagnostics.specs.declared.parsed_source.tables.fast_check_module.FastCheckModule.{FastCheckModule}
 use Rattle.fast_check_modules.specs.EsModule.{EsModule, AreOwnRanges}
 use Rattle.fast_check_module_transform.specs.skeleton.Grammar.{IsSkeleton}
 use Rattle.fast_check_bindings.specs.Bindings.{bindings_of}

@@ -10,11 +10,11 @@ ghost use Rattle.fast_check_package_answers.specs.PackageAnswer.{IsRefused, IsFo
 use crate::input::BuildInput;
 use crate::used::used_answers;
 use fast_check_cache::PackagePublicRanges;
+use fast_check_diagnostics::parsed_source::{FastCheckModule, ModuleSpecifier};
 use fast_check_graph::AnyModuleInfo;
 use fast_check_module_transform::{TransformOptions, transform};
 use fast_check_modules::EsModuleInfo;
 use fast_check_modules::diagnostics::{FastCheckDiagnostic, ModulePublicRanges};
-use fast_check_parsed_source::{FastCheckModule, ModuleSpecifier};
 use std::alloc::{AllocError, Global};
 use std::collections::{BTreeMap, BTreeSet};
 use url::Url;

@@ -8,9 +8,9 @@ use fast_check_cache::{
     FastCheckCacheModuleItem, FastCheckCacheModuleItemDiagnostic, FastCheckCacheModuleItemInfo,
     source_hash,
 };
+use fast_check_diagnostics::parsed_source::FastCheckModule;
 use fast_check_graph::ModuleGraph;
 use fast_check_modules::diagnostics::FastCheckDiagnostic;
-use fast_check_parsed_source::FastCheckModule;
 use fast_check_syntax::clone_tree;
 use std::alloc::{AllocError, Global};
 use url::Url;

@@ -5,8 +5,8 @@ ghost use Rattle.fast_check_package_answers.specs.PackageAnswer.{IsUsedAnswer};
 
 use crate::answer::ModuleAnswer;
 use fast_check_cache::FastCheckCacheModuleItem;
+use fast_check_diagnostics::parsed_source::FastCheckModule;
 use fast_check_modules::diagnostics::FastCheckDiagnostic;
-use fast_check_parsed_source::FastCheckModule;
 use std::alloc::{AllocError, Global};
 use url::Url;
 

@@ -5,8 +5,8 @@ ghost use Rattle.fast_check_print.specs.Writing.{WritesData};
 ghost use Rattle.fast_check_transform_command.specs.Line.{line_of_data};
 ghost use Rattle.fast_check_pair_command.specs.Line.{answers_data};
 
+use fast_check_diagnostics::parsed_source::FastCheckModule;
 use fast_check_modules::diagnostics::FastCheckDiagnostic;
-use fast_check_parsed_source::FastCheckModule;
 use fast_check_print::print_answer;
 use json::Writer;
 use std::alloc::{AllocError, Global};

@@ -13,11 +13,11 @@ ghost use Rattle.fast_check_pair_command.specs.Pair.{AnswersModules, RefusesModu
 use crate::answer::line_of_answers;
 use crate::input::read_pair_input;
 use crate::request::{PairRequest, Side};
+use fast_check_diagnostics::parsed_source::FastCheckModule;
 use fast_check_graph::ModuleGraph;
 use fast_check_module_transform::TransformOptions;
 use fast_check_modules::diagnostics::{FastCheckDiagnostic, ModulePublicRanges};
 use fast_check_modules::{EsModuleInfo, TableFault};
-use fast_check_parsed_source::FastCheckModule;
 use fast_check_requests::{Answer, EsModuleParts, Refusal};
 use fast_check_transformer::transform_pair;
 use std::alloc::{AllocError, Global};

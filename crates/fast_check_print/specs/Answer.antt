@@ -11,8 +11,8 @@ use Rattle.fast_check_print.specs.Comments.{comments_data}
 use Rattle.fast_check_print.specs.Pieces.{range_data, single}
 use Rattle.fast_check_print.specs.Trees.{json_of}
 use Rattle.fast_check_diagnostics.specs.declared.diagnostics.FastCheckDiagnostic.{FastCheckDiagnostic}
-use Rattle.fast_check_parsed_source.specs.declared.tables.fast_check_module.FastCheckModule.{FastCheckModule}
-use Rattle.fast_check_parsed_source.specs.declared.tables.fast_check_module.StaticSource.{StaticSource}
+use Rattle.fast_check_diagnostics.specs.declared.parsed_source.tables.fast_check_module.FastCheckModule.{FastCheckModule}
+use Rattle.fast_check_diagnostics.specs.declared.parsed_source.tables.fast_check_module.StaticSource.{StaticSource}
 use Rattle.fast_check_print.specs.Diagnostics.{diagnostics_array}
 
 -- ---- a skeleton

@@ -3,10 +3,10 @@ use Rattle.std.specs.Prelude.{ℕ, List, [], ◌∷◌, codes, if◌then◌else�
 use Rattle.std.specs.Str.{bytes_eq}
 use Rattle.serde_json.specs.Data.{Data}
 use Rattle.serde_json.specs.Find.{as_object, as_str}
-use Rattle.fast_check_parsed_source.specs.declared.tables.media_type.MediaType.{MediaType}
-use Rattle.fast_check_parsed_source.specs.declared.tables.media_type.MediaType.TheVariants.{TypeScript, Mts, Cts, Tsx}
-use Rattle.fast_check_parsed_source.specs.declared.tables.media_type.MediaType.TheVariants.{Dts, Dmts, Dcts, JavaScript}
-use Rattle.fast_check_parsed_source.specs.declared.tables.media_type.MediaType.TheVariants.{Mjs, Cjs, Jsx, Unknown}
+use Rattle.fast_check_diagnostics.specs.declared.parsed_source.tables.media_type.MediaType.{MediaType}
+use Rattle.fast_check_diagnostics.specs.declared.parsed_source.tables.media_type.MediaType.TheVariants.{TypeScript, Mts, Cts, Tsx}
+use Rattle.fast_check_diagnostics.specs.declared.parsed_source.tables.media_type.MediaType.TheVariants.{Dts, Dmts, Dcts, JavaScript}
+use Rattle.fast_check_diagnostics.specs.declared.parsed_source.tables.media_type.MediaType.TheVariants.{Mjs, Cjs, Jsx, Unknown}
 use Rattle.fast_check_graph.specs.declared.module.Module.{Module}
 use Rattle.fast_check_graph.specs.declared.module.Module.TheVariants.{Js, Json, Wasm, Npm, Node, External}
 use Rattle.fast_check_read.specs.Pieces.{u64_of}

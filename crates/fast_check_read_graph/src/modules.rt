@@ -8,8 +8,8 @@ ghost use Rattle.fast_check_read_graph.specs.Modules as modules;
 
 use crate::from_json::FromJson;
 use crate::members::{read_flag, read_member, read_option, read_variant};
+use fast_check_diagnostics::parsed_source::MediaType;
 use fast_check_graph::Module;
-use fast_check_parsed_source::MediaType;
 use fast_check_read::{ReadError, read_members, read_text, read_u64};
 use serde_json::Value;
 use std::alloc::Global;
@@ -29,7 +29,7 @@ impl FromJson for u64 {
 }
 
 impl FromJson for MediaType {
-    ghost use Rattle.fast_check_parsed_source.specs.declared.tables.media_type.MediaType.{MediaType};
+    ghost use Rattle.fast_check_diagnostics.specs.declared.parsed_source.tables.media_type.MediaType.{MediaType};
 
     ghost Seen = { MediaType };
 

@@ -18,8 +18,8 @@ use Rattle.fast_check_read.specs.declared.error.ReadError.TheVariants.{BadForm}
 use Rattle.fast_check_read.specs.Comments.{comments_of}
 use Rattle.fast_check_read.specs.Pieces.{u32_of, optional_flag_of, ranges_of}
 use Rattle.fast_check_read.specs.Reading.{tree_of}
-use Rattle.fast_check_parsed_source.specs.declared.tables.parsed_source.ParsedSource.{ParsedSource}
-use Rattle.fast_check_parsed_source.specs.declared.tables.media_type.MediaType.{MediaType}
+use Rattle.fast_check_diagnostics.specs.declared.parsed_source.tables.parsed_source.ParsedSource.{ParsedSource}
+use Rattle.fast_check_diagnostics.specs.declared.parsed_source.tables.media_type.MediaType.{MediaType}
 use Rattle.fast_check_modules.specs.diagnostics.PublicRanges.{PublicRanges, is_public, is_implementation, same_range}
 use Rattle.fast_check_graph.specs.declared.graph.ModuleGraph.{ModuleGraph}
 use Rattle.fast_check_read_tables.specs.Reads.{given, needed, url_of}

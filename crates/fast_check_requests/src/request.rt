@@ -11,10 +11,10 @@ ghost use Rattle.fast_check_requests.specs.Request.{request_of, members_of_reque
 ghost use Rattle.fast_check_requests.specs.Request.{program_of, source_of, module_of, Makes, HoldsModule, IsRequest, IsSource};
 
 use fast_check_comments::Comments;
+use fast_check_diagnostics::parsed_source::{ModuleSpecifier, ParsedSource};
 use fast_check_graph::ModuleGraph;
 use fast_check_modules::ModuleTables;
 use fast_check_modules::diagnostics::ModulePublicRanges;
-use fast_check_parsed_source::{ModuleSpecifier, ParsedSource};
 use fast_check_read::{
     ReadError, has_float, read_comments, read_optional_flag, read_ranges, read_text, read_tree,
     read_u32,

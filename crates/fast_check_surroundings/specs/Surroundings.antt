@@ -1,6 +1,6 @@
 -- What is asked of a module beside its tree.
 use Rattle.std.specs.Option.{option_copied}
-use Rattle.fast_check_parsed_source.specs.MediaType.{is_declaration}
+use Rattle.fast_check_diagnostics.specs.parsed_source.MediaType.{is_declaration}
 use Rattle.fast_check_modules.specs.diagnostics.PublicRanges.{PublicRanges, is_public, is_implementation}
 use Rattle.fast_check_modules.specs.EsModule.{EsModule}
 use Rattle.fast_check_bindings.specs.Bindings.{bindings_of}

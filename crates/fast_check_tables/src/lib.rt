@@ -2,6 +2,7 @@
 //! offers the crates that hold these, and has no code.
 #![tactic(auto)]
 
+pub use fast_check_diagnostics::parsed_source::{MediaType, ModuleSpecifier, ParsedSource};
 pub use fast_check_graph::{AnyModuleInfo, Module, ModuleGraph, RootSymbol};
 pub use fast_check_modules::{
     CheckedTables, EsModuleInfo, FileDepName, JsonModuleInfo, ModuleTables, ReExportAllNode,
@@ -9,7 +10,6 @@ pub use fast_check_modules::{
     SymbolId, SymbolNode, SymbolNodeDep, TableFault,
 };
 pub use fast_check_packages::{JsrUrlProvider, PackageNv, WorkspaceMember};
-pub use fast_check_parsed_source::{MediaType, ModuleSpecifier, ParsedSource};
 
 /// What is public of a module, and what a user is told of faults.
 pub mod diagnostics {

@@ -1,8 +1,8 @@
 //! The skeleton of a module, and what a cache keeps of it. It offers the crates that hold these, and has no code.
 #![tactic(auto)]
 
+pub use fast_check_diagnostics::parsed_source::{FastCheckModule, ModuleInfo, StaticSource};
 pub use fast_check_module_transform::{TransformOptions, transform};
-pub use fast_check_parsed_source::{FastCheckModule, ModuleInfo, StaticSource};
 pub use fast_check_transformer::{FastCheckTransformer, transform_pair};
 
 /// What a cache keeps.

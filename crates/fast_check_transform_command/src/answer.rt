@@ -4,8 +4,8 @@ ghost use Rattle.std.specs.Prelude.{◌≡◌, IfOk};
 ghost use Rattle.fast_check_print.specs.Answer.{answer_data};
 ghost use Rattle.fast_check_transform_command.specs.Line.{line_of_data};
 
+use fast_check_diagnostics::parsed_source::FastCheckModule;
 use fast_check_modules::diagnostics::FastCheckDiagnostic;
-use fast_check_parsed_source::FastCheckModule;
 use fast_check_print::print_answer;
 use json::Writer;
 use std::alloc::{AllocError, Global};

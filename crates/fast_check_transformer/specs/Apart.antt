@@ -11,8 +11,8 @@ use Rattle.fast_check_modules.specs.diagnostics.declared.diagnostics.FastCheckDi
   UnsupportedUsing,
   UnsupportedExpandoProperty,
 }
-use Rattle.fast_check_parsed_source.specs.declared.tables.fast_check_module.FastCheckModule.{FastCheckModule}
-use Rattle.fast_check_parsed_source.specs.declared.tables.fast_check_module.StaticSource.{StaticSource}
+use Rattle.fast_check_diagnostics.specs.declared.parsed_source.tables.fast_check_module.FastCheckModule.{FastCheckModule}
+use Rattle.fast_check_diagnostics.specs.declared.parsed_source.tables.fast_check_module.StaticSource.{StaticSource}
 use Rattle.fast_check_syntax.specs.Moves.{Renaming}
 use Rattle.fast_check_syntax.specs.Same.{SameRange, Each}
 use Rattle.fast_check_transformer.specs.Compared.{SameStaticSource, SameDiagnostic}

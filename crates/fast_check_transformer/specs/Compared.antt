@@ -18,7 +18,7 @@ use Rattle.fast_check_modules.specs.diagnostics.declared.diagnostics.FastCheckDi
   UnsupportedAmbientModule,
   UnsupportedExpandoProperty,
 }
-use Rattle.fast_check_parsed_source.specs.declared.tables.fast_check_module.StaticSource.{StaticSource}
+use Rattle.fast_check_diagnostics.specs.declared.parsed_source.tables.fast_check_module.StaticSource.{StaticSource}
 use Rattle.fast_check_signatures.specs.declared.fault.FaultKind.{FaultKind}
 use Rattle.fast_check_signatures.specs.declared.fault.FaultKind.TheVariants as kinds
 use Rattle.fast_check_syntax.specs.Moves.{Renaming}

@@ -6,7 +6,7 @@ use Rattle.fast_check_graph.specs.declared.graph.ModuleGraph.{ModuleGraph}
 use Rattle.fast_check_modules.specs.EsModule.{EsModule}
 use Rattle.fast_check_modules.specs.diagnostics.PublicRanges.{PublicRanges}
 use Rattle.fast_check_modules.specs.symbols.Tables.{symbol_of_swc}
-use Rattle.fast_check_parsed_source.specs.declared.tables.media_type.MediaType.TheVariants.{TypeScript}
+use Rattle.fast_check_diagnostics.specs.declared.parsed_source.tables.media_type.MediaType.TheVariants.{TypeScript}
 use Rattle.fast_check_signatures.specs.NewNodes.{no_scope}
 use Rattle.fast_check_skeleton.specs.expandos.Objects.{exports_name, stands_exported}
 use Rattle.fast_check_skeleton.specs.Example.{at}

@@ -6,7 +6,7 @@ use Rattle.fast_check_comments.specs.Kept.{kept}
 use Rattle.fast_check_graph.specs.declared.graph.ModuleGraph.{ModuleGraph}
 use Rattle.fast_check_modules.specs.EsModule.{EsModule}
 use Rattle.fast_check_modules.specs.diagnostics.PublicRanges.{PublicRanges}
-use Rattle.fast_check_parsed_source.specs.declared.tables.fast_check_module.FastCheckModule.{FastCheckModule}
+use Rattle.fast_check_diagnostics.specs.declared.parsed_source.tables.fast_check_module.FastCheckModule.{FastCheckModule}
 use Rattle.fast_check_skeleton.specs.Hidden.{AgreeHidden}
 use Rattle.fast_check_skeleton.specs.SameComments.{SameComments}
 use Rattle.fast_check_skeleton.specs.Worlds.{SameSkeleton}

@@ -1,7 +1,7 @@
 //! A transformer that keeps what is wrong.
 ghost use Rattle.std.specs.Prelude.{◌≡◌, ◌↔◌, [], true, IfOk, IsOk, IfErr, IsTrue};
 ghost use Rattle.fast_check_skeleton.specs.Grammar.{IsSkeleton};
-ghost use Rattle.fast_check_parsed_source.specs.MediaType.{is_declaration};
+ghost use Rattle.fast_check_diagnostics.specs.parsed_source.MediaType.{is_declaration};
 ghost use Rattle.fast_check_modules.specs.EsModule.{Admits};
 ghost use Rattle.fast_check_bindings.specs.Bindings.{bindings_of};
 ghost use Rattle.fast_check_transform_faults.specs.Diagnostics.{AreDiagnosticsOf, diagnosed};

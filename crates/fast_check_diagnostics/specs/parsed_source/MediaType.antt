@@ -1,9 +1,9 @@
 -- What a module is written in.
 use Rattle.std.specs.Prelude.{Bool, true, false}
-use Rattle.fast_check_parsed_source.specs.declared.tables.media_type.MediaType.{MediaType}
-use Rattle.fast_check_parsed_source.specs.declared.tables.media_type.MediaType.TheVariants.{TypeScript, Mts, Cts, Tsx}
-use Rattle.fast_check_parsed_source.specs.declared.tables.media_type.MediaType.TheVariants.{Dts, Dmts, Dcts, JavaScript}
-use Rattle.fast_check_parsed_source.specs.declared.tables.media_type.MediaType.TheVariants.{Mjs, Cjs, Jsx, Unknown}
+use Rattle.fast_check_diagnostics.specs.declared.parsed_source.tables.media_type.MediaType.{MediaType}
+use Rattle.fast_check_diagnostics.specs.declared.parsed_source.tables.media_type.MediaType.TheVariants.{TypeScript, Mts, Cts, Tsx}
+use Rattle.fast_check_diagnostics.specs.declared.parsed_source.tables.media_type.MediaType.TheVariants.{Dts, Dmts, Dcts, JavaScript}
+use Rattle.fast_check_diagnostics.specs.declared.parsed_source.tables.media_type.MediaType.TheVariants.{Mjs, Cjs, Jsx, Unknown}
 
 -- such a module has declarations alone
 abbrev pub is_declaration : MediaType → Bool

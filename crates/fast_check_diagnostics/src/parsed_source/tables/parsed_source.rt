@@ -1,5 +1,5 @@
 //! The source of a module: text, tree and comments.
-use crate::tables::MediaType;
+use crate::parsed_source::tables::MediaType;
 use fast_check_comments::Comments;
 use fast_check_syntax::{SyntaxContext, Tree};
 use std::rc::RcStr;

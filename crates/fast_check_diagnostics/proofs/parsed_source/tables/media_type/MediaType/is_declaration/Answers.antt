@@ -1,5 +1,5 @@
 use Rattle.std.proofs.Common.{rules}
-use Rattle.fast_check_parsed_source.proofs.tables.media_type.MediaType.is_declaration.Goals as goal
+use Rattle.fast_check_diagnostics.proofs.parsed_source.tables.media_type.MediaType.is_declaration.Goals as goal
 
 pub returns-in-Dts : goal.returns-in-Dts
 returns-in-Dts c = search rules

@@ -1,8 +1,7 @@
 //! A module's source, and the skeleton that answers it.
-#![tactic(auto)]
 
 mod tables;
 
-pub use tables::{
+pub use crate::parsed_source::tables::{
     FastCheckModule, MediaType, ModuleInfo, ModuleSpecifier, ParsedSource, StaticSource,
 };

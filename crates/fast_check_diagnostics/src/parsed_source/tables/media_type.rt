@@ -19,7 +19,7 @@ pub enum MediaType {
 }
 
 impl MediaType {
-    ghost use Rattle.fast_check_parsed_source.specs.MediaType.{is_declaration, is_typed};
+    ghost use Rattle.fast_check_diagnostics.specs.parsed_source.MediaType.{is_declaration, is_typed};
 
     /// Whether such a module has declarations alone: TypeScript's `.d.ts`, `.d.mts` and `.d.cts`.
     pub fn is_declaration(self) -> bool
