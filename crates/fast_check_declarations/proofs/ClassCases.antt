@@ -20,9 +20,9 @@ use Rattle.fast_check_signatures.specs.Answers.{Adds, answer_to}
 use Rattle.fast_check_signatures.specs.Classes.{plain_class_seen, ambient_class}
 use Rattle.fast_check_signatures.specs.Members.{stays_behind, each_behind, if_removed}
 use Rattle.fast_check_signatures.proofs.Adding.{adds_nothing, adds_same, adds_made, adds_visited}
-use Rattle.fast_check_surroundings.specs.skeleton.KeptComments.{without_all_leading}
-use Rattle.fast_check_surroundings.specs.skeleton.Surroundings.{Surroundings}
-use Rattle.fast_check_surroundings.specs.skeleton.Visible.{is_ambient_class}
+use Rattle.fast_check_links.specs.surroundings.skeleton.KeptComments.{without_all_leading}
+use Rattle.fast_check_links.specs.surroundings.skeleton.Surroundings.{Surroundings}
+use Rattle.fast_check_links.specs.surroundings.skeleton.Visible.{is_ambient_class}
 use Rattle.fast_check_declarations.specs.ClassAnswers.{class_in_answer, class_answer}
 
 module _ (around : Surroundings) (decl : Tree) where

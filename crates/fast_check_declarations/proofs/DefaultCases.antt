@@ -18,15 +18,15 @@ use Rattle.fast_check_signatures.specs.Expressions.{expr_seen}
 use Rattle.fast_check_signatures.specs.Functions.{function_seen, implementation_seen}
 use Rattle.fast_check_signatures.specs.Seen.{Seen, written, round, seens}
 use Rattle.fast_check_signatures.proofs.Adding.{adds_nothing, adds_same, adds_made, adds_demanded, adds_missing, adds_visited}
-use Rattle.fast_check_surroundings.specs.skeleton.declared.rules.DefaultRule.{DefaultRule}
-use Rattle.fast_check_surroundings.specs.skeleton.declared.rules.DefaultRule.TheVariants.{Value, Class, Function, Interface}
-use Rattle.fast_check_surroundings.specs.skeleton.Defaults.{default_value_seen, default_class_seen, default_place}
-use Rattle.fast_check_surroundings.specs.skeleton.Defaults.{default_signature, default_function_seen, default_seen}
-use Rattle.fast_check_surroundings.specs.skeleton.Surroundings.{Surroundings}
+use Rattle.fast_check_links.specs.surroundings.skeleton.declared.rules.DefaultRule.{DefaultRule}
+use Rattle.fast_check_links.specs.surroundings.skeleton.declared.rules.DefaultRule.TheVariants.{Value, Class, Function, Interface}
+use Rattle.fast_check_links.specs.surroundings.skeleton.Defaults.{default_value_seen, default_class_seen, default_place}
+use Rattle.fast_check_links.specs.surroundings.skeleton.Defaults.{default_signature, default_function_seen, default_seen}
+use Rattle.fast_check_links.specs.surroundings.skeleton.Surroundings.{Surroundings}
 use Rattle.fast_check_declarations.specs.ClassAnswers.{default_value_answer, default_class_answer, default_signature_answer}
 use Rattle.fast_check_declarations.specs.ClassAnswers.{default_function_answer, is_public_default, exported_default, default_decl_seen}
 use Rattle.fast_check_declarations.specs.ClassAnswers.{default_decl_answer, default_answer}
-use Rattle.fast_check_surroundings.proofs.Listed.{alone}
+use Rattle.fast_check_links.proofs.surroundings.Listed.{alone}
 
 -- ---- expressions
 

@@ -1,4 +1,4 @@
-pub use Rattle.fast_check_surroundings.proofs as surroundings_proofs
+pub use Rattle.fast_check_links.proofs as links_proofs
 pub use Rattle.fast_check_classes.proofs as class_proofs
 pub mod ClassCases
 pub mod DefaultCases

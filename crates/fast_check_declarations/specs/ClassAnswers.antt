@@ -7,12 +7,12 @@ use Rattle.fast_check_syntax.specs.declared.tree.Tree.{Tree}
 use Rattle.fast_check_program_forms.specs.ModuleDecls.{ExportDefaultDecl-span, ExportDefaultDecl-decl}
 use Rattle.fast_check_signatures.specs.Seen.{Seen, written, range, round, seens}
 use Rattle.fast_check_signatures.specs.Answers.{Answer, answer_to, answer_of}
-use Rattle.fast_check_surroundings.specs.skeleton.declared.rules.DefaultRule.{DefaultRule}
-use Rattle.fast_check_surroundings.specs.skeleton.declared.rules.DefaultRule.TheVariants as defaults
-use Rattle.fast_check_surroundings.specs.skeleton.Defaults.{is_public_value, default_value_seen, default_class_seen}
-use Rattle.fast_check_surroundings.specs.skeleton.Defaults.{default_signature, default_function_seen, default_seen}
-use Rattle.fast_check_surroundings.specs.skeleton.Surroundings.{Surroundings}
-use Rattle.fast_check_surroundings.specs.skeleton.Visible.{class_in, class_decl_seen, public_class}
+use Rattle.fast_check_links.specs.surroundings.skeleton.declared.rules.DefaultRule.{DefaultRule}
+use Rattle.fast_check_links.specs.surroundings.skeleton.declared.rules.DefaultRule.TheVariants as defaults
+use Rattle.fast_check_links.specs.surroundings.skeleton.Defaults.{is_public_value, default_value_seen, default_class_seen}
+use Rattle.fast_check_links.specs.surroundings.skeleton.Defaults.{default_signature, default_function_seen, default_seen}
+use Rattle.fast_check_links.specs.surroundings.skeleton.Surroundings.{Surroundings}
+use Rattle.fast_check_links.specs.surroundings.skeleton.Visible.{class_in, class_decl_seen, public_class}
 
 -- to the class of a declaration, and to the declaration
 unfoldable pub class_in_answer : Surroundings → Tree → Answer (Option Tree)

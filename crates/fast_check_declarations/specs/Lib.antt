@@ -1,2 +1,2 @@
-pub use Rattle.fast_check_surroundings.specs as surroundings
+pub use Rattle.fast_check_links.specs as links
 pub mod ClassAnswers

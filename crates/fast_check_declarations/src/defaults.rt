@@ -2,9 +2,9 @@
 ghost use Rattle.std.specs.Prelude.{◌≡◌, IfOk, Some};
 ghost use Rattle.fast_check_syntax.specs.Part.{seen};
 ghost use Rattle.fast_check_signatures.specs.Answers.{Adds};
-ghost use Rattle.fast_check_surroundings.specs.skeleton.Defaults.{default_place, is_public_value};
-ghost use Rattle.fast_check_surroundings.specs.Surroundings.{seen_around};
-ghost use Rattle.fast_check_surroundings.specs.Kept.{as_list};
+ghost use Rattle.fast_check_links.specs.surroundings.skeleton.Defaults.{default_place, is_public_value};
+ghost use Rattle.fast_check_links.specs.surroundings.Surroundings.{seen_around};
+ghost use Rattle.fast_check_links.specs.surroundings.Kept.{as_list};
 ghost use Rattle.fast_check_declarations.specs.ClassAnswers.{is_public_default, default_value_answer, default_class_answer};
 ghost use Rattle.fast_check_declarations.specs.ClassAnswers.{default_signature_answer, default_function_answer, default_decl_answer, default_answer};
 
@@ -12,11 +12,11 @@ use fast_check_class_forms::Function;
 use fast_check_classes::transform_class;
 use fast_check_classes::values::{leave_expr, transform_fn, transform_implementation};
 use fast_check_expression_forms::{ClassExpr, FnExpr};
+use fast_check_links::surroundings::Surroundings;
+use fast_check_links::surroundings::skeleton::DefaultRule;
 use fast_check_program_forms::{ExportDefaultDecl, ExportDefaultExpr, Ident};
 use fast_check_ranges::range_of_node;
 use fast_check_signatures::{Fault, FaultKind, FunctionKind};
-use fast_check_surroundings::Surroundings;
-use fast_check_surroundings::skeleton::DefaultRule;
 use fast_check_syntax::{Part, SourceRange, Tree};
 use std::alloc::{AllocError, Global};
 

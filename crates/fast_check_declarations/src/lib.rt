@@ -6,4 +6,4 @@ mod defaults;
 
 pub use classes::{keep_public_class, remove_inside};
 pub use defaults::keep_default;
-pub use fast_check_surroundings as surroundings;
+pub use fast_check_links::surroundings;

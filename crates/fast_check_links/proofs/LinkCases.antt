@@ -13,10 +13,10 @@ use Rattle.fast_check_program_forms.specs.ModuleDecls.{ImportDecl-specifiers, Na
 use Rattle.fast_check_program_forms.specs.ModuleDecls.{TsImportEqualsDecl-span}
 use Rattle.fast_check_signatures.specs.Answers.{faultless, answer_of}
 use Rattle.fast_check_signatures.specs.Seen.{Seen, written}
-use Rattle.fast_check_surroundings.specs.skeleton.declared.rules.LinkRule.TheVariants.{Import, Export, All, Alias}
-use Rattle.fast_check_surroundings.specs.skeleton.Links.{is_public_specifier, public_specifiers, source_of, answered_source}
-use Rattle.fast_check_surroundings.specs.skeleton.Links.{with_specifiers, import_with, export_with, all_exported}
-use Rattle.fast_check_surroundings.specs.skeleton.Surroundings.{Surroundings}
+use Rattle.fast_check_skeleton.specs.declared.rules.LinkRule.TheVariants.{Import, Export, All, Alias}
+use Rattle.fast_check_skeleton.specs.Links.{is_public_specifier, public_specifiers, source_of, answered_source}
+use Rattle.fast_check_skeleton.specs.Links.{with_specifiers, import_with, export_with, all_exported}
+use Rattle.fast_check_skeleton.specs.Surroundings.{Surroundings}
 use Rattle.fast_check_links.specs.Links.{link_answer}
 
 -- ---- sources

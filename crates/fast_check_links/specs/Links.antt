@@ -3,9 +3,9 @@
 use Rattle.std.specs.Prelude.{List}
 use Rattle.fast_check_syntax.specs.declared.tree.Tree.{Tree}
 use Rattle.fast_check_signatures.specs.Answers.{Answer, answer_of}
-use Rattle.fast_check_surroundings.specs.skeleton.declared.rules.LinkRule.{LinkRule}
-use Rattle.fast_check_surroundings.specs.skeleton.Links.{link_seen}
-use Rattle.fast_check_surroundings.specs.skeleton.Surroundings.{Surroundings}
+use Rattle.fast_check_skeleton.specs.declared.rules.LinkRule.{LinkRule}
+use Rattle.fast_check_skeleton.specs.Links.{link_seen}
+use Rattle.fast_check_skeleton.specs.Surroundings.{Surroundings}
 
 -- to an import, or to an export of names or of all
 unfoldable pub link_answer : Surroundings → Tree → LinkRule → Answer (List Tree)

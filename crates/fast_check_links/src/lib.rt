@@ -4,6 +4,7 @@
 mod links;
 mod relative;
 mod sources;
+pub mod surroundings;
 
 pub use fast_check_diagnostics::parsed_source::StaticSource;
 pub use links::keep_link;

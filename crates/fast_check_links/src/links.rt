@@ -2,18 +2,18 @@
 ghost use Rattle.std.specs.Prelude.{◌≡◌, IfOk};
 ghost use Rattle.fast_check_syntax.specs.Part.{seen};
 ghost use Rattle.fast_check_signatures.specs.Answers.{faultless};
-ghost use Rattle.fast_check_surroundings.specs.skeleton.Links.{answered_source, public_specifiers};
-ghost use Rattle.fast_check_surroundings.specs.skeleton.declared.rules.LinkRule.TheVariants as links;
-ghost use Rattle.fast_check_surroundings.specs.Surroundings.{seen_around};
-ghost use Rattle.fast_check_surroundings.specs.Kept.{as_list};
+ghost use Rattle.fast_check_skeleton.specs.Links.{answered_source, public_specifiers};
+ghost use Rattle.fast_check_skeleton.specs.declared.rules.LinkRule.TheVariants as links;
+ghost use Rattle.fast_check_links.specs.surroundings.Surroundings.{seen_around};
+ghost use Rattle.fast_check_links.specs.surroundings.Kept.{as_list};
 ghost use Rattle.fast_check_links.specs.Links.{link_answer};
 ghost use Rattle.fast_check_links.specs.Relative.{AreRelative};
 
 use crate::relative::RelativeSources;
+use crate::surroundings::Surroundings;
+use crate::surroundings::skeleton::LinkRule;
 use fast_check_program_forms::{ExportAll, ImportDecl, NamedExport, Str, TsImportEqualsDecl};
 use fast_check_ranges::range_of_node;
-use fast_check_surroundings::Surroundings;
-use fast_check_surroundings::skeleton::LinkRule;
 use fast_check_syntax::{Atom, Items, Part, Tree};
 use std::alloc::{AllocError, Global};
 

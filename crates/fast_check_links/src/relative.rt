@@ -1,10 +1,10 @@
 //! The texts that stand for the sources of a module, from one import to the next.
 ghost use Rattle.std.specs.Prelude.{◌≡◌, IfOk, OnOk};
-ghost use Rattle.fast_check_surroundings.specs.skeleton.Surroundings.{Surroundings as Asked};
-ghost use Rattle.fast_check_surroundings.specs.Surroundings.{seen_around};
+ghost use Rattle.fast_check_skeleton.specs.Surroundings.{Surroundings as Asked};
+ghost use Rattle.fast_check_links.specs.surroundings.Surroundings.{seen_around};
 ghost use Rattle.fast_check_links.specs.Relative.{AreRelative};
 
-use fast_check_surroundings::{Surroundings, relative_source};
+use crate::surroundings::{Surroundings, relative_source};
 use fast_check_syntax::Atom;
 use std::alloc::{AllocError, Global};
 use std::collections::BTreeMap;

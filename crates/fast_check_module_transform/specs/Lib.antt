@@ -1,3 +1,3 @@
-pub use Rattle.fast_check_declarations.specs.surroundings.skeleton as skeleton
+pub use Rattle.fast_check_declarations.specs.links.surroundings.skeleton as skeleton
 pub mod PartAnswers
 pub mod Transform

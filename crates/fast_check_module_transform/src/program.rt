@@ -2,8 +2,8 @@
 ghost use Rattle.std.specs.Prelude.{◌≡◌, IfOk};
 ghost use Rattle.fast_check_syntax.specs.Part.{seen};
 ghost use Rattle.fast_check_signatures.specs.Answers.{Adds};
-ghost use Rattle.fast_check_declarations.specs.surroundings.skeleton.KeptComments.{removed_starts, without_all_leading};
-ghost use Rattle.fast_check_declarations.specs.surroundings.Surroundings.{seen_around};
+ghost use Rattle.fast_check_declarations.specs.links.surroundings.skeleton.KeptComments.{removed_starts, without_all_leading};
+ghost use Rattle.fast_check_declarations.specs.links.surroundings.Surroundings.{seen_around};
 ghost use Rattle.fast_check_links.specs.Relative.{AreRelative};
 ghost use Rattle.fast_check_module_transform.specs.PartAnswers.{program_answer};
 ghost use Rattle.fast_check_module_transform.specs.Transform.{surroundings_of, skeleton, comments, faults};

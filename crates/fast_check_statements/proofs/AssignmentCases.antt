@@ -21,7 +21,7 @@ use Rattle.fast_check_expandos.specs.Assignments.{right_seen, is_declared, missi
 use Rattle.fast_check_expandos.specs.Expandos.{object_of}
 use Rattle.fast_check_expandos.specs.ModuleObjects.{objects_of}
 use Rattle.fast_check_expandos.specs.Objects.{Objects, exports_name, stands_exported}
-use Rattle.fast_check_surroundings.specs.skeleton.Surroundings.{Surroundings}
+use Rattle.fast_check_links.specs.surroundings.skeleton.Surroundings.{Surroundings}
 use Rattle.fast_check_statements.specs.Assigned.{assignment_answer, assignment_properties, missing_at}
 use Rattle.fast_check_statements.specs.PartAnswers.{value_answer}
 

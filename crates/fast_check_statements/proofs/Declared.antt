@@ -26,16 +26,16 @@ use Rattle.fast_check_signatures.specs.Expressions.{expr_seen}
 use Rattle.fast_check_signatures.specs.Functions.{function_seen, implementation_seen}
 use Rattle.fast_check_signatures.proofs.Choices.{of_choice}
 use Rattle.fast_check_signatures.proofs.Adding.{adds_nothing, adds_fault, adds_same, adds_made, adds_demanded, adds_missing, adds_visited}
-use Rattle.fast_check_surroundings.specs.skeleton.Mutability.{mutability_of}
-use Rattle.fast_check_surroundings.specs.skeleton.Surroundings.{Surroundings}
-use Rattle.fast_check_surroundings.specs.skeleton.Visible.{declared_ident, declared_type, declarator_head, typed_declarator, value_seen}
-use Rattle.fast_check_surroundings.specs.skeleton.Visible.{untyped_seen, ident_declarator_seen, declarator_seen, is_ambient_statement}
-use Rattle.fast_check_surroundings.specs.skeleton.Visible.{is_public_declarator, public_declarator, public_declarators, statement_seen}
-use Rattle.fast_check_surroundings.specs.skeleton.Visible.{signature_of, is_public_using, using_place, using_seen}
-use Rattle.fast_check_surroundings.proofs.skeleton_proofs.Standing.{declarator_one, statement_is}
+use Rattle.fast_check_links.specs.surroundings.skeleton.Mutability.{mutability_of}
+use Rattle.fast_check_links.specs.surroundings.skeleton.Surroundings.{Surroundings}
+use Rattle.fast_check_links.specs.surroundings.skeleton.Visible.{declared_ident, declared_type, declarator_head, typed_declarator, value_seen}
+use Rattle.fast_check_links.specs.surroundings.skeleton.Visible.{untyped_seen, ident_declarator_seen, declarator_seen, is_ambient_statement}
+use Rattle.fast_check_links.specs.surroundings.skeleton.Visible.{is_public_declarator, public_declarator, public_declarators, statement_seen}
+use Rattle.fast_check_links.specs.surroundings.skeleton.Visible.{signature_of, is_public_using, using_place, using_seen}
+use Rattle.fast_check_links.proofs.surroundings.skeleton_proofs.Standing.{declarator_one, statement_is}
 use Rattle.fast_check_statements.specs.PartAnswers.{retyped, value_answer, valued_answer, ident_answer, declarator_answer, public_answer}
 use Rattle.fast_check_statements.specs.PartAnswers.{declarators_answer, statement_answer, signature_answer, function_answer, using_answer}
-use Rattle.fast_check_surroundings.proofs.Listed.{alone, one_more, whole}
+use Rattle.fast_check_links.proofs.surroundings.Listed.{alone, one_more, whole}
 
 -- ---- declarators
 

@@ -7,10 +7,10 @@ use Rattle.fast_check_signatures.specs.declared.fault.Fault.{Fault}
 use Rattle.fast_check_signatures.specs.Seen.{Seen, written}
 use Rattle.fast_check_signatures.specs.Answers.{Adds, faultless, answer_of}
 use Rattle.fast_check_signatures.proofs.Adding.{adds_nothing, adds_same}
-use Rattle.fast_check_surroundings.specs.skeleton.Surroundings.{Surroundings}
-use Rattle.fast_check_surroundings.specs.skeleton.Visible.{function_decl_seen}
+use Rattle.fast_check_links.specs.surroundings.skeleton.Surroundings.{Surroundings}
+use Rattle.fast_check_links.specs.surroundings.skeleton.Visible.{function_decl_seen}
 use Rattle.fast_check_statements.specs.PartAnswers.{function_answer, public_function_answer, standing_answer}
-use Rattle.fast_check_surroundings.proofs.Listed.{alone}
+use Rattle.fast_check_links.proofs.surroundings.Listed.{alone}
 
 module _ (around : Surroundings) (place : SourceRange) (decl : Tree) where
   abbrev if_public : Bool → Seen → List Seen

@@ -8,7 +8,7 @@ use Rattle.fast_check_signatures.specs.declared.fault.FaultKind.TheVariants.{Mis
 use Rattle.fast_check_signatures.specs.Answers.{Answer, answer_of, fault_at, unless_stays}
 use Rattle.fast_check_expandos.specs.declared.properties.ExpandoProperty.{ExpandoProperty}
 use Rattle.fast_check_expandos.specs.Assignments.{assignment_seen, declared_properties}
-use Rattle.fast_check_surroundings.specs.skeleton.Surroundings.{Surroundings}
+use Rattle.fast_check_links.specs.surroundings.skeleton.Surroundings.{Surroundings}
 
 -- what is answered to one, and the properties that it declares
 unfoldable pub assignment_answer : Surroundings → Tree → Answer (List Tree)

@@ -1,3 +1,3 @@
-pub use Rattle.fast_check_surroundings.specs as surroundings
+pub use Rattle.fast_check_links.specs as links
 pub mod PartAnswers
 pub mod Assigned

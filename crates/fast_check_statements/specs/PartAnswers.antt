@@ -15,13 +15,13 @@ use Rattle.fast_check_signatures.specs.declared.fault.Fault.{Fault}
 use Rattle.fast_check_signatures.specs.declared.fault.FaultKind.TheVariants.{UnsupportedGlobalModule}
 use Rattle.fast_check_signatures.specs.declared.fault.FaultKind.TheVariants.{UnsupportedAmbientModule}
 use Rattle.fast_check_signatures.specs.Answers.{Answer, fault_at, answer_to, answer_of}
-use Rattle.fast_check_surroundings.specs.skeleton.Namespaces.{is_ambient_module}
-use Rattle.fast_check_surroundings.specs.skeleton.Surroundings.{Surroundings}
-use Rattle.fast_check_surroundings.specs.skeleton.Visible.{declared_ident, declarator_head, value_seen}
-use Rattle.fast_check_surroundings.specs.skeleton.Visible.{ident_declarator_seen, declarator_seen, public_declarator}
-use Rattle.fast_check_surroundings.specs.skeleton.Visible.{public_declarators, statement_seen, signature_of}
-use Rattle.fast_check_surroundings.specs.skeleton.Visible.{function_decl_seen, public_function, standing_seen}
-use Rattle.fast_check_surroundings.specs.skeleton.Visible.{using_seen}
+use Rattle.fast_check_links.specs.surroundings.skeleton.Namespaces.{is_ambient_module}
+use Rattle.fast_check_links.specs.surroundings.skeleton.Surroundings.{Surroundings}
+use Rattle.fast_check_links.specs.surroundings.skeleton.Visible.{declared_ident, declarator_head, value_seen}
+use Rattle.fast_check_links.specs.surroundings.skeleton.Visible.{ident_declarator_seen, declarator_seen, public_declarator}
+use Rattle.fast_check_links.specs.surroundings.skeleton.Visible.{public_declarators, statement_seen, signature_of}
+use Rattle.fast_check_links.specs.surroundings.skeleton.Visible.{function_decl_seen, public_function, standing_seen}
+use Rattle.fast_check_links.specs.surroundings.skeleton.Visible.{using_seen}
 
 -- a declarator of another type and value
 abbrev pub retyped : Tree → Tree → Tree → Tree

@@ -12,16 +12,16 @@ ghost use Rattle.fast_check_expandos.specs.Assignments.{missing_place, kept_prop
 ghost use Rattle.fast_check_expandos.specs.Expandos.{object_of, property_name};
 ghost use Rattle.fast_check_expandos.specs.ModuleObjects.{objects_of};
 ghost use Rattle.fast_check_expandos.specs.Objects.{exports_name};
-ghost use Rattle.fast_check_surroundings.specs.Surroundings.{seen_around};
+ghost use Rattle.fast_check_links.specs.surroundings.Surroundings.{seen_around};
 ghost use Rattle.fast_check_statements.specs.Assigned.{assignment_answer, assignment_properties, missing_at};
 
 use crate::declarations::keep_value;
 use fast_check_expandos::{ExpandoProperty, expando_property, exports_property, object_of};
 use fast_check_expression_forms::{AssignExpr, MemberExpr};
+use fast_check_links::surroundings::Surroundings;
 use fast_check_modules::{Symbol, is_expando_assignment};
 use fast_check_ranges::range_of_node;
 use fast_check_signatures::{Fault, FaultKind};
-use fast_check_surroundings::Surroundings;
 use fast_check_syntax::{Part, Tree};
 use std::alloc::{AllocError, Global};
 

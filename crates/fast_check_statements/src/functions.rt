@@ -2,14 +2,14 @@
 ghost use Rattle.std.specs.Prelude.{IfOk, Some};
 ghost use Rattle.fast_check_syntax.specs.Part.{seen};
 ghost use Rattle.fast_check_signatures.specs.Answers.{Adds};
-ghost use Rattle.fast_check_surroundings.specs.Surroundings.{seen_around};
-ghost use Rattle.fast_check_surroundings.specs.Kept.{as_list};
+ghost use Rattle.fast_check_links.specs.surroundings.Surroundings.{seen_around};
+ghost use Rattle.fast_check_links.specs.surroundings.Kept.{as_list};
 ghost use Rattle.fast_check_statements.specs.PartAnswers.{signature_answer, function_answer, public_function_answer};
 
+use fast_check_links::surroundings::Surroundings;
 use fast_check_program_forms::Ident;
 use fast_check_signatures::{Fault, FunctionKind};
 use fast_check_statement_forms::FnDecl;
-use fast_check_surroundings::Surroundings;
 use fast_check_syntax::{Part, SourceRange, Tree};
 use fast_check_values::{transform_fn, transform_implementation};
 use std::alloc::{AllocError, Global};

@@ -8,6 +8,6 @@ mod namespaces;
 
 pub use assignments::keep_assignment;
 pub use declarations::{keep_standing, keep_statement, keep_using};
-pub use fast_check_surroundings as surroundings;
+pub use fast_check_links::surroundings;
 pub use functions::keep_public_function;
 pub use namespaces::{items_inside, module_fault, namespace_with};

@@ -15,7 +15,7 @@ use Rattle.fast_check_expandos.specs.Assignments.{is_declared, mentioned_by}
 use Rattle.fast_check_expandos.specs.Expandos.{object_of, property_name}
 use Rattle.fast_check_expandos.specs.ModuleObjects.{objects_of}
 use Rattle.fast_check_expandos.specs.Objects.{Objects, exports_name, stands_exported}
-use Rattle.fast_check_surroundings.specs.Sources.{relative_source}
+use Rattle.fast_check_links.specs.surroundings.Sources.{relative_source}
 use Rattle.fast_check_skeleton.specs.Example.{at}
 use Rattle.fast_check_skeleton.specs.Surroundings.{Surroundings}
 use Rattle.fast_check_skeleton.specs.ClassExample.{no_places}

@@ -1,7 +1,7 @@
 use Rattle.std.proofs.Common.{◌∙◌}
 use Rattle.fast_check_statement_forms.specs.Declarations.{class_decl}
 use Rattle.fast_check_syntax.specs.Part.{seen}
-use Rattle.fast_check_surroundings.specs.Surroundings.{seen_around}
+use Rattle.fast_check_links.specs.surroundings.Surroundings.{seen_around}
 use Rattle.fast_check_declarations.proofs.ClassCases.{made_class}
 use Rattle.fast_check_signatures.proofs.Adding.{some_of}
 use Rattle.fast_check_declarations.proofs.classes.keep_class.Goals as goal

@@ -2,7 +2,7 @@ use Rattle.std.proofs.Common.{ap, sym, ◌∙◌}
 use Rattle.std.proofs.lemmas.Result.{IfOk-weaker}
 use Rattle.fast_check_syntax.specs.Part.{seen}
 use Rattle.fast_check_signatures.specs.Classes.{ambient_class}
-use Rattle.fast_check_surroundings.specs.Surroundings.{seen_around}
+use Rattle.fast_check_links.specs.surroundings.Surroundings.{seen_around}
 use Rattle.fast_check_declarations.proofs.ClassCases.{ambient_class_stays, plain_class_stays}
 use Rattle.fast_check_signatures.proofs.Adding.{some_of}
 use Rattle.fast_check_declarations.proofs.classes.keep_class_of.Goals as goal

@@ -2,7 +2,7 @@ use Rattle.std.proofs.Common.{rules, refl, ap, ◌∙◌, List, [], ◌∷◌}
 use Rattle.fast_check_syntax.specs.declared.tree.Tree.{Tree}
 use Rattle.fast_check_syntax.specs.Part.{seen}
 use Rattle.fast_check_syntax.specs.Shape.{parts}
-use Rattle.fast_check_surroundings.specs.skeleton.KeptComments.{without_all_leading}
+use Rattle.fast_check_links.specs.surroundings.skeleton.KeptComments.{without_all_leading}
 use Rattle.fast_check_declarations.proofs.ClassCases.{starts_left, stays_more, goes_more, all_removed}
 use Rattle.fast_check_declarations.proofs.classes.remove_before_members.Goals as goal
 

@@ -1,7 +1,7 @@
 use Rattle.std.proofs.Common.{◌≡◌, List, [], drop}
 use Rattle.fast_check_syntax.specs.declared.tree.Tree.{Tree}
 use Rattle.fast_check_classes.specs.class_nodes.Known.{Knows}
-use Rattle.fast_check_surroundings.specs.skeleton.KeptComments.{without_all_leading}
+use Rattle.fast_check_links.specs.surroundings.skeleton.KeptComments.{without_all_leading}
 use Rattle.fast_check_declarations.proofs.ClassCases.{starts_left}
 use Rattle.fast_check_declarations.proofs.classes.remove_before_members.Given as goal
 

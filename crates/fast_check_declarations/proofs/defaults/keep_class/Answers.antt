@@ -2,7 +2,7 @@ use Rattle.std.proofs.Common.{ap, ◌∙◌, ◌∷◌, []}
 use Rattle.fast_check_syntax.specs.Part.{seen}
 use Rattle.fast_check_syntax.specs.Shape.{node}
 use Rattle.fast_check_syntax.specs.declared.kind.Kind.TheVariants.{ClassExpr}
-use Rattle.fast_check_surroundings.specs.Surroundings.{seen_around}
+use Rattle.fast_check_links.specs.surroundings.Surroundings.{seen_around}
 use Rattle.fast_check_declarations.proofs.DefaultCases.{made_class}
 use Rattle.fast_check_signatures.proofs.Adding.{some_of}
 use Rattle.fast_check_declarations.proofs.defaults.keep_class.Goals as goal

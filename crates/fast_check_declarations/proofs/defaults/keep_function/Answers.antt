@@ -1,7 +1,7 @@
 use Rattle.std.proofs.Common.{refl, ap, ◌∙◌}
 use Rattle.fast_check_expression_forms.specs.Expressions.{fn_expr}
 use Rattle.fast_check_syntax.specs.Part.{seen}
-use Rattle.fast_check_surroundings.specs.Surroundings.{seen_around}
+use Rattle.fast_check_links.specs.surroundings.Surroundings.{seen_around}
 use Rattle.fast_check_declarations.proofs.DefaultCases.{ambient_function, made_function}
 use Rattle.fast_check_signatures.proofs.Adding.{some_of}
 use Rattle.fast_check_declarations.proofs.defaults.keep_function.Goals as goal

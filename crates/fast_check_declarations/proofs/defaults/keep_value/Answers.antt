@@ -2,7 +2,7 @@ use Rattle.std.proofs.Common.{ap}
 use Rattle.fast_check_program_forms.specs.ModuleDecls.{export_default_expr}
 use Rattle.fast_check_syntax.specs.Part.{seen}
 use Rattle.fast_check_syntax.specs.declared.tree.Tree.{Absent}
-use Rattle.fast_check_surroundings.specs.Surroundings.{seen_around}
+use Rattle.fast_check_links.specs.surroundings.Surroundings.{seen_around}
 use Rattle.fast_check_declarations.proofs.DefaultCases.{value_stays, value_goes}
 use Rattle.fast_check_signatures.proofs.Adding.{some_of}
 use Rattle.fast_check_declarations.proofs.defaults.keep_value.Goals as goal

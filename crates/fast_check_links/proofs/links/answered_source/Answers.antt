@@ -3,7 +3,7 @@ use Rattle.std.proofs.lemmas.Result.{IfOk-weaker}
 use Rattle.fast_check_syntax.specs.Part.{seen}
 use Rattle.fast_check_syntax.specs.declared.tree.Tree.{Absent}
 use Rattle.fast_check_program_forms.specs.Literals.{str}
-use Rattle.fast_check_surroundings.specs.Surroundings.{seen_around}
+use Rattle.fast_check_links.specs.surroundings.Surroundings.{seen_around}
 use Rattle.fast_check_links.proofs.LinkCases.{own_source, present_source}
 use Rattle.fast_check_links.proofs.links.answered_source.Goals as goal
 

@@ -2,8 +2,8 @@ use Rattle.std.proofs.Common.{◌∙◌, ap, sym}
 use Rattle.fast_check_syntax.specs.Part.{seen}
 use Rattle.fast_check_diagnostics.specs.PublicRanges.{is_public}
 use Rattle.fast_check_program_forms.specs.ModuleDecls.{export_all}
-use Rattle.fast_check_surroundings.specs.skeleton.Links.{answered_source}
-use Rattle.fast_check_surroundings.specs.Surroundings.{seen_around}
+use Rattle.fast_check_skeleton.specs.Links.{answered_source}
+use Rattle.fast_check_links.specs.surroundings.Surroundings.{seen_around}
 use Rattle.fast_check_links.proofs.LinkCases.{no_all, made_all}
 use Rattle.fast_check_links.proofs.links.keep_all.Goals as goal
 

@@ -2,8 +2,8 @@ use Rattle.std.proofs.Common.{refl, ◌∙◌, ap}
 use Rattle.std.proofs.lemmas.Bool.{false≢true}
 use Rattle.fast_check_syntax.specs.Part.{seen}
 use Rattle.fast_check_program_forms.specs.ModuleDecls.{import_decl}
-use Rattle.fast_check_surroundings.specs.skeleton.Links.{answered_source}
-use Rattle.fast_check_surroundings.specs.Surroundings.{seen_around}
+use Rattle.fast_check_skeleton.specs.Links.{answered_source}
+use Rattle.fast_check_links.specs.surroundings.Surroundings.{seen_around}
 use Rattle.fast_check_links.proofs.LinkCases.{no_import, made_import}
 use Rattle.fast_check_links.proofs.links.keep_import.Goals as goal
 

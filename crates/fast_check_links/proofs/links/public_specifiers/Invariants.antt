@@ -1,7 +1,7 @@
 use Rattle.std.proofs.Common.{◌≡◌, take}
 use Rattle.std.specs.List.{filter}
-use Rattle.fast_check_surroundings.specs.skeleton.Links.{is_public_specifier}
-use Rattle.fast_check_surroundings.specs.Surroundings.{seen_around}
+use Rattle.fast_check_skeleton.specs.Links.{is_public_specifier}
+use Rattle.fast_check_links.specs.surroundings.Surroundings.{seen_around}
 use Rattle.fast_check_links.proofs.links.public_specifiers.Given as goal
 
 abbrev pub invariant-loop-specifier : goal.invariant-loop-specifier

@@ -5,24 +5,24 @@ use Rattle.std.proofs.lemmas.Result.{IfOk-weaker}
 use Rattle.fast_check_comments.specs.Kept.{without_leading}
 use Rattle.fast_check_program_forms.specs.ModuleDecls.{export_decl}
 use Rattle.fast_check_ranges.specs.Ranges.{range_of_node}
-use Rattle.fast_check_declarations.specs.surroundings.skeleton.KeptComments.{removed_from, start_look, starts_in_body, without_all_leading}
+use Rattle.fast_check_declarations.specs.links.surroundings.skeleton.KeptComments.{removed_from, start_look, starts_in_body, without_all_leading}
 use Rattle.std.specs.Prelude.{List}
 use Rattle.std.specs.List.{flat_map}
-use Rattle.fast_check_declarations.specs.surroundings.skeleton.expandos.declared.properties.ExpandoProperty.{ExpandoProperty}
-use Rattle.fast_check_declarations.specs.surroundings.skeleton.Visible.{item_properties}
+use Rattle.fast_check_declarations.specs.links.surroundings.skeleton.expandos.declared.properties.ExpandoProperty.{ExpandoProperty}
+use Rattle.fast_check_declarations.specs.links.surroundings.skeleton.Visible.{item_properties}
 use Rattle.fast_check_syntax.specs.Part.{seen}
 use Rattle.fast_check_syntax.specs.Shape.{parts}
 use Rattle.fast_check_syntax.specs.Height.{height, height_at_most}
 use Rattle.fast_check_declarations.proofs.class_proofs.Nothing.{none_of}
-use Rattle.fast_check_declarations.specs.surroundings.Surroundings.{seen_around}
-use Rattle.fast_check_declarations.specs.surroundings.Kept.{as_list}
+use Rattle.fast_check_declarations.specs.links.surroundings.Surroundings.{seen_around}
+use Rattle.fast_check_declarations.specs.links.surroundings.Kept.{as_list}
 use Rattle.fast_check_module_transform.proofs.ByRule.{variables, functions, classes, standing, namespaces, using_stays, undeclared}
 use Rattle.fast_check_module_transform.proofs.ByRule.{declared, exported, no_export, made_export, linked, default_export, refused, silent}
 use Rattle.fast_check_module_transform.proofs.ByRule.{no_items, one_more_item, one_more_assigned, all_items, with_namespaces}
 use Rattle.fast_check_module_transform.proofs.ByRule.{assigned_is, same_properties, more_properties, all_properties}
-use Rattle.fast_check_declarations.specs.surroundings.skeleton.Rules.{is_assigned, item_rule}
+use Rattle.fast_check_declarations.specs.links.surroundings.skeleton.Rules.{is_assigned, item_rule}
 use Rattle.fast_check_module_transform.proofs.Namespaces.{inside_at_most, refused_module, private_namespace, public_namespace}
-use Rattle.fast_check_declarations.specs.surroundings.skeleton.Surroundings.{Surroundings}
+use Rattle.fast_check_declarations.specs.links.surroundings.skeleton.Surroundings.{Surroundings}
 use Rattle.fast_check_module_transform.proofs.Namespaces.{nothing_refused, nothing_private, all_inside}
 use Rattle.fast_check_module_transform.proofs.Removed.{item_lower, inside, below, below_nothing, below_declared, below_exported}
 use Rattle.fast_check_module_transform.proofs.Removed.{without_append, removed_if_none, removed_if_some, removed_if_assigned, one_more}

@@ -1,6 +1,6 @@
 use Rattle.std.proofs.Common.{rules}
 use Rattle.fast_check_module_transform.proofs.Transformed.{skeleton_is, faults_are}
-use Rattle.fast_check_declarations.specs.surroundings.Surroundings.{seen_around}
+use Rattle.fast_check_declarations.specs.links.surroundings.Surroundings.{seen_around}
 use Rattle.fast_check_module_transform.proofs.program.keep_module.Goals as goal
 
 pub keep_program-requires : goal.keep_program-requires

@@ -5,7 +5,7 @@ use Rattle.fast_check_helpers.specs.Builders.{never_value}
 use Rattle.fast_check_helpers.specs.InferredType.{inferred_type}
 use Rattle.fast_check_syntax.specs.Part.{seen}
 use Rattle.fast_check_syntax.specs.Shape.{is_absent}
-use Rattle.fast_check_surroundings.specs.Surroundings.{seen_around}
+use Rattle.fast_check_links.specs.surroundings.Surroundings.{seen_around}
 use Rattle.fast_check_statements.specs.PartAnswers.{retyped}
 use Rattle.fast_check_statements.proofs.Declared.{written_ident, shown_ident, valued_ident}
 use Rattle.fast_check_signatures.proofs.Adding.{some_of}

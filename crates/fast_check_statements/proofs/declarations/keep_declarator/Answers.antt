@@ -1,9 +1,9 @@
 use Rattle.std.proofs.Common.{ap, ◌∙◌, sym}
 use Rattle.fast_check_signatures.proofs.Adding.{adds_same}
-use Rattle.fast_check_surroundings.specs.skeleton.Mutability.{mutability_of}
+use Rattle.fast_check_links.specs.surroundings.skeleton.Mutability.{mutability_of}
 use Rattle.fast_check_syntax.specs.Part.{seen}
 use Rattle.fast_check_modules.specs.diagnostics.PublicRanges.{is_public}
-use Rattle.fast_check_surroundings.specs.Surroundings.{seen_around}
+use Rattle.fast_check_links.specs.surroundings.Surroundings.{seen_around}
 use Rattle.fast_check_statements.specs.PartAnswers.{declarator_answer}
 use Rattle.fast_check_statements.proofs.Declared.{private_declarator, ambient_declarator, public_declarator_stays}
 use Rattle.fast_check_statements.proofs.declarations.keep_declarator.Goals as goal

@@ -1,8 +1,8 @@
 use Rattle.std.proofs.Common.{rules, ap, sym, ◌∙◌, ◌++◌, append-nil}
 use Rattle.fast_check_syntax.specs.Part.{seen}
 use Rattle.fast_check_syntax.specs.Shape.{parts}
-use Rattle.fast_check_surroundings.specs.Surroundings.{seen_around}
-use Rattle.fast_check_surroundings.specs.Kept.{as_list}
+use Rattle.fast_check_links.specs.surroundings.Surroundings.{seen_around}
+use Rattle.fast_check_links.specs.surroundings.Kept.{as_list}
 use Rattle.fast_check_statements.proofs.Declared.{no_declarators, one_more_declarator, all_declarators}
 use Rattle.fast_check_statements.proofs.declarations.public_declarators.Goals as goal
 

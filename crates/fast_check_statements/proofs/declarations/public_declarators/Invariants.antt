@@ -1,7 +1,7 @@
 use Rattle.std.proofs.Common.{take}
 use Rattle.fast_check_syntax.specs.Part.{seen}
 use Rattle.fast_check_signatures.specs.Answers.{Adds}
-use Rattle.fast_check_surroundings.specs.Surroundings.{seen_around}
+use Rattle.fast_check_links.specs.surroundings.Surroundings.{seen_around}
 use Rattle.fast_check_statements.specs.PartAnswers.{declarators_answer}
 use Rattle.fast_check_statements.proofs.declarations.public_declarators.Given as goal
 

@@ -7,7 +7,7 @@ use Rattle.fast_check_syntax.specs.declared.kind.Kind.{Kind}
 use Rattle.fast_check_syntax.specs.declared.kind.Kind.TheVariants.{BindingIdent}
 use Rattle.fast_check_syntax.specs.Part.{seen}
 use Rattle.fast_check_syntax.specs.Shape.{◌is◌, kind_of}
-use Rattle.fast_check_surroundings.specs.Surroundings.{seen_around}
+use Rattle.fast_check_links.specs.surroundings.Surroundings.{seen_around}
 use Rattle.fast_check_statements.proofs.Declared.{typed_ident, typed_pattern}
 use Rattle.fast_check_statements.proofs.declarations.typed_declarator.Goals as goal
 

@@ -1,7 +1,7 @@
 use Rattle.std.proofs.Common.{ap, ◌∙◌, refl}
 use Rattle.fast_check_program_forms.specs.Names.{Ident-span, BindingIdent-id}
 use Rattle.fast_check_syntax.specs.Part.{seen}
-use Rattle.fast_check_surroundings.specs.Surroundings.{seen_around}
+use Rattle.fast_check_links.specs.surroundings.Surroundings.{seen_around}
 use Rattle.fast_check_statements.proofs.Declared.{value_stays, value_goes}
 use Rattle.fast_check_signatures.proofs.Adding.{some_of}
 use Rattle.fast_check_statements.proofs.declarations.valued_declarator.Goals as goal

@@ -1,7 +1,7 @@
 use Rattle.std.proofs.Common.{refl, ◌∙◌}
 use Rattle.fast_check_statement_forms.specs.Declarations.{fn_decl}
 use Rattle.fast_check_syntax.specs.Part.{seen}
-use Rattle.fast_check_surroundings.specs.Surroundings.{seen_around}
+use Rattle.fast_check_links.specs.surroundings.Surroundings.{seen_around}
 use Rattle.fast_check_statements.proofs.Declared.{ambient_function, made_function}
 use Rattle.fast_check_signatures.proofs.Adding.{some_of}
 use Rattle.fast_check_statements.proofs.functions.keep_function.Goals as goal

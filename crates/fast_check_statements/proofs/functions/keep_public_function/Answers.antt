@@ -1,6 +1,6 @@
 use Rattle.std.proofs.Common.{sym, ◌∙◌}
 use Rattle.fast_check_syntax.specs.Part.{seen}
-use Rattle.fast_check_surroundings.specs.Surroundings.{seen_around}
+use Rattle.fast_check_links.specs.surroundings.Surroundings.{seen_around}
 use Rattle.fast_check_statements.proofs.PublicCases.{function_stays, function_goes}
 use Rattle.fast_check_statements.proofs.functions.keep_public_function.Goals as goal
 

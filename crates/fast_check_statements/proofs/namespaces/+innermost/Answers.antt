@@ -4,8 +4,8 @@ use Rattle.fast_check_syntax.specs.declared.kind.Kind.TheVariants.{TsNamespaceDe
 use Rattle.fast_check_syntax.specs.Part.{seen}
 use Rattle.fast_check_syntax.specs.Shape.{◌is◌, kind_of}
 use Rattle.fast_check_syntax.specs.Height.{height}
-use Rattle.fast_check_surroundings.specs.skeleton.Namespaces.{innermost}
-use Rattle.fast_check_surroundings.proofs.skeleton_proofs.Namespaces.{innermost_block, innermost_inner}
+use Rattle.fast_check_links.specs.surroundings.skeleton.Namespaces.{innermost}
+use Rattle.fast_check_links.proofs.surroundings.skeleton_proofs.Namespaces.{innermost_block, innermost_inner}
 use Rattle.fast_check_statements.proofs.Blocks.{follows_lower}
 use Rattle.fast_check_statements.proofs.namespaces.+innermost.Goals as goal
 

@@ -1,7 +1,7 @@
 use Rattle.std.proofs.Common.{◌∙◌, sym, ap}
 use Rattle.std.proofs.lemmas.Result.{IfOk-weaker}
 use Rattle.std.specs.Option.{option_copied}
-use Rattle.fast_check_surroundings.specs.Surroundings.{seen_around}
+use Rattle.fast_check_links.specs.surroundings.Surroundings.{seen_around}
 use Rattle.fast_check_links.proofs.relative.RelativeSources.of_text.Goals as goal
 
 pub returns-in-Some-clause-found : goal.returns-in-Some-clause-found

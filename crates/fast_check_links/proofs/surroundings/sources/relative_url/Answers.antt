@@ -1,7 +1,7 @@
 use Rattle.std.specs.Prelude.{string_bytes, option_map}
 use Rattle.std.proofs.lemmas.Result.{IfOk-weaker}
-use Rattle.fast_check_surroundings.proofs.Related.{relative_is}
-use Rattle.fast_check_surroundings.proofs.sources.relative_url.Goals as goal
+use Rattle.fast_check_links.proofs.surroundings.Related.{relative_is}
+use Rattle.fast_check_links.proofs.surroundings.sources.relative_url.Goals as goal
 
 pub returns : goal.returns
 returns c =

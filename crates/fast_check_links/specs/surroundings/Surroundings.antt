@@ -5,9 +5,9 @@ use Rattle.fast_check_modules.specs.diagnostics.PublicRanges.{PublicRanges, is_p
 use Rattle.fast_check_modules.specs.EsModule.{EsModule}
 use Rattle.fast_check_bindings.specs.Bindings.{bindings_of}
 use Rattle.fast_check_skeleton.specs.expandos.ModuleObjects.{objects_of}
-use Rattle.fast_check_surroundings.specs.Sources.{Resolutions, relative_source}
+use Rattle.fast_check_links.specs.surroundings.Sources.{Resolutions, relative_source}
 use Rattle.fast_check_skeleton.specs.Surroundings.{Surroundings}
-use Rattle.fast_check_surroundings.specs.declared.surroundings.Surroundings.{Surroundings as Lent}
+use Rattle.fast_check_links.specs.declared.surroundings.surroundings.Surroundings.{Surroundings as Lent}
 
 -- what a module's skeleton depends on beside its tree: what is public of it, what is known of its names, whether it is
 -- a declaration file, all of which is ambient, where its texts resolve to, and what is known of the objects of its

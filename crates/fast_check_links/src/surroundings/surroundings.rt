@@ -23,7 +23,7 @@ pub struct Surroundings<'a> {
 impl<'a> Surroundings<'a> {
     ghost use Rattle.fast_check_syntax.specs.Part.{seen};
     ghost use Rattle.fast_check_skeleton.specs.Surroundings.{inside};
-    ghost use Rattle.fast_check_surroundings.specs.Surroundings.{seen_around, surroundings_by};
+    ghost use Rattle.fast_check_links.specs.surroundings.Surroundings.{seen_around, surroundings_by};
 
     /// What is asked of a module whose texts resolve to these, with these public ranges.
     pub fn of(
