@@ -22,7 +22,7 @@ use Rattle.fast_check_class_forms.specs.Methods.{ClassMethod-span, ClassMethod-k
 use Rattle.fast_check_class_forms.specs.Methods.{ClassMethod-is_static, ClassMethod-accessibility, ClassMethod-is_abstract}
 use Rattle.fast_check_class_forms.specs.Methods.{ClassMethod-is_optional, ClassMethod-is_override}
 use Rattle.fast_check_helpers.specs.Builders.{any_type_ann}
-use Rattle.fast_check_ranges.specs.Ranges.{range_of_node}
+use Rattle.fast_check_helpers.specs.ranges.Ranges.{range_of_node}
 use Rattle.fast_check_signatures.specs.Bindings.{Bindings}
 use Rattle.fast_check_signatures.specs.declared.fault.Fault.{Fault}
 use Rattle.fast_check_signatures.specs.declared.function_kind.FunctionKind.{FunctionKind}

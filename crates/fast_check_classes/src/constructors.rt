@@ -12,9 +12,9 @@ use crate::class_nodes::{
     constructor_body, is_private, param_target, plain_params, takes_apart, two_trees,
 };
 use fast_check_class_forms::Constructor;
+use fast_check_helpers::ranges::range_of_node;
 use fast_check_modules::EsModuleInfo;
 use fast_check_modules::diagnostics::ModulePublicRanges;
-use fast_check_ranges::range_of_node;
 use fast_check_signatures::{Fault, FaultKind};
 use fast_check_syntax::{Items, Kind, Part, SourceRange, Tree};
 use fast_check_values::{any_params, transform_params};

@@ -8,9 +8,9 @@ ghost use Rattle.fast_check_values.specs.bindings.Bindings.{bindings_of};
 
 use crate::class_nodes::{accessor_head, is_private, mutability_of_property, property_head};
 use fast_check_class_forms::{AutoAccessor, ClassProp};
+use fast_check_helpers::ranges::range_of_node;
 use fast_check_helpers::{DeclMutabilityKind, any_type_ann, maybe_infer_type, type_ann};
 use fast_check_modules::EsModuleInfo;
-use fast_check_ranges::range_of_node;
 use fast_check_signatures::{Fault, FaultKind};
 use fast_check_syntax::{Part, Tree};
 use fast_check_values::bindings::unresolved_context;

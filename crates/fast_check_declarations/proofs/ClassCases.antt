@@ -12,7 +12,7 @@ use Rattle.fast_check_syntax.specs.declared.tree.Tree.{Tree}
 use Rattle.fast_check_syntax.specs.Shape.{node}
 use Rattle.fast_check_comments.specs.declared.comments.Comments.{Comments}
 use Rattle.fast_check_comments.specs.Kept.{without_leading}
-use Rattle.fast_check_ranges.specs.Ranges.{range_of_node}
+use Rattle.fast_check_helpers.specs.ranges.Ranges.{range_of_node}
 use Rattle.fast_check_statement_forms.specs.Declarations.{ClassDecl-ident, ClassDecl-declare, ClassDecl-class, class_decl}
 use Rattle.fast_check_signatures.specs.declared.fault.Fault.{Fault}
 use Rattle.fast_check_signatures.specs.Seen.{Seen, written}

@@ -10,3 +10,4 @@ pub mod ReturnClass
 pub mod ReturnStep
 pub mod OptionalParams
 pub mod NamedBodies
+pub mod ranges

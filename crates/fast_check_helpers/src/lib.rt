@@ -9,6 +9,7 @@ mod keywords;
 mod literal_type;
 mod named_bodies;
 mod optional_params;
+pub mod ranges;
 mod return_class;
 mod simple_type;
 mod template_type;

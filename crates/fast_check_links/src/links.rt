@@ -12,8 +12,8 @@ ghost use Rattle.fast_check_links.specs.Relative.{AreRelative};
 use crate::relative::RelativeSources;
 use crate::surroundings::Surroundings;
 use crate::surroundings::skeleton::LinkRule;
+use fast_check_helpers::ranges::range_of_node;
 use fast_check_program_forms::{ExportAll, ImportDecl, NamedExport, Str, TsImportEqualsDecl};
-use fast_check_ranges::range_of_node;
 use fast_check_syntax::{Atom, Items, Part, Tree};
 use std::alloc::{AllocError, Global};
 

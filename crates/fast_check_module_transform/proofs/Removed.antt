@@ -13,7 +13,7 @@ use Rattle.fast_check_comments.specs.declared.comments.Comments.{Comments}
 use Rattle.fast_check_comments.specs.Kept.{without_leading}
 use Rattle.fast_check_declarations.specs.links.surroundings.skeleton.Surroundings.{Surroundings}
 use Rattle.fast_check_signatures.specs.Seen.{Seen}
-use Rattle.fast_check_ranges.specs.Ranges.{range_of_node}
+use Rattle.fast_check_helpers.specs.ranges.Ranges.{range_of_node}
 use Rattle.fast_check_declarations.specs.links.surroundings.skeleton.Rules.{is_assigned, item_rule}
 use Rattle.std.specs.Prelude.{Bool, true, false, if◌then◌else◌}
 use Rattle.fast_check_expression_forms.specs.Operators.{AssignExpr-span}

@@ -17,9 +17,9 @@ use fast_check_declarations::surroundings::Surroundings;
 use fast_check_declarations::surroundings::skeleton::expandos::{ExpandoProperty, keep_namespaces};
 use fast_check_declarations::surroundings::skeleton::{DeclRule, ItemRule, item_rule};
 use fast_check_declarations::{keep_default, keep_public_class, remove_inside};
+use fast_check_helpers::ranges::range_of_node;
 use fast_check_links::{RelativeSources, keep_link};
 use fast_check_program_forms::ExportDecl;
-use fast_check_ranges::range_of_node;
 use fast_check_signatures::{Fault, FaultKind};
 use fast_check_statement_forms::ExprStmt;
 use fast_check_statements::{

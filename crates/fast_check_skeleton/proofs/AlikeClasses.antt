@@ -17,7 +17,7 @@ use Rattle.fast_check_syntax.proofs.Moved.{node_moved, range_moved, text_moved, 
 use Rattle.fast_check_syntax.proofs.Moved.{flag_of_moved, has_word_moved}
 use Rattle.fast_check_syntax.proofs.Partners.{partners-keep as partners_keep, twice-keeps as twice_keeps}
 use Rattle.fast_check_syntax.proofs.Same.{tree_to, range_to}
-use Rattle.fast_check_ranges.specs.Ranges.{range_of_node}
+use Rattle.fast_check_helpers.specs.ranges.Ranges.{range_of_node}
 use Rattle.fast_check_class_forms.specs.Classes.{Constructor-span, Constructor-ctxt, Constructor-key, Constructor-body}
 use Rattle.fast_check_class_forms.specs.Classes.{Constructor-accessibility, Constructor-is_optional, TsParamProp-accessibility}
 use Rattle.fast_check_class_forms.specs.Classes.{TsParamProp-readonly, TsParamProp-param}

@@ -10,8 +10,8 @@ use Rattle.fast_check_syntax.specs.Same.{SameTree}
 use Rattle.fast_check_syntax.proofs.Moved.{absent_moved}
 use Rattle.fast_check_syntax.proofs.Partners.{partners-keep as partners_keep, twice-keeps as twice_keeps}
 use Rattle.fast_check_syntax.proofs.Same.{tree_to, range_to}
-use Rattle.fast_check_ranges.specs.Ranges.{range_of_node}
-use Rattle.fast_check_ranges.proofs.RangesMoved.{range_of_node_moved}
+use Rattle.fast_check_helpers.specs.ranges.Ranges.{range_of_node}
+use Rattle.fast_check_helpers.proofs.ranges.RangesMoved.{range_of_node_moved}
 use Rattle.fast_check_class_forms.specs.Fields.{ClassProp-value, ClassProp-type_ann, ClassProp-readonly, ClassProp-is_override}
 use Rattle.fast_check_class_forms.specs.Fields.{AutoAccessor-value, AutoAccessor-type_ann}
 use Rattle.fast_check_helpers.specs.declared.literal_type.DeclMutabilityKind.{DeclMutabilityKind}

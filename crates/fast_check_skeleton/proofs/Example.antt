@@ -25,7 +25,7 @@ use Rattle.fast_check_statement_forms.specs.Declarations.{VarDeclarator-definite
 use Rattle.fast_check_helpers.specs.Builders.{never_value}
 use Rattle.fast_check_skeleton.specs.Surroundings.{Surroundings}
 use Rattle.fast_check_skeleton.specs.Mutability.{mutability_of}
-use Rattle.fast_check_ranges.specs.Ranges.{range_of_node}
+use Rattle.fast_check_helpers.specs.ranges.Ranges.{range_of_node}
 use Rattle.fast_check_skeleton.specs.Visible.{declared_ident, declared_type, is_public_declarator, items_of}
 use Rattle.fast_check_skeleton.specs.Hidden.{AgreeHidden, SameHead, SameDeclarator, SameDeclarators, SameStatement, SameDecl, SameItem}
 use Rattle.fast_check_skeleton.specs.Hidden.{SameItems}

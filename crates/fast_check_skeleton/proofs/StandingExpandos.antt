@@ -17,7 +17,7 @@ use Rattle.fast_check_syntax.proofs.Made.{part_node, parts_node, kind_of_node, i
 use Rattle.fast_check_helpers.specs.Builders.{new_ident}
 use Rattle.fast_check_program_forms.specs.ModuleDecls.{ExportDecl-decl, export_decl}
 use Rattle.fast_check_expression_forms.specs.Operators.{AssignExpr-span, AssignExpr-left, AssignExpr-right}
-use Rattle.fast_check_ranges.specs.Ranges.{range_of_node}
+use Rattle.fast_check_helpers.specs.ranges.Ranges.{range_of_node}
 use Rattle.fast_check_statement_forms.specs.Declarations.{VarDecl-decls, var_decl}
 use Rattle.fast_check_statement_forms.specs.Statements.{ExprStmt-expr}
 use Rattle.fast_check_statement_forms.specs.TsDeclarations.{TsModuleDecl-global, TsModuleDecl-declare, TsModuleDecl-id, TsModuleDecl-body}

@@ -11,7 +11,7 @@ use Rattle.fast_check_syntax.specs.declared.tree.Tree as tree
 use Rattle.fast_check_syntax.specs.declared.tree.Tree.{Tree, Absent}
 use Rattle.fast_check_syntax.specs.Shape.{◌is◌, kind_of, parts, is_absent, flag_of, has_word, node, list, OfAll}
 use Rattle.fast_check_syntax.proofs.Made.{kind_of_node, parts_node, part_node, flag_of_flag}
-use Rattle.fast_check_ranges.specs.Ranges.{range_of_node}
+use Rattle.fast_check_helpers.specs.ranges.Ranges.{range_of_node}
 use Rattle.fast_check_class_forms.specs.Classes.{Class-body, Class-super_class, Class-decorators, Constructor-span, Constructor-ctxt}
 use Rattle.fast_check_class_forms.specs.Classes.{Constructor-key, Constructor-params, Constructor-body, Constructor-accessibility}
 use Rattle.fast_check_class_forms.specs.Classes.{Constructor-is_optional}

@@ -10,7 +10,7 @@ use Rattle.fast_check_syntax.specs.declared.tree.Tree.{Tree, Absent}
 use Rattle.fast_check_syntax.specs.Shape.{kind_of, parts, is_absent, none_range, node, list}
 use Rattle.fast_check_syntax.specs.Moves.{Renaming, IsRenaming}
 use Rattle.fast_check_syntax.specs.Same.{SameTree, SameRange, Each}
-use Rattle.fast_check_ranges.specs.Ranges.{range_of_node}
+use Rattle.fast_check_helpers.specs.ranges.Ranges.{range_of_node}
 use Rattle.fast_check_class_forms.specs.Classes.{Constructor-span, Constructor-accessibility, Constructor-body}
 use Rattle.fast_check_class_forms.specs.Classes.{TsParamProp-accessibility, TsParamProp-readonly, TsParamProp-param}
 use Rattle.fast_check_class_forms.specs.Fields.{class_prop}

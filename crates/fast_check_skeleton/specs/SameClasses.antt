@@ -11,7 +11,7 @@ use Rattle.fast_check_syntax.specs.declared.tree.Tree.{Tree}
 use Rattle.fast_check_syntax.specs.Shape.{◌is◌, kind_of, parts, is_absent, has_word}
 use Rattle.fast_check_syntax.specs.Moves.{Renaming, Pairs, IsPair}
 use Rattle.fast_check_syntax.specs.Same.{SameTree, SameRange, Each}
-use Rattle.fast_check_ranges.specs.Ranges.{range_of_node}
+use Rattle.fast_check_helpers.specs.ranges.Ranges.{range_of_node}
 use Rattle.fast_check_class_forms.specs.Classes.{Class-span, Class-ctxt, Class-decorators, Class-body}
 use Rattle.fast_check_class_forms.specs.Classes.{Class-super_class, Class-is_abstract, Class-type_params}
 use Rattle.fast_check_class_forms.specs.Classes.{Class-super_type_params, Class-implements, Constructor-span}

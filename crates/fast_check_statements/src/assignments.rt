@@ -18,9 +18,9 @@ ghost use Rattle.fast_check_statements.specs.Assigned.{assignment_answer, assign
 use crate::declarations::keep_value;
 use fast_check_expandos::{ExpandoProperty, expando_property, exports_property, object_of};
 use fast_check_expression_forms::{AssignExpr, MemberExpr};
+use fast_check_helpers::ranges::range_of_node;
 use fast_check_links::surroundings::Surroundings;
 use fast_check_modules::{Symbol, is_expando_assignment};
-use fast_check_ranges::range_of_node;
 use fast_check_signatures::{Fault, FaultKind};
 use fast_check_syntax::{Part, Tree};
 use std::alloc::{AllocError, Global};

@@ -14,11 +14,11 @@ ghost use Rattle.fast_check_statements.specs.PartAnswers.{retyped, value_answer,
 ghost use Rattle.fast_check_statements.specs.PartAnswers.{declarator_answer, public_answer, declarators_answer, statement_answer, standing_answer};
 ghost use Rattle.fast_check_statements.specs.PartAnswers.{using_answer};
 
+use fast_check_helpers::ranges::range_of_node;
 use fast_check_helpers::{DeclMutabilityKind, maybe_infer_type, never_value, type_ann};
 use fast_check_links::surroundings::Surroundings;
 use fast_check_links::surroundings::bindings::unresolved_context;
 use fast_check_program_forms::{BindingIdent, Ident};
-use fast_check_ranges::range_of_node;
 use fast_check_signatures::{Fault, FaultKind};
 use fast_check_statement_forms::{UsingDecl, VarDecl, VarDeclarator};
 use fast_check_syntax::{Items, Kind, Part, SourceRange, Tree, Word};

@@ -5,7 +5,7 @@ ghost use Rattle.fast_check_statement_forms.specs.TsDeclarations.{TsModuleDecl-b
 ghost use Rattle.fast_check_links.specs.surroundings.skeleton.Namespaces.{is_ambient_module, innermost, inner_namespace, body_with, namespace_with};
 ghost use Rattle.fast_check_statements.specs.PartAnswers.{module_fault};
 
-use fast_check_ranges::range_of_node;
+use fast_check_helpers::ranges::range_of_node;
 use fast_check_signatures::{Fault, FaultKind};
 use fast_check_statement_forms::{TsModuleBlock, TsModuleDecl, TsNamespaceDecl};
 use fast_check_syntax::{Items, Kind, Part, Tree};

@@ -27,7 +27,7 @@ use Rattle.fast_check_signatures.specs.Answers.{answer_to, answer_of, joined, pa
 use Rattle.fast_check_signatures.specs.Parameters.{emptied_array, emptied_object, default_seen, without_default, by_shown, assign_by_left}
 use Rattle.fast_check_signatures.specs.Parameters.{assign_seen, pat_by_kind, pat_seen, pats_seen}
 use Rattle.fast_check_signatures.specs.declared.fault.FaultKind.TheVariants.{UnsupportedDestructuring}
-use Rattle.fast_check_ranges.specs.Ranges.{range_of_node}
+use Rattle.fast_check_helpers.specs.ranges.Ranges.{range_of_node}
 use Rattle.fast_check_signatures.proofs.Looks.{expr_seen_is}
 use Rattle.fast_check_bindings.specs.Rows.{row_in, row_of}
 use Rattle.fast_check_new_nodes.specs.Shown.{default_type}

@@ -16,6 +16,7 @@ use crate::expressions::leave_value;
 use fast_check_bindings::unresolved_context;
 use fast_check_class_forms::Param;
 use fast_check_expression_forms::{ArrayPat, AssignPat, ObjectPat, RestPat};
+use fast_check_helpers::ranges::range_of_node;
 use fast_check_helpers::{ParamsOptionalStartIndex, never_value};
 use fast_check_modules::EsModuleInfo;
 use fast_check_new_nodes::{
@@ -23,7 +24,6 @@ use fast_check_new_nodes::{
     without_default,
 };
 use fast_check_program_forms::{BindingIdent, Ident};
-use fast_check_ranges::range_of_node;
 use fast_check_signatures::{Fault, FaultKind};
 use fast_check_syntax::{Items, Kind, Part, SourceRange, Tree};
 use std::alloc::{AllocError, Global};

@@ -6,7 +6,7 @@ ghost use Rattle.fast_check_syntax.specs.Shape.{kind_of};
 ghost use Rattle.fast_check_signatures.specs.Classes.{is_reference, property_of_kind, superclass_seen};
 
 use fast_check_expression_forms::{ComputedPropName, MemberExpr};
-use fast_check_ranges::range_of_node;
+use fast_check_helpers::ranges::range_of_node;
 use fast_check_signatures::{Fault, FaultKind};
 use fast_check_syntax::{Kind, Part, Tree};
 use std::alloc::{AllocError, Global};

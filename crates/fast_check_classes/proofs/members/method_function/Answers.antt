@@ -2,7 +2,7 @@ use Rattle.std.proofs.Common.{ap, ◌∙◌, sym}
 use Rattle.std.proofs.lemmas.Result.{IfOk-weaker}
 use Rattle.fast_check_values.specs.bindings.Bindings.{bindings_of}
 use Rattle.fast_check_syntax.specs.Part.{seen}
-use Rattle.fast_check_ranges.specs.Ranges.{range_of_node}
+use Rattle.fast_check_helpers.specs.ranges.Ranges.{range_of_node}
 use Rattle.fast_check_modules.specs.diagnostics.PublicRanges.{is_implementation}
 use Rattle.fast_check_signatures.specs.Classes.{method_kind}
 use Rattle.fast_check_classes.proofs.MembersKept.{implementation, signature}

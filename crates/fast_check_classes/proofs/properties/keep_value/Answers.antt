@@ -3,7 +3,7 @@ use Rattle.std.proofs.lemmas.Result.{IfOk-weaker}
 use Rattle.fast_check_values.specs.bindings.Bindings.{bindings_of}
 use Rattle.fast_check_syntax.specs.Part.{seen}
 use Rattle.fast_check_syntax.specs.Shape.{is_absent}
-use Rattle.fast_check_ranges.specs.Ranges.{range_of_node}
+use Rattle.fast_check_helpers.specs.ranges.Ranges.{range_of_node}
 use Rattle.fast_check_signatures.specs.Answers.{fault_at}
 use Rattle.fast_check_signatures.specs.declared.fault.FaultKind.TheVariants.{MissingExplicitType}
 use Rattle.fast_check_classes.proofs.PropertyCases.{absent_value, present_value}

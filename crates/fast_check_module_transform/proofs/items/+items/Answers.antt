@@ -4,7 +4,7 @@ use Rattle.std.proofs.lemmas.List.{take_all}
 use Rattle.std.proofs.lemmas.Result.{IfOk-weaker}
 use Rattle.fast_check_comments.specs.Kept.{without_leading}
 use Rattle.fast_check_program_forms.specs.ModuleDecls.{export_decl}
-use Rattle.fast_check_ranges.specs.Ranges.{range_of_node}
+use Rattle.fast_check_helpers.specs.ranges.Ranges.{range_of_node}
 use Rattle.fast_check_declarations.specs.links.surroundings.skeleton.KeptComments.{removed_from, start_look, starts_in_body, without_all_leading}
 use Rattle.std.specs.Prelude.{List}
 use Rattle.std.specs.List.{flat_map}

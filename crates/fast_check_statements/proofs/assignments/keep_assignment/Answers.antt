@@ -1,7 +1,7 @@
 use Rattle.std.proofs.Common.{◌∙◌, sym, ap, ◌++◌, append-nil}
 use Rattle.std.proofs.lemmas.Result.{on_ok_weaker}
 use Rattle.fast_check_syntax.specs.Part.{seen}
-use Rattle.fast_check_ranges.specs.Ranges.{range_of_node}
+use Rattle.fast_check_helpers.specs.ranges.Ranges.{range_of_node}
 use Rattle.fast_check_links.specs.surroundings.Surroundings.{seen_around}
 use Rattle.fast_check_statements.proofs.AssignmentCases.{hidden_assignment, hidden_properties, tested_assignment, nothing_missing}
 use Rattle.fast_check_statements.proofs.AssignmentCases.{no_property, property_stays}

@@ -7,8 +7,8 @@ use Rattle.fast_check_syntax.specs.declared.tree.Tree.{Tree}
 use Rattle.fast_check_syntax.specs.Shape.{kind_of, part, range_of}
 use Rattle.fast_check_syntax.specs.Moves.{Moves, Keeps, moved, moved_range}
 use Rattle.fast_check_syntax.proofs.Moved.{kind_of_moved, part_moved, range_of_moved}
-use Rattle.fast_check_ranges.specs.Ranges.{target_by_kind, without_target, expr_by_kind, without_marks, range_by_kind, range_of_form}
-use Rattle.fast_check_ranges.specs.Ranges.{range_of_node}
+use Rattle.fast_check_helpers.specs.ranges.Ranges.{target_by_kind, without_target, expr_by_kind, without_marks, range_by_kind, range_of_form}
+use Rattle.fast_check_helpers.specs.ranges.Ranges.{range_of_node}
 
 module _ (m : Moves) where
   target_moved : (k : Kind) (t : Tree) → target_by_kind k (moved m t) ≡ moved m (target_by_kind k t)

@@ -1,9 +1,8 @@
 //! The range of a node in the source text, for all forms.
-#![tactic(auto)]
 
 ghost use Rattle.std.specs.Prelude.{◌≡◌};
 ghost use Rattle.fast_check_syntax.specs.Part.{seen};
-ghost use Rattle.fast_check_ranges.specs.Ranges.{range_of_node, without_marks, without_target};
+ghost use Rattle.fast_check_helpers.specs.ranges.Ranges.{range_of_node, without_marks, without_target};
 
 use fast_check_class_forms::{Class, Function};
 use fast_check_expression_forms::{ClassExpr, FnExpr, PatExpr, TargetPat};
