@@ -3,12 +3,12 @@ use Rattle.std.specs.Prelude.{◌≡◌, ℕ, ◌+◌, List, [], ◌∷◌, map}
 use Rattle.fast_check_syntax.specs.Shape.{part, range_of, context_of, flag_of, text_of}
 use Rattle.fast_check_syntax.specs.declared.kind.Kind.{Kind}
 use Rattle.fast_check_syntax.specs.declared.tree.Tree.{Tree}
-use Rattle.fast_check_schema.specs.declared.form.Form.{Form}
-use Rattle.fast_check_schema.specs.declared.form.Form.TheVariants as forms
-use Rattle.fast_check_schema.specs.declared.form.Count.{Count}
-use Rattle.fast_check_schema.specs.declared.form.Count.TheVariants as counts
-use Rattle.fast_check_schema.specs.Rows.{FieldRow}
-use Rattle.fast_check_schema.specs.Schema.{fields_of}
+use Rattle.fast_check_read.specs.declared.schema.form.Form.{Form}
+use Rattle.fast_check_read.specs.declared.schema.form.Form.TheVariants as forms
+use Rattle.fast_check_read.specs.declared.schema.form.Count.{Count}
+use Rattle.fast_check_read.specs.declared.schema.form.Count.TheVariants as counts
+use Rattle.fast_check_read.specs.schema.Rows.{FieldRow}
+use Rattle.fast_check_read.specs.schema.Schema.{fields_of}
 use Rattle.fast_check_json.specs.Fields.{fields_of_form}
 use Rattle.fast_check_json.specs.Reading.{Content, Part, Range, Scope, Flag, Text}
 

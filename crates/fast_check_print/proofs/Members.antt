@@ -10,8 +10,8 @@ use Rattle.json.specs.Tree.{members_tokens}
 use Rattle.json.specs.Written.{Written}
 use Rattle.serde_json.specs.Data.{Members, no_members, member, put}
 use Rattle.serde_json.specs.Written.{members_outline}
-use Rattle.fast_check_schema.specs.Order.{name_at, name_or_none, insert_place, places_by_name}
-use Rattle.fast_check_schema.specs.Rows.{FieldRow}
+use Rattle.fast_check_read.specs.schema.Order.{name_at, name_or_none, insert_place, places_by_name}
+use Rattle.fast_check_read.specs.schema.Rows.{FieldRow}
 use Rattle.fast_check_print.specs.Trees.{ByForm, part_data, field_data, data_at, members_of_fields}
 use Rattle.fast_check_print.specs.Writing.{Adds, tokens_of}
 use Rattle.fast_check_print.proofs.Adding.{Remains, remains-next}

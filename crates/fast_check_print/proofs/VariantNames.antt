@@ -6,10 +6,10 @@ use native.Mathlib.Numerals.{unary_clauses}
 use Rattle.json.specs.Token.{begin_object, end_object, key}
 use Rattle.serde_json.specs.Data.{Data}
 use Rattle.fast_check_syntax.specs.declared.kind.Kind.{Kind}
-use Rattle.fast_check_schema.specs.declared.form.Choice.{Choice}
-use Rattle.fast_check_schema.specs.declared.form.Form.TheVariants as forms
-use Rattle.fast_check_schema.specs.Lookup.{variant_by_kind}
-use Rattle.fast_check_schema.specs.Schema.{variants_of}
+use Rattle.fast_check_read.specs.declared.schema.form.Choice.{Choice}
+use Rattle.fast_check_read.specs.declared.schema.form.Form.TheVariants as forms
+use Rattle.fast_check_read.specs.schema.Lookup.{variant_by_kind}
+use Rattle.fast_check_read.specs.schema.Schema.{variants_of}
 use Rattle.fast_check_print.specs.Trees.{variant_names, names_from, under}
 use Rattle.fast_check_print.specs.Writing.{tokens_of, opening}
 

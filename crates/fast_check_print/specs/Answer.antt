@@ -6,7 +6,7 @@ use Rattle.serde_json.specs.View.{items_of}
 use Rattle.fast_check_syntax.specs.declared.kind.Kind.TheVariants as kinds
 use Rattle.fast_check_syntax.specs.declared.tree.Tree.{Tree}
 use Rattle.fast_check_comments.specs.declared.comments.Comments.{Comments}
-use Rattle.fast_check_schema.specs.declared.form.Form.TheVariants.{Struct}
+use Rattle.fast_check_read.specs.declared.schema.form.Form.TheVariants.{Struct}
 use Rattle.fast_check_print.specs.Comments.{comments_data}
 use Rattle.fast_check_print.specs.Pieces.{range_data, single}
 use Rattle.fast_check_print.specs.Trees.{json_of}

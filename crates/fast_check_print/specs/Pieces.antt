@@ -3,11 +3,11 @@ use Rattle.std.specs.Prelude.{ℕ, List, [], Option, Some, None}
 use Rattle.serde_json.specs.Data.{Data, unsigned, number, array, object, no_items, item, no_members, member}
 use Rattle.fast_check_syntax.specs.declared.kind.Word.{Word}
 use Rattle.fast_check_syntax.specs.declared.source.SourceRange.{SourceRange}
-use Rattle.fast_check_schema.specs.declared.form.Form.{Form}
-use Rattle.fast_check_schema.specs.declared.form.Form.TheVariants as forms
-use Rattle.fast_check_schema.specs.Rows.{WordRow}
-use Rattle.fast_check_schema.specs.Lookup.{row_of_word}
-use Rattle.fast_check_schema.specs.Schema.{words_of}
+use Rattle.fast_check_read.specs.declared.schema.form.Form.{Form}
+use Rattle.fast_check_read.specs.declared.schema.form.Form.TheVariants as forms
+use Rattle.fast_check_read.specs.schema.Rows.{WordRow}
+use Rattle.fast_check_read.specs.schema.Lookup.{row_of_word}
+use Rattle.fast_check_read.specs.schema.Schema.{words_of}
 
 -- a whole number
 abbrev pub number_data : ℕ → Data

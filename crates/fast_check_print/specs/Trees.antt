@@ -8,13 +8,13 @@ use Rattle.fast_check_syntax.specs.declared.kind.Kind.TheVariants as kinds
 use Rattle.fast_check_syntax.specs.declared.tree.Tree.{Tree}
 use Rattle.fast_check_syntax.specs.declared.tree.Tree.TheOpen.{Tree-F}
 use Rattle.fast_check_syntax.specs.declared.tree.Tree.TheFolds.{fold-Tree}
-use Rattle.fast_check_schema.specs.declared.form.Choice.{Choice}
-use Rattle.fast_check_schema.specs.declared.form.Form.{Form}
-use Rattle.fast_check_schema.specs.declared.form.Form.TheVariants as forms
-use Rattle.fast_check_schema.specs.Rows.{FieldRow, VariantRow}
-use Rattle.fast_check_schema.specs.Schema.{fields_of, variants_of}
-use Rattle.fast_check_schema.specs.Lookup.{variant_by_kind, marked_choice}
-use Rattle.fast_check_schema.specs.Order.{name_at}
+use Rattle.fast_check_read.specs.declared.schema.form.Choice.{Choice}
+use Rattle.fast_check_read.specs.declared.schema.form.Form.{Form}
+use Rattle.fast_check_read.specs.declared.schema.form.Form.TheVariants as forms
+use Rattle.fast_check_read.specs.schema.Rows.{FieldRow, VariantRow}
+use Rattle.fast_check_read.specs.schema.Schema.{fields_of, variants_of}
+use Rattle.fast_check_read.specs.schema.Lookup.{variant_by_kind, marked_choice}
+use Rattle.fast_check_read.specs.schema.Order.{name_at}
 use Rattle.fast_check_print.specs.Pieces.{number_data, range_data, single, text_of_word}
 
 -- what a part is written as, wherever it stands

@@ -10,7 +10,7 @@ use crate::pieces::print_range;
 use crate::tree::print_tree;
 use fast_check_diagnostics::FastCheckDiagnostic;
 use fast_check_diagnostics::parsed_source::{FastCheckModule, ModuleInfo, StaticSource};
-use fast_check_schema::Form;
+use fast_check_read::schema::Form;
 use fast_check_syntax::Kind;
 use json::Writer;
 use std::alloc::{AllocError, Global};

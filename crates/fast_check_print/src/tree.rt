@@ -1,14 +1,14 @@
 //! Trees as JSON, by the schema.
 ghost use Rattle.std.specs.Prelude.{◌≡◌, ◌∷◌, OnOk, map, slice_get};
 ghost use Rattle.json.specs.Token.{key};
-ghost use Rattle.fast_check_schema.specs.Schema.{fields_of};
+ghost use Rattle.fast_check_read.specs.schema.Schema.{fields_of};
 ghost use Rattle.fast_check_print.specs.Pieces.{text_of_word};
 ghost use Rattle.fast_check_print.specs.Trees.{json_of, node_data, list_data, content_data, first_data, fields_data, part_data};
 ghost use Rattle.fast_check_print.specs.Writing.{Adds, WritesData, tokens_of};
 
 use crate::pieces::print_range;
 use crate::variants::{close_variants, open_variants};
-use fast_check_schema::{Choice, Field, Form, fields, marked, word_text, written_order};
+use fast_check_read::schema::{Choice, Field, Form, fields, marked, word_text, written_order};
 use fast_check_syntax::{Kind, Tree, Word};
 use json::Writer;
 use std::alloc::AllocError;

@@ -4,7 +4,7 @@ ghost use Rattle.json.specs.Token.{end_object};
 ghost use Rattle.fast_check_print.specs.Trees.{variant_names};
 ghost use Rattle.fast_check_print.specs.Writing.{Adds, opening};
 
-use fast_check_schema::{Form, variant_of};
+use fast_check_read::schema::{Form, variant_of};
 use fast_check_syntax::Kind;
 use json::Writer;
 use std::alloc::AllocError;

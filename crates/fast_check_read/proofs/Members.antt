@@ -10,7 +10,7 @@ use Rattle.serde_json.specs.Find.{get_member}
 use Rattle.serde_json.specs.View.{view, members_view}
 use Rattle.serde_json.specs.declared.value.Value.{Value}
 use Rattle.serde_json.proofs.Views.{view-lookup}
-use Rattle.fast_check_schema.specs.Rows.{FieldRow}
+use Rattle.fast_check_read.specs.schema.Rows.{FieldRow}
 use Rattle.fast_check_read.specs.Reading.{Reading, reading, member_readings, reading_named, field_tree, field_or_default}
 
 found_or : (o : Ordering) (d : Data) (rest : Option Reading) (others : Option Data) → rest ≡ option_map reading others

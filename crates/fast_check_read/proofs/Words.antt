@@ -10,13 +10,13 @@ use Rattle.serde_json.proofs.Views.{view-Array, view-Object}
 use Rattle.fast_check_syntax.specs.declared.kind.Kind.{Kind}
 use Rattle.fast_check_syntax.specs.declared.kind.Word.{Word as Word'}
 use Rattle.fast_check_syntax.specs.declared.tree.Tree.{Tree, Flag, Context, Text, Range, Word}
-use Rattle.fast_check_schema.specs.Lookup.{variant_by_name}
-use Rattle.fast_check_schema.specs.Schema.{variants_of}
-use Rattle.fast_check_schema.specs.declared.form.Choice.{Choice}
-use Rattle.fast_check_schema.specs.declared.form.Count.{Count}
-use Rattle.fast_check_schema.specs.declared.form.Form.{Form}
-use Rattle.fast_check_schema.specs.declared.form.Form.TheVariants as forms
-use Rattle.fast_check_schema.specs.declared.form.Words.{Words}
+use Rattle.fast_check_read.specs.schema.Lookup.{variant_by_name}
+use Rattle.fast_check_read.specs.schema.Schema.{variants_of}
+use Rattle.fast_check_read.specs.declared.schema.form.Choice.{Choice}
+use Rattle.fast_check_read.specs.declared.schema.form.Count.{Count}
+use Rattle.fast_check_read.specs.declared.schema.form.Form.{Form}
+use Rattle.fast_check_read.specs.declared.schema.form.Form.TheVariants as forms
+use Rattle.fast_check_read.specs.declared.schema.form.Words.{Words}
 use Rattle.fast_check_read.specs.declared.error.ReadError.{ReadError}
 use Rattle.fast_check_read.specs.Pieces.{u32_of, range_of_data, word_of}
 use Rattle.fast_check_read.specs.Reading.{reading, tree_of, member_readings, node_tree, choice_tree, marked_tree, counted}

@@ -5,9 +5,9 @@ use Rattle.serde_json.specs.Data.{Data, Items, no_items, item}
 use Rattle.serde_json.specs.Find.{as_array, as_bool, as_number, as_str, as_u64 as number_as_u64}
 use Rattle.fast_check_syntax.specs.declared.source.SourceRange.{SourceRange}
 use Rattle.fast_check_syntax.specs.declared.kind.Word.{Word}
-use Rattle.fast_check_schema.specs.declared.form.Words.{Words}
-use Rattle.fast_check_schema.specs.Lookup.{word_by_text}
-use Rattle.fast_check_schema.specs.Schema.{words_of}
+use Rattle.fast_check_read.specs.declared.schema.form.Words.{Words}
+use Rattle.fast_check_read.specs.schema.Lookup.{word_by_text}
+use Rattle.fast_check_read.specs.schema.Schema.{words_of}
 use Rattle.fast_check_read.specs.Each.{each}
 
 -- a whole number that is not negative

@@ -8,14 +8,14 @@ use Rattle.serde_json.specs.Data.{no_members, member}
 use Rattle.fast_check_syntax.specs.declared.kind.Kind.{Kind}
 use Rattle.fast_check_syntax.specs.declared.tree.Tree.{Tree, Absent, Flag, Context, Text, Range, Word}
 use Rattle.fast_check_syntax.specs.Shape.{node, list, none_range}
-use Rattle.fast_check_schema.specs.declared.form.Choice.{Choice}
-use Rattle.fast_check_schema.specs.declared.form.Form.{Form}
-use Rattle.fast_check_schema.specs.declared.form.Form.TheVariants as forms
-use Rattle.fast_check_schema.specs.declared.form.Count.{Count}
-use Rattle.fast_check_schema.specs.declared.form.Count.TheVariants as counts
-use Rattle.fast_check_schema.specs.Rows.{FieldRow}
-use Rattle.fast_check_schema.specs.Schema.{fields_of, variants_of}
-use Rattle.fast_check_schema.specs.Lookup.{variant_by_name, marked_choice}
+use Rattle.fast_check_read.specs.declared.schema.form.Choice.{Choice}
+use Rattle.fast_check_read.specs.declared.schema.form.Form.{Form}
+use Rattle.fast_check_read.specs.declared.schema.form.Form.TheVariants as forms
+use Rattle.fast_check_read.specs.declared.schema.form.Count.{Count}
+use Rattle.fast_check_read.specs.declared.schema.form.Count.TheVariants as counts
+use Rattle.fast_check_read.specs.schema.Rows.{FieldRow}
+use Rattle.fast_check_read.specs.schema.Schema.{fields_of, variants_of}
+use Rattle.fast_check_read.specs.schema.Lookup.{variant_by_name, marked_choice}
 use Rattle.fast_check_read.specs.Each.{each}
 use Rattle.fast_check_read.specs.Pieces.{u32_of, range_of_data, word_of}
 

@@ -6,6 +6,7 @@ mod error;
 mod float;
 mod input;
 mod pieces;
+pub mod schema;
 mod tree;
 
 pub use comments::read_comments;

@@ -11,8 +11,8 @@ use Rattle.fast_check_syntax.specs.declared.source.SourceRange.{SourceRange}
 use Rattle.fast_check_syntax.specs.declared.source.SyntaxContext.{SyntaxContext}
 use Rattle.fast_check_syntax.specs.declared.tree.Tree.{Tree}
 use Rattle.fast_check_comments.specs.declared.comments.Comments.{Comments}
-use Rattle.fast_check_schema.specs.declared.form.Choice.TheVariants.{Program}
-use Rattle.fast_check_schema.specs.declared.form.Form.TheVariants.{Choice}
+use Rattle.fast_check_read.specs.declared.schema.form.Choice.TheVariants.{Program}
+use Rattle.fast_check_read.specs.declared.schema.form.Form.TheVariants.{Choice}
 use Rattle.fast_check_read.specs.declared.error.ReadError.{ReadError}
 use Rattle.fast_check_read.specs.declared.error.ReadError.TheVariants.{BadForm}
 use Rattle.fast_check_read.specs.Comments.{comments_of}

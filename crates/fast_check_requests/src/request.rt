@@ -15,12 +15,12 @@ use fast_check_diagnostics::parsed_source::{ModuleSpecifier, ParsedSource};
 use fast_check_graph::ModuleGraph;
 use fast_check_modules::ModuleTables;
 use fast_check_modules::diagnostics::ModulePublicRanges;
+use fast_check_read::schema::{Choice, Form};
 use fast_check_read::{
     ReadError, has_float, read_comments, read_optional_flag, read_ranges, read_text, read_tree,
     read_u32,
 };
 use fast_check_read_tables::{read_graph, read_member, read_module_tables};
-use fast_check_schema::{Choice, Form};
 use fast_check_syntax::{SourceRange, SyntaxContext, Tree};
 use serde_json::Value;
 use std::alloc::Global;

@@ -1,6 +1,6 @@
 //! Forms and choices by their names.
 
-use fast_check_schema::{Choice, Form, Words};
+use fast_check_read::schema::{Choice, Form, Words};
 use fast_check_syntax::Kind;
 use std::alloc::{AllocError, Global};
 

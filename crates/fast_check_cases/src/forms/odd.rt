@@ -1,6 +1,6 @@
 //! Trees that no JSON is read as.
 
-use fast_check_schema::{Choice, Form, Words};
+use fast_check_read::schema::{Choice, Form, Words};
 use fast_check_syntax::{Atom, Items, Kind, SourcePos, SourceRange, SyntaxContext, Tree, Word};
 use std::alloc::{AllocError, Global};
 

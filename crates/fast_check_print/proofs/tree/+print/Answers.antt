@@ -5,8 +5,8 @@ use Rattle.std.proofs.lemmas.Option.{slice_get-map, slice_get_read, slice_get_pa
 use Rattle.json.specs.Token.{begin_object, end_object, key}
 use Rattle.json.specs.Tree.{members_tokens}
 use Rattle.serde_json.specs.Written.{members_outline}
-use Rattle.fast_check_schema.specs.Rows.{field_row}
-use Rattle.fast_check_schema.specs.Schema.{fields_of}
+use Rattle.fast_check_read.specs.schema.Rows.{field_row}
+use Rattle.fast_check_read.specs.schema.Schema.{fields_of}
 use Rattle.fast_check_print.specs.Trees.{json_of, node_data, list_data, part_data, fields_data, members_of_fields, variant_names, under}
 use Rattle.fast_check_print.specs.Trees.{content_data}
 use Rattle.fast_check_print.specs.Writing.{Adds, tokens_of, opening}

@@ -1,6 +1,6 @@
 use Rattle.std.proofs.Common.{drop, map}
-use Rattle.fast_check_schema.specs.Rows.{field_row}
-use Rattle.fast_check_schema.specs.Schema.{fields_of}
+use Rattle.fast_check_read.specs.schema.Rows.{field_row}
+use Rattle.fast_check_read.specs.schema.Schema.{fields_of}
 use Rattle.fast_check_print.specs.Trees.{json_of, list_data, fields_data}
 use Rattle.fast_check_print.specs.Writing.{tokens_of}
 use Rattle.fast_check_print.proofs.Adding.{Remains}

@@ -1,5 +1,5 @@
 use Rattle.std.proofs.Common.{◌≡◌, ℕ, ◌+◌, ◌-◌, ◌∷◌, length, arith, option_map, sym, ap, ◌∙◌, subst}
-use Rattle.fast_check_schema.specs.Rows.{variant_row}
+use Rattle.fast_check_read.specs.schema.Rows.{variant_row}
 use Rattle.fast_check_print.specs.Trees.{variant_names, names_from}
 use Rattle.fast_check_print.specs.Writing.{Adds, opening}
 use Rattle.fast_check_print.proofs.Adding.{adds-then, adds-token_ok}

@@ -5,10 +5,10 @@ use Rattle.serde_json.specs.View.{view, items_view, members_view}
 use Rattle.serde_json.specs.declared.value.Value.{Value}
 use Rattle.fast_check_syntax.specs.Shape.{list, node}
 use Rattle.fast_check_syntax.specs.declared.tree.Tree.{Tree, Flag, Context, Text, Range, Word}
-use Rattle.fast_check_schema.specs.Rows.{VariantRow, field_row}
-use Rattle.fast_check_schema.specs.Schema.{fields_of}
-use Rattle.fast_check_schema.specs.declared.form.Count.{Count}
-use Rattle.fast_check_schema.specs.declared.form.Form.{Form}
+use Rattle.fast_check_read.specs.schema.Rows.{VariantRow, field_row}
+use Rattle.fast_check_read.specs.schema.Schema.{fields_of}
+use Rattle.fast_check_read.specs.declared.schema.form.Count.{Count}
+use Rattle.fast_check_read.specs.declared.schema.form.Form.{Form}
 use Rattle.fast_check_read.specs.Each.{each, Answers}
 use Rattle.fast_check_read.specs.Reading.{reading, tree_of, field_or_default, item_readings, member_readings, list_items, option_items}
 use Rattle.fast_check_read.specs.Reading.{counted, field_tree, option_tree, or_absent, Reading}

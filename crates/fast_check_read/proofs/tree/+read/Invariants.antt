@@ -1,6 +1,6 @@
 use Rattle.std.proofs.Common.{◌≡◌, ◌++◌, drop, map, option_map}
 use Rattle.serde_json.specs.View.{items_view, members_view}
-use Rattle.fast_check_schema.specs.Rows.{field_row}
+use Rattle.fast_check_read.specs.schema.Rows.{field_row}
 use Rattle.fast_check_read.specs.Each.{each}
 use Rattle.fast_check_read.specs.Reading.{item_readings, member_readings, field_tree, list_items, option_items}
 use Rattle.fast_check_read.proofs.tree.+read.Given as goal

@@ -1,5 +1,0 @@
-use Rattle.fast_check_schema.proofs.Orders.{now_at, row_of_kind}
-use Rattle.fast_check_schema.proofs.order.written_order.Goals as goal
-
-pub returns : goal.returns
-returns c = simp now_at (row_of_kind c.args.kind)
