@@ -1,7 +1,7 @@
 -- Modules as contracts see them.
 use Rattle.std.proofs.Common.{◌≡◌, ◌∙◌, sym, ap, Option, Some, Result, Ok, Err}
 use Rattle.fast_check_read.specs.declared.error.ReadError.{ReadError}
-use Rattle.fast_check_read_tables.specs.Reads.{Reads}
+use Rattle.fast_check_read_tables.specs.graph.Reads.{Reads}
 use Rattle.fast_check_requests.specs.declared.request.EsModuleParts.{EsModuleParts}
 use Rattle.fast_check_requests.specs.Request.{Source, Module, Makes, HoldsModule, IsSource}
 use Rattle.fast_check_diagnostics.specs.declared.parsed_source.tables.parsed_source.ParsedSource.{ParsedSource}

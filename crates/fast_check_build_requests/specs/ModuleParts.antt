@@ -5,7 +5,7 @@ use Rattle.std.specs.Str.{bytes_eq}
 use Rattle.serde_json.specs.Data.{Data}
 use Rattle.url.specs.Parts.{Parts}
 use Rattle.fast_check_diagnostics.specs.declared.parsed_source.tables.parsed_source.ParsedSource.{ParsedSource}
-use Rattle.fast_check_read_tables.specs.Reads.{given, needed, variant_of, url_of}
+use Rattle.fast_check_read_tables.specs.graph.Reads.{given, needed, variant_of, url_of}
 use Rattle.fast_check_read_tables.specs.Seen as seen
 use Rattle.fast_check_read_tables.specs.Seen.{SeenTables}
 use Rattle.fast_check_read_tables.specs.Tables.{tables_of}

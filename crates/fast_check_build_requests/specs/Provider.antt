@@ -6,8 +6,8 @@ use Rattle.std.specs.Ordering.{is_eq}
 use Rattle.fast_check_symbols.specs.Entries.{unreplaced}
 use Rattle.fast_check_packages.specs.Package.{Nv, nv_of, nv_cmp}
 use Rattle.fast_check_packages.specs.declared.listed.ListedPackages.{ListedPackages}
-use Rattle.fast_check_read_tables.specs.Reads.{given, both_of, needed, listed, url_of}
-use Rattle.fast_check_read_tables.specs.Graph.{package_of}
+use Rattle.fast_check_read_tables.specs.graph.Reads.{given, both_of, needed, listed, url_of}
+use Rattle.fast_check_read_tables.specs.graph.Graph.{package_of}
 
 -- what contracts see of a provider: packages with their URLs, and the URL of all others
 pub record SeenProvider : Type 0 where

@@ -4,10 +4,10 @@ use Rattle.serde_json.specs.Data.{Data}
 use Rattle.serde_json.specs.Written.{has_float}
 use Rattle.url.specs.Parts.{Parts}
 use Rattle.fast_check_packages.specs.Package.{Nv, nv_of}
-use Rattle.fast_check_read_tables.specs.Reads.{given, both_of, needed, listed, flagged, url_of}
-use Rattle.fast_check_read_tables.specs.Graph as graphs
-use Rattle.fast_check_read_tables.specs.Graph.{SeenGraph, graph_member_of, package_of}
-use Rattle.fast_check_read_tables.specs.Workspace.{SeenMember, workspace_member, workspace_member_of}
+use Rattle.fast_check_read_tables.specs.graph.Reads.{given, both_of, needed, listed, flagged, url_of}
+use Rattle.fast_check_read_tables.specs.graph.Graph as graphs
+use Rattle.fast_check_read_tables.specs.graph.Graph.{SeenGraph, graph_member_of, package_of}
+use Rattle.fast_check_read_tables.specs.graph.Workspace.{SeenMember, workspace_member, workspace_member_of}
 use Rattle.fast_check_build_requests.specs.ModuleParts.{SeenModule, module_parts, module_parts_of}
 use Rattle.fast_check_build_requests.specs.Provider.{SeenProvider, provider, provider_of}
 use Rattle.fast_check_build_requests.specs.declared.request.BuildRequest.{BuildRequest}

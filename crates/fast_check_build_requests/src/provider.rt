@@ -3,7 +3,7 @@
 ghost use Rattle.std.specs.Prelude.{◌≡◌, map, codes, IfOk};
 ghost use Rattle.serde_json.specs.View.{view};
 ghost use Rattle.fast_check_packages.specs.Package.{nv_of};
-ghost use Rattle.fast_check_read_tables.specs.Reads.{Reads, needed};
+ghost use Rattle.fast_check_read_tables.specs.graph.Reads.{Reads, needed};
 ghost use Rattle.fast_check_build_requests.specs.Provider.{provider, provider_of, last_rows};
 
 use fast_check_packages::{ListedPackages, PackageNv};

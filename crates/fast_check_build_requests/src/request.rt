@@ -2,7 +2,7 @@
 
 ghost use Rattle.std.specs.Prelude.{◌≡◌};
 ghost use Rattle.serde_json.specs.View.{view};
-ghost use Rattle.fast_check_read_tables.specs.Reads.{Reads};
+ghost use Rattle.fast_check_read_tables.specs.graph.Reads.{Reads};
 ghost use Rattle.fast_check_build_requests.specs.Request.{build, build_of, members_of_build};
 
 use crate::module_parts::ModuleParts;

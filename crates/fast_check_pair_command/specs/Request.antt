@@ -7,9 +7,9 @@ use Rattle.serde_json.specs.Written.{has_float}
 use Rattle.fast_check_syntax.specs.declared.source.SourceRange.{SourceRange}
 use Rattle.fast_check_read.specs.Pieces.{optional_flag_of}
 use Rattle.fast_check_modules.specs.diagnostics.PublicRanges.{is_public, is_implementation, same_range}
-use Rattle.fast_check_read_tables.specs.Reads.{given}
-use Rattle.fast_check_read_tables.specs.Graph as graphs
-use Rattle.fast_check_read_tables.specs.Graph.{SeenGraph, graph_member_of}
+use Rattle.fast_check_read_tables.specs.graph.Reads.{given}
+use Rattle.fast_check_read_tables.specs.graph.Graph as graphs
+use Rattle.fast_check_read_tables.specs.graph.Graph.{SeenGraph, graph_member_of}
 use Rattle.fast_check_requests.specs.Request.{Module, ranges_or_none, module_of, HoldsModule}
 use Rattle.fast_check_pair_command.specs.declared.request.PairRequest.{PairRequest}
 use Rattle.fast_check_pair_command.specs.declared.request.Side as made

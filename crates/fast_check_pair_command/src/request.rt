@@ -3,7 +3,7 @@
 ghost use Rattle.std.specs.Prelude.{codes};
 ghost use Rattle.serde_json.specs.Find.{get};
 ghost use Rattle.serde_json.specs.View.{view};
-ghost use Rattle.fast_check_read_tables.specs.Reads.{given};
+ghost use Rattle.fast_check_read_tables.specs.graph.Reads.{given};
 ghost use Rattle.fast_check_requests.specs.Request.{module_of, Makes, HoldsModule};
 ghost use Rattle.fast_check_pair_command.specs.Request.{side_of, pair_of, members_of_pair, IsSide, IsPair};
 

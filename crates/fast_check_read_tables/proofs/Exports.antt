@@ -2,7 +2,7 @@
 use Rattle.std.proofs.Common.{◌≡◌, refl, ℕ, List, [], ◌∷◌}
 use Rattle.fast_check_symbols.specs.declared.symbol_id.SymbolId.{SymbolId}
 use Rattle.fast_check_symbols.specs.Exports.{put_export}
-use Rattle.fast_check_read_graph.specs.Gathered.{all_gathered}
+use Rattle.fast_check_read_tables.specs.graph.Gathered.{all_gathered}
 use Rattle.fast_check_read_tables.specs.Symbols.{all_put}
 
 pub puts_gathered : (exports : List (List ℕ × SymbolId)) (es : List (List ℕ × SymbolId))

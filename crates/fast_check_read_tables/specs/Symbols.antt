@@ -7,8 +7,8 @@ use Rattle.fast_check_symbols.specs.declared.symbol_id.SymbolId.{SymbolId}
 use Rattle.fast_check_symbols.specs.declared.node.ReferenceNamespace.{ReferenceNamespace}
 use Rattle.fast_check_symbols.specs.declared.node.ReferenceNamespace.TheVariants.{Value, Type_, Both}
 use Rattle.fast_check_symbols.specs.Exports.{put_export}
-use Rattle.fast_check_read_graph.specs.Reads.{given, list_of, both_of, or_null, or_default, needed, listed, optional}
-use Rattle.fast_check_read_graph.specs.Reads.{flagged, ranged, variant_of, id_of, symbol_id_of}
+use Rattle.fast_check_read_tables.specs.graph.Reads.{given, list_of, both_of, or_null, or_default, needed, listed, optional}
+use Rattle.fast_check_read_tables.specs.graph.Reads.{flagged, ranged, variant_of, id_of, symbol_id_of}
 use Rattle.serde_json.specs.Find.{get}
 use Rattle.fast_check_read_tables.specs.Seen as seen
 use Rattle.fast_check_read_tables.specs.Seen.{FileName, Dep, Node, DeclKind, Decl, SeenSymbol}

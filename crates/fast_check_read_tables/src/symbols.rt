@@ -2,15 +2,15 @@
 
 ghost use Rattle.std.specs.Prelude.{[], option_map};
 ghost use Rattle.serde_json.specs.View.{view};
-ghost use Rattle.fast_check_read_graph.specs.Reads.{Reads, or_default, or_null};
+ghost use Rattle.fast_check_read_tables.specs.graph.Reads.{Reads, or_default, or_null};
 ghost use Rattle.fast_check_read_tables.specs.Seen as seen;
 ghost use Rattle.fast_check_read_tables.specs.Symbols as symbols;
 
-use fast_check_read::{ReadError, read_members, read_pair, read_text};
-use fast_check_read_graph::{
+use crate::graph::{
     FromJson, FromJsonBy, Gather, both, gather_all, read_flag, read_list, read_list_by,
     read_member, read_member_by, read_option, read_span, read_variant,
 };
+use fast_check_read::{ReadError, read_members, read_pair, read_text};
 use fast_check_symbols::{
     FileDepName, ReferenceNamespace, Symbol, SymbolDecl, SymbolDeclKind, SymbolDecls, SymbolDep,
     SymbolExports, SymbolId, SymbolNode, SymbolNodeDep,

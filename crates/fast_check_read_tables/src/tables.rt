@@ -1,14 +1,14 @@
 //! The tables of a module.
 
 ghost use Rattle.serde_json.specs.View.{view};
-ghost use Rattle.fast_check_read_graph.specs.Reads.{Reads};
+ghost use Rattle.fast_check_read_tables.specs.graph.Reads.{Reads};
 ghost use Rattle.fast_check_read_tables.specs.Seen as seen;
 ghost use Rattle.fast_check_read_tables.specs.Tables as tables;
 
+use crate::graph::{FromJson, FromJsonBy, both, read_list, read_list_by, read_member};
 use crate::symbols::OfTables;
 use fast_check_modules::{ModuleTables, ReExportAllNode};
 use fast_check_read::ReadError;
-use fast_check_read_graph::{FromJson, FromJsonBy, both, read_list, read_list_by, read_member};
 use fast_check_symbols::Symbol;
 use serde_json::Value;
 use std::alloc::Global;

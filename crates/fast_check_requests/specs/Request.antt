@@ -22,13 +22,13 @@ use Rattle.fast_check_diagnostics.specs.declared.parsed_source.tables.parsed_sou
 use Rattle.fast_check_diagnostics.specs.declared.parsed_source.tables.media_type.MediaType.{MediaType}
 use Rattle.fast_check_modules.specs.diagnostics.PublicRanges.{PublicRanges, is_public, is_implementation, same_range}
 use Rattle.fast_check_graph.specs.declared.graph.ModuleGraph.{ModuleGraph}
-use Rattle.fast_check_read_tables.specs.Reads.{given, needed, url_of}
-use Rattle.fast_check_read_tables.specs.Modules.{media_type_of}
+use Rattle.fast_check_read_tables.specs.graph.Reads.{given, needed, url_of}
+use Rattle.fast_check_read_tables.specs.graph.Modules.{media_type_of}
 use Rattle.fast_check_read_tables.specs.Seen as seen
 use Rattle.fast_check_read_tables.specs.Seen.{SeenTables}
 use Rattle.fast_check_read_tables.specs.Tables.{tables_of}
-use Rattle.fast_check_read_tables.specs.Graph as graphs
-use Rattle.fast_check_read_tables.specs.Graph.{SeenGraph, graph_member_of}
+use Rattle.fast_check_read_tables.specs.graph.Graph as graphs
+use Rattle.fast_check_read_tables.specs.graph.Graph.{SeenGraph, graph_member_of}
 use Rattle.fast_check_requests.specs.declared.request.EsModuleParts.{EsModuleParts}
 use Rattle.fast_check_requests.specs.declared.request.TransformRequest.{TransformRequest}
 

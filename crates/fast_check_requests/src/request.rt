@@ -6,7 +6,7 @@ ghost use Rattle.serde_json.specs.Find.{get};
 ghost use Rattle.serde_json.specs.View.{view};
 ghost use Rattle.fast_check_read.specs.Comments.{comments_of};
 ghost use Rattle.fast_check_read.specs.Each.{Answers};
-ghost use Rattle.fast_check_read_tables.specs.Reads.{given};
+ghost use Rattle.fast_check_read_tables.specs.graph.Reads.{given};
 ghost use Rattle.fast_check_requests.specs.Request.{request_of, members_of_request, ranges_or_none, context_or_zero};
 ghost use Rattle.fast_check_requests.specs.Request.{program_of, source_of, module_of, Makes, HoldsModule, IsRequest, IsSource};
 

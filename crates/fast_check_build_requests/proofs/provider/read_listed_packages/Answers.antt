@@ -1,7 +1,7 @@
 use Rattle.std.proofs.Common.{◌∙◌, sym, ap, List, Some}
 use Rattle.url.specs.Parts.{Parts}
 use Rattle.fast_check_packages.specs.Package.{Nv}
-use Rattle.fast_check_read_tables.proofs.Given.{given_some, map_some}
+use Rattle.fast_check_read_tables.proofs.graph.Given.{given_some, map_some}
 use Rattle.fast_check_build_requests.specs.Provider.{SeenProvider}
 use Rattle.fast_check_build_requests.proofs.provider.read_listed_packages.Goals as goal
 

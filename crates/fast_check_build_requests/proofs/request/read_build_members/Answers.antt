@@ -1,6 +1,6 @@
 use Rattle.std.proofs.Common.{◌∙◌, ap, refl, Some}
 use Rattle.fast_check_read.proofs.Each.{some_of_ok}
-use Rattle.fast_check_read_tables.proofs.Given.{given_some, map_some, map_same}
+use Rattle.fast_check_read_tables.proofs.graph.Given.{given_some, map_some, map_same}
 use Rattle.fast_check_build_requests.proofs.request.read_build_members.Goals as goal
 
 pub returns : goal.returns

@@ -1,5 +1,5 @@
 use Rattle.std.proofs.Common.{◌∙◌}
-use Rattle.fast_check_read_tables.proofs.Given.{given_some}
+use Rattle.fast_check_read_tables.proofs.graph.Given.{given_some}
 use Rattle.fast_check_pair_command.proofs.request.read_side.Goals as goal
 
 pub returns : goal.returns

@@ -1,8 +1,8 @@
 use Rattle.std.proofs.Common.{◌∙◌, sym, ap, option_map}
 use Rattle.fast_check_read_tables.specs.Seen as seen
 use Rattle.fast_check_read_tables.specs.Symbols.{dep_named}
-use Rattle.fast_check_read_graph.proofs.Gathering.{reads_passed}
-use Rattle.fast_check_read_graph.proofs.Given.{chosen, given_none, map_some, reads_none}
+use Rattle.fast_check_read_tables.proofs.graph.Gathering.{reads_passed}
+use Rattle.fast_check_read_tables.proofs.graph.Given.{chosen, given_none, map_some, reads_none}
 use Rattle.fast_check_read_tables.proofs.symbols.read_dep.Goals as goal
 
 pub returns-in_err-name : goal.returns-in_err-name

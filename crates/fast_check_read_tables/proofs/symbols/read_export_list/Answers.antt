@@ -1,9 +1,9 @@
 use Rattle.std.proofs.Common.{[]}
 use Rattle.serde_json.specs.View.{view}
 use Rattle.fast_check_symbols.specs.Exports.{put_export}
-use Rattle.fast_check_read_graph.specs.Reads.{list_of}
+use Rattle.fast_check_read_tables.specs.graph.Reads.{list_of}
 use Rattle.fast_check_read_tables.specs.Symbols.{all_put, export_of}
-use Rattle.fast_check_read_graph.proofs.Gathering.{gathered_as, reads_as}
+use Rattle.fast_check_read_tables.proofs.graph.Gathering.{gathered_as, reads_as}
 use Rattle.fast_check_read_tables.proofs.Exports.{puts_gathered}
 use Rattle.fast_check_read_tables.proofs.symbols.read_export_list.Goals as goal
 

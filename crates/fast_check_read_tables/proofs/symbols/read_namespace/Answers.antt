@@ -1,6 +1,6 @@
 use Rattle.std.proofs.Common.{sym}
 use Rattle.fast_check_read_tables.specs.Symbols.{namespace_named}
-use Rattle.fast_check_read_graph.proofs.Given.{given_none, reads_none, spelled}
+use Rattle.fast_check_read_tables.proofs.graph.Given.{given_none, reads_none, spelled}
 use Rattle.fast_check_read_tables.proofs.symbols.read_namespace.Goals as goal
 
 pub returns-in_err-read_text : goal.returns-in_err-read_text

@@ -1,9 +1,9 @@
 use Rattle.std.proofs.Common.{◌≡◌, ◌∙◌, None}
 use Rattle.serde_json.specs.View.{view}
 use Rattle.fast_check_read_tables.specs.Symbols.{node_of}
-use Rattle.fast_check_read_graph.proofs.Gathering.{reads_passed}
+use Rattle.fast_check_read_tables.proofs.graph.Gathering.{reads_passed}
 use Rattle.fast_check_read.proofs.Each.{some_of_ok, none_of_err}
-use Rattle.fast_check_read_graph.proofs.Given.{members_there, given_some, given_none, reads_none}
+use Rattle.fast_check_read_tables.proofs.graph.Given.{members_there, given_some, given_none, reads_none}
 use Rattle.fast_check_read_tables.proofs.symbols.read_node.Goals as goal
 
 pub returns-in_err-read_members : goal.returns-in_err-read_members

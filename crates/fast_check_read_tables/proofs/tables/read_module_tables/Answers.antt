@@ -5,12 +5,12 @@ use Rattle.url.specs.Parts.{Parts}
 use Rattle.fast_check_syntax.specs.declared.source.SourceRange.{SourceRange}
 use Rattle.fast_check_syntax.specs.declared.atom.Id.{Id}
 use Rattle.fast_check_symbols.specs.declared.symbol_id.SymbolId.{SymbolId}
-use Rattle.fast_check_read_graph.specs.Reads.{both_of, listed, id_of, symbol_id_of, url_of}
+use Rattle.fast_check_read_tables.specs.graph.Reads.{both_of, listed, id_of, symbol_id_of, url_of}
 use Rattle.fast_check_read_tables.specs.Seen.{SeenSymbol, SeenTables}
 use Rattle.fast_check_read_tables.specs.Symbols.{symbol_of}
 use Rattle.fast_check_read_tables.specs.Tables.{re_export_of}
-use Rattle.fast_check_read_graph.proofs.Gathering.{both_reads, given_four, reads_passed, reads_seen}
-use Rattle.fast_check_read_graph.proofs.Given.{given_some, map_some, map_same}
+use Rattle.fast_check_read_tables.proofs.graph.Gathering.{both_reads, given_four, reads_passed, reads_seen}
+use Rattle.fast_check_read_tables.proofs.graph.Given.{given_some, map_some, map_same}
 use Rattle.fast_check_read_tables.proofs.tables.read_module_tables.Goals as goal
 
 abbrev made : SymbolId → List SeenSymbol → List (Id × SymbolId) → List (SourceRange × List ℕ) → List (List ℕ × Parts) → SeenTables

@@ -1,6 +1,6 @@
 use Rattle.std.proofs.Common.{◌∙◌, sym, refl}
 use Rattle.fast_check_read_tables.specs.Seen as seen
-use Rattle.fast_check_read_tables.proofs.Given.{given_some}
+use Rattle.fast_check_read_tables.proofs.graph.Given.{given_some}
 use Rattle.fast_check_requests.proofs.request.read_es_module.Goals as goal
 
 pub returns : goal.returns

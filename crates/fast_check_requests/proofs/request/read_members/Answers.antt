@@ -1,8 +1,8 @@
 use Rattle.std.proofs.Common.{refl, sym, ap, ◌∙◌}
 use Rattle.fast_check_read.specs.Pieces.{optional_flag_of}
-use Rattle.fast_check_read_tables.specs.Graph as graphs
+use Rattle.fast_check_read_tables.specs.graph.Graph as graphs
 use Rattle.fast_check_read.proofs.Each.{some_of_ok}
-use Rattle.fast_check_read_tables.proofs.Given.{given_some}
+use Rattle.fast_check_read_tables.proofs.graph.Given.{given_some}
 use Rattle.fast_check_requests.proofs.request.read_members.Goals as goal
 
 pub returns : goal.returns

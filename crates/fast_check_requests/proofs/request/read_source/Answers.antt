@@ -1,5 +1,5 @@
 use Rattle.std.proofs.Common.{refl, sym, ◌∙◌}
-use Rattle.fast_check_read_tables.proofs.Given.{given_some}
+use Rattle.fast_check_read_tables.proofs.graph.Given.{given_some}
 use Rattle.fast_check_requests.proofs.request.read_source.Goals as goal
 
 pub returns : goal.returns

@@ -1,9 +1,9 @@
 use Rattle.std.proofs.Common.{◌≡◌, ◌∙◌, None, ap, option_map}
 use Rattle.serde_json.specs.View.{view}
 use Rattle.fast_check_read_tables.specs.Symbols.{decl_of}
-use Rattle.fast_check_read_graph.proofs.Gathering.{reads_passed}
+use Rattle.fast_check_read_tables.proofs.graph.Gathering.{reads_passed}
 use Rattle.fast_check_read.proofs.Each.{some_of_ok, none_of_err}
-use Rattle.fast_check_read_graph.proofs.Given.{given_some, given_none, map_some, reads_none}
+use Rattle.fast_check_read_tables.proofs.graph.Given.{given_some, given_none, map_some, reads_none}
 use Rattle.fast_check_read_tables.proofs.symbols.SymbolDeclFromJsonByOfTables.from_json_by.Goals as goal
 
 pub returns-in_err-read_span : goal.returns-in_err-read_span

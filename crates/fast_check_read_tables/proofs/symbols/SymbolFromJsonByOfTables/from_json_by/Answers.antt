@@ -2,12 +2,12 @@ use Rattle.std.proofs.Common.{◌∙◌, [], ap, sym, refl, Bool, ℕ, List, cod
 use Rattle.serde_json.specs.Find.{as_str, get}
 use Rattle.serde_json.specs.View.{view}
 use Rattle.fast_check_symbols.specs.declared.symbol_id.SymbolId.{SymbolId}
-use Rattle.fast_check_read_graph.specs.Reads.{or_default, optional, listed, symbol_id_of}
+use Rattle.fast_check_read_tables.specs.graph.Reads.{or_default, optional, listed, symbol_id_of}
 use Rattle.fast_check_read_tables.specs.Seen.{Decl, SeenSymbol}
 use Rattle.fast_check_read_tables.specs.Symbols.{exports_of, decl_of}
-use Rattle.fast_check_read_graph.proofs.Gathering.{both_reads, given_five, reads_as, reads_passed, reads_seen}
+use Rattle.fast_check_read_tables.proofs.graph.Gathering.{both_reads, given_five, reads_as, reads_passed, reads_seen}
 use Rattle.fast_check_read.proofs.Each.{some_of_ok}
-use Rattle.fast_check_read_graph.proofs.Given.{given_some, map_some, map_same, option_same}
+use Rattle.fast_check_read_tables.proofs.graph.Given.{given_some, map_some, map_same, option_same}
 use Rattle.fast_check_read_tables.proofs.symbols.SymbolFromJsonByOfTables.from_json_by.Goals as goal
 
 abbrev made : SymbolId → Option SymbolId → Bool → Option (List ℕ) → Option (List ℕ) → List (List ℕ × SymbolId) → List SymbolId → List Decl →

@@ -1,6 +1,6 @@
 use Rattle.std.proofs.Common.{◌∙◌, sym}
-use Rattle.fast_check_read_graph.proofs.Gathering.{both_reads, reads_passed}
-use Rattle.fast_check_read_graph.proofs.Given.{given_none, given_some, reads_none}
+use Rattle.fast_check_read_tables.proofs.graph.Gathering.{both_reads, reads_passed}
+use Rattle.fast_check_read_tables.proofs.graph.Given.{given_none, given_some, reads_none}
 use Rattle.fast_check_read_tables.proofs.symbols.SymbolNodeDepFromJsonByOfTables.from_json_by.Goals as goal
 
 pub returns-in_err-dep : goal.returns-in_err-dep
