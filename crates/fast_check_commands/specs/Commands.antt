@@ -7,8 +7,8 @@ use Rattle.fast_check_requests.specs.Call as call
 use Rattle.fast_check_requests.specs.Call.{File}
 use Rattle.fast_check_requests.specs.Run as run
 use Rattle.fast_check_transform_command.specs.Transform as transform
-use Rattle.fast_check_build_command.specs.Build as build
-use Rattle.fast_check_pair_command.specs.Pair as pair
+use Rattle.fast_check_commands.specs.build_command.Build as build
+use Rattle.fast_check_commands.specs.pair_command.Pair as pair
 use Rattle.fast_check_commands.specs.declared.command.AnyCommand.{AnyCommand}
 use Rattle.fast_check_commands.specs.declared.command.AnyCommand.TheVariants.{Transform, Build, Pair}
 

@@ -2,8 +2,8 @@
 
 ghost use Rattle.fast_check_commands.specs.Commands.{command_named, AnswersBytes, RefusesBytes};
 
-use fast_check_build_command::answer_build;
-use fast_check_pair_command::answer_pair;
+use crate::build_command::answer_build;
+use crate::pair_command::answer_pair;
 use fast_check_requests::{Answer, Command, Refusal};
 use fast_check_transform_command::answer_transform;
 use std::alloc::Global;

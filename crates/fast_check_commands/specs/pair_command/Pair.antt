@@ -1,0 +1,90 @@
+-- What the command `pair` answers to the bytes of a file.
+use Rattle.std.specs.Prelude.{ℕ, List, Bool, ◌⊎◌}
+use Rattle.fast_check_graph.specs.declared.graph.ModuleGraph.{ModuleGraph}
+use Rattle.fast_check_modules.specs.EsModule.{EsModule, Admits}
+use Rattle.fast_check_modules.specs.FitProgram.{FitProgram, IsModuleFault}
+use Rattle.fast_check_modules.specs.diagnostics.PublicRanges.{PublicRanges}
+use Rattle.fast_check_modules.specs.symbols.declared.fault.TableFault.{TableFault}
+use Rattle.fast_check_requests.specs.declared.refusal.Refusal.{Refusal}
+use Rattle.fast_check_requests.specs.declared.refusal.Refusal.TheVariants as refusals
+use Rattle.fast_check_requests.specs.Input.{IsNotJson}
+use Rattle.fast_check_transform_command.specs.Transform.{IsModuleOf}
+use Rattle.fast_check_commands.specs.declared.pair_command.request.PairRequest.{PairRequest}
+use Rattle.fast_check_commands.specs.declared.pair_command.request.Side.{Side}
+use Rattle.fast_check_commands.specs.pair_command.Input.{HoldsPair, IsNoPair}
+use Rattle.fast_check_commands.specs.pair_command.Line.{IsPairAnswer}
+
+-- ---- two modules
+
+-- the ranges of both are admitted
+abbrev pub AdmitBoth : EsModule → PublicRanges → EsModule → PublicRanges → Type 0
+AdmitBoth a ranges_a b ranges_b = Admits a ranges_a × Admits b ranges_b
+
+-- the line is the answer to both
+abbrev pub AnswersModules : ModuleGraph → EsModule → PublicRanges → EsModule → PublicRanges → Bool → List ℕ → ℕ → Type 0
+AnswersModules graph a ranges_a b ranges_b first line status =
+    AdmitBoth a ranges_a b ranges_b × IsPairAnswer graph a ranges_a b ranges_b first line status
+
+-- why they are refused: ranges of either are not admitted; memory may run out at any
+abbrev pub RefusesModules : EsModule → PublicRanges → EsModule → PublicRanges → Refusal → Type 0
+RefusesModules a ranges_a b ranges_b refusals.RangesNotAdmitted = ¬ AdmitBoth a ranges_a b ranges_b
+RefusesModules a ranges_a b ranges_b refusals.OutOfMemory = Unit {0}
+RefusesModules a ranges_a b ranges_b _ = ⊥
+
+-- ---- a request
+
+-- both modules of it, whose tables have no fault
+pub record AreModules (asked : PairRequest) (a b : EsModule) : Type 0 where
+  pub first : IsModuleOf asked.a.es_module a
+  pub second : IsModuleOf asked.b.es_module b
+
+-- the line is its answer
+pub record AnswersPair (asked : PairRequest) (line : List ℕ) (status : ℕ) : Type 0 where
+  pub a : EsModule
+  pub b : EsModule
+  pub are_modules : AreModules asked a b
+  pub answer : AnswersModules asked.graph a asked.a.public_ranges b asked.b.public_ranges
+      asked.should_error_on_first_diagnostic line status
+
+-- ranges of either module are not admitted
+pub record IsNotAdmitted (asked : PairRequest) : Type 0 where
+  pub a : EsModule
+  pub b : EsModule
+  pub are_modules : AreModules asked a b
+  pub not_admitted : ¬ AdmitBoth a asked.a.public_ranges b asked.b.public_ranges
+
+-- the first fault of a module's tables, and whether they have none
+abbrev pub IsFaultOf : Side → TableFault → Type 0
+IsFaultOf side fault = IsModuleFault side.es_module.tables side.es_module.source.program fault
+
+abbrev pub IsWithoutFault : Side → Type 0
+IsWithoutFault side = FitProgram side.es_module.tables side.es_module.source.program
+
+-- why it is refused: by a fault of the first module's tables, or else of the second's, before all else; memory may run
+-- out at any request
+abbrev pub RefusesPair : PairRequest → Refusal → Type 0
+RefusesPair asked (refusals.TableFault fault) = IsFaultOf asked.a fault ⊎
+    (IsWithoutFault asked.a × IsFaultOf asked.b fault)
+RefusesPair asked refusals.RangesNotAdmitted = IsNotAdmitted asked
+RefusesPair asked refusals.OutOfMemory = Unit {0}
+RefusesPair asked _ = ⊥
+
+-- ---- the bytes of the file
+
+-- they are the JSON of a request, of which this holds
+abbrev pub OfPair : (PairRequest → Type 0) → List ℕ → Type 0
+OfPair P bytes = (asked : PairRequest) × HoldsPair bytes asked × P asked
+
+-- the line is the answer to the request in them
+abbrev pub IsAnswerTo : List ℕ → List ℕ → ℕ → Type 0
+IsAnswerTo bytes line status = OfPair (λ asked. AnswersPair asked line status) bytes
+
+-- why they are refused: they are no JSON, or the JSON of no request, or their request is refused; memory may run out at
+-- any bytes
+abbrev pub RefusesBytes : Refusal → List ℕ → Type 0
+RefusesBytes refusals.NotJson bytes = IsNotJson bytes
+RefusesBytes refusals.BadForm bytes = IsNoPair bytes
+RefusesBytes (refusals.TableFault fault) bytes = OfPair (λ asked. RefusesPair asked (refusals.TableFault fault)) bytes
+RefusesBytes refusals.RangesNotAdmitted bytes = OfPair (λ asked. RefusesPair asked refusals.RangesNotAdmitted) bytes
+RefusesBytes refusals.OutOfMemory bytes = Unit {0}
+RefusesBytes _ bytes = ⊥
