@@ -212,7 +212,7 @@ def offered(table):
     """The paths of all forms and choices, and of what gives the range of any."""
     paths = [f"fast_check_{table.files[form.file].crate}::{form.name}" for form in table.forms.values()]
     paths += [f"{choice.file}::{choice.name}" for choice in table.choices.values()]
-    return sorted(paths + ["fast_check_ranges::range_of_node"])
+    return sorted(paths + ["fast_check_swc_helpers::ranges::range_of_node"])
 
 
 def write_choices(table, out):

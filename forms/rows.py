@@ -136,7 +136,7 @@ def write_proofs(table, out):
     out.as_it_stands(path, first, "  function : slots_seen bindings FN_EXPR 0 t look place ≡ written (FnExpr-ident t) ∷", seen_by_fields(table))
     first = "refused_by : (k : Kind) (known : Bool) → row_of k known ≡ None → (k ≡ kinds.ArrowExpr → ⊥) → other_rule k known ≡ not_at_all"
     refused = [f"refused_by kinds.{form} known e n = cc" for form in forms]
-    out.as_it_stands("crates/fast_check_values/proofs/Looked.antt", first, "refused_by kinds.FnExpr known e n = cc", refused)
+    out.as_it_stands("crates/fast_check_transform_expressions/proofs/Looked.antt", first, "refused_by kinds.FnExpr known e n = cc", refused)
     path = "crates/fast_check_skeleton/proofs/AlikePresent.antt"
     first = "  expr_absent (v.SameExpr.compound {t = t} {u = u} k d e xs) = both_there k t u d (compound_there k e)"
     last = "  expr_absent (v.SameExpr.frozen {t = t} {u = u} e f x y z w m) = frozen_there c t e ∙ sym (frozen_there d u f)"

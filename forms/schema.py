@@ -1,4 +1,4 @@
-"""The kinds of nodes, and the tables of the JSON (fast_check_schema)."""
+"""The kinds of nodes, and the tables of the JSON (the module `schema` of fast_check_read)."""
 from layout import brackets, constant, snake
 from table import COUNTS
 
@@ -72,7 +72,7 @@ def schema_chapter(table, chapter):
     text = "\n".join(lines)
     taken = [("Choice", "Choice::" in text), ("Count", True), ("Field", True), ("Form", True), ("Named", words)]
     taken += [("SPAN", "SPAN" in text), ("Variant", choices), ("Words", "Words::" in text)]
-    uses = ["use crate::form::{" + ", ".join(name for name, is_taken in taken if is_taken) + "};"]
+    uses = ["use crate::schema::form::{" + ", ".join(name for name, is_taken in taken if is_taken) + "};"]
     uses.append("use fast_check_syntax::{Kind, Word};" if words else "use fast_check_syntax::Kind;")
     return [f"//! {chapter.doc}", ""] + uses + lines
 
@@ -95,11 +95,11 @@ def schema_tables(table):
         "//! The tables of all chapters: the fields of a form, the forms of a choice and the words of a list.",
         "",
         "ghost use Rattle.std.specs.Prelude.{◌≡◌, map};",
-        "ghost use Rattle.fast_check_schema.specs.Rows.{field_row, variant_row, word_row};",
-        "ghost use Rattle.fast_check_schema.specs.Schema.{fields_of, variants_of, words_of};",
+        "ghost use Rattle.fast_check_read.specs.schema.Rows.{field_row, variant_row, word_row};",
+        "ghost use Rattle.fast_check_read.specs.schema.Schema.{fields_of, variants_of, words_of};",
         "",
-        "use crate::form::{Choice, Field, Named, Variant, Words};",
-        f"use crate::{{{chapters}}};",
+        "use crate::schema::form::{Choice, Field, Named, Variant, Words};",
+        f"use crate::schema::{{{chapters}}};",
         "use fast_check_syntax::Kind;",
     ]
     doc = "The fields of a form, in the order of its node's parts. "
@@ -126,19 +126,19 @@ def lookup_call(doc, name, given, row, rows, arms):
 
 def schema_definitions(table):
     """`specs/Schema.antt`: the same as definitions."""
-    base = "use Rattle.fast_check_schema.specs."
+    base = "use Rattle.fast_check_read.specs."
     lines = [
         "-- The tables: which fields a form has, which forms a choice is between, which words a list has.",
         "use Rattle.std.specs.Prelude.{List, []}",
         "use Rattle.fast_check_syntax.specs.declared.kind.Kind.{Kind}",
         "use Rattle.fast_check_syntax.specs.declared.kind.Kind.TheVariants as kinds",
-        base + "declared.form.Choice.{Choice}",
-        base + "declared.form.Choice.TheVariants as choices",
-        base + "declared.form.Words.{Words}",
-        base + "declared.form.Words.TheVariants as lists",
-        base + "Rows.{FieldRow, VariantRow, WordRow, field_table, variant_table, word_table}",
+        base + "declared.schema.form.Choice.{Choice}",
+        base + "declared.schema.form.Choice.TheVariants as choices",
+        base + "declared.schema.form.Words.{Words}",
+        base + "declared.schema.form.Words.TheVariants as lists",
+        base + "schema.Rows.{FieldRow, VariantRow, WordRow, field_table, variant_table, word_table}",
     ]
-    lines += [f"{base}declared.{chapter.name}.TheConstants as {chapter.name}" for chapter in table.chapters]
+    lines += [f"{base}declared.schema.{chapter.name}.TheConstants as {chapter.name}" for chapter in table.chapters]
     lines += [
         "",
         "-- the fields of a form, in the order of its node's parts: a leaf, a list and a mark have none",
@@ -169,15 +169,15 @@ def written_orders(table):
 
 
 def write_schema(table, out):
-    base = "crates/fast_check_schema"
+    base = "crates/fast_check_read"
     out.whole("crates/fast_check_syntax/src/kind.rt", kind_code(table))
     for chapter in table.chapters:
-        out.whole(f"{base}/src/{chapter.name}.rt", schema_chapter(table, chapter))
-    out.between(f"{base}/src/form.rt", "pub enum Choice {", "}", [f"    {name}," for name in table.choices])
-    out.between(f"{base}/src/form.rt", "pub enum Words {", "}", [f"    {name}," for name in table.words])
+        out.whole(f"{base}/src/schema/{chapter.name}.rt", schema_chapter(table, chapter))
+    out.between(f"{base}/src/schema/form.rt", "pub enum Choice {", "}", [f"    {name}," for name in table.choices])
+    out.between(f"{base}/src/schema/form.rt", "pub enum Words {", "}", [f"    {name}," for name in table.words])
     orders = written_orders(table)
     head = "static WRITTEN_ORDERS: [&[usize]; %d] = ["
     first = "/// The order of each kind, in the order of the kinds."
-    out.between(f"{base}/src/order.rt", first, None, [head % len(orders)] + orders + ["];"])
-    out.whole(f"{base}/src/tables.rt", schema_tables(table))
-    out.whole(f"{base}/specs/Schema.antt", schema_definitions(table))
+    out.between(f"{base}/src/schema/order.rt", first, None, [head % len(orders)] + orders + ["];"])
+    out.whole(f"{base}/src/schema/tables.rt", schema_tables(table))
+    out.whole(f"{base}/specs/schema/Schema.antt", schema_definitions(table))

@@ -18,7 +18,7 @@ CRATES = TOP / "crates"
 INNER = "-- Inner: no contract of a public call cites what stands here."
 # The calls whose contracts are the promises, by crate, or by module of a crate (`crate::module`). None: every public function there.
 CHAPTERS = {
-    "transform": {"fast_check_module_transform": ["transform"], "fast_check_transformer::transformer": None, "fast_check_skeleton": ["hash_mark"]},
+    "transform": {"fast_check_transform_module": ["transform"], "fast_check_transformer::transformer": None, "fast_check_skeleton": ["hash_mark"]},
     "law": {"fast_check_skeleton": ["two_worlds", "hidden_changes", "hidden_items"], "fast_check_transformer": None},
     "account": {"fast_check_build": ["find_public_ranges", "find", "new"]},
     "build": {
@@ -28,7 +28,7 @@ CHAPTERS = {
     "tables": {
         "fast_check_lattice": None, "fast_check_packages::package": None, "fast_check_parsed_source": None,
         "fast_check_diagnostics": None, "fast_check_symbols": None, "fast_check_modules": None,
-        "fast_check_graph": None, "fast_check_comments": None, "fast_check_syntax": None, "fast_check_helpers": None,
+        "fast_check_graph": None, "fast_check_comments": None, "fast_check_syntax": None, "fast_check_swc_helpers": None,
     },
     "json": {
         "fast_check_read": None, "fast_check_print::comments": None, "fast_check_print::pieces": None, "fast_check_print::tree": None,

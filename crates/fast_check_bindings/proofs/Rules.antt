@@ -3,7 +3,7 @@ use Rattle.std.specs.Prelude.{◌≡◌, Option, Some, None, is_some, refl}
 use Rattle.fast_check_syntax.specs.declared.part.Part as part
 use Rattle.fast_check_syntax.specs.declared.tree.Tree.{Tree}
 use Rattle.fast_check_expression_forms.specs.declared.expressions.ExprOrSpread.{ExprOrSpread}
-use Rattle.fast_check_helpers.specs.GlobalCalls.{ReadsArgument}
+use Rattle.fast_check_swc_helpers.specs.GlobalCalls.{ReadsArgument}
 
 pub reads_some : (read : Option (ExprOrSpread part.Part)) (arg : Option Tree) → ReadsArgument read arg → is_some read ≡ is_some arg
 reads_some (Some r) (Some a) reads = refl

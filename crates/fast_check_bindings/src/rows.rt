@@ -8,10 +8,10 @@ ghost use Rattle.fast_check_bindings.specs.Rows as rows;
 
 use crate::names::{is_plain_class, unresolved_context};
 use fast_check_expression_forms::{CallExpr, NewExpr};
-use fast_check_helpers::object_freeze_call_arg;
 use fast_check_modules::EsModuleInfo;
 use fast_check_program_forms::Ident;
 use fast_check_signatures::{ASSERTION, FN_EXPR, FREEZE, NEW, SATISFIES, Slot};
+use fast_check_swc_helpers::object_freeze_call_arg;
 use fast_check_syntax::{Atom, Id, Kind, Part};
 use std::alloc::{AllocError, Global};
 

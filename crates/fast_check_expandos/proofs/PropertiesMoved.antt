@@ -12,7 +12,7 @@ use Rattle.fast_check_syntax.proofs.Moved.{node_moved, range_moved, none_moved, 
 use Rattle.fast_check_syntax.proofs.Moved.{context_moved, part_moved, text_of_moved}
 use Rattle.fast_check_program_forms.specs.Names.{Ident-ctxt}
 use Rattle.fast_check_expression_forms.specs.Calls.{MemberExpr-obj}
-use Rattle.fast_check_helpers.proofs.GlobalCallsMoved.{moved_scope}
+use Rattle.fast_check_swc_helpers.proofs.GlobalCallsMoved.{moved_scope}
 use Rattle.fast_check_modules.specs.symbols.Tables.{same_id}
 use Rattle.fast_check_signatures.proofs.MovedParts.{moved_seen, field_moved, scope_field_moved}
 use Rattle.fast_check_signatures.specs.Seen.{written}

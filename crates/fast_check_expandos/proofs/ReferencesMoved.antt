@@ -15,7 +15,7 @@ use Rattle.fast_check_syntax.specs.Recursion.{by_form_absent}
 use Rattle.fast_check_syntax.proofs.Induction.{tree_ind}
 use Rattle.fast_check_syntax.proofs.Moved.{absent_moved, kind_of_moved, parts_moved, part_moved, text_of_moved, none_moved}
 use Rattle.fast_check_program_forms.specs.Names.{Ident-span, Ident-ctxt, Ident-sym}
-use Rattle.fast_check_helpers.proofs.GlobalCallsMoved.{moved_scope}
+use Rattle.fast_check_swc_helpers.proofs.GlobalCallsMoved.{moved_scope}
 use Rattle.fast_check_signatures.proofs.MovedParts.{range_field_moved, scope_field_moved}
 use Rattle.fast_check_expandos.specs.declared.references.Reference.{Reference}
 use Rattle.fast_check_expandos.specs.Groups.{grouped}

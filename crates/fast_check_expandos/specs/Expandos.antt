@@ -8,7 +8,7 @@ use Rattle.fast_check_syntax.specs.declared.kind.Word.TheVariants as words
 use Rattle.fast_check_syntax.specs.declared.source.SourceRange.{SourceRange}
 use Rattle.fast_check_syntax.specs.declared.tree.Tree.{Tree, Absent, Word}
 use Rattle.fast_check_syntax.specs.Shape.{list, none_range}
-use Rattle.fast_check_helpers.specs.Builders.{new_ident}
+use Rattle.fast_check_swc_helpers.specs.Builders.{new_ident}
 use Rattle.fast_check_program_forms.specs.ModuleDecls.{export_decl}
 use Rattle.fast_check_program_forms.specs.Names.{IdentName-sym, binding_ident}
 use Rattle.fast_check_expression_forms.specs.Calls.{MemberExpr-obj, MemberExpr-prop}

@@ -10,10 +10,10 @@ ghost use Rattle.fast_check_expandos.specs.Merged.{Extends, merged_seen, namespa
 
 use crate::properties::ExpandoProperty;
 use crate::references::Reference;
-use fast_check_helpers::new_ident;
 use fast_check_program_forms::ExportDecl;
 use fast_check_signatures::{Fault, FaultKind};
 use fast_check_statement_forms::{TsModuleBlock, TsModuleDecl, VarDecl};
+use fast_check_swc_helpers::new_ident;
 use fast_check_syntax::{Atom, DUMMY_SP, Id, Items, SyntaxContext, Tree, Word};
 use std::alloc::{AllocError, Global};
 use std::collections::BTreeMap;

@@ -8,9 +8,9 @@ ghost use Rattle.fast_check_expandos.specs.Expandos.{object_of, property_name, p
 
 use crate::references::{Reference, conflicts, exports_name};
 use fast_check_expression_forms::{AssignExpr, MemberExpr};
-use fast_check_helpers::new_ident;
 use fast_check_program_forms::{BindingIdent, Ident, IdentName};
 use fast_check_statement_forms::VarDeclarator;
+use fast_check_swc_helpers::new_ident;
 use fast_check_symbols::Symbol;
 use fast_check_syntax::{Atom, Id, Items, Part, SourceRange, Tree};
 use std::alloc::{AllocError, Global};

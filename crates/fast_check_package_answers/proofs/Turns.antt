@@ -13,7 +13,7 @@ use Rattle.fast_check_modules.specs.diagnostics.declared.diagnostics.FastCheckDi
 use Rattle.fast_check_signatures.specs.declared.fault.Fault.{Fault}
 use Rattle.fast_check_diagnostics.specs.parsed_source.MediaType.{is_declaration}
 use Rattle.fast_check_diagnostics.specs.declared.parsed_source.tables.fast_check_module.FastCheckModule.{FastCheckModule}
-use Rattle.fast_check_module_transform.specs.skeleton.Grammar.{IsSkeleton}
+use Rattle.fast_check_transform_module.specs.skeleton.Grammar.{IsSkeleton}
 use Rattle.fast_check_bindings.specs.Bindings.{bindings_of}
 use Rattle.fast_check_modules.specs.EsModule.{EsModule}
 use Rattle.fast_check_graph.specs.Root.{found_module}
@@ -22,7 +22,7 @@ use Rattle.fast_check_graph.specs.declared.root_symbol.AnyModuleInfo.{AnyModuleI
 use Rattle.fast_check_graph.specs.declared.root_symbol.AnyModuleInfo.TheVariants.{Esm}
 use Rattle.fast_check_graph.specs.declared.root_symbol.RootSymbol.{RootSymbol}
 use Rattle.fast_check_cache.specs.declared.package_ranges.PackagePublicRanges.{PackagePublicRanges}
-use Rattle.fast_check_module_transform.specs.Transform.{skeleton, sources, comments}
+use Rattle.fast_check_transform_module.specs.Transform.{skeleton, sources, comments}
 use Rattle.fast_check_transform_faults.specs.Diagnostics.{AreDiagnosticsOf, diagnosed}
 use Rattle.fast_check_package_answers.specs.PackageFaults.{PublicModule, PackageFault, met, found, Diagnoses, found_or, faults_in_tree}
 use Rattle.fast_check_package_answers.specs.PackageFaults.{first_list, module_faults, package_faults, sound_front}

@@ -11,7 +11,7 @@ use Rattle.fast_check_cache.specs.Cache.{ModuleView, skeleton as kept_tree, diag
 use Rattle.fast_check_cache.specs.declared.item.FastCheckCacheModuleItem.{FastCheckCacheModuleItem}
 use Rattle.fast_check_cache.specs.declared.package_ranges.PackagePublicRanges.{PackagePublicRanges}
 use Rattle.fast_check_cache.specs.CachedPackages.{source_hash}
-use Rattle.fast_check_module_transform.specs.Transform.{skeleton, sources, comments}
+use Rattle.fast_check_transform_module.specs.Transform.{skeleton, sources, comments}
 use Rattle.fast_check_package_answers.specs.PackageFaults.{PublicModule, PackageFault, package_faults, sound_front}
 use Rattle.fast_check_package_answers.specs.PackageFaults.{subject}
 use Rattle.fast_check_package_answers.specs.PackageAnswer.{TreeModule, tree_modules}

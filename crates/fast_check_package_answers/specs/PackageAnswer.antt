@@ -11,7 +11,7 @@ use Rattle.fast_check_modules.specs.diagnostics.declared.diagnostics.FastCheckDi
 use Rattle.fast_check_modules.specs.diagnostics.declared.diagnostics.FastCheckDiagnostic.TheVariants.{Cached}
 use Rattle.fast_check_diagnostics.specs.declared.parsed_source.tables.fast_check_module.FastCheckModule.{FastCheckModule}
 use Rattle.fast_check_modules.specs.EsModule.{EsModule, AreOwnRanges}
-use Rattle.fast_check_module_transform.specs.skeleton.Grammar.{IsSkeleton}
+use Rattle.fast_check_transform_module.specs.skeleton.Grammar.{IsSkeleton}
 use Rattle.fast_check_bindings.specs.Bindings.{bindings_of}
 use Rattle.fast_check_graph.specs.Root.{found_module}
 use Rattle.fast_check_graph.specs.declared.graph.ModuleGraph.{ModuleGraph}
@@ -21,7 +21,7 @@ use Rattle.fast_check_graph.specs.declared.root_symbol.RootSymbol.{RootSymbol}
 use Rattle.fast_check_cache.specs.declared.package_ranges.PackagePublicRanges.{PackagePublicRanges}
 use Rattle.fast_check_cache.specs.declared.item.FastCheckCacheModuleItem.{FastCheckCacheModuleItem}
 use Rattle.fast_check_cache.specs.declared.item.FastCheckCacheModuleItem.TheVariants.{Info, Diagnostic}
-use Rattle.fast_check_module_transform.specs.Transform.{skeleton, sources, comments}
+use Rattle.fast_check_transform_module.specs.Transform.{skeleton, sources, comments}
 use Rattle.fast_check_package_answers.specs.PackageFaults.{PublicModule, PackageFault, Diagnoses, package_faults}
 
 -- a specifier, and the skeleton or the diagnostics that it is answered by

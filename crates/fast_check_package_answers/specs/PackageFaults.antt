@@ -12,7 +12,7 @@ use Rattle.fast_check_graph.specs.declared.graph.ModuleGraph.{ModuleGraph}
 use Rattle.fast_check_graph.specs.declared.root_symbol.AnyModuleInfo.{AnyModuleInfo}
 use Rattle.fast_check_graph.specs.declared.root_symbol.AnyModuleInfo.TheVariants.{Esm, Json}
 use Rattle.fast_check_graph.specs.declared.root_symbol.RootSymbol.{RootSymbol}
-use Rattle.fast_check_module_transform.specs.Transform.{faults}
+use Rattle.fast_check_transform_module.specs.Transform.{faults}
 use Rattle.fast_check_transform_faults.specs.Diagnostics.{IsDiagnosticOf, diagnosed}
 
 -- a module of a package: its specifier, and what is public in it

@@ -1,6 +1,6 @@
 //! What a build answers modules by.
 use fast_check_graph::{ModuleGraph, RootSymbol};
-use fast_check_module_transform::TransformOptions;
+use fast_check_transform_module::TransformOptions;
 
 /// What a build answers modules by: the graph, the tables of its modules, and the options.
 #[derive(Clone, Copy)]

@@ -11,7 +11,7 @@ mod packages;
 mod used;
 
 pub use answer::{ModuleAnswer, answer_package};
-pub use fast_check_module_transform as transform;
+pub use fast_check_transform_module as transform;
 pub use input::BuildInput;
 pub use law::first_alone;
 pub use packages::{answer_all, answer_and_set_all};

@@ -15,9 +15,9 @@ use Rattle.fast_check_expression_forms.specs.Expressions.{arrow_expr}
 use Rattle.fast_check_expression_forms.specs.Patterns.{assign_pat}
 use Rattle.fast_check_program_forms.specs.ModuleDecls.{export_default_expr}
 use Rattle.fast_check_program_forms.specs.Names.{Ident-span}
-use Rattle.fast_check_helpers.specs.ranges.Ranges.{range_of_node}
-use Rattle.fast_check_helpers.proofs.ranges.RangesMoved.{range_of_node_moved}
-use Rattle.fast_check_helpers.proofs.GlobalCallsMoved.{moved_scope}
+use Rattle.fast_check_swc_helpers.specs.ranges.Ranges.{range_of_node}
+use Rattle.fast_check_swc_helpers.proofs.ranges.RangesMoved.{range_of_node_moved}
+use Rattle.fast_check_swc_helpers.proofs.GlobalCallsMoved.{moved_scope}
 use Rattle.fast_check_signatures.specs.declared.fault.Fault.{Fault}
 use Rattle.fast_check_signatures.specs.declared.fault.FaultKind.TheVariants.{MissingExplicitType, UnsupportedDefaultExportExpr}
 use Rattle.fast_check_signatures.specs.Functions.{return_type_missing}

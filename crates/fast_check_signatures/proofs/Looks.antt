@@ -16,10 +16,10 @@ use Rattle.fast_check_expression_forms.specs.Expressions.{ArrowExpr-span, ArrowE
 use Rattle.fast_check_expression_forms.specs.Patterns.{ArrayPat-span, ArrayPat-type_ann, ObjectPat-span, ObjectPat-type_ann, AssignPat-span}
 use Rattle.fast_check_expression_forms.specs.Patterns.{AssignPat-left, AssignPat-right}
 use Rattle.fast_check_program_forms.specs.Names.{Ident-span, BindingIdent-id, BindingIdent-type_ann}
-use Rattle.fast_check_helpers.specs.declared.literal_type.DeclMutabilityKind.TheVariants.{Mutable}
-use Rattle.fast_check_helpers.specs.Builders.{never_value}
-use Rattle.fast_check_helpers.specs.InferredType.{inferred_type}
-use Rattle.fast_check_helpers.specs.OptionalParams.{is_optional_param}
+use Rattle.fast_check_swc_helpers.specs.declared.literal_type.DeclMutabilityKind.TheVariants.{Mutable}
+use Rattle.fast_check_swc_helpers.specs.Builders.{never_value}
+use Rattle.fast_check_swc_helpers.specs.InferredType.{inferred_type}
+use Rattle.fast_check_swc_helpers.specs.OptionalParams.{is_optional_param}
 use Rattle.fast_check_signatures.specs.declared.function_kind.FunctionKind.{FunctionKind}
 use Rattle.fast_check_signatures.specs.declared.function_kind.FunctionKind.TheVariants.{ExpressionLike}
 use Rattle.fast_check_signatures.specs.declared.rules.Slot.{Slot}

@@ -7,7 +7,7 @@ use Rattle.fast_check_syntax.specs.declared.tree.Tree.{Tree}
 use Rattle.fast_check_syntax.specs.Shape.{kind_of, part, parts, range_of, context_of}
 use Rattle.fast_check_syntax.specs.Moves.{Moves, Keeps, moved, moved_range}
 use Rattle.fast_check_syntax.proofs.Moved.{kind_of_moved, part_moved, parts_moved, range_of_moved}
-use Rattle.fast_check_helpers.proofs.GlobalCallsMoved.{moved_scope, context_of_moved}
+use Rattle.fast_check_swc_helpers.proofs.GlobalCallsMoved.{moved_scope, context_of_moved}
 use Rattle.fast_check_signatures.specs.Seen.{DeclaratorHead, DefaultHead, FunctionHead, ArrowHead, ClassHead, PropertyHead, Seen, written}
 use Rattle.fast_check_signatures.specs.Seen.{round, listed, declarator, default, function, typed_arrow, valued_arrow, class, property}
 use Rattle.fast_check_signatures.specs.Seen.{default_export, tested, faulty, refused, Seens, end, also, seens}

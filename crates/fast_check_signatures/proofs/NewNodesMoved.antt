@@ -12,10 +12,10 @@ use Rattle.fast_check_syntax.proofs.Moved.{context_moved, kind_of_moved, part_mo
 use Rattle.fast_check_statement_forms.specs.Statements.{return_stmt}
 use Rattle.fast_check_type_forms.specs.Types.{TsKeywordType-kind, TsTypeRef-type_name, TsTypeRef-type_params}
 use Rattle.fast_check_type_forms.specs.TypeParams.{TsTypeAnn-type_ann, TsTypeParamInstantiation-params}
-use Rattle.fast_check_helpers.specs.Builders.{ts_keyword_type, never_value, is_void_type}
-use Rattle.fast_check_helpers.specs.GlobalCalls.{is_global}
-use Rattle.fast_check_helpers.proofs.BuildersMoved.{ts_keyword_type_moved}
-use Rattle.fast_check_helpers.proofs.GlobalCallsMoved.{moved_scope, is_global_moved}
+use Rattle.fast_check_swc_helpers.specs.Builders.{ts_keyword_type, never_value, is_void_type}
+use Rattle.fast_check_swc_helpers.specs.GlobalCalls.{is_global}
+use Rattle.fast_check_swc_helpers.proofs.BuildersMoved.{ts_keyword_type_moved}
+use Rattle.fast_check_swc_helpers.proofs.GlobalCallsMoved.{moved_scope, is_global_moved}
 use Rattle.fast_check_signatures.proofs.MovedParts.{field_moved, items_moved_at}
 use Rattle.fast_check_signatures.specs.NewNodes.{never_array, never_in_parens, never_array_in_parens, hash_private, empty_object_pat}
 use Rattle.fast_check_signatures.specs.NewNodes.{new_block, returns_value, function_body, arrow_body, promise_of, is_one, is_promise}

@@ -8,7 +8,7 @@ use Rattle.fast_check_syntax.specs.Shape.{kind_of}
 use Rattle.fast_check_syntax.specs.Moves.{Moves, Keeps, moved}
 use Rattle.fast_check_syntax.proofs.Moved.{node_moved, range_moved, flag_moved, text_moved, context_moved, kind_of_moved, part_moved}
 use Rattle.fast_check_syntax.proofs.Moved.{flag_of_moved, text_of_moved, range_of_moved}
-use Rattle.fast_check_helpers.proofs.GlobalCallsMoved.{context_of_moved}
+use Rattle.fast_check_swc_helpers.proofs.GlobalCallsMoved.{context_of_moved}
 use Rattle.fast_check_signatures.specs.Parameters.{emptied_array, emptied_object, arg_by_kind, rest_arg, with_optional, without_default}
 use Rattle.fast_check_signatures.proofs.NewNodesMoved.{empty_object_pat_moved, or_undefined_moved}
 

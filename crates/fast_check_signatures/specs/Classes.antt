@@ -34,12 +34,12 @@ use Rattle.fast_check_expression_forms.specs.Patterns.{AssignPat-left, AssignPat
 use Rattle.fast_check_expression_forms.specs.Properties.{ComputedPropName-expr}
 use Rattle.fast_check_program_forms.specs.Names.{Ident-span, Ident-sym, Ident-optional, BindingIdent-id}
 use Rattle.fast_check_program_forms.specs.Names.{BindingIdent-type_ann}
-use Rattle.fast_check_helpers.specs.ranges.Ranges.{range_of_node}
+use Rattle.fast_check_swc_helpers.specs.ranges.Ranges.{range_of_node}
 use Rattle.fast_check_statement_forms.specs.Statements.{BlockStmt-stmts, ExprStmt-span, ExprStmt-expr}
-use Rattle.fast_check_helpers.specs.declared.literal_type.DeclMutabilityKind.{DeclMutabilityKind}
-use Rattle.fast_check_helpers.specs.declared.literal_type.DeclMutabilityKind.TheVariants.{Const, Mutable}
-use Rattle.fast_check_helpers.specs.Builders.{type_ann, any_type_ann, never_value}
-use Rattle.fast_check_helpers.specs.InferredType.{inferred_type}
+use Rattle.fast_check_swc_helpers.specs.declared.literal_type.DeclMutabilityKind.{DeclMutabilityKind}
+use Rattle.fast_check_swc_helpers.specs.declared.literal_type.DeclMutabilityKind.TheVariants.{Const, Mutable}
+use Rattle.fast_check_swc_helpers.specs.Builders.{type_ann, any_type_ann, never_value}
+use Rattle.fast_check_swc_helpers.specs.InferredType.{inferred_type}
 use Rattle.fast_check_signatures.specs.declared.fault.FaultKind.TheVariants.{MissingExplicitType}
 use Rattle.fast_check_signatures.specs.declared.fault.FaultKind.TheVariants.{UnsupportedDestructuring}
 use Rattle.fast_check_signatures.specs.declared.fault.FaultKind.TheVariants.{UnsupportedSuperClassExpr}

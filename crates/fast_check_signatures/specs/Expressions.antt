@@ -10,7 +10,7 @@ use Rattle.fast_check_syntax.specs.Shape.{◌is◌, kind_of, part, parts, is_abs
 use Rattle.fast_check_syntax.specs.Descent.{by_descent}
 use Rattle.fast_check_class_forms.specs.Functions.{Function-span}
 use Rattle.fast_check_expression_forms.specs.Calls.{CallExpr-callee, CallExpr-args, NewExpr-callee, NewExpr-type_args}
-use Rattle.fast_check_helpers.specs.GlobalCalls.{object_freeze_call_arg}
+use Rattle.fast_check_swc_helpers.specs.GlobalCalls.{object_freeze_call_arg}
 use Rattle.fast_check_signatures.specs.declared.rules.TheConstants.{SATISFIES, ASSERTION, FN_EXPR, FREEZE, NEW}
 use Rattle.fast_check_signatures.specs.declared.rules.Slot.{Slot}
 use Rattle.fast_check_signatures.specs.declared.rules.Slot.TheVariants as slots

@@ -12,13 +12,13 @@ use Rattle.fast_check_class_forms.specs.Functions.{Function-return_type, Param-s
 use Rattle.fast_check_expression_forms.specs.Expressions.{ArrowExpr-span, ArrowExpr-ctxt, ArrowExpr-params}
 use Rattle.fast_check_expression_forms.specs.Expressions.{ArrowExpr-body, ArrowExpr-is_async, ArrowExpr-is_generator}
 use Rattle.fast_check_expression_forms.specs.Expressions.{ArrowExpr-type_params, ArrowExpr-return_type}
-use Rattle.fast_check_helpers.specs.declared.literal_type.DeclMutabilityKind.TheVariants.{Mutable}
-use Rattle.fast_check_helpers.specs.declared.return_class.ReturnStatementAnalysis.{ReturnStatementAnalysis}
-use Rattle.fast_check_helpers.specs.declared.return_class.ReturnStatementAnalysis.TheVariants as class
-use Rattle.fast_check_helpers.specs.Builders.{type_ann, any_type_ann}
-use Rattle.fast_check_helpers.specs.InferredType.{inferred_type}
-use Rattle.fast_check_helpers.specs.NamedBodies.{named_return}
-use Rattle.fast_check_helpers.specs.ReturnClass.{return_class}
+use Rattle.fast_check_swc_helpers.specs.declared.literal_type.DeclMutabilityKind.TheVariants.{Mutable}
+use Rattle.fast_check_swc_helpers.specs.declared.return_class.ReturnStatementAnalysis.{ReturnStatementAnalysis}
+use Rattle.fast_check_swc_helpers.specs.declared.return_class.ReturnStatementAnalysis.TheVariants as class
+use Rattle.fast_check_swc_helpers.specs.Builders.{type_ann, any_type_ann}
+use Rattle.fast_check_swc_helpers.specs.InferredType.{inferred_type}
+use Rattle.fast_check_swc_helpers.specs.NamedBodies.{named_return}
+use Rattle.fast_check_swc_helpers.specs.ReturnClass.{return_class}
 use Rattle.fast_check_signatures.specs.declared.fault.FaultKind.{FaultKind}
 use Rattle.fast_check_signatures.specs.declared.fault.FaultKind.TheVariants.{MissingExplicitReturnType}
 use Rattle.fast_check_signatures.specs.declared.function_kind.FunctionKind.{FunctionKind}

@@ -19,9 +19,9 @@ use Rattle.fast_check_statement_forms.specs.Statements.{block_stmt, return_stmt}
 use Rattle.fast_check_type_forms.specs.Types.{ts_type_ref, ts_union_type, TsTypeRef-type_name, TsTypeRef-type_params}
 use Rattle.fast_check_type_forms.specs.TypeParams.{ts_type_param_instantiation, ts_type_ann, TsTypeAnn-span}
 use Rattle.fast_check_type_forms.specs.TypeParams.{TsTypeAnn-type_ann, TsTypeParamInstantiation-params}
-use Rattle.fast_check_helpers.specs.Builders.{ts_keyword_type, type_ann, any_type_ann, new_ident, never_value}
-use Rattle.fast_check_helpers.specs.Builders.{is_void_type}
-use Rattle.fast_check_helpers.specs.GlobalCalls.{is_global}
+use Rattle.fast_check_swc_helpers.specs.Builders.{ts_keyword_type, type_ann, any_type_ann, new_ident, never_value}
+use Rattle.fast_check_swc_helpers.specs.Builders.{is_void_type}
+use Rattle.fast_check_swc_helpers.specs.GlobalCalls.{is_global}
 
 -- `elem_type[]`, `expr;` and a name, as nodes of their fields
 abbrev pub ts_array_type : SourceRange → Tree → Tree

@@ -11,7 +11,7 @@ use Rattle.fast_check_syntax.proofs.Partners.{partners-keep as partners_keep, tw
 use Rattle.fast_check_syntax.proofs.Same.{tree_to, range_to}
 use Rattle.fast_check_expression_forms.specs.Calls.{MemberExpr-span}
 use Rattle.fast_check_expression_forms.specs.Operators.{AssignExpr-span, AssignExpr-left, AssignExpr-right}
-use Rattle.fast_check_helpers.specs.ranges.Ranges.{range_of_node}
+use Rattle.fast_check_swc_helpers.specs.ranges.Ranges.{range_of_node}
 use Rattle.fast_check_modules.specs.Expandos.{is_expando_assignment}
 use Rattle.fast_check_signatures.specs.Answers.{answer_to}
 use Rattle.fast_check_signatures.specs.Seen.{tested, refused}

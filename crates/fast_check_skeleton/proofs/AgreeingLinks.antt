@@ -16,7 +16,7 @@ use Rattle.fast_check_program_forms.specs.ModuleDecls.{ImportDecl-span, ImportDe
 use Rattle.fast_check_program_forms.specs.ModuleDecls.{ImportDecl-with, ImportDecl-phase, NamedExport-span, NamedExport-specifiers}
 use Rattle.fast_check_program_forms.specs.ModuleDecls.{NamedExport-src, NamedExport-type_only, NamedExport-with, ExportAll-span}
 use Rattle.fast_check_program_forms.specs.ModuleDecls.{ExportAll-src, ExportAll-type_only, ExportAll-with, TsImportEqualsDecl-span}
-use Rattle.fast_check_helpers.specs.ranges.Ranges.{range_of_node}
+use Rattle.fast_check_swc_helpers.specs.ranges.Ranges.{range_of_node}
 use Rattle.fast_check_signatures.specs.Seen.{written}
 use Rattle.fast_check_skeleton.proofs.AlikeTrees.{TreeAlike, new_alike, absent_alike, range_leaf_alike, flag_leaf_alike, node_alike}
 use Rattle.fast_check_skeleton.proofs.AlikeTrees.{range_field_alike}

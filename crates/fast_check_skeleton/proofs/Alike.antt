@@ -11,7 +11,7 @@ use Rattle.fast_check_syntax.specs.Moves.{Renaming, IsRenaming}
 use Rattle.fast_check_syntax.proofs.Same.{range_to}
 use Rattle.fast_check_class_forms.specs.Functions.{Function-span, Function-params, Param-pat}
 use Rattle.fast_check_expression_forms.specs.Expressions.{ArrowExpr-span, ArrowExpr-params, FnExpr-function}
-use Rattle.fast_check_helpers.specs.OptionalParams.{is_optional_param}
+use Rattle.fast_check_swc_helpers.specs.OptionalParams.{is_optional_param}
 use Rattle.fast_check_signatures.specs.Bindings.{Bindings}
 use Rattle.fast_check_signatures.specs.declared.function_kind.FunctionKind.{FunctionKind}
 use Rattle.fast_check_signatures.specs.declared.function_kind.FunctionKind.TheVariants.{ExpressionLike}

@@ -17,7 +17,7 @@ use Rattle.fast_check_syntax.proofs.Moved.{node_moved, range_moved, text_moved, 
 use Rattle.fast_check_syntax.proofs.Moved.{flag_of_moved, has_word_moved}
 use Rattle.fast_check_syntax.proofs.Partners.{partners-keep as partners_keep, twice-keeps as twice_keeps}
 use Rattle.fast_check_syntax.proofs.Same.{tree_to, range_to}
-use Rattle.fast_check_helpers.specs.ranges.Ranges.{range_of_node}
+use Rattle.fast_check_swc_helpers.specs.ranges.Ranges.{range_of_node}
 use Rattle.fast_check_class_forms.specs.Classes.{Constructor-span, Constructor-ctxt, Constructor-key, Constructor-body}
 use Rattle.fast_check_class_forms.specs.Classes.{Constructor-accessibility, Constructor-is_optional, TsParamProp-accessibility}
 use Rattle.fast_check_class_forms.specs.Classes.{TsParamProp-readonly, TsParamProp-param}
@@ -29,10 +29,10 @@ use Rattle.fast_check_expression_forms.specs.Expressions.{ExprOrSpread-spread}
 use Rattle.fast_check_expression_forms.specs.Patterns.{AssignPat-right}
 use Rattle.fast_check_program_forms.specs.Names.{Ident-span, Ident-sym, Ident-optional, BindingIdent-type_ann}
 use Rattle.fast_check_statement_forms.specs.Statements.{BlockStmt-stmts}
-use Rattle.fast_check_helpers.specs.declared.literal_type.DeclMutabilityKind.{DeclMutabilityKind}
-use Rattle.fast_check_helpers.specs.Builders.{any_type_ann, never_value}
-use Rattle.fast_check_helpers.specs.InferredType.{inferred_type}
-use Rattle.fast_check_helpers.proofs.BuildersMoved.{never_value_moved}
+use Rattle.fast_check_swc_helpers.specs.declared.literal_type.DeclMutabilityKind.{DeclMutabilityKind}
+use Rattle.fast_check_swc_helpers.specs.Builders.{any_type_ann, never_value}
+use Rattle.fast_check_swc_helpers.specs.InferredType.{inferred_type}
+use Rattle.fast_check_swc_helpers.proofs.BuildersMoved.{never_value_moved}
 use Rattle.fast_check_signatures.specs.Bindings.{Bindings}
 use Rattle.fast_check_signatures.specs.declared.fault.FaultKind.TheVariants.{UnsupportedDestructuring, UnsupportedSuperClassExpr}
 use Rattle.fast_check_signatures.specs.declared.function_kind.FunctionKind.{FunctionKind}

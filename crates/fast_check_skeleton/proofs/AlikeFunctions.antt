@@ -14,14 +14,14 @@ use Rattle.fast_check_class_forms.specs.Functions.{Function-span, Function-param
 use Rattle.fast_check_class_forms.specs.Functions.{Function-is_async, Function-return_type, Param-span, Param-pat}
 use Rattle.fast_check_expression_forms.specs.Expressions.{ArrowExpr-span, ArrowExpr-ctxt, ArrowExpr-body, ArrowExpr-is_async}
 use Rattle.fast_check_expression_forms.specs.Expressions.{ArrowExpr-is_generator, ArrowExpr-return_type}
-use Rattle.fast_check_helpers.specs.declared.literal_type.DeclMutabilityKind.TheVariants.{Mutable}
-use Rattle.fast_check_helpers.specs.declared.return_class.ReturnStatementAnalysis.{ReturnStatementAnalysis}
-use Rattle.fast_check_helpers.specs.declared.return_class.ReturnStatementAnalysis.TheVariants as class
-use Rattle.fast_check_helpers.specs.Builders.{type_ann, any_type_ann}
-use Rattle.fast_check_helpers.specs.InferredType.{inferred_type}
-use Rattle.fast_check_helpers.specs.NamedBodies.{named_return}
-use Rattle.fast_check_helpers.specs.ReturnClass.{return_class}
-use Rattle.fast_check_helpers.proofs.BuildersMoved.{type_ann_moved, any_type_ann_moved}
+use Rattle.fast_check_swc_helpers.specs.declared.literal_type.DeclMutabilityKind.TheVariants.{Mutable}
+use Rattle.fast_check_swc_helpers.specs.declared.return_class.ReturnStatementAnalysis.{ReturnStatementAnalysis}
+use Rattle.fast_check_swc_helpers.specs.declared.return_class.ReturnStatementAnalysis.TheVariants as class
+use Rattle.fast_check_swc_helpers.specs.Builders.{type_ann, any_type_ann}
+use Rattle.fast_check_swc_helpers.specs.InferredType.{inferred_type}
+use Rattle.fast_check_swc_helpers.specs.NamedBodies.{named_return}
+use Rattle.fast_check_swc_helpers.specs.ReturnClass.{return_class}
+use Rattle.fast_check_swc_helpers.proofs.BuildersMoved.{type_ann_moved, any_type_ann_moved}
 use Rattle.fast_check_signatures.specs.Bindings.{Bindings}
 use Rattle.fast_check_signatures.specs.declared.function_kind.FunctionKind.{FunctionKind}
 use Rattle.fast_check_signatures.specs.declared.function_kind.FunctionKind.TheVariants.{DeclarationLike, ExpressionLike, Getter}

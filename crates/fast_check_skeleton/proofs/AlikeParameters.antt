@@ -15,14 +15,14 @@ use Rattle.fast_check_expression_forms.specs.Patterns.{ArrayPat-span, ArrayPat-o
 use Rattle.fast_check_expression_forms.specs.Patterns.{ObjectPat-optional, ObjectPat-type_ann, RestPat-span, RestPat-dot3_token}
 use Rattle.fast_check_expression_forms.specs.Patterns.{RestPat-arg, RestPat-type_ann, rest_pat, AssignPat-span, AssignPat-left}
 use Rattle.fast_check_expression_forms.specs.Patterns.{AssignPat-right, assign_pat}
-use Rattle.fast_check_helpers.specs.ranges.Ranges.{range_of_node}
+use Rattle.fast_check_swc_helpers.specs.ranges.Ranges.{range_of_node}
 use Rattle.fast_check_program_forms.specs.Names.{Ident-span, BindingIdent-id, BindingIdent-type_ann}
-use Rattle.fast_check_helpers.specs.declared.literal_type.DeclMutabilityKind.TheVariants.{Mutable}
-use Rattle.fast_check_helpers.specs.Builders.{type_ann, never_value}
-use Rattle.fast_check_helpers.specs.InferredType.{inferred_type}
-use Rattle.fast_check_helpers.specs.OptionalParams.{optional_by_kind, is_optional_param}
-use Rattle.fast_check_helpers.proofs.BuildersMoved.{type_ann_moved, never_value_moved}
-use Rattle.fast_check_helpers.proofs.ReturnsMoved.{is_optional_param_moved}
+use Rattle.fast_check_swc_helpers.specs.declared.literal_type.DeclMutabilityKind.TheVariants.{Mutable}
+use Rattle.fast_check_swc_helpers.specs.Builders.{type_ann, never_value}
+use Rattle.fast_check_swc_helpers.specs.InferredType.{inferred_type}
+use Rattle.fast_check_swc_helpers.specs.OptionalParams.{optional_by_kind, is_optional_param}
+use Rattle.fast_check_swc_helpers.proofs.BuildersMoved.{type_ann_moved, never_value_moved}
+use Rattle.fast_check_swc_helpers.proofs.ReturnsMoved.{is_optional_param_moved}
 use Rattle.fast_check_signatures.specs.Bindings.{Bindings}
 use Rattle.fast_check_signatures.specs.declared.fault.FaultKind.TheVariants.{MissingExplicitType, UnsupportedDestructuring}
 use Rattle.fast_check_signatures.specs.Seen.{Seen, written, default, faulty}

@@ -10,8 +10,8 @@ use Rattle.fast_check_syntax.specs.Shape.{◌is◌, is_kind, not_absent, kind_of
 use Rattle.fast_check_syntax.specs.Moves.{Renaming, IsRenaming}
 use Rattle.fast_check_syntax.specs.Recursion.{by_form_is_absent}
 use Rattle.fast_check_syntax.proofs.Same.{tree_to}
-use Rattle.fast_check_helpers.specs.declared.literal_type.DeclMutabilityKind.{DeclMutabilityKind}
-use Rattle.fast_check_helpers.specs.InferredType.{inferred_form, inferred_type}
+use Rattle.fast_check_swc_helpers.specs.declared.literal_type.DeclMutabilityKind.{DeclMutabilityKind}
+use Rattle.fast_check_swc_helpers.specs.InferredType.{inferred_form, inferred_type}
 use Rattle.fast_check_signatures.specs.Bindings.{Bindings}
 use Rattle.fast_check_signatures.specs.Expressions.{is_plain, is_compound, is_among, other_kinds, freezes, is_frozen, makes_plain, is_made}
 use Rattle.fast_check_signatures.specs.Expressions.{is_known, is_refused}

@@ -11,7 +11,7 @@ use Rattle.fast_check_syntax.specs.Shape.{kind_of, part, is_absent, node, list, 
 use Rattle.fast_check_syntax.specs.Moves.{Moves, Keeps, Renaming, IsRenaming, IsPair, partners, twice, moved, moved_range}
 use Rattle.fast_check_syntax.proofs.Moved.{node_moved, kind_of_moved, is_absent_moved, range_moved, context_moved, flag_moved}
 use Rattle.fast_check_syntax.proofs.Partners.{partners-keep as partners_keep, twice-keeps as twice_keeps, to_partner}
-use Rattle.fast_check_helpers.proofs.GlobalCallsMoved.{moved_scope}
+use Rattle.fast_check_swc_helpers.proofs.GlobalCallsMoved.{moved_scope}
 use Rattle.fast_check_signatures.proofs.MovedParts.{field_moved, range_field_moved}
 
 module _ (r : Renaming) (ok : IsRenaming r) where

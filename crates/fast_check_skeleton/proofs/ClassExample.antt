@@ -19,8 +19,8 @@ use Rattle.fast_check_syntax.proofs.Same.{tree_from}
 use Rattle.fast_check_class_forms.specs.Classes.{Class-body}
 use Rattle.fast_check_class_forms.specs.Functions.{Function-params}
 use Rattle.fast_check_statement_forms.specs.Declarations.{ClassDecl-class, FnDecl-function}
-use Rattle.fast_check_helpers.specs.Builders.{new_ident, ts_keyword_type, type_ann}
-use Rattle.fast_check_helpers.specs.ranges.Ranges.{range_of_node}
+use Rattle.fast_check_swc_helpers.specs.Builders.{new_ident, ts_keyword_type, type_ann}
+use Rattle.fast_check_swc_helpers.specs.ranges.Ranges.{range_of_node}
 use Rattle.fast_check_signatures.specs.NewNodes.{no_scope, ident_name}
 use Rattle.fast_check_signatures.specs.Members.{is_hash_named}
 use Rattle.fast_check_signatures.specs.Classes.{private_method_head}

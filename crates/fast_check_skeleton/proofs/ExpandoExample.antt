@@ -15,9 +15,9 @@ use Rattle.fast_check_syntax.proofs.Moved.{node_moved, range_moved, none_moved, 
 use Rattle.fast_check_expression_forms.specs.Operators.{AssignExpr-span, AssignExpr-left, AssignExpr-right}
 use Rattle.fast_check_program_forms.specs.Programs.{Module-span, Module-shebang, module'}
 use Rattle.fast_check_statement_forms.specs.Statements.{ExprStmt-expr}
-use Rattle.fast_check_helpers.specs.Builders.{new_ident, ts_keyword_type}
+use Rattle.fast_check_swc_helpers.specs.Builders.{new_ident, ts_keyword_type}
 use Rattle.fast_check_modules.specs.Expandos.{is_expando_assignment}
-use Rattle.fast_check_helpers.specs.ranges.Ranges.{range_of_node}
+use Rattle.fast_check_swc_helpers.specs.ranges.Ranges.{range_of_node}
 use Rattle.fast_check_skeleton.specs.SameValues.{SameExpr}
 use Rattle.fast_check_skeleton.specs.SameValues as v
 use Rattle.fast_check_signatures.specs.Answers.{answer_to, answer_of}

@@ -18,9 +18,9 @@ use Rattle.fast_check_class_forms.specs.Fields.{ClassProp-value, ClassProp-type_
 use Rattle.fast_check_class_forms.specs.Methods.{ClassMethod-span, ClassMethod-key, ClassMethod-kind, ClassMethod-is_static}
 use Rattle.fast_check_class_forms.specs.Methods.{ClassMethod-accessibility, ClassMethod-is_abstract, ClassMethod-is_optional}
 use Rattle.fast_check_class_forms.specs.Methods.{ClassMethod-is_override}
-use Rattle.fast_check_helpers.specs.declared.literal_type.DeclMutabilityKind.TheVariants.{Mutable}
-use Rattle.fast_check_helpers.specs.Builders.{type_ann, any_type_ann}
-use Rattle.fast_check_helpers.specs.InferredType.{inferred_type}
+use Rattle.fast_check_swc_helpers.specs.declared.literal_type.DeclMutabilityKind.TheVariants.{Mutable}
+use Rattle.fast_check_swc_helpers.specs.Builders.{type_ann, any_type_ann}
+use Rattle.fast_check_swc_helpers.specs.InferredType.{inferred_type}
 use Rattle.fast_check_signatures.specs.Bindings.{Bindings}
 use Rattle.fast_check_signatures.specs.Seen.{PropertyHead, Seen, written, range, scope, flag, listed, seens}
 use Rattle.fast_check_signatures.specs.Answers.{settled, with_tree, class_of, declared_property, valued_property, answer_to, parts_answer}

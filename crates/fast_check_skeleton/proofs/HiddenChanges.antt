@@ -21,10 +21,10 @@ use Rattle.fast_check_class_forms.specs.Functions.{Function-params}
 use Rattle.fast_check_expression_forms.specs.Patterns.{AssignPat-right}
 use Rattle.fast_check_program_forms.specs.Literals.{number}
 use Rattle.fast_check_program_forms.specs.Names.{binding_ident}
-use Rattle.fast_check_helpers.specs.declared.literal_type.DeclMutabilityKind.TheVariants.{Mutable}
-use Rattle.fast_check_helpers.specs.Builders.{new_ident, ts_keyword_type, type_ann}
-use Rattle.fast_check_helpers.specs.InferredType.{inferred_type}
-use Rattle.fast_check_helpers.proofs.InferredTypes.{inferred_out}
+use Rattle.fast_check_swc_helpers.specs.declared.literal_type.DeclMutabilityKind.TheVariants.{Mutable}
+use Rattle.fast_check_swc_helpers.specs.Builders.{new_ident, ts_keyword_type, type_ann}
+use Rattle.fast_check_swc_helpers.specs.InferredType.{inferred_type}
+use Rattle.fast_check_swc_helpers.proofs.InferredTypes.{inferred_out}
 use Rattle.fast_check_signatures.specs.Bindings.{Bindings}
 use Rattle.fast_check_signatures.specs.Classes.{private_method_head}
 use Rattle.fast_check_signatures.specs.Expressions.{is_refused}

@@ -16,11 +16,11 @@ use Rattle.fast_check_class_forms.specs.Functions.{Function-params, Function-is_
 use Rattle.fast_check_class_forms.specs.Methods.{ClassMethod-span, ClassMethod-function}
 use Rattle.fast_check_expression_forms.specs.Expressions.{ArrowExpr-params, ArrowExpr-body, ArrowExpr-is_generator}
 use Rattle.fast_check_program_forms.specs.Literals.{number}
-use Rattle.fast_check_helpers.specs.declared.literal_type.DeclMutabilityKind.TheVariants.{Mutable}
-use Rattle.fast_check_helpers.specs.InferredType.{inferred_type}
-use Rattle.fast_check_helpers.specs.NamedBodies.{named_return}
-use Rattle.fast_check_helpers.specs.ReturnClass.{return_class}
-use Rattle.fast_check_helpers.proofs.InferredTypes.{inferred_out}
+use Rattle.fast_check_swc_helpers.specs.declared.literal_type.DeclMutabilityKind.TheVariants.{Mutable}
+use Rattle.fast_check_swc_helpers.specs.InferredType.{inferred_type}
+use Rattle.fast_check_swc_helpers.specs.NamedBodies.{named_return}
+use Rattle.fast_check_swc_helpers.specs.ReturnClass.{return_class}
+use Rattle.fast_check_swc_helpers.proofs.InferredTypes.{inferred_out}
 use Rattle.fast_check_signatures.specs.Bindings.{Bindings}
 use Rattle.fast_check_signatures.specs.Classes.{mutability_of_property}
 use Rattle.fast_check_signatures.specs.NewNodes.{new_block}

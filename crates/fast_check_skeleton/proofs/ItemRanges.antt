@@ -17,8 +17,8 @@ use Rattle.fast_check_program_forms.specs.ModuleDecls.{ExportDecl-span, ImportDe
 use Rattle.fast_check_program_forms.specs.ModuleDecls.{ExportDefaultExpr-span, ExportDefaultDecl-span}
 use Rattle.fast_check_statement_forms.specs.Declarations.{ClassDecl-class, FnDecl-function, UsingDecl-span, VarDecl-span}
 use Rattle.fast_check_statement_forms.specs.TsDeclarations.{TsModuleDecl-span}
-use Rattle.fast_check_helpers.specs.ranges.Ranges.{target_by_kind, expr_by_kind, without_marks, range_by_kind, range_of_form, range_of_node}
-use Rattle.fast_check_helpers.proofs.ranges.RangesMoved.{range_of_node_moved}
+use Rattle.fast_check_swc_helpers.specs.ranges.Ranges.{target_by_kind, expr_by_kind, without_marks, range_by_kind, range_of_form, range_of_node}
+use Rattle.fast_check_swc_helpers.proofs.ranges.RangesMoved.{range_of_node_moved}
 
 -- a form that marks no pattern
 unmarked : (t : Tree) (k : Kind) → kind_of t ≡ k → target_by_kind k t ≡ t → expr_by_kind k t ≡ t → without_marks t ≡ t

@@ -10,8 +10,8 @@ use Rattle.fast_check_syntax.proofs.Made.{kind_of_node, parts_node, part_node, i
 use Rattle.fast_check_statement_forms.specs.TsDeclarations.{TsModuleDecl-span, TsModuleDecl-declare, TsModuleDecl-global}
 use Rattle.fast_check_statement_forms.specs.TsDeclarations.{TsModuleDecl-namespace, TsModuleDecl-id, TsModuleDecl-body}
 use Rattle.fast_check_statement_forms.specs.TsDeclarations.{TsNamespaceDecl-body}
-use Rattle.fast_check_helpers.specs.Builders.{new_ident}
-use Rattle.fast_check_helpers.specs.ranges.Ranges.{range_of_node}
+use Rattle.fast_check_swc_helpers.specs.Builders.{new_ident}
+use Rattle.fast_check_swc_helpers.specs.ranges.Ranges.{range_of_node}
 use Rattle.fast_check_skeleton.specs.SameClasses.{IsNoPartner}
 use Rattle.fast_check_signatures.specs.Seen.{Seen, written, range, flag, round, seens}
 use Rattle.fast_check_expandos.specs.Expandos.{namespaces_seen}

@@ -10,7 +10,7 @@ use Rattle.fast_check_syntax.specs.declared.tree.Tree.{Tree, Absent}
 use Rattle.fast_check_syntax.specs.Shape.{◌is◌, is_kind, kind_of, OfAll}
 use Rattle.fast_check_syntax.specs.Descent.{by_descent_is, given, given_lower, given_part}
 use Rattle.fast_check_syntax.specs.Height.{height, height_part, height_at_most, height_one}
-use Rattle.fast_check_helpers.specs.ranges.Ranges.{range_of_node}
+use Rattle.fast_check_swc_helpers.specs.ranges.Ranges.{range_of_node}
 use Rattle.fast_check_program_forms.specs.ModuleDecls.{ExportDecl-span, ExportDecl-decl}
 use Rattle.fast_check_statement_forms.specs.TsDeclarations.{TsModuleDecl-span, TsModuleDecl-global, TsModuleDecl-id, TsModuleDecl-body}
 use Rattle.fast_check_statement_forms.specs.TsDeclarations.{TsModuleBlock-span, TsModuleBlock-body, TsNamespaceDecl-span}

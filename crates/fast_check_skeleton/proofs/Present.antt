@@ -8,8 +8,8 @@ use Rattle.fast_check_syntax.specs.declared.tree.Tree.{Tree}
 use Rattle.fast_check_syntax.specs.Shape.{◌is◌, kind_of, parts, is_absent, node}
 use Rattle.fast_check_syntax.proofs.Made.{is_absent_node}
 use Rattle.fast_check_expression_forms.specs.Expressions.{ArrowExpr-body, ArrowExpr-return_type, ArrowExpr-params, ArrowExpr-span}
-use Rattle.fast_check_helpers.specs.declared.literal_type.DeclMutabilityKind.TheVariants.{Mutable}
-use Rattle.fast_check_helpers.specs.InferredType.{inferred_type}
+use Rattle.fast_check_swc_helpers.specs.declared.literal_type.DeclMutabilityKind.TheVariants.{Mutable}
+use Rattle.fast_check_swc_helpers.specs.InferredType.{inferred_type}
 use Rattle.fast_check_signatures.specs.Bindings.{Bindings}
 use Rattle.fast_check_signatures.specs.Seen.{Seen, seens}
 use Rattle.fast_check_signatures.specs.Answers.{answer_to, parts_answer}

@@ -11,10 +11,10 @@ use Rattle.fast_check_syntax.specs.Shape.{◌is◌, kind_of, parts}
 use Rattle.fast_check_syntax.specs.Moves.{IsPair}
 use Rattle.fast_check_syntax.proofs.Made.{kind_of_node, parts_node, part_node, is_absent_node, flag_of_flag, range_of_range}
 use Rattle.fast_check_syntax.proofs.Moved.{node_moved, range_moved, none_moved, word_moved}
-use Rattle.fast_check_helpers.specs.ranges.Ranges.{range_of_node}
+use Rattle.fast_check_swc_helpers.specs.ranges.Ranges.{range_of_node}
 use Rattle.fast_check_program_forms.specs.ModuleDecls.{ExportDecl-decl}
 use Rattle.fast_check_statement_forms.specs.Declarations.{VarDecl-kind, VarDecl-decls}
-use Rattle.fast_check_helpers.specs.Builders.{new_ident, ts_keyword_type, type_ann, never_value}
+use Rattle.fast_check_swc_helpers.specs.Builders.{new_ident, ts_keyword_type, type_ann, never_value}
 use Rattle.fast_check_signatures.specs.Bindings.{Bindings}
 use Rattle.fast_check_signatures.specs.Expressions.{is_plain, is_compound, is_among, other_kinds, freezes, is_made, known_by_kind, is_known}
 use Rattle.fast_check_signatures.specs.Expressions.{is_refused, makes_plain}

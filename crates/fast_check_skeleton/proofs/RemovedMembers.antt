@@ -10,7 +10,7 @@ use Rattle.fast_check_syntax.specs.declared.tree.Tree.{Tree}
 use Rattle.fast_check_syntax.specs.Shape.{parts}
 use Rattle.fast_check_syntax.specs.Moves.{Renaming, IsRenaming, IsPair}
 use Rattle.fast_check_syntax.specs.Same.{SameRange}
-use Rattle.fast_check_helpers.specs.ranges.Ranges.{range_of_node}
+use Rattle.fast_check_swc_helpers.specs.ranges.Ranges.{range_of_node}
 use Rattle.fast_check_class_forms.specs.Classes.{Class-body}
 use Rattle.fast_check_signatures.specs.Bindings.{Bindings}
 use Rattle.fast_check_signatures.specs.Members.{stays_behind, each_behind, if_removed}

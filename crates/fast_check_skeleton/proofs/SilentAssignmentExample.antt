@@ -13,10 +13,10 @@ use Rattle.fast_check_syntax.specs.Shape.{none_range, kind_of, kind_at, parts, p
 use Rattle.fast_check_syntax.specs.Moves.{IsPair}
 use Rattle.fast_check_syntax.proofs.Made.{kind_of_node, parts_node, part_node, is_absent_node, flag_of_flag, range_of_range}
 use Rattle.fast_check_expression_forms.specs.Operators.{AssignExpr-span, AssignExpr-left}
-use Rattle.fast_check_helpers.specs.ranges.Ranges.{range_of_node}
+use Rattle.fast_check_swc_helpers.specs.ranges.Ranges.{range_of_node}
 use Rattle.fast_check_statement_forms.specs.Declarations.{FnDecl-function}
 use Rattle.fast_check_statement_forms.specs.Statements.{ExprStmt-expr}
-use Rattle.fast_check_helpers.specs.Builders.{new_ident}
+use Rattle.fast_check_swc_helpers.specs.Builders.{new_ident}
 use Rattle.fast_check_signatures.specs.Answers.{answer_to}
 use Rattle.fast_check_signatures.specs.Expressions.{is_plain, expr_seen}
 use Rattle.fast_check_signatures.specs.NewNodes.{no_scope}

@@ -14,10 +14,10 @@ use Rattle.fast_check_syntax.specs.declared.tree.Tree as tree
 use Rattle.fast_check_syntax.specs.Shape.{kind_of, parts, is_absent, flag_of, list, none_range, OfAll}
 use Rattle.fast_check_syntax.specs.Height.{height}
 use Rattle.fast_check_syntax.proofs.Made.{part_node, parts_node, kind_of_node, is_absent_node, flag_of_flag}
-use Rattle.fast_check_helpers.specs.Builders.{new_ident}
+use Rattle.fast_check_swc_helpers.specs.Builders.{new_ident}
 use Rattle.fast_check_program_forms.specs.ModuleDecls.{ExportDecl-decl, export_decl}
 use Rattle.fast_check_expression_forms.specs.Operators.{AssignExpr-span, AssignExpr-left, AssignExpr-right}
-use Rattle.fast_check_helpers.specs.ranges.Ranges.{range_of_node}
+use Rattle.fast_check_swc_helpers.specs.ranges.Ranges.{range_of_node}
 use Rattle.fast_check_statement_forms.specs.Declarations.{VarDecl-decls, var_decl}
 use Rattle.fast_check_statement_forms.specs.Statements.{ExprStmt-expr}
 use Rattle.fast_check_statement_forms.specs.TsDeclarations.{TsModuleDecl-global, TsModuleDecl-declare, TsModuleDecl-id, TsModuleDecl-body}

@@ -11,7 +11,7 @@ use Rattle.fast_check_syntax.specs.Shape.{◌is◌, kind_of, part, parts, is_abs
 use Rattle.fast_check_syntax.proofs.Made.{kind_of_node, parts_node}
 use Rattle.fast_check_class_forms.specs.Functions.{Function-span}
 use Rattle.fast_check_expression_forms.specs.Calls.{CallExpr-callee, CallExpr-args, NewExpr-callee, NewExpr-type_args}
-use Rattle.fast_check_helpers.specs.GlobalCalls.{is_global_member, sole_argument}
+use Rattle.fast_check_swc_helpers.specs.GlobalCalls.{is_global_member, sole_argument}
 use Rattle.fast_check_signatures.specs.Bindings.{Bindings, id_of}
 use Rattle.fast_check_signatures.specs.declared.function_kind.FunctionKind.{FunctionKind}
 use Rattle.fast_check_signatures.specs.declared.function_kind.FunctionKind.TheVariants.{ExpressionLike}

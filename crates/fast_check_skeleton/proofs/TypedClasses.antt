@@ -11,7 +11,7 @@ use Rattle.fast_check_syntax.specs.declared.tree.Tree as tree
 use Rattle.fast_check_syntax.specs.declared.tree.Tree.{Tree, Absent}
 use Rattle.fast_check_syntax.specs.Shape.{◌is◌, kind_of, parts, is_absent, flag_of, has_word, node, list, OfAll}
 use Rattle.fast_check_syntax.proofs.Made.{kind_of_node, parts_node, part_node, flag_of_flag}
-use Rattle.fast_check_helpers.specs.ranges.Ranges.{range_of_node}
+use Rattle.fast_check_swc_helpers.specs.ranges.Ranges.{range_of_node}
 use Rattle.fast_check_class_forms.specs.Classes.{Class-body, Class-super_class, Class-decorators, Constructor-span, Constructor-ctxt}
 use Rattle.fast_check_class_forms.specs.Classes.{Constructor-key, Constructor-params, Constructor-body, Constructor-accessibility}
 use Rattle.fast_check_class_forms.specs.Classes.{Constructor-is_optional}
@@ -24,9 +24,9 @@ use Rattle.fast_check_expression_forms.specs.Calls.{CallExpr-span, CallExpr-ctxt
 use Rattle.fast_check_expression_forms.specs.Calls.{call_expr}
 use Rattle.fast_check_expression_forms.specs.Expressions.{ExprOrSpread-spread, ExprOrSpread-expr}
 use Rattle.fast_check_statement_forms.specs.Statements.{BlockStmt-stmts, ExprStmt-expr}
-use Rattle.fast_check_helpers.specs.Builders.{type_ann, any_type_ann, never_value}
-use Rattle.fast_check_helpers.specs.declared.literal_type.DeclMutabilityKind.TheVariants.{Mutable}
-use Rattle.fast_check_helpers.specs.InferredType.{inferred_type}
+use Rattle.fast_check_swc_helpers.specs.Builders.{type_ann, any_type_ann, never_value}
+use Rattle.fast_check_swc_helpers.specs.declared.literal_type.DeclMutabilityKind.TheVariants.{Mutable}
+use Rattle.fast_check_swc_helpers.specs.InferredType.{inferred_type}
 use Rattle.fast_check_signatures.specs.Bindings.{Bindings}
 use Rattle.fast_check_signatures.specs.declared.fault.FaultKind.TheVariants.{MissingExplicitType}
 use Rattle.fast_check_signatures.specs.declared.function_kind.FunctionKind.{FunctionKind}

@@ -15,12 +15,12 @@ use Rattle.fast_check_class_forms.specs.Functions.{Function-params, Function-bod
 use Rattle.fast_check_class_forms.specs.Functions.{Function-is_async, Function-return_type, Param-span, Param-decorators, Param-pat}
 use Rattle.fast_check_class_forms.specs.Functions.{param}
 use Rattle.fast_check_program_forms.specs.Names.{binding_ident}
-use Rattle.fast_check_helpers.specs.declared.return_class.ReturnStatementAnalysis.{ReturnStatementAnalysis}
-use Rattle.fast_check_helpers.specs.declared.return_class.ReturnStatementAnalysis.TheVariants as class
-use Rattle.fast_check_helpers.specs.Builders.{any_type_ann}
-use Rattle.fast_check_helpers.specs.OptionalParams.{is_optional_param}
-use Rattle.fast_check_helpers.specs.NamedBodies.{named_return}
-use Rattle.fast_check_helpers.specs.ReturnClass.{return_class}
+use Rattle.fast_check_swc_helpers.specs.declared.return_class.ReturnStatementAnalysis.{ReturnStatementAnalysis}
+use Rattle.fast_check_swc_helpers.specs.declared.return_class.ReturnStatementAnalysis.TheVariants as class
+use Rattle.fast_check_swc_helpers.specs.Builders.{any_type_ann}
+use Rattle.fast_check_swc_helpers.specs.OptionalParams.{is_optional_param}
+use Rattle.fast_check_swc_helpers.specs.NamedBodies.{named_return}
+use Rattle.fast_check_swc_helpers.specs.ReturnClass.{return_class}
 use Rattle.fast_check_signatures.specs.Bindings.{Bindings}
 use Rattle.fast_check_signatures.specs.declared.function_kind.FunctionKind.{FunctionKind}
 use Rattle.fast_check_signatures.specs.declared.function_kind.FunctionKind.TheVariants.{DeclarationLike, Getter, Setter}

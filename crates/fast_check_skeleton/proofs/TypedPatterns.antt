@@ -13,10 +13,10 @@ use Rattle.fast_check_expression_forms.specs.Patterns.{ObjectPat-optional, Objec
 use Rattle.fast_check_expression_forms.specs.Patterns.{RestPat-arg, RestPat-type_ann, rest_pat, AssignPat-span, AssignPat-left}
 use Rattle.fast_check_expression_forms.specs.Patterns.{AssignPat-right, assign_pat}
 use Rattle.fast_check_program_forms.specs.Names.{Ident-span, BindingIdent-id, BindingIdent-type_ann, binding_ident}
-use Rattle.fast_check_helpers.specs.declared.literal_type.DeclMutabilityKind.TheVariants.{Mutable}
-use Rattle.fast_check_helpers.specs.Builders.{type_ann, never_value}
-use Rattle.fast_check_helpers.specs.InferredType.{inferred_type}
-use Rattle.fast_check_helpers.specs.OptionalParams.{is_optional_param}
+use Rattle.fast_check_swc_helpers.specs.declared.literal_type.DeclMutabilityKind.TheVariants.{Mutable}
+use Rattle.fast_check_swc_helpers.specs.Builders.{type_ann, never_value}
+use Rattle.fast_check_swc_helpers.specs.InferredType.{inferred_type}
+use Rattle.fast_check_swc_helpers.specs.OptionalParams.{is_optional_param}
 use Rattle.fast_check_signatures.specs.Bindings.{Bindings}
 use Rattle.fast_check_signatures.specs.declared.fault.FaultKind.TheVariants.{MissingExplicitType}
 use Rattle.fast_check_signatures.specs.Seen.{Seen}

@@ -16,7 +16,7 @@ use Rattle.fast_check_class_forms.specs.Methods.{class_method}
 use Rattle.fast_check_program_forms.specs.Names.{binding_ident}
 use Rattle.fast_check_program_forms.specs.Programs.{module'}
 use Rattle.fast_check_statement_forms.specs.Declarations.{class_decl, fn_decl}
-use Rattle.fast_check_helpers.specs.Builders.{new_ident, ts_keyword_type, type_ann, any_type_ann}
+use Rattle.fast_check_swc_helpers.specs.Builders.{new_ident, ts_keyword_type, type_ann, any_type_ann}
 use Rattle.fast_check_signatures.specs.Answers.{declared_property}
 use Rattle.fast_check_signatures.specs.Bindings.{Bindings}
 use Rattle.fast_check_signatures.specs.NewNodes.{no_scope, new_block, ident_name}

@@ -16,7 +16,7 @@ use Rattle.fast_check_class_forms.specs.Methods.{ClassMethod-function, ClassMeth
 use Rattle.fast_check_expression_forms.specs.Calls.{CallExpr-args}
 use Rattle.fast_check_expression_forms.specs.Expressions.{ExprOrSpread-spread, ExprOrSpread-expr}
 use Rattle.fast_check_statement_forms.specs.Statements.{ExprStmt-expr}
-use Rattle.fast_check_helpers.specs.Builders.{never_value}
+use Rattle.fast_check_swc_helpers.specs.Builders.{never_value}
 use Rattle.fast_check_signatures.specs.Bindings.{Bindings}
 use Rattle.fast_check_signatures.specs.NewNodes.{never_array_in_parens, new_block, hash_private, function_body}
 use Rattle.fast_check_signatures.specs.Members.{is_private, is_private_computed}

@@ -10,7 +10,7 @@ use Rattle.fast_check_expression_forms.specs.Expressions.{FnExpr-function}
 use Rattle.fast_check_program_forms.specs.ModuleDecls.{ExportDefaultExpr-span, ExportDefaultExpr-expr}
 use Rattle.fast_check_program_forms.specs.ModuleDecls.{ExportDefaultDecl-span, ExportDefaultDecl-decl}
 use Rattle.fast_check_program_forms.specs.Names.{Ident-span}
-use Rattle.fast_check_helpers.specs.ranges.Ranges.{range_of_node}
+use Rattle.fast_check_swc_helpers.specs.ranges.Ranges.{range_of_node}
 use Rattle.fast_check_signatures.specs.declared.function_kind.FunctionKind.TheVariants.{DeclarationLike}
 use Rattle.fast_check_signatures.specs.Classes.{plain_class_seen}
 use Rattle.fast_check_signatures.specs.Expressions.{expr_seen}

@@ -23,7 +23,7 @@ use Rattle.fast_check_statement_forms.specs.Declarations.{fn_decl, var_decl, var
 use Rattle.fast_check_statement_forms.specs.Statements.{block_stmt}
 use Rattle.fast_check_type_forms.specs.Types.{ts_keyword_type}
 use Rattle.fast_check_type_forms.specs.TypeParams.{ts_type_ann}
-use Rattle.fast_check_helpers.specs.Builders.{never_value}
+use Rattle.fast_check_swc_helpers.specs.Builders.{never_value}
 use Rattle.fast_check_expandos.specs.Objects.{no_objects}
 use Rattle.fast_check_skeleton.specs.Surroundings.{Surroundings}
 use Rattle.fast_check_skeleton.specs.KeptComments.{kept_comments}

@@ -9,7 +9,7 @@ use Rattle.fast_check_syntax.specs.declared.tree.Tree.{Tree}
 use Rattle.fast_check_syntax.specs.Shape.{none_range, node}
 use Rattle.fast_check_syntax.specs.Moves.{IsRenaming}
 use Rattle.fast_check_expression_forms.specs.Assertions.{ts_as_expr}
-use Rattle.fast_check_helpers.specs.Builders.{new_ident, ts_keyword_type}
+use Rattle.fast_check_swc_helpers.specs.Builders.{new_ident, ts_keyword_type}
 use Rattle.fast_check_signatures.specs.NewNodes.{ident_name, never_in_parens}
 use Rattle.fast_check_expandos.specs.Expandos.{property_declarator, namespace_decl}
 use Rattle.fast_check_skeleton.specs.ClassExample.{function_f, empty_statement, module_of, no_places, no_classes}

@@ -9,7 +9,7 @@ use Rattle.fast_check_syntax.specs.declared.kind.Kind.TheVariants.{TsModuleDecl,
 use Rattle.fast_check_signatures.specs.Bindings.{Bindings}
 use Rattle.fast_check_syntax.specs.declared.tree.Tree.{Tree}
 use Rattle.fast_check_syntax.specs.Shape.{kind_of, parts, is_absent, OfAll}
-use Rattle.fast_check_helpers.specs.Builders.{never_value}
+use Rattle.fast_check_swc_helpers.specs.Builders.{never_value}
 use Rattle.fast_check_program_forms.specs.Names.{BindingIdent-type_ann}
 use Rattle.fast_check_program_forms.specs.Programs.{Module-body}
 use Rattle.fast_check_program_forms.specs.ModuleDecls.{ExportDecl-decl, ExportDefaultExpr-expr, ExportDefaultDecl-decl}

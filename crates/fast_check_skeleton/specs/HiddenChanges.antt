@@ -16,7 +16,7 @@ use Rattle.fast_check_expression_forms.specs.Calls.{call_expr}
 use Rattle.fast_check_expression_forms.specs.Patterns.{array_pat, assign_pat}
 use Rattle.fast_check_program_forms.specs.Literals.{number}
 use Rattle.fast_check_program_forms.specs.Names.{binding_ident}
-use Rattle.fast_check_helpers.specs.Builders.{new_ident, ts_keyword_type, type_ann}
+use Rattle.fast_check_swc_helpers.specs.Builders.{new_ident, ts_keyword_type, type_ann}
 use Rattle.fast_check_signatures.specs.Bindings.{Bindings}
 use Rattle.fast_check_signatures.specs.NewNodes.{no_scope, new_block, ident_name, ts_array_type}
 use Rattle.fast_check_skeleton.specs.SameValues.{SameExpr, SameFunction, SamePat}

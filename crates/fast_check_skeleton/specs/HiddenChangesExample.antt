@@ -20,7 +20,7 @@ use Rattle.fast_check_expression_forms.specs.Patterns.{array_pat, assign_pat}
 use Rattle.fast_check_program_forms.specs.Literals.{number}
 use Rattle.fast_check_program_forms.specs.Names.{binding_ident}
 use Rattle.fast_check_statement_forms.specs.Declarations.{class_decl, fn_decl}
-use Rattle.fast_check_helpers.specs.Builders.{new_ident, ts_keyword_type, type_ann}
+use Rattle.fast_check_swc_helpers.specs.Builders.{new_ident, ts_keyword_type, type_ann}
 use Rattle.fast_check_signatures.specs.NewNodes.{no_scope, ts_array_type}
 use Rattle.fast_check_skeleton.specs.ClassExample.{void_function, method_m, static_block, empty_statement, parameter}
 use Rattle.fast_check_skeleton.specs.ClassExample.{module_of, no_places, all_public}

@@ -10,7 +10,7 @@ use Rattle.fast_check_program_forms.specs.ModuleDecls.{NamedExport-type_only, Na
 use Rattle.fast_check_program_forms.specs.ModuleDecls.{ExportAll-src, ExportAll-type_only, ExportAll-with}
 use Rattle.fast_check_program_forms.specs.ModuleDecls.{TsImportEqualsDecl-span, import_decl, named_export, export_all}
 use Rattle.fast_check_program_forms.specs.Literals.{Str-span, Str-value, str}
-use Rattle.fast_check_helpers.specs.ranges.Ranges.{range_of_node}
+use Rattle.fast_check_swc_helpers.specs.ranges.Ranges.{range_of_node}
 use Rattle.fast_check_signatures.specs.Seen.{Seen, written}
 use Rattle.fast_check_skeleton.specs.declared.rules.LinkRule.{LinkRule}
 use Rattle.fast_check_skeleton.specs.declared.rules.LinkRule.TheVariants.{Import, Export, All, Alias}

@@ -7,7 +7,7 @@ use Rattle.fast_check_syntax.specs.declared.tree.Tree.{Tree}
 use Rattle.fast_check_syntax.specs.Shape.{none_range, node, list}
 use Rattle.fast_check_syntax.specs.Moves.{IsRenaming}
 use Rattle.fast_check_statement_forms.specs.TsDeclarations.{ts_module_decl, ts_module_block}
-use Rattle.fast_check_helpers.specs.Builders.{new_ident}
+use Rattle.fast_check_swc_helpers.specs.Builders.{new_ident}
 use Rattle.fast_check_skeleton.specs.ClassExample.{module_of, no_places, all_public}
 use Rattle.fast_check_skeleton.specs.Example.{at}
 use Rattle.fast_check_skeleton.specs.Hidden.{AgreeHidden}

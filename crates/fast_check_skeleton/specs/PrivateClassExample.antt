@@ -15,7 +15,7 @@ use Rattle.fast_check_program_forms.specs.Literals.{number}
 use Rattle.fast_check_program_forms.specs.ModuleDecls.{export_decl}
 use Rattle.fast_check_program_forms.specs.Names.{binding_ident}
 use Rattle.fast_check_statement_forms.specs.Declarations.{class_decl, var_decl, var_declarator}
-use Rattle.fast_check_helpers.specs.Builders.{new_ident, ts_keyword_type, type_ann, never_value}
+use Rattle.fast_check_swc_helpers.specs.Builders.{new_ident, ts_keyword_type, type_ann, never_value}
 use Rattle.fast_check_signatures.specs.Bindings.{Bindings}
 use Rattle.fast_check_signatures.specs.NewNodes.{no_scope}
 use Rattle.fast_check_expandos.specs.Objects.{no_objects}

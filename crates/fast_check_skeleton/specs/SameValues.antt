@@ -27,11 +27,11 @@ use Rattle.fast_check_expression_forms.specs.Patterns.{ObjectPat-span, ObjectPat
 use Rattle.fast_check_expression_forms.specs.Patterns.{RestPat-span, RestPat-dot3_token, RestPat-arg, RestPat-type_ann}
 use Rattle.fast_check_expression_forms.specs.Patterns.{AssignPat-span, AssignPat-left, AssignPat-right}
 use Rattle.fast_check_program_forms.specs.Names.{BindingIdent-type_ann}
-use Rattle.fast_check_helpers.specs.ranges.Ranges.{range_of_node}
-use Rattle.fast_check_helpers.specs.declared.literal_type.DeclMutabilityKind.TheVariants.{Mutable}
-use Rattle.fast_check_helpers.specs.InferredType.{inferred_type}
-use Rattle.fast_check_helpers.specs.NamedBodies.{named_return}
-use Rattle.fast_check_helpers.specs.ReturnClass.{return_class}
+use Rattle.fast_check_swc_helpers.specs.ranges.Ranges.{range_of_node}
+use Rattle.fast_check_swc_helpers.specs.declared.literal_type.DeclMutabilityKind.TheVariants.{Mutable}
+use Rattle.fast_check_swc_helpers.specs.InferredType.{inferred_type}
+use Rattle.fast_check_swc_helpers.specs.NamedBodies.{named_return}
+use Rattle.fast_check_swc_helpers.specs.ReturnClass.{return_class}
 use Rattle.fast_check_signatures.specs.Bindings.{Bindings}
 use Rattle.fast_check_signatures.specs.Expressions.{is_plain, is_compound, is_frozen, is_made, is_refused}
 

@@ -10,7 +10,7 @@ use Rattle.fast_check_syntax.specs.declared.tree.Tree as tree
 use Rattle.fast_check_syntax.specs.declared.tree.Tree.{Tree}
 use Rattle.fast_check_syntax.specs.Shape.{node}
 use Rattle.fast_check_syntax.specs.Moves.{IsRenaming}
-use Rattle.fast_check_helpers.specs.Builders.{new_ident}
+use Rattle.fast_check_swc_helpers.specs.Builders.{new_ident}
 use Rattle.fast_check_signatures.specs.NewNodes.{ident_name}
 use Rattle.fast_check_expandos.specs.Objects.{Objects, no_objects}
 use Rattle.fast_check_skeleton.specs.Surroundings.{Surroundings}

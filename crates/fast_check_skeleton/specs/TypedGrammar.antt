@@ -18,8 +18,8 @@ use Rattle.fast_check_expression_forms.specs.Patterns.{ArrayPat-elems, ArrayPat-
 use Rattle.fast_check_expression_forms.specs.Patterns.{ObjectPat-type_ann, RestPat-arg, RestPat-type_ann}
 use Rattle.fast_check_expression_forms.specs.Patterns.{AssignPat-left, AssignPat-right}
 use Rattle.fast_check_program_forms.specs.Names.{BindingIdent-type_ann}
-use Rattle.fast_check_helpers.specs.Builders.{never_value}
-use Rattle.fast_check_helpers.specs.GlobalCalls.{is_global_member}
+use Rattle.fast_check_swc_helpers.specs.Builders.{never_value}
+use Rattle.fast_check_swc_helpers.specs.GlobalCalls.{is_global_member}
 use Rattle.fast_check_signatures.specs.Bindings.{Bindings}
 use Rattle.fast_check_signatures.specs.Expressions.{is_plain, is_compound, is_made}
 use Rattle.fast_check_signatures.specs.NewNodes.{never_array, never_in_parens, function_body, arrow_body}

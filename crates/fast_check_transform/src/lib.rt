@@ -2,7 +2,7 @@
 #![tactic(auto)]
 
 pub use fast_check_diagnostics::parsed_source::{FastCheckModule, ModuleInfo, StaticSource};
-pub use fast_check_module_transform::{TransformOptions, transform};
+pub use fast_check_transform_module::{TransformOptions, transform};
 pub use fast_check_transformer::{FastCheckTransformer, transform_pair};
 
 /// What a cache keeps.

@@ -9,10 +9,10 @@ ghost use Rattle.fast_check_transform_command.specs.Transform.{AnswersModule, Re
 
 use crate::answer::line_of;
 use fast_check_graph::ModuleGraph;
-use fast_check_module_transform::{TransformOptions, transform};
 use fast_check_modules::EsModuleInfo;
 use fast_check_modules::diagnostics::ModulePublicRanges;
 use fast_check_requests::{Answer, EsModuleParts, Refusal, TransformRequest, read_request};
+use fast_check_transform_module::{TransformOptions, transform};
 use std::alloc::{AllocError, Global};
 
 /// The answer to the bytes of a file, or why they are refused. They are dropped when the request is read.

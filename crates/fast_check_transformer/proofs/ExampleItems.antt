@@ -19,13 +19,13 @@ use Rattle.fast_check_expression_forms.specs.Patterns.{AssignPat-right}
 use Rattle.fast_check_program_forms.specs.Literals.{number}
 use Rattle.fast_check_program_forms.specs.ModuleDecls.{ExportDecl-decl}
 use Rattle.fast_check_program_forms.specs.Names.{binding_ident}
-use Rattle.fast_check_helpers.specs.ranges.Ranges.{range_of_node}
+use Rattle.fast_check_swc_helpers.specs.ranges.Ranges.{range_of_node}
 use Rattle.fast_check_statement_forms.specs.Declarations.{ClassDecl-class, FnDecl-function, VarDecl-kind, VarDecl-decls, fn_decl}
 use Rattle.fast_check_statement_forms.specs.Statements.{ExprStmt-expr}
-use Rattle.fast_check_helpers.specs.declared.literal_type.DeclMutabilityKind.TheVariants.{Mutable}
-use Rattle.fast_check_helpers.specs.Builders.{new_ident, ts_keyword_type}
-use Rattle.fast_check_helpers.specs.InferredType.{inferred_type}
-use Rattle.fast_check_helpers.proofs.InferredTypes.{inferred_out}
+use Rattle.fast_check_swc_helpers.specs.declared.literal_type.DeclMutabilityKind.TheVariants.{Mutable}
+use Rattle.fast_check_swc_helpers.specs.Builders.{new_ident, ts_keyword_type}
+use Rattle.fast_check_swc_helpers.specs.InferredType.{inferred_type}
+use Rattle.fast_check_swc_helpers.proofs.InferredTypes.{inferred_out}
 use Rattle.fast_check_modules.specs.Expandos.{is_expando_assignment}
 use Rattle.fast_check_skeleton.specs.signatures.Bindings.{Bindings}
 use Rattle.fast_check_skeleton.specs.signatures.Classes.{private_method_head}

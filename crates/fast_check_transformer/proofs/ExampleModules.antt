@@ -15,7 +15,7 @@ use Rattle.fast_check_syntax.proofs.Made.{kind_of_node, parts_node, part_node, i
 use Rattle.fast_check_syntax.proofs.Moved.{node_moved, range_moved, none_moved}
 use Rattle.fast_check_expression_forms.specs.Operators.{AssignExpr-span, AssignExpr-left}
 use Rattle.fast_check_program_forms.specs.ModuleDecls.{ExportDecl-decl}
-use Rattle.fast_check_helpers.specs.ranges.Ranges.{range_of_node}
+use Rattle.fast_check_swc_helpers.specs.ranges.Ranges.{range_of_node}
 use Rattle.fast_check_statement_forms.specs.Declarations.{VarDecl-decls, VarDeclarator-span}
 use Rattle.fast_check_statement_forms.specs.Statements.{ExprStmt-expr}
 use Rattle.fast_check_skeleton.specs.signatures.Answers.{answer_to}

@@ -4,7 +4,7 @@ use Rattle.std.proofs.Common.{inl, ap, ◌∙◌, sym}
 use Rattle.fast_check_bindings.specs.Bindings.{bindings_of}
 use Rattle.fast_check_comments.specs.declared.comments.Comments.{Comments}
 use Rattle.fast_check_comments.specs.Kept.{kept}
-use Rattle.fast_check_module_transform.specs.Transform.{surroundings_of}
+use Rattle.fast_check_transform_module.specs.Transform.{surroundings_of}
 use Rattle.fast_check_graph.specs.declared.graph.ModuleGraph.{ModuleGraph}
 use Rattle.fast_check_graph.specs.Graph.{resolutions_of}
 use Rattle.fast_check_modules.specs.EsModule.{EsModule}
@@ -15,7 +15,7 @@ use Rattle.fast_check_expandos.specs.Assignments.{is_declared, mentioned_by}
 use Rattle.fast_check_expandos.specs.Expandos.{object_of, property_name}
 use Rattle.fast_check_expandos.specs.ModuleObjects.{objects_of}
 use Rattle.fast_check_expandos.specs.Objects.{Objects, exports_name, stands_exported}
-use Rattle.fast_check_links.specs.surroundings.Sources.{relative_source}
+use Rattle.fast_check_transform_imports.specs.surroundings.Sources.{relative_source}
 use Rattle.fast_check_skeleton.specs.Example.{at}
 use Rattle.fast_check_skeleton.specs.Surroundings.{Surroundings}
 use Rattle.fast_check_skeleton.specs.ClassExample.{no_places}

@@ -2,7 +2,7 @@
 use Rattle.std.specs.Prelude.{◌≡◌, Bool, Ok, Err, refl}
 use Rattle.std.proofs.Common.{sym, subst, true≢false}
 use Rattle.fast_check_graph.specs.declared.graph.ModuleGraph.{ModuleGraph}
-use Rattle.fast_check_module_transform.specs.Transform.{surroundings_of, faults}
+use Rattle.fast_check_transform_module.specs.Transform.{surroundings_of, faults}
 use Rattle.fast_check_modules.specs.EsModule.{EsModule}
 use Rattle.fast_check_modules.specs.diagnostics.PublicRanges.{PublicRanges}
 use Rattle.fast_check_skeleton.specs.SameComments.{SameComments}

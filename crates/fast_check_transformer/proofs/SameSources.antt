@@ -1,7 +1,7 @@
 -- Skeletons of the same items depend on the same sources.
 use Rattle.std.specs.Prelude.{◌≡◌, ℕ, Bool, true, false, List, [], ◌∷◌, ◌++◌, flat_map, if◌then◌else◌, refl}
 use Rattle.std.proofs.Common.{ap, ◌∙◌, sym, subst, true≢false}
-use Rattle.fast_check_links.specs.StaticSources.{source_of, source_by_kind, item_source, static_sources}
+use Rattle.fast_check_transform_imports.specs.StaticSources.{source_of, source_by_kind, item_source, static_sources}
 use Rattle.fast_check_diagnostics.specs.declared.parsed_source.tables.fast_check_module.StaticSource.{StaticSource}
 use Rattle.fast_check_program_forms.specs.ModuleDecls.{ImportDecl-src, NamedExport-src}
 use Rattle.fast_check_program_forms.specs.ModuleDecls.{ExportAll-src}

@@ -9,7 +9,7 @@ use Rattle.fast_check_modules.specs.EsModule.{EsModule}
 use Rattle.fast_check_modules.specs.diagnostics.PublicRanges.{PublicRanges}
 use Rattle.fast_check_modules.specs.diagnostics.declared.diagnostics.FastCheckDiagnostic.{FastCheckDiagnostic}
 use Rattle.fast_check_signatures.specs.declared.fault.Fault.{Fault}
-use Rattle.fast_check_module_transform.specs.Transform.{skeleton, comments, faults}
+use Rattle.fast_check_transform_module.specs.Transform.{skeleton, comments, faults}
 use Rattle.fast_check_transformer.specs.declared.transformer.FastCheckTransformer.{FastCheckTransformer}
 
 -- a module of a graph with what is public of it, whether its first fault is answered alone, and the diagnostics that

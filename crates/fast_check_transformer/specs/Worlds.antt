@@ -1,7 +1,7 @@
 -- The law of two worlds of what is answered: an edit of what is hidden leaves both answers the same, under each
 -- renaming under which the modules agree.
 use Rattle.std.specs.Prelude.{◌≡◌, Ok, Err}
-use Rattle.fast_check_module_transform.specs.Transform.{surroundings_of}
+use Rattle.fast_check_transform_module.specs.Transform.{surroundings_of}
 use Rattle.fast_check_comments.specs.Kept.{kept}
 use Rattle.fast_check_graph.specs.declared.graph.ModuleGraph.{ModuleGraph}
 use Rattle.fast_check_modules.specs.EsModule.{EsModule}

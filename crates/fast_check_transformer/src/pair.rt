@@ -8,9 +8,9 @@ ghost use Rattle.fast_check_transformer.specs.Apart.{Compares};
 ghost use Rattle.fast_check_transformer.specs.Examples.{PrivateClasses, SilentAssignments, AllChanges};
 
 use fast_check_graph::ModuleGraph;
-use fast_check_module_transform::{FastCheckModule, TransformOptions, transform};
 use fast_check_modules::EsModuleInfo;
 use fast_check_modules::diagnostics::{FastCheckDiagnostic, ModulePublicRanges};
+use fast_check_transform_module::{FastCheckModule, TransformOptions, transform};
 use std::alloc::{AllocError, Global};
 
 /// The answer to a module: its skeleton, or what is wrong with it.

@@ -8,11 +8,11 @@ ghost use Rattle.fast_check_transform_faults.specs.Diagnostics.{AreDiagnosticsOf
 
 use fast_check_comments::Comments;
 use fast_check_graph::ModuleGraph;
-use fast_check_module_transform::{KeptModule, keep_module};
 use fast_check_modules::EsModuleInfo;
 use fast_check_modules::diagnostics::{FastCheckDiagnostic, ModulePublicRanges};
 use fast_check_syntax::Tree;
 use fast_check_transform_faults::diagnose;
+use fast_check_transform_module::{KeptModule, keep_module};
 use std::alloc::{AllocError, Global};
 
 /// Transforms a module, and keeps what is wrong with it beside what is public of it. `transform` answers the one or the other.

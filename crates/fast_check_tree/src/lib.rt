@@ -215,7 +215,7 @@ pub mod forms {
 
 /// New nodes, and the types that values show by themselves.
 pub mod helpers {
-    pub use fast_check_helpers::{
+    pub use fast_check_swc_helpers::{
         DeclMutabilityKind, IdentTypeRef, ParamsOptionalStartIndex, ReturnStatementAnalysis,
         TsKeywordTypeKind, analyze_return_stmts_in_function_body, any_type_ann, is_global,
         is_simple_type, is_void_type, maybe_infer_type, maybe_lit_to_ts_type, never_value,

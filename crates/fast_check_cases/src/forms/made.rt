@@ -1,7 +1,7 @@
 //! Types that calls make, and that no transform makes, and an identifier of a copied id.
 
-use fast_check_helpers::{TsKeywordTypeKind, ts_keyword_type, ts_readonly, ts_tuple_element};
 use fast_check_program_forms::Ident;
+use fast_check_swc_helpers::{TsKeywordTypeKind, ts_keyword_type, ts_readonly, ts_tuple_element};
 use fast_check_syntax::{Atom, Id, SourcePos, SourceRange, SyntaxContext, Tree};
 use std::alloc::{AllocError, Global};
 

@@ -10,9 +10,9 @@ use fast_check_build::build_fast_check_type_graph;
 use fast_check_build::package_answers::ModuleAnswer;
 use fast_check_build_requests::{BuildRequest, root_symbol_of};
 use fast_check_graph::{ModuleGraph, RootSymbol};
-use fast_check_module_transform::TransformOptions;
 use fast_check_packages::{BuildFault, IndexedPackages, PackageNv};
 use fast_check_requests::{Answer, Refusal};
+use fast_check_transform_module::TransformOptions;
 use std::alloc::Global;
 use std::collections::VecDeque;
 

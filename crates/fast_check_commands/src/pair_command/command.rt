@@ -15,10 +15,10 @@ use crate::pair_command::input::read_pair_input;
 use crate::pair_command::request::{PairRequest, Side};
 use fast_check_diagnostics::parsed_source::FastCheckModule;
 use fast_check_graph::ModuleGraph;
-use fast_check_module_transform::TransformOptions;
 use fast_check_modules::diagnostics::{FastCheckDiagnostic, ModulePublicRanges};
 use fast_check_modules::{EsModuleInfo, TableFault};
 use fast_check_requests::{Answer, EsModuleParts, Refusal};
+use fast_check_transform_module::TransformOptions;
 use fast_check_transformer::transform_pair;
 use std::alloc::{AllocError, Global};
 

@@ -1,5 +1,5 @@
 use Rattle.std.proofs.Common.{◌∙◌, is_some}
-use Rattle.fast_check_helpers.specs.GlobalCalls.{object_freeze_call_arg}
+use Rattle.fast_check_swc_helpers.specs.GlobalCalls.{object_freeze_call_arg}
 use Rattle.fast_check_bindings.proofs.Rules.{reads_some}
 use Rattle.fast_check_bindings.proofs.rows.freezes.Goals as goal
 

@@ -1,4 +1,4 @@
-use Rattle.fast_check_module_transform.specs.Transform.{faults}
+use Rattle.fast_check_transform_module.specs.Transform.{faults}
 use Rattle.fast_check_package_answers.proofs.Turns.{faults_answered, shows_tree}
 use Rattle.fast_check_package_answers.proofs.answer.answer_tree.Goals as goal
 

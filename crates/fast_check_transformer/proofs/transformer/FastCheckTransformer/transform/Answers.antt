@@ -1,4 +1,4 @@
-use Rattle.fast_check_module_transform.proofs.Transformed.{in_grammar}
+use Rattle.fast_check_transform_module.proofs.Transformed.{in_grammar}
 use Rattle.fast_check_transformer.proofs.transformer.FastCheckTransformer.transform.Goals as goal
 
 pub returns-clause-grammar : goal.returns-clause-grammar

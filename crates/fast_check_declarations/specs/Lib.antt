@@ -1,2 +1,0 @@
-pub use Rattle.fast_check_links.specs as links
-pub mod ClassAnswers

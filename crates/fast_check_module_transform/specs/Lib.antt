@@ -1,3 +1,0 @@
-pub use Rattle.fast_check_declarations.specs.links.surroundings.skeleton as skeleton
-pub mod PartAnswers
-pub mod Transform

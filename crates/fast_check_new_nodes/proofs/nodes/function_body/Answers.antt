@@ -1,8 +1,0 @@
-use Rattle.std.proofs.Common.{rules}
-use Rattle.fast_check_new_nodes.proofs.nodes.function_body.Goals as goal
-
-pub returns-then-not-returns_value : goal.returns-then-not-returns_value
-returns-then-not-returns_value c = search rules
-
-pub returns : goal.returns
-returns c = search rules

@@ -1,3 +1,0 @@
-pub use Rattle.fast_check_links.specs as links
-pub mod PartAnswers
-pub mod Assigned

@@ -1,0 +1,19 @@
+use Rattle.std.proofs.Common.{ap, ◌∙◌, false}
+use Rattle.fast_check_syntax.specs.declared.tree.Tree.{Tree}
+use Rattle.fast_check_transform_classes.proofs.class_nodes.properties.accessor_head.Goals as goal
+
+pub returns : goal.returns
+returns c =
+    let of = c.of-accessor.ensures in
+    let key = ap (λ (p : Tree × Tree). p.0) c.in_ok-key.ensures ∙ of.key in
+    let accessibility = ap (λ (p : Tree × Tree). p.1) c.in_ok-key.ensures ∙ of.accessibility in
+    λ i. record {
+      span = of.span i;
+      key = key i;
+      is_static = of.is_static i;
+      accessibility = accessibility i;
+      is_abstract = false;
+      is_optional = false;
+      is_override = false;
+      readonly = false;
+    }

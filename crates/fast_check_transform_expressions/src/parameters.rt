@@ -1,0 +1,250 @@
+//! What stays of parameters and their patterns.
+ghost use Rattle.std.specs.Prelude.{◌≡◌, IfOk, Some};
+ghost use Rattle.fast_check_syntax.specs.Part.{seen};
+ghost use Rattle.fast_check_syntax.specs.Shape.{parts};
+ghost use Rattle.fast_check_expression_forms.specs.Patterns.{AssignPat-span, AssignPat-right};
+ghost use Rattle.fast_check_swc_helpers.specs.OptionalParams.{IsOptionalStart};
+ghost use Rattle.fast_check_signatures.specs.Answers.{Adds, answer_to, answer_of};
+ghost use Rattle.fast_check_signatures.specs.Seen.{faulty};
+ghost use Rattle.fast_check_signatures.specs.declared.fault.FaultKind.TheVariants.{UnsupportedDestructuring};
+ghost use Rattle.fast_check_signatures.specs.Expressions.{expr_seen};
+ghost use Rattle.fast_check_signatures.specs.Parameters.{typed, rest_seen, default_seen, assign_seen, pat_seen, pats_seen};
+ghost use Rattle.fast_check_transform_expressions.specs.Looked.{IsStartOfParams, params_looked};
+ghost use Rattle.fast_check_bindings.specs.Bindings.{bindings_of};
+
+use crate::expressions::leave_value;
+use fast_check_bindings::unresolved_context;
+use fast_check_class_forms::Param;
+use fast_check_expression_forms::{ArrayPat, AssignPat, ObjectPat, RestPat};
+use fast_check_modules::EsModuleInfo;
+use fast_check_program_forms::{BindingIdent, Ident};
+use fast_check_signatures::{Fault, FaultKind};
+use fast_check_swc_helpers::ranges::range_of_node;
+use fast_check_swc_helpers::{ParamsOptionalStartIndex, never_value};
+use fast_check_syntax::{Items, Kind, Part, SourceRange, Tree};
+use fast_check_transform_nodes::{
+    default_type, emptied_array, emptied_object, never_array, rest_arg, with_default, with_pattern,
+    without_default,
+};
+use std::alloc::{AllocError, Global};
+
+/// The left side of a default: its range, and that of its name where it is one.
+#[derive(Clone, Copy)]
+struct LeftSide {
+    name: Option<SourceRange>,
+    range: SourceRange,
+}
+
+/// A parameter that stands if its type is written; else a fault at this place.
+fn typed(
+    ty: Part<'_>,
+    place: SourceRange,
+    pat: Tree,
+    faults: &mut Vec<Fault>,
+) -> Result<Tree, AllocError>
+    ensures { IfOk result (λ tree. Adds (answer_to (typed (seen ty.entry) place pat)) (Some tree) faults.old.items faults.new.items) }
+{
+    if ty.is_absent() {
+        faults.push(Fault {
+            kind: FaultKind::MissingExplicitType,
+            range: place,
+        })?;
+        return Ok(Tree::Absent);
+    }
+    Ok(pat)
+}
+
+/// A pattern that can't stand: an empty option, and a fault at this place.
+fn unsupported(place: SourceRange, faults: &mut Vec<Fault>) -> Result<Tree, AllocError>
+    ensures { IfOk result (λ tree. Adds (answer_to (faulty UnsupportedDestructuring place)) (Some tree) faults.old.items faults.new.items) }
+{
+    faults.push(Fault {
+        kind: FaultKind::UnsupportedDestructuring,
+        range: place,
+    })?;
+    Ok(Tree::Absent)
+}
+
+/// A rest.
+fn transform_rest(alloc: Global, pat: Part<'_>, faults: &mut Vec<Fault>) -> Result<Tree, AllocError>
+    ensures { IfOk result (λ tree. Adds (answer_to (rest_seen (seen pat.entry))) (Some tree) faults.old.items faults.new.items) }
+{
+    let rest = RestPat::of(pat);
+    let emptied = RestPat {
+        span: rest.span,
+        dot3_token: rest.dot3_token,
+        arg: rest_arg(alloc, rest.arg)?,
+        type_ann: rest.type_ann.to_tree(alloc)?,
+    };
+    typed(rest.type_ann, rest.span, emptied.into_tree(alloc)?, faults)
+}
+
+/// From where on all parameters of an arrow may be left out.
+fn start_of_patterns(pats: &[Tree]) -> ParamsOptionalStartIndex
+    ensures { IsOptionalStart result pats.now }
+{
+    ParamsOptionalStartIndex::build(pats.iter().map(|pat| pat.read()))
+}
+
+/// From where on all parameters of a function may be left out.
+fn start_of_params(params: &[Tree]) -> ParamsOptionalStartIndex
+    ensures { IsStartOfParams result params.now }
+{
+    ParamsOptionalStartIndex::build(params.iter().map(|param| Param::of(param.read()).pat))
+}
+
+/// The patterns of an arrow's parameters, in order.
+#[cycle(leave)]
+pub fn transform_pats(
+    alloc: Global,
+    info: &EsModuleInfo,
+    params: Part<'_>,
+    faults: &mut Vec<Fault>,
+) -> Result<Items<Tree>, AllocError>
+    ensures { IfOk result (λ items. Adds (answer_of (pats_seen (bindings_of info.now) (expr_seen (bindings_of info.now)) (parts (seen params.entry)))) items
+        faults.old.items faults.new.items) }
+{
+    let pats = params.parts();
+    let start = start_of_patterns(pats);
+    let mut items = Items::new(alloc);
+    for (index, pat) in pats.iter().enumerate() {
+        let is_optional = start.is_optional_at_index(index);
+        items.push(transform_param_pat(alloc, info, is_optional, pat.read(), faults)?)?;
+    }
+    Ok(items)
+}
+
+/// The parameters of a function, in order.
+#[cycle(leave)]
+pub fn transform_params(
+    alloc: Global,
+    info: &EsModuleInfo,
+    params: Part<'_>,
+    faults: &mut Vec<Fault>,
+) -> Result<Items<Tree>, AllocError>
+    ensures { IfOk result (λ items. Adds (answer_of (params_looked (bindings_of info.now) (parts (seen params.entry)))) items faults.old.items
+        faults.new.items) }
+{
+    let params = params.parts();
+    let start = start_of_params(params);
+    let mut items = Items::new(alloc);
+    for (index, param) in params.iter().enumerate() {
+        let param = param.read();
+        let is_optional = start.is_optional_at_index(index);
+        let pat = Param::of(param).pat;
+        let pat = transform_param_pat(alloc, info, is_optional, pat, faults)?;
+        items.push(with_pattern(alloc, param, pat)?)?;
+    }
+    Ok(items)
+}
+
+/// The pattern of a parameter (deno_graph's `handle_param_pat`). `is_optional` says whether all parameters from it on may
+/// be left out. One without a type that is written or shown is a fault; in its place stands an empty option.
+#[cycle(leave)]
+pub fn transform_param_pat(
+    alloc: Global,
+    info: &EsModuleInfo,
+    is_optional: bool,
+    pat: Part<'_>,
+    faults: &mut Vec<Fault>,
+) -> Result<Tree, AllocError>
+    ensures { IfOk result (λ tree. Adds (answer_to (pat_seen (bindings_of info.now) (expr_seen (bindings_of info.now)) is_optional (seen pat.entry)))
+        (Some tree)
+        faults.old.items faults.new.items) }
+{
+    match pat.kind() {
+        Kind::BindingIdent => {
+            let BindingIdent { id, type_ann } = BindingIdent::of(pat);
+            typed(type_ann, Ident::of(id).span, pat.to_tree(alloc)?, faults)
+        }
+        Kind::AssignPat => transform_assign_pat(alloc, info, is_optional, pat, faults),
+        Kind::RestPat => transform_rest(alloc, pat, faults),
+        Kind::ArrayPat => {
+            let ArrayPat { span, type_ann, .. } = ArrayPat::of(pat);
+            typed(type_ann, span, emptied_array(alloc, pat)?, faults)
+        }
+        Kind::ObjectPat => {
+            let ObjectPat { span, type_ann, .. } = ObjectPat::of(pat);
+            typed(type_ann, span, emptied_object(alloc, pat)?, faults)
+        }
+        _ => unsupported(range_of_node(pat), faults),
+    }
+}
+
+/// A parameter's pattern with a default.
+#[cycle(leave)]
+fn transform_assign_pat(
+    alloc: Global,
+    info: &EsModuleInfo,
+    is_optional: bool,
+    pat: Part<'_>,
+    faults: &mut Vec<Fault>,
+) -> Result<Tree, AllocError>
+    ensures { IfOk result (λ tree. Adds (answer_to (assign_seen (bindings_of info.now) (expr_seen (bindings_of info.now)) is_optional
+        (seen pat.entry))) (Some tree)
+        faults.old.items faults.new.items) }
+{
+    let AssignPat { span, left, .. } = AssignPat::of(pat);
+    match left.kind() {
+        Kind::BindingIdent => {
+            if let Some(ty) = default_type(alloc, unresolved_context(info), pat)? {
+                return without_default(alloc, is_optional, left, ty);
+            }
+            let range = Ident::of(BindingIdent::of(left).id).span;
+            let name = Some(range);
+            let left = left.to_tree(alloc)?;
+            leave_default(alloc, info, pat, left, LeftSide { name, range }, faults)
+        }
+        Kind::ArrayPat => {
+            let ArrayPat {
+                span: range,
+                type_ann,
+                ..
+            } = ArrayPat::of(left);
+            let left = emptied_array(alloc, left)?;
+            if type_ann.is_absent() {
+                let side = LeftSide { name: None, range };
+                return leave_default(alloc, info, pat, left, side, faults);
+            }
+            with_default(alloc, pat, left, never_array(alloc)?)
+        }
+        Kind::ObjectPat => {
+            let ObjectPat {
+                span: range,
+                type_ann,
+                ..
+            } = ObjectPat::of(left);
+            let left = emptied_object(alloc, left)?;
+            if type_ann.is_absent() {
+                let side = LeftSide { name: None, range };
+                return leave_default(alloc, info, pat, left, side, faults);
+            }
+            with_default(alloc, pat, left, never_value(alloc)?)
+        }
+        _ => unsupported(span, faults),
+    }
+}
+
+/// A pattern whose default has to stay; where it may not, its type is missing at the left side.
+#[cycle(leave)]
+fn leave_default(
+    alloc: Global,
+    info: &EsModuleInfo,
+    pat: Part<'_>,
+    left: Tree,
+    side: LeftSide,
+    faults: &mut Vec<Fault>,
+) -> Result<Tree, AllocError>
+    ensures { IfOk result (λ tree.
+        Adds (answer_to (default_seen (AssignPat-span (seen pat.entry)) side.range left
+        (expr_seen (bindings_of info.now) (AssignPat-right (seen pat.entry)) side.name)))
+        (Some tree) faults.old.items faults.new.items) }
+{
+    let fault = Fault {
+        kind: FaultKind::MissingExplicitType,
+        range: side.range,
+    };
+    let right = AssignPat::of(pat).right;
+    let right = leave_value(alloc, info, right, side.name, fault, faults)?;
+    with_default(alloc, pat, left, right)
+}

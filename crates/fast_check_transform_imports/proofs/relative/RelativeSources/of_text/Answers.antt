@@ -1,0 +1,15 @@
+use Rattle.std.proofs.Common.{◌∙◌, sym, ap}
+use Rattle.std.proofs.lemmas.Result.{IfOk-weaker}
+use Rattle.std.specs.Option.{option_copied}
+use Rattle.fast_check_transform_imports.specs.surroundings.Surroundings.{seen_around}
+use Rattle.fast_check_transform_imports.proofs.relative.RelativeSources.of_text.Goals as goal
+
+pub returns-in-Some-clause-found : goal.returns-in-Some-clause-found
+returns-in-Some-clause-found c =
+    IfOk-weaker c.shared.result _ _
+    (λ copy same kept. same ∙ kept c.args.text.now c.in-Some.other.now (sym c.get.ensures.value ∙ ap option_copied c.in-Some.is))
+    c.shared.ensures
+
+pub returns-clause-kept : goal.returns-clause-kept
+returns-clause-kept c = λ kept.
+    c.in_ok-keep.ensures (seen_around c.args.around) (c.in_ok-copy.ensures ∙ c.in_ok-other.ensures) kept

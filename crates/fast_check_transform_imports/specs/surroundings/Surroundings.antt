@@ -1,0 +1,34 @@
+-- What is asked of a module beside its tree.
+use Rattle.std.specs.Option.{option_copied}
+use Rattle.fast_check_diagnostics.specs.parsed_source.MediaType.{is_declaration}
+use Rattle.fast_check_modules.specs.diagnostics.PublicRanges.{PublicRanges, is_public, is_implementation}
+use Rattle.fast_check_modules.specs.EsModule.{EsModule}
+use Rattle.fast_check_bindings.specs.Bindings.{bindings_of}
+use Rattle.fast_check_skeleton.specs.expandos.ModuleObjects.{objects_of}
+use Rattle.fast_check_transform_imports.specs.surroundings.Sources.{Resolutions, relative_source}
+use Rattle.fast_check_skeleton.specs.Surroundings.{Surroundings}
+use Rattle.fast_check_transform_imports.specs.declared.surroundings.surroundings.Surroundings.{Surroundings as Lent}
+
+-- what a module's skeleton depends on beside its tree: what is public of it, what is known of its names, whether it is
+-- a declaration file, all of which is ambient, where its texts resolve to, and what is known of the objects of its
+-- expando properties
+abbrev pub surroundings_by : Resolutions → EsModule → PublicRanges → Surroundings
+surroundings_by resolutions info public = record {
+  is_public = is_public public;
+  is_implementation = is_implementation public;
+  bindings = bindings_of info;
+  is_ambient = is_declaration info.source.media_type;
+  relative = relative_source resolutions info.specifier;
+  objects = objects_of info;
+}
+
+-- what is asked beside the tree
+abbrev pub seen_around : Lent → Surroundings
+seen_around asked = record {
+  is_public = is_public asked.public_ranges.now;
+  is_implementation = is_implementation asked.public_ranges.now;
+  bindings = bindings_of asked.es_module_info.now;
+  is_ambient = asked.is_ambient;
+  relative = relative_source (option_copied asked.resolutions) asked.es_module_info.now.specifier;
+  objects = objects_of asked.es_module_info.now;
+}

@@ -1,0 +1,220 @@
+//! What stays of imports, and of exports of names, of all and by assignment.
+ghost use Rattle.std.specs.Prelude.{◌≡◌, IfOk};
+ghost use Rattle.fast_check_syntax.specs.Part.{seen};
+ghost use Rattle.fast_check_signatures.specs.Answers.{faultless};
+ghost use Rattle.fast_check_skeleton.specs.Links.{answered_source, public_specifiers};
+ghost use Rattle.fast_check_skeleton.specs.declared.rules.LinkRule.TheVariants as links;
+ghost use Rattle.fast_check_transform_imports.specs.surroundings.Surroundings.{seen_around};
+ghost use Rattle.fast_check_transform_imports.specs.surroundings.Kept.{as_list};
+ghost use Rattle.fast_check_transform_imports.specs.Links.{link_answer};
+ghost use Rattle.fast_check_transform_imports.specs.Relative.{AreRelative};
+
+use crate::relative::RelativeSources;
+use crate::surroundings::Surroundings;
+use crate::surroundings::skeleton::LinkRule;
+use fast_check_program_forms::{ExportAll, ImportDecl, NamedExport, Str, TsImportEqualsDecl};
+use fast_check_swc_helpers::ranges::range_of_node;
+use fast_check_syntax::{Atom, Items, Part, Tree};
+use std::alloc::{AllocError, Global};
+
+/// The source of an import or an export: by the text that stands for it, if there is another one. An export of own names
+/// has none.
+fn answered_source(
+    alloc: Global,
+    around: Surroundings<'_>,
+    src: Part<'_>,
+    sources: &mut RelativeSources,
+) -> Result<Tree, AllocError>
+    ensures answer { IfOk result (λ tree. AreRelative (seen_around around.entry) sources.old →
+        tree ≡ answered_source (seen_around around.entry) (seen src.entry)) }
+    ensures sources { IfOk result (λ _. AreRelative (seen_around around.entry) sources.old → AreRelative (seen_around around.entry) sources.new) }
+{
+    if src.is_absent() {
+        return src.to_tree(alloc);
+    }
+    let Str { span, value, .. } = Str::of(src);
+    match sources.of_text(alloc, around, value)? {
+        Some(value) => {
+            let source = Str {
+                span,
+                value,
+                raw: Tree::Absent,
+            };
+            source.into_tree(alloc)
+        }
+        None => src.to_tree(alloc),
+    }
+}
+
+/// The source as it is answered, and the attributes as they are.
+fn source_and_attributes(
+    alloc: Global,
+    around: Surroundings<'_>,
+    src: Part<'_>,
+    with: Part<'_>,
+    sources: &mut RelativeSources,
+) -> Result<(Tree, Tree), AllocError>
+    ensures source { IfOk result (λ made. AreRelative (seen_around around.entry) sources.old →
+        made.0 ≡ answered_source (seen_around around.entry) (seen src.entry)) }
+    ensures attributes { IfOk result (λ made. made.1 ≡ seen with.entry) }
+    ensures sources { IfOk result (λ _. AreRelative (seen_around around.entry) sources.old → AreRelative (seen_around around.entry) sources.new) }
+{
+    let src = answered_source(alloc, around, src, sources)?;
+    let with = with.to_tree(alloc)?;
+    Ok((src, with))
+}
+
+/// The specifiers of an import or an export that are public, each by its own range.
+fn public_specifiers(
+    alloc: Global,
+    around: Surroundings<'_>,
+    specifiers: Part<'_>,
+) -> Result<Items<Tree>, AllocError>
+    ensures { IfOk result (λ items. items ≡ public_specifiers (seen_around around.entry) (seen specifiers.entry)) }
+{
+    let mut items = Items::new(alloc);
+    for specifier in specifiers.parts() {
+        let specifier = specifier.read();
+        if !around.public_ranges.contains(&range_of_node(specifier)) {
+            continue;
+        }
+        items.push(specifier.to_tree(alloc)?)?;
+    }
+    Ok(items)
+}
+
+/// An import with its public specifiers; none where it has none.
+fn keep_import(
+    alloc: Global,
+    around: Surroundings<'_>,
+    item: Part<'_>,
+    sources: &mut RelativeSources,
+) -> Result<Option<Tree>, AllocError>
+    ensures answer { IfOk result (λ tree. AreRelative (seen_around around.entry) sources.old →
+        link_answer (seen_around around.entry) (seen item.entry) links.Import ≡ faultless (as_list tree)) }
+    ensures sources { IfOk result (λ _. AreRelative (seen_around around.entry) sources.old → AreRelative (seen_around around.entry) sources.new) }
+{
+    let ImportDecl {
+        span,
+        specifiers,
+        src,
+        type_only,
+        with,
+        phase,
+    } = ImportDecl::of(item);
+    let specifiers = public_specifiers(alloc, around, specifiers)?;
+    if specifiers.is_empty() {
+        return Ok(None);
+    }
+    let phase = Atom::from_str(alloc, phase)?;
+    let (src, with) = source_and_attributes(alloc, around, src, with, sources)?;
+    let import = ImportDecl {
+        span,
+        specifiers: Tree::list(specifiers),
+        src,
+        type_only,
+        with,
+        phase,
+    };
+    Ok(Some(import.into_tree(alloc)?))
+}
+
+/// An export of names with its public specifiers; none where it has none.
+fn keep_export(
+    alloc: Global,
+    around: Surroundings<'_>,
+    item: Part<'_>,
+    sources: &mut RelativeSources,
+) -> Result<Option<Tree>, AllocError>
+    ensures answer { IfOk result (λ tree. AreRelative (seen_around around.entry) sources.old →
+        link_answer (seen_around around.entry) (seen item.entry) links.Export ≡ faultless (as_list tree)) }
+    ensures sources { IfOk result (λ _. AreRelative (seen_around around.entry) sources.old → AreRelative (seen_around around.entry) sources.new) }
+{
+    let NamedExport {
+        span,
+        specifiers,
+        src,
+        type_only,
+        with,
+    } = NamedExport::of(item);
+    let specifiers = public_specifiers(alloc, around, specifiers)?;
+    if specifiers.is_empty() {
+        return Ok(None);
+    }
+    let (src, with) = source_and_attributes(alloc, around, src, with, sources)?;
+    let export = NamedExport {
+        span,
+        specifiers: Tree::list(specifiers),
+        src,
+        type_only,
+        with,
+    };
+    Ok(Some(export.into_tree(alloc)?))
+}
+
+/// `export * from source`; none where it is not public.
+fn keep_all(
+    alloc: Global,
+    around: Surroundings<'_>,
+    item: Part<'_>,
+    sources: &mut RelativeSources,
+) -> Result<Option<Tree>, AllocError>
+    ensures answer { IfOk result (λ tree. AreRelative (seen_around around.entry) sources.old →
+        link_answer (seen_around around.entry) (seen item.entry) links.All ≡ faultless (as_list tree)) }
+    ensures sources { IfOk result (λ _. AreRelative (seen_around around.entry) sources.old → AreRelative (seen_around around.entry) sources.new) }
+{
+    let ExportAll {
+        span,
+        src,
+        type_only,
+        with,
+    } = ExportAll::of(item);
+    if !around.public_ranges.contains(&span) {
+        return Ok(None);
+    }
+    let (src, with) = source_and_attributes(alloc, around, src, with, sources)?;
+    let export = ExportAll {
+        span,
+        src,
+        type_only,
+        with,
+    };
+    Ok(Some(export.into_tree(alloc)?))
+}
+
+/// `import A = B.C` as it is written; none where it is not public.
+fn keep_alias(
+    alloc: Global,
+    around: Surroundings<'_>,
+    item: Part<'_>,
+) -> Result<Option<Tree>, AllocError>
+    ensures { IfOk result (λ tree. link_answer (seen_around around.entry) (seen item.entry) links.Alias ≡ faultless (as_list tree)) }
+{
+    if !around
+        .public_ranges
+        .contains(&TsImportEqualsDecl::of(item).span)
+    {
+        return Ok(None);
+    }
+    Ok(Some(item.to_tree(alloc)?))
+}
+
+/// What is public of an import or an export with which this is done; none where nothing is. Nothing can be wrong with it.
+pub fn keep_link(
+    alloc: Global,
+    around: Surroundings<'_>,
+    item: Part<'_>,
+    rule: LinkRule,
+    sources: &mut RelativeSources,
+) -> Result<Option<Tree>, AllocError>
+    ensures answer { IfOk result (λ tree. AreRelative (seen_around around.entry) sources.old →
+        link_answer (seen_around around.entry) (seen item.entry) rule ≡ faultless (as_list tree)) }
+    ensures sources { IfOk result (λ _. AreRelative (seen_around around.entry) sources.old → AreRelative (seen_around around.entry) sources.new) }
+{
+    match rule {
+        LinkRule::Import => keep_import(alloc, around, item, sources),
+        LinkRule::Export => keep_export(alloc, around, item, sources),
+        LinkRule::All => keep_all(alloc, around, item, sources),
+        LinkRule::Alias => keep_alias(alloc, around, item),
+    }
+}

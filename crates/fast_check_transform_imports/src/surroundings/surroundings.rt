@@ -1,0 +1,55 @@
+//! What is asked of a module beside its tree, as the code is lent it.
+ghost use Rattle.std.specs.Prelude.{◌≡◌};
+ghost use Rattle.std.specs.Option.{option_copied};
+
+use fast_check_modules::EsModuleInfo;
+use fast_check_modules::diagnostics::ModulePublicRanges;
+use fast_check_statement_forms::TsModuleDecl;
+use fast_check_syntax::Part;
+use std::collections::BTreeMap;
+use url::Url;
+
+/// What the transform asks beside the tree.
+#[derive(Clone, Copy)]
+pub struct Surroundings<'a> {
+    /// What the texts of its imports resolve to, where the graph has some.
+    pub resolutions: Option<&'a BTreeMap<String, Url>>,
+    pub es_module_info: &'a EsModuleInfo,
+    pub public_ranges: &'a ModulePublicRanges,
+    /// Whether all that stands here is ambient: in a declaration file, or inside of a namespace with `declare`.
+    pub is_ambient: bool,
+}
+
+impl<'a> Surroundings<'a> {
+    ghost use Rattle.fast_check_syntax.specs.Part.{seen};
+    ghost use Rattle.fast_check_skeleton.specs.Surroundings.{inside};
+    ghost use Rattle.fast_check_transform_imports.specs.surroundings.Surroundings.{seen_around, surroundings_by};
+
+    /// What is asked of a module whose texts resolve to these, with these public ranges.
+    pub fn of(
+        resolutions: Option<&'a BTreeMap<String, Url>>,
+        es_module_info: &'a EsModuleInfo,
+        public_ranges: &'a ModulePublicRanges,
+    ) -> Self
+        ensures { seen_around result ≡ surroundings_by (option_copied resolutions.entry) es_module_info.now public_ranges.now }
+    {
+        Surroundings {
+            resolutions,
+            es_module_info,
+            public_ranges,
+            is_ambient: es_module_info.source().media_type.is_declaration(),
+        }
+    }
+
+    /// What is asked of the items of a namespace: inside of one with `declare` all is ambient.
+    pub fn inside(self, decl: Part<'_>) -> Self
+        ensures { seen_around result ≡ inside (seen_around self.entry) (seen decl.entry) }
+    {
+        Surroundings {
+            resolutions: self.resolutions,
+            es_module_info: self.es_module_info,
+            public_ranges: self.public_ranges,
+            is_ambient: self.is_ambient || TsModuleDecl::of(decl).declare,
+        }
+    }
+}

@@ -1,0 +1,23 @@
+use Rattle.std.proofs.Common.{ap, sym, ◌∙◌}
+use Rattle.std.proofs.lemmas.Result.{IfOk-weaker}
+use Rattle.fast_check_program_forms.specs.Names.{Ident-span}
+use Rattle.fast_check_syntax.specs.Part.{seen}
+use Rattle.fast_check_transform_imports.specs.surroundings.Surroundings.{seen_around}
+use Rattle.fast_check_transform_statements.proofs.Declared.{implementation, signature}
+use Rattle.fast_check_transform_statements.proofs.functions.transform_signature.Goals as goal
+
+pub returns-then-is_impl_with_overloads : goal.returns-then-is_impl_with_overloads
+returns-then-is_impl_with_overloads c =
+    IfOk-weaker c.transform_implementation.result _ _
+    (λ tree h. implementation (seen_around c.args.around) c.args.place (seen c.args.decl)
+    (sym c.is_impl_with_overloads.ensures ∙ c.if-is_impl_with_overloads.true)
+    {f = seen c.of.result.function} {t = tree} c.of.ensures.function h c.args.faults.now.items) c.transform_implementation.ensures
+
+pub returns : goal.returns
+returns c =
+    IfOk-weaker c.transform_fn.result _ _
+    (λ tree h. signature (seen_around c.args.around) c.args.place (seen c.args.decl)
+    (sym c.is_impl_with_overloads.ensures ∙ c.if-is_impl_with_overloads.false) {name = c.of-2.result.span} {function =
+    seen c.of.result.function} {t = tree} h
+    (c.of-2.ensures.span ∙ ap Ident-span c.of.ensures.ident) c.of.ensures.function)
+    c.transform_fn.ensures

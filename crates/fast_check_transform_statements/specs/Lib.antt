@@ -1,0 +1,3 @@
+pub use Rattle.fast_check_transform_imports.specs as links
+pub mod PartAnswers
+pub mod Assigned

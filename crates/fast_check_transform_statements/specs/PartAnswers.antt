@@ -1,0 +1,83 @@
+-- Inner: no contract of a public call cites what stands here.
+-- The answers to what is seen of statements: variables, `using`, functions and what stands as it is written.
+use Rattle.std.specs.Prelude.{Option, Some, None, List, if◌then◌else◌}
+use Rattle.std.specs.List.{flat_map}
+use Rattle.fast_check_syntax.specs.declared.source.SourceRange.{SourceRange}
+use Rattle.fast_check_syntax.specs.declared.tree.Tree.{Tree}
+use Rattle.fast_check_program_forms.specs.Names.{Ident-span, binding_ident}
+use Rattle.fast_check_swc_helpers.specs.ranges.Ranges.{range_of_node}
+use Rattle.fast_check_statement_forms.specs.TsDeclarations.{TsModuleDecl-span, TsModuleDecl-global, TsModuleDecl-id}
+use Rattle.fast_check_statement_forms.specs.Declarations.{VarDeclarator-span, VarDeclarator-init}
+use Rattle.fast_check_statement_forms.specs.Declarations.{VarDeclarator-definite, var_declarator}
+use Rattle.fast_check_swc_helpers.specs.declared.literal_type.DeclMutabilityKind.{DeclMutabilityKind}
+use Rattle.fast_check_signatures.specs.Seen.{declarator}
+use Rattle.fast_check_signatures.specs.declared.fault.Fault.{Fault}
+use Rattle.fast_check_signatures.specs.declared.fault.FaultKind.TheVariants.{UnsupportedGlobalModule}
+use Rattle.fast_check_signatures.specs.declared.fault.FaultKind.TheVariants.{UnsupportedAmbientModule}
+use Rattle.fast_check_signatures.specs.Answers.{Answer, fault_at, answer_to, answer_of}
+use Rattle.fast_check_transform_imports.specs.surroundings.skeleton.Namespaces.{is_ambient_module}
+use Rattle.fast_check_transform_imports.specs.surroundings.skeleton.Surroundings.{Surroundings}
+use Rattle.fast_check_transform_imports.specs.surroundings.skeleton.Visible.{declared_ident, declarator_head, value_seen}
+use Rattle.fast_check_transform_imports.specs.surroundings.skeleton.Visible.{ident_declarator_seen, declarator_seen, public_declarator}
+use Rattle.fast_check_transform_imports.specs.surroundings.skeleton.Visible.{public_declarators, statement_seen, signature_of}
+use Rattle.fast_check_transform_imports.specs.surroundings.skeleton.Visible.{function_decl_seen, public_function, standing_seen}
+use Rattle.fast_check_transform_imports.specs.surroundings.skeleton.Visible.{using_seen}
+
+-- a declarator of another type and value
+abbrev pub retyped : Tree → Tree → Tree → Tree
+retyped d type value = var_declarator (VarDeclarator-span d) (binding_ident (declared_ident d) type) value
+    (VarDeclarator-definite d)
+
+-- to a value that is to give a type, which the identifier at `place` names
+unfoldable pub value_answer : Surroundings → SourceRange → Tree → Answer (Option Tree)
+value_answer around place value = answer_to (value_seen around place value)
+
+-- to a declarator that nothing but its value gives a type
+unfoldable pub valued_answer : Surroundings → Tree → Answer (Option Tree)
+valued_answer around d =
+    answer_to
+    (declarator (declarator_head d) (value_seen around (Ident-span (declared_ident d)) (VarDeclarator-init d)))
+
+-- to a declarator of an identifier
+unfoldable pub ident_answer : Surroundings → DeclMutabilityKind → Tree → Answer (Option Tree)
+ident_answer around mutability d = answer_to (ident_declarator_seen around mutability d)
+
+-- to a declarator that is not ambient
+unfoldable pub declarator_answer : Surroundings → DeclMutabilityKind → Tree → Answer (Option Tree)
+declarator_answer around mutability d = answer_to (declarator_seen around mutability d)
+
+-- to a declarator of a statement, and to some of them
+unfoldable pub public_answer : Surroundings → Tree → Tree → Answer (List Tree)
+public_answer around statement d = answer_of (public_declarator around statement d)
+
+unfoldable pub declarators_answer : Surroundings → Tree → List Tree → Answer (List Tree)
+declarators_answer around statement ds = answer_of (flat_map (public_declarator around statement) ds)
+
+-- to a variable statement
+unfoldable pub statement_answer : Surroundings → Tree → Answer (List Tree)
+statement_answer around statement = answer_of (statement_seen statement (public_declarators around statement))
+
+-- to the signature of a function that is public by `place`, and to the function
+unfoldable pub signature_answer : Surroundings → SourceRange → Tree → Answer (Option Tree)
+signature_answer around place decl = answer_to (signature_of around place decl)
+
+unfoldable pub function_answer : Surroundings → SourceRange → Tree → Answer (Option Tree)
+function_answer around place decl = answer_to (function_decl_seen around place decl)
+
+unfoldable pub public_function_answer : Surroundings → SourceRange → Tree → Answer (List Tree)
+public_function_answer around place decl = answer_of (public_function around place decl)
+
+-- to what stands as it is written
+unfoldable pub standing_answer : Surroundings → SourceRange → Tree → Answer (List Tree)
+standing_answer around place decl = answer_of (standing_seen around place decl)
+
+-- to `using`, which is public by `place` or by a declarator
+unfoldable pub using_answer : Surroundings → SourceRange → Tree → Answer (List Tree)
+using_answer around place decl = answer_of (using_seen around place decl)
+
+-- what is wrong with a module that no skeleton has
+abbrev pub module_fault : Tree → Option Fault
+module_fault decl =
+    if TsModuleDecl-global decl then Some (fault_at UnsupportedGlobalModule (TsModuleDecl-span decl))
+    else (if is_ambient_module decl then Some
+    (fault_at UnsupportedAmbientModule (range_of_node (TsModuleDecl-id decl))) else None)

@@ -1,0 +1,108 @@
+//! Assignments that are statements.
+ghost use Rattle.std.specs.Prelude.{◌≡◌, ◌∷◌, ◌++◌, [], true, IfOk, OnOk, if◌then◌else◌};
+ghost use Rattle.std.specs.Option.{option_copied};
+ghost use Rattle.fast_check_syntax.specs.Part.{seen};
+ghost use Rattle.fast_check_expression_forms.specs.Calls.{MemberExpr-span};
+ghost use Rattle.fast_check_expression_forms.specs.Operators.{AssignExpr-span, AssignExpr-left};
+ghost use Rattle.fast_check_modules.specs.Expandos.{is_expando_assignment};
+ghost use Rattle.fast_check_modules.specs.symbols.Tables.{symbol_of_swc};
+ghost use Rattle.fast_check_signatures.specs.declared.fault.FaultKind.TheVariants as kinds;
+ghost use Rattle.fast_check_signatures.specs.Answers.{Adds, fault_at};
+ghost use Rattle.fast_check_expandos.specs.Assignments.{missing_place, kept_property};
+ghost use Rattle.fast_check_expandos.specs.Expandos.{object_of, property_name};
+ghost use Rattle.fast_check_expandos.specs.ModuleObjects.{objects_of};
+ghost use Rattle.fast_check_expandos.specs.Objects.{exports_name};
+ghost use Rattle.fast_check_transform_imports.specs.surroundings.Surroundings.{seen_around};
+ghost use Rattle.fast_check_transform_statements.specs.Assigned.{assignment_answer, assignment_properties, missing_at};
+
+use crate::declarations::keep_value;
+use fast_check_expandos::{ExpandoProperty, expando_property, exports_property, object_of};
+use fast_check_expression_forms::{AssignExpr, MemberExpr};
+use fast_check_modules::{Symbol, is_expando_assignment};
+use fast_check_signatures::{Fault, FaultKind};
+use fast_check_swc_helpers::ranges::range_of_node;
+use fast_check_syntax::{Part, Tree};
+use fast_check_transform_imports::surroundings::Surroundings;
+use std::alloc::{AllocError, Global};
+
+/// An assignment that is a statement. Nothing of it stays. Where it is public, by its own range, its right side is tested, and what
+/// is wrong there is pushed to the faults. Of expando form it declares a property if the right side may stay; if not, the type is missing
+/// at the target, unless the object exports a property of this name.
+pub fn keep_assignment(
+    alloc: Global,
+    around: Surroundings<'_>,
+    assignment: Part<'_>,
+    properties: &mut Vec<ExpandoProperty>,
+    faults: &mut Vec<Fault>,
+) -> Result<(), AllocError>
+    ensures answer { OnOk result (Adds (assignment_answer (seen_around around.entry) (seen assignment.entry)) [] faults.old.items faults.new.items) }
+    ensures properties { OnOk result (properties.new.items ≡
+        properties.old.items ++ assignment_properties (seen_around around.entry) (seen assignment.entry)) }
+{
+    let AssignExpr { span, right, .. } = AssignExpr::of(assignment);
+    if !around.public_ranges.contains(&span) {
+        return Ok(());
+    }
+    let value = keep_value(alloc, around, range_of_node(right), right, faults)?;
+    if !is_expando_assignment(assignment) {
+        return Ok(());
+    }
+    keep_property(alloc, around, assignment, value, properties, faults)
+}
+
+/// The property that an assignment of expando form declares, if its right side may stay.
+fn keep_property(
+    alloc: Global,
+    around: Surroundings<'_>,
+    assignment: Part<'_>,
+    value: Option<Tree>,
+    properties: &mut Vec<ExpandoProperty>,
+    faults: &mut Vec<Fault>,
+) -> Result<(), AllocError>
+    requires { is_expando_assignment (seen assignment) ≡ true }
+    ensures properties { OnOk result (properties.new.items ≡ properties.old.items ++
+        kept_property (objects_of around.entry.es_module_info.now) (AssignExpr-span (seen assignment.entry)) (AssignExpr-left (seen assignment.entry)) value) }
+    ensures faults { OnOk result (faults.new.items ≡ faults.old.items ++
+        missing_at (missing_place (objects_of around.entry.es_module_info.now) (seen assignment.entry)) value) }
+{
+    let target = AssignExpr::of(assignment).left;
+    let symbol = symbol_of_object(alloc, around, target)?;
+    match value {
+        Some(value) => {
+            let property = expando_property(alloc, symbol, assignment, value)?;
+            properties.push(property)?;
+            Ok(())
+        }
+        None => push_missing(symbol, target, faults),
+    }
+}
+
+/// The symbol of the object of a target `object.name`, if there is one.
+fn symbol_of_object<'a>(
+    alloc: Global,
+    around: Surroundings<'a>,
+    target: Part<'_>,
+) -> Result<Option<&'a Symbol>, AllocError>
+    ensures { IfOk result (λ symbol. option_copied symbol ≡ symbol_of_swc around.entry.es_module_info.now.tables (object_of (seen target.entry))) }
+{
+    let object = object_of(alloc, target)?;
+    Ok(around.es_module_info.symbol_from_swc(&object))
+}
+
+/// The type of a property is missing at its target, unless the symbol of the object exports it.
+fn push_missing(
+    symbol: Option<&Symbol>,
+    target: Part<'_>,
+    faults: &mut Vec<Fault>,
+) -> Result<(), AllocError>
+    ensures { OnOk result (faults.new.items ≡ faults.old.items ++ (if exports_name (option_copied symbol.entry) (property_name (seen target.entry)) then []
+        else fault_at kinds.MissingExplicitType (MemberExpr-span (seen target.entry)) ∷ [])) }
+{
+    if exports_property(symbol, target) {
+        return Ok(());
+    }
+    let kind = FaultKind::MissingExplicitType;
+    let range = MemberExpr::of(target).span;
+    faults.push(Fault { kind, range })?;
+    Ok(())
+}

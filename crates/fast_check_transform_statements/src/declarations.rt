@@ -1,0 +1,304 @@
+//! Variable statements and `using`, declarator by declarator.
+ghost use Rattle.std.specs.Prelude.{◌≡◌, IfOk, Some};
+ghost use Rattle.std.specs.List.{list_any};
+ghost use Rattle.fast_check_syntax.specs.Part.{seen};
+ghost use Rattle.fast_check_syntax.specs.Shape.{parts};
+ghost use Rattle.fast_check_statement_forms.specs.Declarations.{VarDecl-decls};
+ghost use Rattle.fast_check_swc_helpers.specs.Builders.{never_value};
+ghost use Rattle.fast_check_signatures.specs.Answers.{Adds, faultless};
+ghost use Rattle.fast_check_transform_imports.specs.surroundings.skeleton.Mutability.{mutability_of};
+ghost use Rattle.fast_check_transform_imports.specs.surroundings.skeleton.Visible.{is_ambient_statement, is_public_declarator, is_public_using, using_place};
+ghost use Rattle.fast_check_transform_imports.specs.surroundings.Surroundings.{seen_around};
+ghost use Rattle.fast_check_transform_imports.specs.surroundings.Kept.{as_list};
+ghost use Rattle.fast_check_transform_statements.specs.PartAnswers.{retyped, value_answer, valued_answer, ident_answer};
+ghost use Rattle.fast_check_transform_statements.specs.PartAnswers.{declarator_answer, public_answer, declarators_answer, statement_answer, standing_answer};
+ghost use Rattle.fast_check_transform_statements.specs.PartAnswers.{using_answer};
+
+use fast_check_program_forms::{BindingIdent, Ident};
+use fast_check_signatures::{Fault, FaultKind};
+use fast_check_statement_forms::{UsingDecl, VarDecl, VarDeclarator};
+use fast_check_swc_helpers::ranges::range_of_node;
+use fast_check_swc_helpers::{DeclMutabilityKind, maybe_infer_type, never_value, type_ann};
+use fast_check_syntax::{Items, Kind, Part, SourceRange, Tree, Word};
+use fast_check_transform_expressions::leave_expr;
+use fast_check_transform_imports::surroundings::Surroundings;
+use fast_check_transform_imports::surroundings::bindings::unresolved_context;
+use std::alloc::{AllocError, Global};
+
+/// Whether what a statement of this kind declares keeps its value.
+fn mutability_of(kind: Part<'_>) -> DeclMutabilityKind
+    ensures { result ≡ mutability_of (seen kind.entry) }
+{
+    if kind.has_word(Word::Const) {
+        DeclMutabilityKind::Const
+    } else {
+        DeclMutabilityKind::Mutable
+    }
+}
+
+/// Whether a variable statement stands as it is written, since it is ambient.
+fn is_ambient_statement(around: Surroundings<'_>, statement: Part<'_>) -> bool
+    ensures { result ≡ is_ambient_statement (seen_around around.entry) (seen statement.entry) }
+{
+    around.is_ambient || VarDecl::of(statement).declare
+}
+
+/// A declarator with this type and this value.
+fn retyped(alloc: Global, declarator: Part<'_>, ty: Tree, value: Tree) -> Result<Tree, AllocError>
+    ensures { IfOk result (λ tree. tree ≡ retyped (seen declarator.entry) ty value) }
+{
+    let declarator = VarDeclarator::of(declarator);
+    let id = BindingIdent::of(declarator.name).id.to_tree(alloc)?;
+    let name = BindingIdent { id, type_ann: ty };
+    let name = name.into_tree(alloc)?;
+    VarDeclarator {
+        span: declarator.span,
+        name,
+        init: value,
+        definite: declarator.definite,
+    }
+    .into_tree(alloc)
+}
+
+/// A declarator with this type, and the value of what has one.
+fn declared(alloc: Global, declarator: Part<'_>, ty: Tree) -> Result<Tree, AllocError>
+    ensures { IfOk result (λ tree. tree ≡ retyped (seen declarator.entry) ty never_value) }
+{
+    let value = never_value(alloc)?;
+    retyped(alloc, declarator, ty, value)
+}
+
+/// The value of a declarator as it stays, where it shows no type; none where it may not stay, or is not there. It is
+/// named by the identifier at `place`.
+pub fn keep_value(
+    alloc: Global,
+    around: Surroundings<'_>,
+    place: SourceRange,
+    value: Part<'_>,
+    faults: &mut Vec<Fault>,
+) -> Result<Option<Tree>, AllocError>
+    ensures { IfOk result (λ tree. Adds (value_answer (seen_around around.entry) place (seen value.entry)) tree faults.old.items faults.new.items) }
+{
+    if value.is_absent() {
+        return Ok(None);
+    }
+    leave_expr(alloc, around.es_module_info, value, Some(place), faults)
+}
+
+/// A declarator without type, with the value that gives it. Where there is none that may stay, that is a fault at the
+/// identifier.
+fn valued_declarator(
+    alloc: Global,
+    around: Surroundings<'_>,
+    declarator: Part<'_>,
+    faults: &mut Vec<Fault>,
+) -> Result<Tree, AllocError>
+    ensures { IfOk result (λ tree. Adds (valued_answer (seen_around around.entry) (seen declarator.entry)) (Some tree) faults.old.items faults.new.items) }
+{
+    let VarDeclarator { name, init, .. } = VarDeclarator::of(declarator);
+    let place = Ident::of(BindingIdent::of(name).id).span;
+    match keep_value(alloc, around, place, init, faults)? {
+        Some(value) => retyped(alloc, declarator, Tree::Absent, value),
+        None => {
+            faults.push(Fault {
+                kind: FaultKind::MissingExplicitType,
+                range: place,
+            })?;
+            retyped(alloc, declarator, Tree::Absent, Tree::Absent)
+        }
+    }
+}
+
+/// A declarator of an identifier, with the type that is written or that its value shows, or else with a value that may
+/// stay.
+fn ident_declarator(
+    alloc: Global,
+    around: Surroundings<'_>,
+    mutability: DeclMutabilityKind,
+    declarator: Part<'_>,
+    faults: &mut Vec<Fault>,
+) -> Result<Tree, AllocError>
+    ensures { IfOk result (λ tree.
+        Adds (ident_answer (seen_around around.entry) mutability (seen declarator.entry)) (Some tree) faults.old.items faults.new.items) }
+{
+    let VarDeclarator { name, init, .. } = VarDeclarator::of(declarator);
+    let ty = BindingIdent::of(name).type_ann;
+    if !ty.is_absent() {
+        return declared(alloc, declarator, ty.to_tree(alloc)?);
+    }
+    match maybe_infer_type(
+        alloc,
+        init,
+        mutability,
+        unresolved_context(around.es_module_info),
+    )? {
+        Some(ty) => declared(alloc, declarator, type_ann(alloc, ty)?),
+        None => valued_declarator(alloc, around, declarator, faults),
+    }
+}
+
+/// A declarator with the type that is written or that its value shows, or with a value that gives it. Where there is
+/// none, or where a pattern stands for the identifier, that is a fault.
+fn typed_declarator(
+    alloc: Global,
+    around: Surroundings<'_>,
+    mutability: DeclMutabilityKind,
+    declarator: Part<'_>,
+    faults: &mut Vec<Fault>,
+) -> Result<Tree, AllocError>
+    ensures { IfOk result (λ tree.
+        Adds (declarator_answer (seen_around around.entry) mutability (seen declarator.entry)) (Some tree) faults.old.items faults.new.items) }
+{
+    let name = VarDeclarator::of(declarator).name;
+    if name.kind() == Kind::BindingIdent {
+        return ident_declarator(alloc, around, mutability, declarator, faults);
+    }
+    faults.push(Fault {
+        kind: FaultKind::UnsupportedDestructuring,
+        range: range_of_node(name),
+    })?;
+    Ok(Tree::Absent)
+}
+
+/// A declarator of a statement, that of an ambient one as it is written; none where it is not public.
+fn keep_declarator(
+    alloc: Global,
+    around: Surroundings<'_>,
+    statement: Part<'_>,
+    declarator: Part<'_>,
+    faults: &mut Vec<Fault>,
+) -> Result<Option<Tree>, AllocError>
+    ensures { IfOk result (λ tree.
+        Adds (public_answer (seen_around around.entry) (seen statement.entry) (seen declarator.entry)) (as_list tree) faults.old.items faults.new.items) }
+{
+    let span = VarDeclarator::of(declarator).span;
+    if !around.public_ranges.contains(&span) {
+        return Ok(None);
+    }
+    if is_ambient_statement(around, statement) {
+        return Ok(Some(declarator.to_tree(alloc)?));
+    }
+    let mutability = mutability_of(VarDecl::of(statement).kind);
+    Ok(Some(typed_declarator(alloc, around, mutability, declarator, faults)?))
+}
+
+/// The public declarators of a statement.
+fn public_declarators(
+    alloc: Global,
+    around: Surroundings<'_>,
+    statement: Part<'_>,
+    faults: &mut Vec<Fault>,
+) -> Result<Items<Tree>, AllocError>
+    ensures { IfOk result (λ items.
+        Adds (declarators_answer (seen_around around.entry) (seen statement.entry) (parts (VarDecl-decls (seen statement.entry))))
+        items faults.old.items faults.new.items) }
+{
+    let mut items = Items::new(alloc);
+    for declarator in VarDecl::of(statement).decls.parts() {
+        match keep_declarator(alloc, around, statement, declarator.read(), faults)? {
+            None => continue,
+            Some(declarator) => items.push(declarator)?,
+        }
+    }
+    Ok(items)
+}
+
+/// A variable statement with its public declarators; none where it has none.
+pub fn keep_statement(
+    alloc: Global,
+    around: Surroundings<'_>,
+    statement: Part<'_>,
+    faults: &mut Vec<Fault>,
+) -> Result<Option<Tree>, AllocError>
+    ensures { IfOk result (λ tree. Adds (statement_answer (seen_around around.entry) (seen statement.entry)) (as_list tree) faults.old.items faults.new.items) }
+{
+    let decls = public_declarators(alloc, around, statement, faults)?;
+    if decls.is_empty() {
+        return Ok(None);
+    }
+    let VarDecl {
+        span,
+        ctxt,
+        kind,
+        declare,
+        ..
+    } = VarDecl::of(statement);
+    let kind = kind.to_tree(alloc)?;
+    let statement = VarDecl {
+        span,
+        ctxt,
+        kind,
+        declare,
+        decls: Tree::list(decls),
+    };
+    Ok(Some(statement.into_tree(alloc)?))
+}
+
+/// Whether a declarator is public.
+fn is_public_declarator(around: Surroundings<'_>, declarator: Part<'_>) -> bool
+    ensures { result ≡ is_public_declarator (seen_around around.entry) (seen declarator.entry) }
+{
+    around
+        .public_ranges
+        .contains(&VarDeclarator::of(declarator).span)
+}
+
+/// Whether one of some declarators is public.
+fn has_public_declarator(around: Surroundings<'_>, decls: Part<'_>) -> bool
+    ensures { result ≡ list_any (is_public_declarator (seen_around around.entry)) (parts (seen decls.entry)) }
+{
+    decls.parts().iter().any(|declarator| is_public_declarator(around, declarator.read()))
+}
+
+/// Whether `using` is public: by `place`, or by one of its declarators.
+fn is_public_using(around: Surroundings<'_>, place: SourceRange, decl: Part<'_>) -> bool
+    ensures { result ≡ is_public_using (seen_around around.entry) place (seen decl.entry) }
+{
+    around.public_ranges.contains(&place)
+        || has_public_declarator(around, UsingDecl::of(decl).decls)
+}
+
+/// Where `using` is refused: at its first declarator, or at itself where it has none.
+fn using_place(decl: Part<'_>) -> SourceRange
+    ensures { result ≡ using_place (seen decl.entry) }
+{
+    let UsingDecl { span, decls, .. } = UsingDecl::of(decl);
+    match decls.parts().first() {
+        Some(declarator) => VarDeclarator::of(declarator.read()).span,
+        None => span,
+    }
+}
+
+/// The fault of `using`, if it is public; no skeleton has what it declares.
+pub fn keep_using(
+    around: Surroundings<'_>,
+    place: SourceRange,
+    decl: Part<'_>,
+    faults: &mut Vec<Fault>,
+) -> Result<Option<Tree>, AllocError>
+    ensures { IfOk result (λ tree. Adds (using_answer (seen_around around.entry) place (seen decl.entry)) (as_list tree) faults.old.items faults.new.items) }
+{
+    if !is_public_using(around, place, decl) {
+        return Ok(None);
+    }
+    faults.push(Fault {
+        kind: FaultKind::UnsupportedUsing,
+        range: using_place(decl),
+    })?;
+    Ok(Some(Tree::Absent))
+}
+
+/// A declaration that stands as it is written, which is public by `place`; none where it is not.
+pub fn keep_standing(
+    alloc: Global,
+    around: Surroundings<'_>,
+    place: SourceRange,
+    decl: Part<'_>,
+) -> Result<Option<Tree>, AllocError>
+    ensures { IfOk result (λ tree. standing_answer (seen_around around.entry) place (seen decl.entry) ≡ faultless (as_list tree)) }
+{
+    if !around.public_ranges.contains(&place) {
+        return Ok(None);
+    }
+    Ok(Some(decl.to_tree(alloc)?))
+}

@@ -1,0 +1,13 @@
+//! What stays of the statements of a module that hold no class: variables, `using`, assignments, functions, and the blocks of namespaces.
+#![tactic(auto)]
+
+mod assignments;
+mod declarations;
+mod functions;
+mod namespaces;
+
+pub use assignments::keep_assignment;
+pub use declarations::{keep_standing, keep_statement, keep_using};
+pub use fast_check_transform_imports::surroundings;
+pub use functions::keep_public_function;
+pub use namespaces::{items_inside, module_fault, namespace_with};
