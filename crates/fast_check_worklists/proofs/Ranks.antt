@@ -16,7 +16,7 @@ use Rattle.fast_check_worklists.specs.Measure.{IsWithin, cost, total, missing, r
 use Rattle.fast_check_worklists.proofs.Maps.{split_in, none_in}
 use Rattle.fast_check_worklists.proofs.Single.{whole_covered}
 
-cost_le : (a b : Bool) → (a ≡ true → b ≡ true) → cost b ≤ cost a
+pub cost_le : (a b : Bool) → (a ≡ true → b ≡ true) → cost b ≤ cost a
 cost_le true true h = omega arith
 cost_le true false h = absurd (false≢true (h refl))
 cost_le false true h = omega arith
@@ -78,7 +78,7 @@ rank_some ps StarWithDefault = omega arith
 rank_some ps (Subset s) = omega (arith, missing_max (paths s) ps)
 
 -- the first beginning that is whole
-first_whole : (f : NameSet) (p : Path) → f Covered p ≡ true → (q r : Path) × (p ≡ q ++ r) × (has_whole f q ≡ true)
+pub first_whole : (f : NameSet) (p : Path) → f Covered p ≡ true → (q r : Path) × (p ≡ q ++ r) × (has_whole f q ≡ true)
 first_whole f [] h = ([], [], refl, h)
 first_whole f (n ∷ p) h =
     ⊎_elim (λ t. ([], n ∷ p, refl, t))

@@ -112,7 +112,7 @@ whole_more (n ∷ p) (m ∷ q) r part t =
     let a = and_parts (bytes_eq n m) (whole_below p Covered q) t in
     and_from (bytes_eq n m) (whole_below p part (q ++ r)) a.0 (whole_more p q r part a.1)
 
-whole_set : (p : Path) → IsNameSet (whole_path p)
+pub whole_set : (p : Path) → IsNameSet (whole_path p)
 whole_set [] n = record { beginnings = λ q r t. absurd (false≢true t); longer = λ q r part t. absurd (false≢true t) }
 whole_set (n ∷ p) m = record {
   beginnings = λ q r t.

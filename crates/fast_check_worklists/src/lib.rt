@@ -6,5 +6,6 @@ mod exports;
 mod worklist;
 
 pub use crate::asked_packages::AskedPackages;
+pub use exports::exports_to_ask;
 pub use fast_check_lattice::{HandledExports, PendingTrace, PendingTraces};
 pub use worklist::{OuterWant, Worklist, begin, copy_of, is_same_package};

@@ -1,0 +1,100 @@
+//! The demands of a module's symbols that were asked for.
+
+ghost use Rattle.std.specs.Prelude.{◌≡◌, [], IfOk, OnErr};
+ghost use Rattle.std.specs.List.{list_any};
+ghost use Rattle.fast_check_demands.specs.Demands.{demand_of};
+ghost use Rattle.fast_check_demands.specs.Account.{essence, referred};
+ghost use Rattle.fast_check_range_finder.specs.Asked.{demand_at, covers, AddsSymbol};
+
+use fast_check_demands::{Ask, Extent, Namespace, SymbolDemand, SymbolId};
+use std::alloc::{AllocError, Global};
+use std::collections::BTreeSet;
+use std::marker::Model;
+
+/// How a symbol is asked for. By whom plays a part for a path alone.
+#[derive(Clone, Copy, PartialEq, Eq, PartialOrd, Ord)]
+pub enum AskedAs<'a> {
+    Reference(Namespace),
+    Child(Namespace),
+    Path(&'a [String], Extent, SymbolId),
+}
+
+/// What tells a demand of a symbol from others.
+#[derive(Clone, Copy, PartialEq, Eq, PartialOrd, Ord)]
+pub struct AskedSymbol<'a> {
+    pub symbol: SymbolId,
+    pub asked: AskedAs<'a>,
+}
+
+/// What tells a demand from others.
+fn key_of<'a>(demand: SymbolDemand<'a>) -> AskedSymbol<'a>
+    ensures { demand_at result ≡ essence (demand_of demand.entry) }
+{
+    let asked = match demand.ask {
+        Ask::Reference(namespace) => AskedAs::Reference(namespace),
+        Ask::Child(namespace) => AskedAs::Child(namespace),
+        Ask::Path(names, extent) => AskedAs::Path(names, extent, demand.referrer),
+    };
+    AskedSymbol {
+        symbol: demand.symbol,
+        asked,
+    }
+}
+
+/// The same by reference, where it is asked for as a child.
+fn by_reference<'a>(demand: SymbolDemand<'a>) -> SymbolDemand<'a>
+    ensures { demand_of result ≡ referred (demand_of demand.entry) }
+{
+    match demand.ask {
+        Ask::Child(namespace) => SymbolDemand {
+            ask: Ask::Reference(namespace),
+            ..demand
+        },
+        Ask::Reference(_) | Ask::Path(_, _) => demand,
+    }
+}
+
+/// The demands of a module's symbols that were asked for, each once.
+#[derive(Drop)]
+pub struct AskedSymbols<'a> {
+    keys: BTreeSet<AskedSymbol<'a>>,
+}
+
+impl<'a> Model for AskedSymbols<'a> {
+    ghost use Rattle.std.specs.Prelude.{List, map};
+    ghost use Rattle.fast_check_demands.specs.Demands.{Demand};
+    ghost use Rattle.fast_check_range_finder.specs.Asked.{demand_at};
+
+    ghost Value = { List Demand };
+
+    ghost view = { λ asked. map demand_at asked.keys.keys };
+}
+
+impl<'a> AskedSymbols<'a> {
+    /// None.
+    pub fn new(alloc: Global) -> AskedSymbols<'a>
+        ensures { result ≡ [] }
+    {
+        AskedSymbols {
+            keys: BTreeSet::new(alloc),
+        }
+    }
+
+    /// Whether what a demand asks for was asked for.
+    fn has(&self, demand: SymbolDemand<'a>) -> bool
+        ensures { result ≡ list_any (covers (demand_of demand.entry)) self.now }
+    {
+        self.keys.contains(&key_of(demand)) || self.keys.contains(&key_of(by_reference(demand)))
+    }
+
+    /// Asks for what a demand asks for, and answers whether it is new.
+    pub fn add(&mut self, demand: SymbolDemand<'a>) -> Result<bool, AllocError>
+        ensures { IfOk result (λ is_new. AddsSymbol (demand_of demand.entry) is_new self.old self.new) }
+    {
+        if self.has(demand) {
+            return Ok(false);
+        }
+        self.keys.insert(key_of(demand))?;
+        Ok(true)
+    }
+}
