@@ -16,7 +16,8 @@ from textwrap import fill
 TOP = Path(__file__).resolve().parents[2]
 CRATES = TOP / "crates"
 INNER = "-- Inner: no contract of a public call cites what stands here."
-# The calls whose contracts are the promises, by crate, or by module of a crate (`crate::module`). None: every public function there.
+# The calls whose contracts are the promises, by crate, or by module of a crate (`crate::module`) with the modules in it. None: every public function
+# there. A crate, a module or a call that is not there ends the script.
 CHAPTERS = {
     "transform": {"fast_check_transform_module": ["transform"], "fast_check_transformer::transformer": None, "fast_check_skeleton": ["hash_mark"]},
     "law": {"fast_check_skeleton": ["two_worlds", "hidden_changes", "hidden_items"], "fast_check_transformer": None},
@@ -26,17 +27,16 @@ CHAPTERS = {
         "fast_check_cache::package_ranges": None, "fast_check_packages::fault": None, "fast_check_packages::listed": None, "fast_check_packages::provider": None,
     },
     "tables": {
-        "fast_check_lattice": None, "fast_check_packages::package": None, "fast_check_parsed_source": None,
-        "fast_check_diagnostics": None, "fast_check_symbols": None, "fast_check_modules": None,
+        "fast_check_lattice": None, "fast_check_packages::package": None, "fast_check_diagnostics": None,
+        "fast_check_symbols": None, "fast_check_modules": None,
         "fast_check_graph": None, "fast_check_comments": None, "fast_check_syntax": None, "fast_check_swc_helpers": None,
     },
     "json": {
         "fast_check_read": None, "fast_check_print::comments": None, "fast_check_print::pieces": None, "fast_check_print::tree": None,
-        "fast_check_read_graph": None, "fast_check_read_tables": None, "fast_check_schema": None,
-        "fast_check_json::law": None,
+        "fast_check_read_tables": None, "fast_check_json::law": None,
     },
     "program": {"fast_check_commands": None},
-    "forms": {"fast_check_forms": None, "fast_check_ranges": None},
+    "forms": {"fast_check_forms": None},
 }
 # what is tested by its output alone
 CASES = re.compile("_cases$|_example$|_vectors$")
@@ -160,27 +160,39 @@ def is_offered(text, found):
     return bool(found[1]) and bool(heads) and (" for " in heads[-1] or "trait" in heads[-1].split())
 
 
-def contracts(crate, names):
+def sources(key):
+    """The files of code that a key of the chapters names."""
+    crate, _, module = key.partition("::")
+    src = CRATES / crate / "src"
+    files = sorted(src.rglob("*.rt")) if not module else [*src.glob(f"{module}.rt"), *sorted((src / module).rglob("*.rt"))]
+    if not files:
+        sys.exit(f"{Path(__file__).name}: CHAPTERS names {key}, and no such code is there")
+    return files
+
+
+def contracts(key, names):
     """The clauses of public functions, and of the members of public traits and of models, each with what its file brings in."""
-    crate, _, module = crate.partition("::")
-    for file in sorted((CRATES / crate / "src").rglob(f"{module or '*'}.rt")):
+    wanted = set(names or ())
+    for file in sources(key):
         text = file.read_text()
         imports = imported(text)
         for found in re.finditer(r"^([ ]*)(?:pub )?(?:const )?fn (\w+)(.*?)(?:^\1\{\}?$|;$|\{$)", text, re.M | re.S):
             if (names is None or found[2] in names) and is_offered(text, found):
+                wanted.discard(found[2])
                 yield found[3], imports
         if names is None:
             for found in re.finditer(r"^\s+ghost \w+ = \{(.*?)\};?$", text, re.M | re.S):
                 yield found[1], imports
+    if wanted:
+        sys.exit(f"{Path(__file__).name}: CHAPTERS names {', '.join(sorted(wanted))} of {key}, and no such call is there")
 
 
 def reached(calls):
     """All definitions that the contracts of calls stand on."""
     waiting, seen = [], set()
-    for crate, names in calls.items():
-        if (CRATES / crate.partition("::")[0]).is_dir():
-            for text, imports in contracts(crate, names):
-                waiting += named_in(text, None, imports)
+    for key, names in calls.items():
+        for text, imports in contracts(key, names):
+            waiting += named_in(text, None, imports)
     while waiting:
         it = waiting.pop()
         if it not in seen:

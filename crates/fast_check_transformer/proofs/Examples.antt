@@ -31,9 +31,11 @@ use Rattle.fast_check_syntax.specs.declared.tree.Tree.{Tree}
 use Rattle.fast_check_syntax.specs.Moves.{IsPair}
 use Rattle.fast_check_syntax.proofs.Made.{part_node}
 use Rattle.fast_check_transformer.specs.Examples.{with_program, public_at, first_assigned, second_assigned, name_f, SameOfF}
-use Rattle.fast_check_transformer.specs.Examples.{PrivateClasses, SilentAssignments, AllChanges}
+use Rattle.fast_check_transformer.specs.Examples.{PrivateClasses, SilentAssignments, AllChanges, ParsedChanges}
+use Rattle.fast_check_transformer.specs.ParsedExample as parsed
 use Rattle.fast_check_transformer.proofs.ExampleModules.{classes_agree, assignments_agree, changes_agree, public_class_differs}
 use Rattle.fast_check_transformer.proofs.ExampleModules.{public_assignment_differs}
+use Rattle.fast_check_transformer.proofs.ParsedExample.{is_renaming, parsed_agree}
 
 -- ---- what is known of these modules
 
@@ -153,3 +155,23 @@ all_changes graph m =
           (ap (λ o. map (o.exports (object_of target)) names) one);
       comments = same_comments graph m m changes.first changes.second;
     }
+
+-- ---- at the positions that a parser gives
+
+parsed_unresolved : (m n : EsModule) →
+    IsPair parsed.renaming.scopes (bindings_of (with_program m parsed.first)).unresolved.0
+    (bindings_of (with_program n parsed.second)).unresolved.0
+unfolding bindings_of
+parsed_unresolved m n = inl (refl, refl)
+
+pub parsed_changes : ParsedChanges
+parsed_changes graph m n one = record {
+  one_to_one = is_renaming;
+  agree = record {
+    specifier = one;
+    program = parsed_agree (bindings_of (with_program m parsed.first)) (bindings_of (with_program n parsed.second))
+        (sources graph m parsed.first) (sources graph n parsed.second) (objects m parsed.first) (objects n parsed.second)
+        (parsed_unresolved m n);
+    comments = record { leading = λ p q e. tt; trailing = λ p q e. tt };
+  };
+}

@@ -4,4 +4,5 @@ pub mod Pairs
 pub mod Apart
 pub mod ExampleItems
 pub mod ExampleModules
+pub mod ParsedExample
 pub mod Examples

@@ -1,6 +1,6 @@
 -- Modules that agree but for what is hidden, in any graph, so that the law of two worlds speaks of something, and
--- beside two pairs the nearest edit that is not hidden. The trees are those of the examples of `fast_check_skeleton`:
--- what agrees stands at the place of no text, and what comes and goes at 7. There are no comments.
+-- beside two pairs the nearest edit that is not hidden. The trees of all but the last pair are those of the examples of
+-- `fast_check_skeleton`: what agrees stands at the place of no text, and what comes and goes at 7. There are no comments.
 use Rattle.std.specs.Prelude.{◌≡◌, [], ◌∷◌, List}
 use Rattle.fast_check_graph.specs.declared.graph.ModuleGraph.{ModuleGraph}
 use Rattle.fast_check_modules.specs.EsModule.{EsModule}
@@ -22,6 +22,7 @@ use Rattle.fast_check_syntax.specs.declared.tree.Tree as tree
 use Rattle.fast_check_syntax.specs.declared.tree.Tree.{Tree}
 use Rattle.fast_check_syntax.specs.Moves.{Renaming, IsRenaming}
 use Rattle.fast_check_syntax.specs.Shape.{none_range, node}
+use Rattle.fast_check_transformer.specs.ParsedExample as parsed
 use Rattle.fast_check_transformer.specs.Worlds.{AgreePair}
 
 -- a module of the same name and tables, of this program in TypeScript, in which nothing binds the scope of new names
@@ -96,3 +97,17 @@ SilentAssignments = (graph : ModuleGraph) (m n : EsModule) → m.specifier ≡ n
 -- two versions of one module that differ by hidden changes of all eight kinds agree
 abbrev pub AllChanges : Type 0
 AllChanges = (graph : ModuleGraph) (m : EsModule) → AgreeAs no_places graph [] m m changes.first changes.second
+
+-- ---- at the positions that a parser gives
+
+abbrev pub exactly : List SourceRange → PublicRanges
+exactly ranges = record { ranges = ranges; implementations = []; diagnostics = [] }
+
+-- two modules that differ by hidden changes of all eight kinds, under the renaming of what is not hidden
+pub record OfParsedChanges (graph : ModuleGraph) (m n : EsModule) : Type 0 where
+  pub one_to_one : IsRenaming parsed.renaming
+  pub agree : AgreePair parsed.renaming graph (with_program m parsed.first) (exactly parsed.first_public)
+      (with_program n parsed.second) (exactly parsed.second_public)
+
+abbrev pub ParsedChanges : Type 0
+ParsedChanges = (graph : ModuleGraph) (m n : EsModule) → m.specifier ≡ n.specifier → OfParsedChanges graph m n

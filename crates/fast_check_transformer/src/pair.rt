@@ -5,7 +5,7 @@ ghost use Rattle.fast_check_modules.specs.EsModule.{Admits};
 ghost use Rattle.fast_check_transformer.specs.Transformed.{IsTransformed};
 ghost use Rattle.fast_check_transformer.specs.Worlds.{KeepsHidden};
 ghost use Rattle.fast_check_transformer.specs.Apart.{Compares};
-ghost use Rattle.fast_check_transformer.specs.Examples.{PrivateClasses, SilentAssignments, AllChanges};
+ghost use Rattle.fast_check_transformer.specs.Examples.{PrivateClasses, SilentAssignments, AllChanges, ParsedChanges};
 
 use fast_check_graph::ModuleGraph;
 use fast_check_modules::EsModuleInfo;
@@ -25,7 +25,7 @@ type ModuleAnswer = Result<FastCheckModule, Vec<FastCheckDiagnostic>>;
 /// compared. Which renaming that is, is not looked for: what is said holds of each.
 ///
 /// There are such modules: one with a class that is not public and one without it, which agree as long as the class is not public; the same with
-/// an assignment; and two that differ by hidden changes of all kinds.
+/// an assignment; and two that differ by hidden changes of all kinds, at the place of no text, and at the positions that a parser gives.
 pub fn transform_pair(
     alloc: Global,
     graph: &ModuleGraph,
@@ -44,6 +44,7 @@ pub fn transform_pair(
     ensures of_private_classes { PrivateClasses }
     ensures of_silent_assignments { SilentAssignments }
     ensures of_all_changes { AllChanges }
+    ensures of_parsed_changes { ParsedChanges }
 {
     let first = transform(alloc, graph, a, ranges_a, options)?;
     let second = transform(alloc, graph, b, ranges_b, options)?;

@@ -1,5 +1,5 @@
 use Rattle.fast_check_transformer.proofs.Apart.{compares}
-use Rattle.fast_check_transformer.proofs.Examples.{private_classes, silent_assignments, all_changes}
+use Rattle.fast_check_transformer.proofs.Examples.{private_classes, silent_assignments, all_changes, parsed_changes}
 use Rattle.fast_check_transformer.proofs.Pairs.{keeps_hidden}
 use Rattle.fast_check_transformer.proofs.pair.transform_pair.Goals as goal
 
@@ -56,3 +56,12 @@ returns-in_err-second-clause-of_silent_assignments c = silent_assignments
 
 pub returns-in_err-second-clause-of_all_changes : goal.returns-in_err-second-clause-of_all_changes
 returns-in_err-second-clause-of_all_changes c = all_changes
+
+pub returns-clause-of_parsed_changes : goal.returns-clause-of_parsed_changes
+returns-clause-of_parsed_changes c = parsed_changes
+
+pub returns-in_err-first-clause-of_parsed_changes : goal.returns-in_err-first-clause-of_parsed_changes
+returns-in_err-first-clause-of_parsed_changes c = parsed_changes
+
+pub returns-in_err-second-clause-of_parsed_changes : goal.returns-in_err-second-clause-of_parsed_changes
+returns-in_err-second-clause-of_parsed_changes c = parsed_changes
