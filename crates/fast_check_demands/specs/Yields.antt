@@ -27,6 +27,11 @@ decl_ranges decls = map (λ x. x.range) decls
 abbrev pub is_within : SourceRange → SourceRange → Bool
 is_within r inner = leb r.start.0 inner.start.0 && leb inner.end.0 r.end.0
 
+-- outside of a range; not so where there is none
+abbrev pub is_outside : Option SourceRange → SourceRange → Bool
+is_outside None r = false
+is_outside (Some range) r = not (is_within range r)
+
 -- properties are assigned to a function that is bound in the namespace and does not implement overloads
 abbrev pub has_properties : Namespace → SymbolDecl → Bool
 has_properties n x = binds x n && (is_function x && not (is_implementation x))
