@@ -2,6 +2,8 @@ pub use Rattle.fast_check_symbol_demands.proofs.EachAt
 pub mod Touched
 pub mod Adds
 pub mod Elements
+pub mod Each
+pub mod Own
 mod Filters
 pub mod Yielded
 mod Aliased
