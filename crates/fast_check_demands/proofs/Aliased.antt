@@ -8,7 +8,6 @@ use Rattle.std.proofs.lemmas.List.Elements.{Contains-append_right}
 use Rattle.std.proofs.lemmas.Simd.{map-map}
 use Rattle.std.proofs.lemmas.Option.{slice_get_within, get_or_from_slice_get}
 use Rattle.fast_check_lattice.specs.Names.{Name, Path}
-use Rattle.fast_check_syntax.specs.declared.atom.Id.{Id}
 use Rattle.fast_check_symbol_demands.specs.symbols.Aliases.{Alias, symbol, part, file, export, alias_of, alias_at, AreAliases}
 use Rattle.fast_check_symbol_demands.specs.symbols.Tables.{Tables}
 use Rattle.fast_check_symbol_demands.specs.symbols.declared.symbol_id.SymbolId.{SymbolId}
