@@ -1,8 +1,9 @@
 //! Re-exports of all: which are public, and what they ask of other modules.
 ghost use Rattle.std.specs.Prelude.{◌≡◌, [], ◌++◌, map, option_map, OnOk, IfOk, IfSome, string_bytes};
 ghost use Rattle.fast_check_name_demands.specs.Files.{names_of};
+ghost use Rattle.fast_check_traces.specs.declared.re_exports.PublicReExports.TheVariants.{Nothing};
 ghost use Rattle.fast_check_traces.specs.Modules.{own_tables as tables_at};
-ghost use Rattle.fast_check_traces.specs.Wants.{re_exported, node_ranges, shown_ranges, first_range, path_ranges, re_export_ranges};
+ghost use Rattle.fast_check_traces.specs.Wants.{node_ranges, shown_ranges, first_range, path_ranges, re_export_ranges};
 ghost use Rattle.fast_check_traces.specs.Wants.{answered_at, path_wants, all_wants, module_wants};
 ghost use Rattle.fast_check_traces.specs.Origins.{origin_of, IsIndexOf};
 
@@ -83,8 +84,6 @@ fn no_re_exports<'a>(alloc: Global) -> ReExports<'a>
         wants: ModuleWants::new(alloc),
     }
 }
-
-ghost use Rattle.fast_check_traces.specs.declared.re_exports.PublicReExports.TheVariants.{Nothing};
 
 /// What a name asks for by where it comes from. One that comes from nowhere makes all of them public.
 fn re_exports_at<'a>(
