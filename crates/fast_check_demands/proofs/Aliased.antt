@@ -1,5 +1,5 @@
 -- What aliases give, gathered at the places of those that stand for different things.
-use Rattle.std.proofs.Common.{◌≡◌, ◌∙◌, sym, ap, refl, subst, ℕ, false, cond, List, [], ◌∷◌, ◌++◌}
+use Rattle.std.proofs.Common.{◌≡◌, ◌∙◌, sym, ap, refl, subst, ℕ, true, false, cond, List, [], ◌∷◌, ◌++◌}
 use Rattle.std.proofs.Common.{map, arith, Option, Some, None, string_bytes}
 use Rattle.std.specs.Prelude.{slice_get, option_map, option_to_list}
 use Rattle.std.specs.List.{Contains, flat_map}
@@ -8,7 +8,6 @@ use Rattle.std.proofs.lemmas.List.Elements.{Contains-append_right}
 use Rattle.std.proofs.lemmas.Simd.{map-map}
 use Rattle.std.proofs.lemmas.Option.{slice_get_within, get_or_from_slice_get}
 use Rattle.fast_check_lattice.specs.Names.{Name, Path}
-use Rattle.fast_check_syntax.specs.declared.atom.Id.{Id}
 use Rattle.fast_check_symbol_demands.specs.symbols.Aliases.{Alias, symbol, part, file, export, alias_of, alias_at, AreAliases}
 use Rattle.fast_check_symbol_demands.specs.symbols.Tables.{Tables}
 use Rattle.fast_check_symbol_demands.specs.symbols.declared.symbol_id.SymbolId.{SymbolId}
@@ -20,10 +19,8 @@ use Rattle.fast_check_symbol_demands.specs.symbols.declared.file_dep_name.FileDe
 use Rattle.fast_check_symbol_demands.specs.declared.demand.Extent.{Extent}
 use Rattle.fast_check_symbol_demands.specs.declared.demand.Extent.TheVariants.{Whole}
 use Rattle.fast_check_symbol_demands.specs.Demands.{Demand}
-use Rattle.fast_check_symbol_demands.specs.Rules.{each_of, bound, qualified, first_names}
+use Rattle.fast_check_symbol_demands.specs.Rules.{each_of, bound, qualified, parts_names, alias_names, first_names, path_names}
 use Rattle.fast_check_symbol_demands.specs.Decls.{has_alias}
-use Rattle.fast_check_demands.specs.Parts.{whole_parts, kind_parts, passed_on, path_rest}
-use Rattle.fast_check_demands.specs.Targets.{kind_targets}
 use Rattle.fast_check_demands.specs.Yields.{Adds}
 use Rattle.fast_check_demands.proofs.Elements.{in_flat, of_flat}
 
@@ -75,77 +72,41 @@ module _ {Y : Type 0} (f : SymbolDeclKind → List Y) (g : Alias → List Y) (by
         (Contains-append_right old (flat_map (at f decls) places) y (complete y c));
   }
 
-  -- what is added of the places is all that the aliases give
-  pub adds_places : (old new : List Y) → Adds (flat_map (at f decls) places) old new → Adds (flat_map (λ d. f d.kind) decls) old new
-  adds_places old new a = record {
-    more = a.more;
-    is = a.is;
-    parts = λ y c. sound y (a.parts y c);
-    whole = λ y c. a.whole y (complete y c);
-  }
-
 -- demands of a path below an alias
 
 module _ (t : Tables) (d : Demand) (path : Path) (extent : Extent) where
-  abbrev passed : Id → List Demand
-  passed id = each_of (λ x. qualified x path extent d.referrer ∷ []) (bound t id)
+  abbrev below_it : List Name → SymbolId → List Demand
+  below_it parts x = qualified x path extent d.referrer ∷ map (λ n. qualified x (n ∷ []) Whole d.referrer) parts
 
   abbrev pub demands_below : Alias → List Demand
-  demands_below (symbol id) = passed id
-  demands_below (part id parts) = passed id
+  demands_below (symbol id) = each_of (below_it []) (bound t id)
+  demands_below (part id parts) = each_of (below_it parts) (bound t id)
   demands_below (file text) = []
   demands_below (export text name) = []
 
-  pub below : (k : SymbolDeclKind) → passed_on t d path extent k ≡ each_of demands_below (alias_of k)
+  pub below : (k : SymbolDeclKind) → alias_names t d path extent k ≡ each_of demands_below (alias_of k)
   below (Target id) = refl
-  below (QualifiedTarget id parts) = refl
+  below (QualifiedTarget id parts) = go (bound t id)
+    where
+      go : (o : Option SymbolId) → each_of (λ x. qualified x path extent d.referrer ∷ parts_names d x parts.items) o
+          ≡ each_of (below_it (map string_bytes parts.items)) o
+      go None = refl
+      go (Some x) = ap (λ (ds : List Demand). qualified x path extent d.referrer ∷ ds)
+          (sym (map-map (λ n. qualified x (n ∷ []) Whole d.referrer) string_bytes parts.items))
   below (FileRef specifier Star) = refl
   below (FileRef specifier (Named name)) = refl
   below (Definition _) = refl
 
-  -- of the symbol that is found, which has no alias
+  -- of the symbol that is found
+  abbrev each_alias : Symbol → List Demand
+  each_alias s = flat_map (λ x. alias_names t d path extent x.kind) s.decls.items
+
+  pub with_alias : (s : Symbol) (o : Option Symbol) → o ≡ Some s → has_alias s.decls.items ≡ true →
+      each_alias s ≡ each_of (path_names t d path extent) o
+  with_alias s o is h = ap (λ b. cond b (each_alias s) (first_names t d path extent s)) (sym h) ∙ ap (each_of (path_names t d path extent)) (sym is)
+
   pub without_alias : (s : Symbol) (o : Option Symbol) → o ≡ Some s → has_alias s.decls.items ≡ false →
-      each_of (first_names t d path extent) o ≡ each_of (path_rest t d path extent) o
+      each_of (first_names t d path extent) o ≡ each_of (path_names t d path extent) o
   without_alias s o is h = ap (each_of (first_names t d path extent)) is
-      ∙ (ap (λ b. cond b (flat_map (λ x. passed_on t d path extent x.kind) s.decls.items) (first_names t d path extent s)) (sym h)
-      ∙ ap (each_of (path_rest t d path extent)) (sym is))
-
--- symbols to which aliases are bound
-
-module _ (t : Tables) where
-  abbrev pub targets_below : Alias → List SymbolId
-  targets_below (symbol id) = option_to_list (bound t id)
-  targets_below (part id parts) = option_to_list (bound t id)
-  targets_below (file text) = []
-  targets_below (export text name) = []
-
-  pub targeted : (k : SymbolDeclKind) → kind_targets t k ≡ each_of targets_below (alias_of k)
-  targeted (Target id) = refl
-  targeted (QualifiedTarget id parts) = refl
-  targeted (FileRef specifier Star) = refl
-  targeted (FileRef specifier (Named name)) = refl
-  targeted (Definition _) = refl
-
--- own parts of aliases
-
-module _ (t : Tables) (referrer : SymbolId) where
-  abbrev parts_demands : SymbolId → List Name → List Demand
-  parts_demands x parts = map (λ n. qualified x (n ∷ []) Whole referrer) parts
-
-  abbrev pub parts_below : Alias → List Demand
-  parts_below (symbol id) = []
-  parts_below (part id parts) = each_of (λ x. parts_demands x parts) (bound t id)
-  parts_below (file text) = []
-  parts_below (export text name) = []
-
-  pub own : (k : SymbolDeclKind) → kind_parts t referrer k ≡ each_of parts_below (alias_of k)
-  own (Target id) = refl
-  own (QualifiedTarget id parts) = go (bound t id)
-    where
-      go : (o : Option SymbolId) → each_of (λ x. whole_parts referrer x parts.items) o
-          ≡ each_of (λ x. parts_demands x (map string_bytes parts.items)) o
-      go None = refl
-      go (Some x) = sym (map-map (λ n. qualified x (n ∷ []) Whole referrer) string_bytes parts.items)
-  own (FileRef specifier Star) = refl
-  own (FileRef specifier (Named name)) = refl
-  own (Definition _) = refl
+      ∙ (ap (λ b. cond b (each_alias s) (first_names t d path extent s)) (sym h)
+      ∙ ap (each_of (path_names t d path extent)) (sym is))

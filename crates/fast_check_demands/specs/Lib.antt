@@ -4,7 +4,4 @@ pub use Rattle.fast_check_symbol_demands.specs.Demands
 pub use Rattle.fast_check_symbol_demands.specs.Decls
 pub use Rattle.fast_check_symbol_demands.specs.Rules
 pub mod Yields
-pub mod Parts
-pub mod Targets
-pub mod Noted
 pub mod Account

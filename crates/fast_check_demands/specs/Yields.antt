@@ -9,7 +9,7 @@ use Rattle.fast_check_symbol_demands.specs.symbols.declared.symbol.Symbol.{Symbo
 use Rattle.fast_check_symbol_demands.specs.symbols.declared.decl.SymbolDecl.{SymbolDecl}
 use Rattle.fast_check_symbol_demands.specs.symbols.Symbols.{symbol_of}
 use Rattle.fast_check_symbol_demands.specs.symbols.Exports.{export_named}
-use Rattle.fast_check_symbol_demands.specs.symbols.Tables.{Tables}
+use Rattle.fast_check_symbol_demands.specs.symbols.Tables.{Tables, table_ranges}
 use Rattle.fast_check_symbol_demands.specs.declared.demand.Namespace.{Namespace}
 use Rattle.fast_check_demands.specs.declared.fault.DemandFaultKind.{DemandFaultKind}
 use Rattle.fast_check_demands.specs.declared.fault.DemandFaultKind.TheVariants.{PrivateMember, NotFound, TooComplex}
@@ -26,6 +26,11 @@ decl_ranges decls = map (λ x. x.range) decls
 -- a range lies within another: it starts not before it, and ends not after it
 abbrev pub is_within : SourceRange → SourceRange → Bool
 is_within r inner = leb r.start.0 inner.start.0 && leb inner.end.0 r.end.0
+
+-- outside of a range; not so where there is none
+abbrev pub is_outside : Option SourceRange → SourceRange → Bool
+is_outside None r = false
+is_outside (Some range) r = not (is_within range r)
 
 -- properties are assigned to a function that is bound in the namespace and does not implement overloads
 abbrev pub has_properties : Namespace → SymbolDecl → Bool
@@ -61,6 +66,10 @@ asked_ranges t (by_path path extent) s = decl_ranges s.decls.items
 -- the ranges that a demand makes public
 abbrev pub ranges : Tables → Demand → List SourceRange
 ranges t d = each_of (asked_ranges t d.asked) (symbol_of d.symbol t.symbols)
+
+-- these are ranges of the module's own tables
+abbrev pub AreTableRanges : Tables → List SourceRange → Type 0
+AreTableRanges t found = (r : SourceRange) → Contains found r → Contains (table_ranges t.symbols t.re_exports) r
 
 -- what comes behind is of these, and all of these are there
 pub record Adds {X : Type 0} (these old new : List X) : Type 0 where

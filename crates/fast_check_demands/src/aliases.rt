@@ -5,46 +5,81 @@ ghost use Rattle.std.specs.Option.{option_copied};
 ghost use Rattle.fast_check_lattice.specs.Names.{path_of};
 ghost use Rattle.fast_check_symbol_demands.specs.symbols.Symbols.{symbol_of};
 ghost use Rattle.fast_check_symbol_demands.specs.Demands.{demand_of};
-ghost use Rattle.fast_check_symbol_demands.specs.Rules.{each_of, qualified, member_names, prototype_names, export_names, first_names};
-ghost use Rattle.fast_check_demands.specs.Parts.{passed_on, path_rest};
+ghost use Rattle.fast_check_symbol_demands.specs.Rules.{each_of, qualified, parts_names, alias_names, member_names, prototype_names, export_names};
+ghost use Rattle.fast_check_symbol_demands.specs.Rules.{whole_names, export_part_names, first_names, path_names};
 ghost use Rattle.fast_check_demands.specs.Yields.{Adds};
 
 use crate::names::is_prototype;
-use crate::targets::{AliasTargets, are_light};
 use fast_check_symbol_demands::symbols::{CheckedTables, SymbolDeclKind, SymbolDecls, SymbolId};
 use fast_check_symbol_demands::{Demands, Extent, SymbolDemand, bound, push_path, push_references};
-use std::alloc::{AllocError, Global};
+use std::alloc::AllocError;
+use std::slice;
 
-fn push_path_at<'a>(
+/// Pushes each name of an alias's own path, whole.
+fn push_parts<'a>(
+    demand: SymbolDemand<'_>,
+    symbol: SymbolId,
+    parts: &'a [String],
+    out: &mut Demands<'a>,
+) -> Result<(), AllocError>
+    ensures { OnOk result (out.new ≡ out.old ++ parts_names (demand_of demand.entry) symbol parts.now) }
+{
+    for part in parts {
+        push_path(
+            symbol,
+            slice::from_ref(part),
+            Extent::Whole,
+            demand.referrer,
+            out,
+        )?;
+    }
+    Ok(())
+}
+
+/// Pushes the path that is asked of an alias for the symbol that it is bound to, and each name of its own path.
+fn push_passed<'a>(
     demand: SymbolDemand<'_>,
     symbol: Option<SymbolId>,
     names: &'a [String],
     extent: Extent,
+    parts: &'a [String],
     out: &mut Demands<'a>,
 ) -> Result<(), AllocError>
-    ensures { OnOk result (out.new ≡ out.old ++ each_of (λ x. qualified x (path_of names.now) extent demand.entry.referrer ∷ []) symbol) }
+    ensures { OnOk result (out.new ≡ out.old ++ each_of (λ x. qualified x (path_of names.now) extent demand.entry.referrer
+        ∷ parts_names (demand_of demand.entry) x parts.now) symbol) }
 {
     match symbol {
         None => Ok(()),
-        Some(symbol) => push_path(symbol, names, extent, demand.referrer, out),
+        Some(symbol) => {
+            push_path(symbol, names, extent, demand.referrer, out)?;
+            push_parts(demand, symbol, parts, out)
+        }
     }
 }
 
-/// Pushes the path that is asked of an alias, for what that stands for.
+/// Pushes what a path asks for below an alias.
 fn push_alias<'a>(
     tables: &CheckedTables,
     demand: SymbolDemand<'_>,
     names: &'a [String],
     extent: Extent,
-    kind: &SymbolDeclKind,
+    kind: &'a SymbolDeclKind,
     out: &mut Demands<'a>,
 ) -> Result<(), AllocError>
-    ensures { OnOk result (out.new ≡ out.old ++ passed_on tables.now (demand_of demand.entry) (path_of names.now) extent kind.now) }
+    ensures { OnOk result (out.new ≡ out.old ++ alias_names tables.now (demand_of demand.entry) (path_of names.now) extent kind.now) }
 {
     match kind {
-        SymbolDeclKind::Target(id) | SymbolDeclKind::QualifiedTarget(id, _) => {
-            push_path_at(demand, bound(tables, id), names, extent, out)
+        SymbolDeclKind::Target(id) => {
+            push_passed(demand, bound(tables, id), names, extent, &[], out)
         }
+        SymbolDeclKind::QualifiedTarget(id, parts) => push_passed(
+            demand,
+            bound(tables, id),
+            names,
+            extent,
+            parts.as_slice(),
+            out,
+        ),
         SymbolDeclKind::FileRef { .. } | SymbolDeclKind::Definition(_) => Ok(()),
     }
 }
@@ -54,11 +89,11 @@ fn push_alias_at<'a>(
     demand: SymbolDemand<'_>,
     names: &'a [String],
     extent: Extent,
-    kind: Option<&SymbolDeclKind>,
+    kind: Option<&'a SymbolDeclKind>,
     out: &mut Demands<'a>,
 ) -> Result<(), AllocError>
     ensures { OnOk result (out.new ≡ out.old ++
-        each_of (passed_on tables.now (demand_of demand.entry) (path_of names.now) extent) (option_copied kind.entry)) }
+        each_of (alias_names tables.now (demand_of demand.entry) (path_of names.now) extent) (option_copied kind.entry)) }
 {
     match kind {
         None => Ok(()),
@@ -66,16 +101,16 @@ fn push_alias_at<'a>(
     }
 }
 
-/// Pushes the path that is asked of the aliases among declarations, for what they stand for.
+/// Pushes what a path asks for below the aliases among declarations.
 fn push_aliases<'a>(
     tables: &CheckedTables,
     demand: SymbolDemand<'_>,
     names: &'a [String],
     extent: Extent,
-    decls: &SymbolDecls,
+    decls: &'a SymbolDecls,
     out: &mut Demands<'a>,
 ) -> Result<(), AllocError>
-    ensures { OnOk result (Adds (flat_map (λ x. passed_on tables.now (demand_of demand.entry) (path_of names.now) extent x.kind) decls.now.items)
+    ensures { OnOk result (Adds (flat_map (λ x. alias_names tables.now (demand_of demand.entry) (path_of names.now) extent x.kind) decls.now.items)
         out.old out.new) }
 {
     for place in decls.alias_places() {
@@ -148,8 +183,6 @@ fn push_class(
     }
 }
 
-ghost use Rattle.fast_check_symbol_demands.specs.Rules.{whole_names, export_part_names};
-
 fn push_export<'a>(
     demand: SymbolDemand<'_>,
     below: &'a [String],
@@ -216,29 +249,22 @@ fn push_first<'a>(
     )
 }
 
-/// Pushes what a path below the symbol of a demand demands, without the own parts of aliases.
+/// Pushes what a path below the symbol of a demand demands.
 pub fn push_path_demands<'a>(
-    alloc: Global,
     tables: &'a CheckedTables,
-    targets: &mut AliasTargets<'a>,
     demand: SymbolDemand<'_>,
     names: &'a [String],
     extent: Extent,
     out: &mut Demands<'a>,
 ) -> Result<(), AllocError>
-    requires { targets.old ≡ tables.now }
-    ensures tables { targets.new ≡ targets.old }
-    ensures names { OnOk result (Adds (each_of (λ s. path_rest tables.now (demand_of demand.entry) (path_of names.now) extent s)
+    ensures { OnOk result (Adds (each_of (λ s. path_names tables.now (demand_of demand.entry) (path_of names.now) extent s)
         (symbol_of demand.entry.symbol tables.now.symbols)) out.old out.new) }
 {
     let Some(symbol) = tables.symbol(demand.symbol) else {
         return Ok(());
     };
     if symbol.decls.has_alias() {
-        if are_light(&symbol.decls) {
-            return push_aliases(tables, demand, names, extent, &symbol.decls, out);
-        }
-        targets.push_passed(alloc, demand, names, extent, out)
+        push_aliases(tables, demand, names, extent, &symbol.decls, out)
     } else {
         push_first(tables, demand, names, extent, out)
     }

@@ -1,13 +1,11 @@
 //! What follows from one demand of a module.
 ghost use Rattle.std.specs.Prelude.{◌≡◌, [], ◌++◌, IfOk, OnOk};
 ghost use Rattle.fast_check_symbol_demands.specs.Demands.{demand_of};
-ghost use Rattle.fast_check_symbol_demands.specs.Rules.{each_of, symbol_names};
+ghost use Rattle.fast_check_symbol_demands.specs.Rules.{each_of, symbol_names, names};
 ghost use Rattle.fast_check_symbol_demands.specs.symbols.Symbols.{symbol_of};
-ghost use Rattle.fast_check_demands.specs.Parts.{names_beside};
 ghost use Rattle.fast_check_demands.specs.Yields.{Adds};
 
 use crate::aliases::push_path_demands;
-use crate::targets::AliasTargets;
 use fast_check_symbol_demands::symbols::CheckedTables;
 use fast_check_symbol_demands::{Ask, Demands, Namespace, SymbolDemand, push_symbol};
 use std::alloc::{AllocError, Global};
@@ -27,15 +25,13 @@ fn push_symbol_of<'a>(
     }
 }
 
-fn demands_in<'a>(
+/// The demands that follow from a demand within its module.
+pub fn demands_of<'a>(
     alloc: Global,
     tables: &'a CheckedTables,
-    targets: &mut AliasTargets<'a>,
     demand: SymbolDemand<'a>,
 ) -> Result<Demands<'a>, AllocError>
-    requires { targets.old ≡ tables.now }
-    ensures tables { targets.new ≡ targets.old }
-    ensures names { IfOk result (λ out. Adds (names_beside tables.now (demand_of demand.entry)) [] out) }
+    ensures { IfOk result (λ out. Adds (names tables.now (demand_of demand.entry)) [] out) }
 {
     let mut out = Demands::new(alloc);
     match demand.ask {
@@ -43,21 +39,8 @@ fn demands_in<'a>(
             push_symbol_of(tables, demand, namespace, &mut out)?;
         }
         Ask::Path(names, extent) => {
-            push_path_demands(alloc, tables, targets, demand, names, extent, &mut out)?;
+            push_path_demands(tables, demand, names, extent, &mut out)?;
         }
     }
     Ok(out)
-}
-
-/// The demands that follow from a demand within its module, without the own parts of aliases (`own_parts_of`).
-pub fn demands_of<'a>(
-    alloc: Global,
-    targets: &mut AliasTargets<'a>,
-    demand: SymbolDemand<'a>,
-) -> Result<Demands<'a>, AllocError>
-    ensures tables { targets.new ≡ targets.old }
-    ensures names { IfOk result (λ out. Adds (names_beside targets.old (demand_of demand.entry)) [] out) }
-{
-    let tables = targets.tables();
-    demands_in(alloc, tables, targets, demand)
 }

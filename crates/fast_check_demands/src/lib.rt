@@ -5,10 +5,7 @@ mod aliases;
 mod fault;
 mod follow;
 mod names;
-mod noted;
-mod parts;
 mod public;
-mod targets;
 
 pub use fast_check_symbol_demands as symbol_demands;
 pub use fast_check_symbol_demands::symbols::{CheckedTables, SymbolId};
@@ -16,6 +13,4 @@ pub use fast_check_symbol_demands::{Ask, Demands, Extent, Namespace, SymbolDeman
 pub use fast_check_syntax::SourceRange;
 pub use fault::{DemandFaultKind, SymbolFault, fault_of};
 pub use follow::demands_of;
-pub use noted::NotedSymbols;
 pub use public::{push_implementations, push_ranges};
-pub use targets::{AliasTargets, has_light_aliases};

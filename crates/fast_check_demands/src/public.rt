@@ -1,23 +1,46 @@
 //! The ranges that a demand makes public, and those of implementations.
-ghost use Rattle.std.specs.Prelude.{◌≡◌, ◌++◌, ◌&&◌, option_map, OnOk};
+ghost use Rattle.std.specs.Prelude.{◌≡◌, ◌++◌, ◌&&◌, ◌||◌, not, option_map, OnOk};
 ghost use Rattle.fast_check_symbol_demands.specs.symbols.Exports.{seen_export};
-ghost use Rattle.fast_check_symbol_demands.specs.symbols.Tables.{Tables};
 ghost use Rattle.std.specs.List.{filter};
 ghost use Rattle.fast_check_symbol_demands.specs.Demands.{demand_of, asked_of};
 ghost use Rattle.fast_check_symbol_demands.specs.Decls.{binds as binds_in, is_implementation as implements};
 ghost use Rattle.fast_check_symbol_demands.specs.Rules.{each_of};
-ghost use Rattle.fast_check_demands.specs.Yields.{decl_ranges, has_properties, stands_outside, ranges_at, export_ranges, property_ranges};
-ghost use Rattle.fast_check_demands.specs.Yields.{symbol_ranges, ranges, Joins};
+ghost use Rattle.fast_check_demands.specs.Yields.{decl_ranges, is_within, is_outside, has_properties, stands_outside, ranges_at, export_ranges};
+ghost use Rattle.fast_check_demands.specs.Yields.{property_ranges, symbol_ranges, asked_ranges, ranges};
 ghost use Rattle.fast_check_demands.specs.Yields.{symbol_implementations, asked_implementations, implementations};
-ghost use Rattle.fast_check_demands.specs.Noted.{is_public, is_noted, noted_ranges, public_ranges};
 
-use crate::noted::{NotedSymbols, PublicDecls, with_noted};
 use fast_check_symbol_demands::symbols::{
     CheckedTables, Symbol, SymbolDecl, SymbolExports, SymbolId,
 };
 use fast_check_symbol_demands::{Ask, Namespace, SymbolDemand, binds, is_function};
-use fast_check_syntax::SourceRange;
+use fast_check_syntax::{SourcePos, SourceRange};
 use std::alloc::AllocError;
+
+fn is_within(range: SourceRange, inner: SourceRange) -> bool
+    ensures { result ≡ is_within range inner }
+{
+    range.start.0 <= inner.start.0 && inner.end.0 <= range.end.0
+}
+
+/// The range that lies within two ranges, from the later start to the earlier end.
+fn shared(first: SourceRange, second: SourceRange) -> SourceRange
+    ensures { (r : SourceRange) → is_within result r ≡ (is_within first r && is_within second r) }
+{
+    SourceRange {
+        start: SourcePos(first.start.0.max(second.start.0)),
+        end: SourcePos(first.end.0.min(second.end.0)),
+    }
+}
+
+/// What lies outside of a range, or outside of what was hidden before, lies outside of this.
+fn hidden_by_both(before: Option<SourceRange>, range: SourceRange) -> SourceRange
+    ensures { (r : SourceRange) → not (is_within result r) ≡ (is_outside before r || not (is_within range r)) }
+{
+    match before {
+        None => range,
+        Some(before) => shared(before, range),
+    }
+}
 
 /// Whether properties may be assigned to a declaration: to a function of the namespace that implements no overloads.
 fn has_properties(decl: &SymbolDecl, namespace: Namespace) -> bool
@@ -26,58 +49,91 @@ fn has_properties(decl: &SymbolDecl, namespace: Namespace) -> bool
     binds(decl, namespace) && is_function(decl) && !decl.is_implementation()
 }
 
-/// Which declarations of what functions among these declarations export are public: those that stand outside of one of them.
-fn property_decls(decls: &[SymbolDecl], namespace: Namespace) -> Option<PublicDecls>
-    ensures { (r : SourceRange) → is_noted result r ≡ stands_outside namespace decls.now r }
+/// The range outside of which the properties of the functions among declarations stand: outside of one of these.
+fn hidden_properties(decls: &[SymbolDecl], namespace: Namespace) -> Option<SourceRange>
+    ensures { (r : SourceRange) → is_outside result r ≡ stands_outside namespace decls.now r }
 {
     let mut found = None;
     for decl in decls {
         if has_properties(decl, namespace) {
-            found = Some(with_noted(found, PublicDecls::Outside(decl.range)));
+            found = Some(hidden_by_both(found, decl.range));
         }
     }
     found
 }
 
-fn note_export(
-    which: PublicDecls,
-    export: Option<(&str, SymbolId)>,
-    noted: &mut NotedSymbols,
+/// Pushes the declarations that stand outside of a range.
+fn push_outside(
+    hidden: SourceRange,
+    decls: &[SymbolDecl],
+    out: &mut Vec<SourceRange>,
 ) -> Result<(), AllocError>
-    ensures { OnOk result ((t : Tables) → Joins (filter (is_public which) (each_of (λ e. ranges_at t e.1) (option_map seen_export export.entry)))
-        (noted_ranges t noted.old) (noted_ranges t noted.new)) }
+    ensures { OnOk result (out.new.items ≡ out.old.items ++ filter (λ r. not (is_within hidden r)) (decl_ranges decls.now)) }
 {
-    match export {
-        None => Ok(()),
-        Some((_, id)) => noted.note(id, which),
-    }
-}
-
-/// Notes that these declarations of each exported symbol are public.
-fn note_exports(
-    which: PublicDecls,
-    exports: &SymbolExports,
-    noted: &mut NotedSymbols,
-) -> Result<(), AllocError>
-    ensures { OnOk result ((t : Tables) → Joins (filter (is_public which) (export_ranges t exports.now)) (noted_ranges t noted.old)
-        (noted_ranges t noted.new)) }
-{
-    for place in 0..exports.len() {
-        note_export(which, exports.at(place), noted)?;
+    for decl in decls {
+        if !is_within(hidden, decl.range) {
+            out.push(decl.range)?;
+        }
     }
     Ok(())
 }
 
-fn note_properties(
+fn push_outside_at(
+    tables: &CheckedTables,
+    hidden: SourceRange,
+    id: SymbolId,
+    out: &mut Vec<SourceRange>,
+) -> Result<(), AllocError>
+    ensures { OnOk result (out.new.items ≡ out.old.items ++ filter (λ r. not (is_within hidden r)) (ranges_at tables.now id)) }
+{
+    match tables.symbol(id) {
+        None => Ok(()),
+        Some(symbol) => push_outside(hidden, symbol.decls.as_slice(), out),
+    }
+}
+
+fn push_export(
+    tables: &CheckedTables,
+    hidden: SourceRange,
+    export: Option<(&str, SymbolId)>,
+    out: &mut Vec<SourceRange>,
+) -> Result<(), AllocError>
+    ensures { OnOk result (out.new.items ≡ out.old.items
+        ++ filter (λ r. not (is_within hidden r)) (each_of (λ e. ranges_at tables.now e.1) (option_map seen_export export.entry))) }
+{
+    match export {
+        None => Ok(()),
+        Some((_, id)) => push_outside_at(tables, hidden, id, out),
+    }
+}
+
+/// Pushes the declarations of exported symbols that stand outside of a range.
+fn push_exports(
+    tables: &CheckedTables,
+    hidden: SourceRange,
+    exports: &SymbolExports,
+    out: &mut Vec<SourceRange>,
+) -> Result<(), AllocError>
+    ensures { OnOk result (out.new.items ≡ out.old.items ++ filter (λ r. not (is_within hidden r)) (export_ranges tables.now exports.now)) }
+{
+    for place in 0..exports.len() {
+        push_export(tables, hidden, exports.at(place), out)?;
+    }
+    Ok(())
+}
+
+/// Pushes the properties of the functions among the declarations of a symbol.
+fn push_properties(
+    tables: &CheckedTables,
     namespace: Namespace,
     symbol: &Symbol,
-    noted: &mut NotedSymbols,
+    out: &mut Vec<SourceRange>,
 ) -> Result<(), AllocError>
-    ensures { OnOk result ((t : Tables) → Joins (property_ranges t namespace symbol.now) (noted_ranges t noted.old) (noted_ranges t noted.new)) }
+    ensures { OnOk result (out.new.items ≡ out.old.items ++ property_ranges tables.now namespace symbol.now) }
 {
-    match property_decls(symbol.decls.as_slice(), namespace) {
+    match hidden_properties(symbol.decls.as_slice(), namespace) {
         None => Ok(()),
-        Some(which) => note_exports(which, &symbol.exports, noted),
+        Some(hidden) => push_exports(tables, hidden, &symbol.exports, out),
     }
 }
 
@@ -97,37 +153,56 @@ fn push_bound(
 }
 
 fn push_symbol(
+    tables: &CheckedTables,
     namespace: Namespace,
     symbol: &Symbol,
-    noted: &mut NotedSymbols,
     out: &mut Vec<SourceRange>,
 ) -> Result<(), AllocError>
-    ensures { OnOk result ((t : Tables) → Joins (symbol_ranges t namespace symbol.now) (public_ranges t noted.old out.old.items)
-        (public_ranges t noted.new out.new.items)) }
+    ensures { OnOk result (out.new.items ≡ out.old.items ++ symbol_ranges tables.now namespace symbol.now) }
 {
     if symbol.is_private_member {
         return Ok(());
     }
     push_bound(namespace, symbol.decls.as_slice(), out)?;
-    note_properties(namespace, symbol, noted)
+    push_properties(tables, namespace, symbol, out)
 }
 
-/// Adds the ranges that a demand makes public to what is listed, or notes them: the properties of functions, and the declarations to which a path leads.
+fn push_decls(decls: &[SymbolDecl], out: &mut Vec<SourceRange>) -> Result<(), AllocError>
+    ensures { OnOk result (out.new.items ≡ out.old.items ++ decl_ranges decls.now) }
+{
+    for decl in decls {
+        out.push(decl.range)?;
+    }
+    Ok(())
+}
+
+fn push_asked(
+    tables: &CheckedTables,
+    demand: SymbolDemand<'_>,
+    symbol: &Symbol,
+    out: &mut Vec<SourceRange>,
+) -> Result<(), AllocError>
+    ensures { OnOk result (out.new.items ≡ out.old.items ++ asked_ranges tables.now (asked_of demand.entry.ask) symbol.now) }
+{
+    match demand.ask {
+        Ask::Reference(namespace) | Ask::Child(namespace) => {
+            push_symbol(tables, namespace, symbol, out)
+        }
+        Ask::Path(_, _) => push_decls(symbol.decls.as_slice(), out),
+    }
+}
+
+/// Pushes the ranges that a demand makes public.
 pub fn push_ranges(
     tables: &CheckedTables,
     demand: SymbolDemand<'_>,
-    noted: &mut NotedSymbols,
     out: &mut Vec<SourceRange>,
 ) -> Result<(), AllocError>
-    ensures { OnOk result (Joins (ranges tables.now (demand_of demand.entry)) (public_ranges tables.now noted.old out.old.items)
-        (public_ranges tables.now noted.new out.new.items)) }
+    ensures { OnOk result (out.new.items ≡ out.old.items ++ ranges tables.now (demand_of demand.entry)) }
 {
-    match demand.ask {
-        Ask::Path(_, _) => noted.note(demand.symbol, PublicDecls::All),
-        Ask::Reference(namespace) | Ask::Child(namespace) => match tables.symbol(demand.symbol) {
-            None => Ok(()),
-            Some(symbol) => push_symbol(namespace, symbol, noted, out),
-        },
+    match tables.symbol(demand.symbol) {
+        None => Ok(()),
+        Some(symbol) => push_asked(tables, demand, symbol, out),
     }
 }
 

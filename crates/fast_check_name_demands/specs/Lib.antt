@@ -1,3 +1,2 @@
 pub use Rattle.fast_check_demands.specs as demands
 pub mod Files
-pub mod NameDemands

@@ -1,16 +1,17 @@
 //! What a demand of a module asks of other files: by file references, import types and aliases.
-ghost use Rattle.std.specs.Prelude.{◌≡◌, ◌++◌, OnOk};
+ghost use Rattle.std.specs.Prelude.{◌≡◌, ◌++◌, OnOk, IfOk};
 ghost use Rattle.std.specs.List.{flat_map};
 ghost use Rattle.fast_check_lattice.specs.Names.{path_of};
-ghost use Rattle.fast_check_symbols.specs.Symbols.{symbol_of};
-ghost use Rattle.fast_check_demands.specs.Rules.{each_of};
-ghost use Rattle.fast_check_name_demands.specs.Files.{dep_files, deps_files, kind_files, decl_files, symbol_files, alias_files};
+ghost use Rattle.fast_check_demands.specs.Demands.{asked_of, demand_of};
+ghost use Rattle.fast_check_name_demands.specs.Files.{dep_files, deps_files, kind_files, decl_files, symbol_files, alias_files, asked_files, files};
 
 use crate::list::FileWants;
 use crate::want::{by_import, by_path_in_file, by_reference};
-use fast_check_demands::{CheckedTables, Extent, Namespace, SymbolId, binds};
-use fast_check_symbols::{Symbol, SymbolDecl, SymbolDeclKind, SymbolDep, SymbolNodeDep};
-use std::alloc::AllocError;
+use fast_check_demands::{Ask, CheckedTables, Extent, Namespace, SymbolDemand, binds};
+use fast_check_symbols::{
+    Symbol, SymbolDecl, SymbolDeclKind, SymbolDecls, SymbolDep, SymbolNodeDep,
+};
+use std::alloc::{AllocError, Global};
 
 fn push_dep<'a>(dep: &'a SymbolDep, out: &mut FileWants<'a>) -> Result<(), AllocError>
     ensures { OnOk result (out.new ≡ out.old ++ dep_files dep.now) }
@@ -104,32 +105,59 @@ fn push_alias<'a>(
     }
 }
 
-/// Pushes what a path below a symbol asks of other files by these of its aliases.
-pub fn push_path_files<'a>(
+fn push_aliases<'a>(
     names: &'a [String],
     extent: Extent,
-    aliases: &[&'a SymbolDeclKind],
+    decls: &'a [SymbolDecl],
     out: &mut FileWants<'a>,
 ) -> Result<(), AllocError>
-    ensures { OnOk result (out.new ≡ out.old ++ flat_map (λ k. alias_files (path_of names.now) extent k.now) aliases.now) }
+    ensures { OnOk result (out.new ≡ out.old ++ flat_map (λ d. alias_files (path_of names.now) extent d.kind) decls.now) }
 {
-    for kind in aliases {
-        push_alias(names, extent, *kind, out)?;
+    for decl in decls {
+        push_alias(names, extent, &decl.kind, out)?;
     }
     Ok(())
 }
 
-/// Pushes what a symbol itself asks of other files where it is demanded in a namespace.
-pub fn push_symbol_files<'a>(
-    tables: &'a CheckedTables,
-    symbol: SymbolId,
-    namespace: Namespace,
+/// Pushes what a path below a symbol asks of other files by its aliases.
+fn push_path<'a>(
+    names: &'a [String],
+    extent: Extent,
+    decls: &'a SymbolDecls,
     out: &mut FileWants<'a>,
 ) -> Result<(), AllocError>
-    ensures { OnOk result (out.new ≡ out.old ++ each_of (symbol_files namespace) (symbol_of symbol tables.now.symbols)) }
+    ensures { OnOk result (out.new ≡ out.old ++ flat_map (λ d. alias_files (path_of names.now) extent d.kind) decls.now.items) }
 {
-    match tables.symbol(symbol) {
-        None => Ok(()),
-        Some(symbol) => push_symbol(namespace, symbol, out),
+    if decls.has_alias() {
+        return push_aliases(names, extent, decls.as_slice(), out);
     }
+    Ok(())
+}
+
+fn push_asked<'a>(
+    ask: Ask<'a>,
+    symbol: &'a Symbol,
+    out: &mut FileWants<'a>,
+) -> Result<(), AllocError>
+    ensures { OnOk result (out.new ≡ out.old ++ asked_files (asked_of ask.entry) symbol.now) }
+{
+    match ask {
+        Ask::Reference(namespace) | Ask::Child(namespace) => push_symbol(namespace, symbol, out),
+        Ask::Path(names, extent) => push_path(names, extent, &symbol.decls, out),
+    }
+}
+
+/// What a demand asks of other files.
+pub fn files_of<'a>(
+    alloc: Global,
+    tables: &'a CheckedTables,
+    demand: SymbolDemand<'a>,
+) -> Result<FileWants<'a>, AllocError>
+    ensures { IfOk result (λ out. out ≡ files tables.now (demand_of demand.entry)) }
+{
+    let mut out = FileWants::new(alloc);
+    if let Some(symbol) = tables.symbol(demand.symbol) {
+        push_asked(demand.ask, symbol, &mut out)?;
+    }
+    Ok(out)
 }

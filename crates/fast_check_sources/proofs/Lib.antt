@@ -1,5 +1,1 @@
-pub mod Packages
-mod Asking
-mod Ordered
-mod Kept
-mod Meetings
+mod Placed

@@ -1,4 +1,2 @@
 pub mod Sources
-pub mod Lengths
 pub mod Wants
-pub mod Asked

@@ -1,12 +1,8 @@
-//! What a module that is followed wants of other modules and of packages, and the package that a file belongs to.
+//! The modules of a graph that are followed, and the package that a module belongs to.
 #![tactic(auto)]
 
-mod asked;
-mod order;
-mod owners;
+mod owner;
 mod sources;
-mod wants;
 
-pub use owners::MetPackages;
+pub use owner::owner_of;
 pub use sources::{Sources, info_of, is_untyped};
-pub use wants::{Asker, outer_wants};

@@ -1,7 +1,6 @@
 -- The first re-export of all that has a name, and the module that answers it.
 use Rattle.std.proofs.Common.{◌≡◌, ◌∙◌, sym, ap, refl, ℕ, ◌+◌, ◌<◌, cond, is_some, List, [], ◌∷◌, ◌++◌, length, take, get_or}
 use Rattle.std.proofs.Common.{Option, Some, None, option_map}
-use Rattle.std.specs.List.{find}
 use Rattle.std.specs.Option.{option_or, option_and_then}
 use Rattle.std.proofs.lemmas.List.{take_more}
 use Rattle.url.specs.Parts.{Parts}
@@ -9,7 +8,7 @@ use Rattle.fast_check_lattice.specs.Names.{Name}
 use Rattle.fast_check_modules.specs.symbols.declared.tables.ReExportAllNode.{ReExportAllNode}
 use Rattle.fast_check_traces.specs.declared.modules.TracedModule.{TracedModule}
 use Rattle.fast_check_traces.specs.Modules.{answer_of, first_with}
-use Rattle.fast_check_traces.specs.Origins.{Answered, first_some, origin_at, first_origin}
+use Rattle.fast_check_traces.specs.Origins.{Answered, first_some, first_origin}
 
 pub or_none : {X : Type 0} (o : Option X) → option_or o None ≡ o
 or_none None = refl
@@ -29,15 +28,6 @@ module _ {X Y : Type 0} (f : X → Option Y) where
       first_some f (take (i + 1) xs) ≡ option_or (first_some f (take i xs)) (f x)
   first_some_turn xs i x lt is =
       ap (first_some f) (take_more xs i x lt ∙ ap (λ (y : X). take i xs ++ y ∷ []) (sym is)) ∙ first_some_more (take i xs) x
-
-  pub first_some_found : (xs : List X) → option_and_then f (find (λ x. is_some (f x)) xs) ≡ first_some f xs
-  first_some_found [] = refl
-  first_some_found (x ∷ xs) = go (f x) refl (first_some_found xs)
-    where
-      go : (o : Option Y) → f x ≡ o → option_and_then f (find (λ y. is_some (f y)) xs) ≡ first_some f xs →
-          option_and_then f (cond (is_some o) (Some x) (find (λ y. is_some (f y)) xs)) ≡ option_or o (first_some f xs)
-      go None e h = h
-      go (Some u) e h = e
 
 module _ (m : TracedModule) (name : Name) where
   pub first_node : (nodes : List ReExportAllNode) → option_map (λ a. a.0) (first_origin m name nodes) ≡ first_with m name nodes
@@ -61,15 +51,3 @@ module _ (m : TracedModule) (name : Name) where
           ≡ option_and_then (answer_of m name) (cond (is_some o) (Some x) (first_with m name xs))
       go None e h = h
       go (Some u) e h = sym e
-
-  pub first_of_node : (nodes : List ReExportAllNode) →
-      option_and_then (origin_at m name) (first_with m name nodes) ≡ first_origin m name nodes
-  first_of_node [] = refl
-  first_of_node (x ∷ xs) = go (answer_of m name x) refl (first_of_node xs)
-    where
-      go : (o : Option Parts) → answer_of m name x ≡ o →
-          option_and_then (origin_at m name) (first_with m name xs) ≡ first_origin m name xs →
-          option_and_then (origin_at m name) (cond (is_some o) (Some x) (first_with m name xs))
-          ≡ option_or (option_map (λ url. (x, url)) o) (first_origin m name xs)
-      go None e h = h
-      go (Some u) e h = ap (option_map (λ url. (x, url))) e

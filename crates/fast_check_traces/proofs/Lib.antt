@@ -1,7 +1,5 @@
-pub mod Named
-pub mod Firsts
-pub mod Leads
-pub mod Kept
-pub mod Names
+mod Firsts
+mod Names
+mod Behind
+mod Named
 pub mod OwnRanges
-pub mod Through

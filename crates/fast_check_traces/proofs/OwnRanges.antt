@@ -7,12 +7,12 @@ use Rattle.fast_check_lattice.specs.Names.{Name}
 use Rattle.fast_check_lattice.specs.Imports.{NameDemand, names_but_default, each_name, subset_at, whole_at}
 use Rattle.fast_check_modules.specs.symbols.declared.tables.ReExportAllNode.{ReExportAllNode}
 use Rattle.fast_check_modules.specs.symbols.Tables.{table_ranges}
-use Rattle.fast_check_search.specs.Found.{AreTableRanges}
-use Rattle.fast_check_search.proofs.Each.{Contains_first, Contains_later, contains_map, Each, each_nil, each_one, each_map, each_flat}
-use Rattle.fast_check_search.proofs.Each.{each_cond}
+use Rattle.fast_check_demands.specs.Yields.{AreTableRanges}
+use Rattle.fast_check_demands.proofs.Elements.{first, later, in_map}
+use Rattle.fast_check_demands.proofs.Each.{Each, each_nil, each_one, each_map, each_cond}
 use Rattle.fast_check_traces.specs.declared.modules.TracedModule.{TracedModule}
 use Rattle.fast_check_traces.specs.Modules.{own_tables, own_export, answer_of, first_with}
-use Rattle.fast_check_traces.specs.Wants.{node_ranges, first_range, path_ranges, re_export_ranges, AreRangesThrough}
+use Rattle.fast_check_traces.specs.Wants.{node_ranges, first_range, path_ranges, re_export_ranges}
 
 -- what is found is there
 found_inside : {X : Type 0} (test : X → Bool) (xs : List X) (x : X) → find test xs ≡ Some x → Contains xs x
@@ -26,8 +26,8 @@ found_inside {X} test (y ∷ ys) x e = go (test y) (found_inside test ys x) e
     same a b h = cc
 
     go : (b : Bool) → (find test ys ≡ Some x → Contains ys x) → cond b (Some y) (find test ys) ≡ Some x → Contains (y ∷ ys) x
-    go true below h = subst (λ (z : X). Contains (y ∷ ys) z) (same y x h) (Contains_first y ys)
-    go false below h = Contains_later y ys x (below h)
+    go true below h = subst (λ (z : X). Contains (y ∷ ys) z) (same y x h) (first y y ys refl)
+    go false below h = later y ys x (below h)
 
 module _ (m : TracedModule) where
   abbrev Own : SourceRange → Type 0
@@ -36,7 +36,7 @@ module _ (m : TracedModule) where
   own_node : (x : ReExportAllNode) → Contains (own_tables m).re_exports x → Own x.range
   own_node x h = Contains-append_right (flat_map (λ s. map (λ d. d.range) s.decls.items) (own_tables m).symbols)
       (node_ranges (own_tables m).re_exports) x.range
-      (contains_map (λ n. n.range) (own_tables m).re_exports x h)
+      (in_map (λ n. n.range) (own_tables m).re_exports x h)
 
   own_nodes : Each Own (node_ranges (own_tables m).re_exports)
   own_nodes = each_map Own (λ x. x.range) (own_tables m).re_exports own_node
@@ -53,14 +53,10 @@ module _ (m : TracedModule) where
       (own_first (first_with m name (own_tables m).re_exports)
       (λ x e. found_inside (λ y. is_some (answer_of m name y)) (own_tables m).re_exports x e))
 
-  pub own_demand : (d : NameDemand) → Each Own (re_export_ranges m d)
+  pub own_demand : (d : NameDemand) → AreTableRanges (own_tables m) (re_export_ranges m d)
   own_demand names_but_default = own_nodes
   own_demand each_name = own_nodes
   own_demand (subset_at []) = each_nil Own
   own_demand (subset_at (n ∷ p)) = own_path n
   own_demand (whole_at []) = each_nil Own
   own_demand (whole_at (n ∷ p)) = own_path n
-
-  pub own_re_exports : (names : List NameDemand) (was_told is_told found : List SourceRange) →
-      AreRangesThrough m names was_told is_told found → AreTableRanges (own_tables m) found
-  own_re_exports names was_told is_told found h = λ r c. each_flat Own (re_export_ranges m) names (λ d _. own_demand d) r (h.sound r c)

@@ -2,4 +2,3 @@ pub mod Modules
 pub mod Roots
 pub mod Wants
 pub mod Origins
-pub mod Told

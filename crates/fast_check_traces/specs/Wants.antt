@@ -1,7 +1,6 @@
 -- What a demand of a module asks of other modules, by what the module exports again, and which re-exports of all it
 -- makes public.
-use Rattle.std.specs.Prelude.{◌⊎◌, ℕ, is_some, cond, List, [], ◌∷◌, map, Option, Some, None, string_bytes}
-use Rattle.std.specs.List.{Contains, flat_map}
+use Rattle.std.specs.Prelude.{ℕ, is_some, cond, List, [], ◌∷◌, map, Option, Some, None, string_bytes}
 use Rattle.url.specs.Parts.{Parts}
 use Rattle.fast_check_syntax.specs.declared.source.SourceRange.{SourceRange}
 use Rattle.fast_check_lattice.specs.Names.{Name, Path}
@@ -12,6 +11,8 @@ use Rattle.fast_check_name_demands.specs.Files.{names_of}
 use Rattle.fast_check_traces.specs.declared.list.ModuleWant.{ModuleWant}
 use Rattle.fast_check_traces.specs.declared.list.ModuleWant.TheVariants.{ReExported, Answered}
 use Rattle.fast_check_traces.specs.declared.modules.TracedModule.{TracedModule}
+use Rattle.fast_check_traces.specs.declared.re_exports.PublicReExports.{PublicReExports}
+use Rattle.fast_check_traces.specs.declared.re_exports.PublicReExports.TheVariants.{Nothing, First, All}
 use Rattle.fast_check_traces.specs.Modules.{own_tables, own_export, first_with, answer_to}
 
 -- all but `default` of the file that a text names, or a name of the module that answers it; both of whatever package
@@ -48,14 +49,11 @@ re_export_ranges m (subset_at (n ∷ p)) = path_ranges m n
 re_export_ranges m (whole_at []) = []
 re_export_ranges m (whole_at (n ∷ p)) = path_ranges m n
 
--- what was found are ranges that the demands make public, and each of these was found, or was told before. What is told
--- afterwards was told before or found
-pub record AreRangesThrough (m : TracedModule) (demands : List NameDemand) (was_told is_told found : List SourceRange) :
-    Type 0 where
-  pub sound : (r : SourceRange) → Contains found r → Contains (flat_map (re_export_ranges m) demands) r
-  pub complete : (r : SourceRange) → Contains (flat_map (re_export_ranges m) demands) r →
-      Contains found r ⊎ Contains was_told r
-  pub told : (r : SourceRange) → Contains is_told r → Contains was_told r ⊎ Contains found r
+-- what a value of the code stands for
+abbrev pub shown_ranges : List ReExportAllNode → PublicReExports → List SourceRange
+shown_ranges nodes Nothing = []
+shown_ranges nodes (First range) = range ∷ []
+shown_ranges nodes All = node_ranges nodes
 
 -- wants
 

@@ -1,19 +1,16 @@
-//! What a module that is followed makes public, and what it asks of other modules.
+//! What names of a module ask of its symbols, and what the module asks of other modules by what it exports again.
 #![tactic(auto)]
 
-mod follow;
 mod list;
 mod modules;
 mod origins;
 mod re_exports;
 mod roots;
-mod told;
 
 pub use fast_check_graph::{AnyModuleInfo, ModuleGraph, RootSymbol};
-pub use fast_check_name_demands::{FileWant, FileWants, NameDemand};
-pub use fast_check_search::{Found, Searched};
-pub use follow::{Traced, trace};
+pub use fast_check_name_demands::NameDemand;
 pub use list::{ModuleWant, ModuleWants};
-pub use modules::{TracedModule, tables_of};
-pub use origins::KeptOrigins;
-pub use told::ToldRanges;
+pub use modules::{TracedModule, own_export, tables_of};
+pub use origins::ReExportIndex;
+pub use re_exports::{PublicReExports, ReExports, push_all_ranges, re_exports_of};
+pub use roots::roots_of;

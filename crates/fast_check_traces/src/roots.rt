@@ -196,17 +196,15 @@ fn push_roots<'a>(
     }
 }
 
-/// What the demands of a module ask of its symbols.
+/// What a demand of a module asks of its symbols.
 pub fn roots_of<'a>(
     alloc: Global,
     tables: &CheckedTables,
-    demands: &[NameDemand<'a>],
+    demand: NameDemand<'a>,
 ) -> Result<Demands<'a>, AllocError>
-    ensures { IfOk result (λ out. out ≡ flat_map (λ d. roots tables.now (names_of d)) demands.now) }
+    ensures { IfOk result (λ out. out ≡ roots tables.now (names_of demand.entry)) }
 {
     let mut out = Demands::new(alloc);
-    for demand in demands {
-        push_roots(tables, *demand, &mut out)?;
-    }
+    push_roots(tables, demand, &mut out)?;
     Ok(out)
 }

@@ -2,7 +2,7 @@ use Rattle.std.proofs.Common.{◌≡◌, ◌∙◌, sym, ap, refl, Bool, true, f
 use Rattle.fast_check_syntax.specs.declared.source.SourceRange.{SourceRange}
 use Rattle.fast_check_symbol_demands.specs.Decls.{binds, is_implementation}
 use Rattle.fast_check_demands.specs.Yields.{decl_ranges}
-use Rattle.fast_check_demands.proofs.Outside.{filter_beside}
+use Rattle.fast_check_demands.proofs.Filters.{filter_beside}
 use Rattle.fast_check_demands.proofs.public.push_symbol_implementations.Goals as goal
 use Rattle.fast_check_demands.proofs.public.push_symbol_implementations.Goals.{then-symbol-via-then-symbol}
 use Rattle.fast_check_demands.proofs.public.push_symbol_implementations.Goals.{then-symbol-via-else-symbol+then-not-has_implementation}

@@ -1,7 +1,10 @@
 use Rattle.std.proofs.Common.{◌≡◌, take}
 use Rattle.fast_check_lattice.specs.Names.{Name}
-use Rattle.fast_check_traces.specs.Origins.{indexed, first_lead}
+use Rattle.fast_check_traces.specs.Origins.{indexed, first_origin, AreFound}
 use Rattle.fast_check_traces.proofs.origins.index_of.Given as goal
 
-abbrev pub invariant-loop-lead : goal.invariant-loop-lead
-invariant-loop-lead l = (asked : Name) → indexed asked l.names ≡ first_lead asked (take l.lead-index l.leads)
+abbrev pub invariant-loop-node : goal.invariant-loop-node
+invariant-loop-node l = record {
+  says : (name : Name) → indexed name l.names ≡ first_origin l.traced name (take l.node-index l.node-items);
+  found : AreFound l.traced l.met l.names;
+}

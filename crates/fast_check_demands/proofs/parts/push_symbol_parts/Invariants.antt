@@ -1,8 +1,0 @@
-use Rattle.std.proofs.Common.{◌≡◌, ◌++◌, take}
-use Rattle.std.specs.List.{flat_map}
-use Rattle.fast_check_demands.specs.Parts.{kind_parts}
-use Rattle.fast_check_demands.proofs.Aliased.{at}
-use Rattle.fast_check_demands.proofs.parts.push_symbol_parts.Given as goal
-
-abbrev pub invariant-loop-place : goal.invariant-loop-place
-invariant-loop-place l = l.out ≡ l.initial.out ++ flat_map (at (kind_parts l.tables l.referrer) l.decls.items) (take l.place-index l.place-items)

@@ -1,8 +1,0 @@
-use Rattle.std.proofs.Common.{◌≡◌, take}
-use Rattle.fast_check_syntax.specs.declared.source.SourceRange.{SourceRange}
-use Rattle.fast_check_demands.specs.Yields.{stands_outside}
-use Rattle.fast_check_demands.specs.Noted.{is_noted}
-use Rattle.fast_check_demands.proofs.public.property_decls.Given as goal
-
-abbrev pub invariant-loop-decl : goal.invariant-loop-decl
-invariant-loop-decl l = (r : SourceRange) → is_noted l.found r ≡ stands_outside l.namespace (take l.decl-index l.decls) r
