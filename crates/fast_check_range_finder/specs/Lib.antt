@@ -1,5 +1,15 @@
+pub use Rattle.fast_check_traces.specs as traces
+pub use Rattle.fast_check_sources.specs as wants
+pub use Rattle.fast_check_entries.specs as entries
 pub mod Account
 pub mod Asked
 pub mod Search
 pub mod Turn
 pub mod Measure
+pub mod Rules
+pub mod Yields
+pub mod Own
+pub mod Lent
+pub mod Refusals
+pub mod Universe
+pub mod Reach

@@ -1,0 +1,32 @@
+-- Why a build stops.
+use Rattle.std.specs.Prelude.{◌≡◌, List, string_bytes}
+use Rattle.std.specs.List.{Contains}
+use Rattle.fast_check_packages.specs.Package.{Nv, nv_of}
+use Rattle.fast_check_packages.specs.declared.fault.BuildFault.{BuildFault}
+use Rattle.fast_check_packages.specs.declared.fault.BuildFault.TheVariants.{InvalidExport, OutOfMemory}
+use Rattle.fast_check_worklists.specs.Demands.{of_package}
+use Rattle.fast_check_range_finder.specs.Account.{Account, Chained}
+use Rattle.fast_check_entries.specs.Entries.{Entrance, passed_over, refused, entered}
+use Rattle.fast_check_sources.specs.Sources.{Known}
+use Rattle.fast_check_range_finder.specs.Rules.{entrance_at, world}
+
+-- a package that is demanded, and its first export text that does not join. Of want of memory nothing is said
+abbrev pub IsRefusal : Known → List Nv → BuildFault → Type 0
+IsRefusal k roots (InvalidExport nv text) = Chained (world k) roots (of_package (nv_of nv)) ×
+    (entrance_at k (nv_of nv) ≡ refused (string_bytes text))
+IsRefusal k roots OutOfMemory = Unit {0}
+
+abbrev pub IsNotRefused : Entrance → Type 0
+IsNotRefused passed_over = Unit {0}
+IsNotRefused (refused text) = ⊥
+IsNotRefused (entered urls) = Unit {0}
+
+-- the export texts of each package of the account join
+abbrev pub JoinAll : Known → Account → Type 0
+JoinAll k account = (nv : Nv) → Contains account (of_package nv) → IsNotRefused (entrance_at k nv)
+
+-- one of these packages, and its first export text that does not join
+abbrev pub IsRefusedOf : Known → List Nv → BuildFault → Type 0
+IsRefusedOf k packages (InvalidExport nv text) = Contains packages (nv_of nv) ×
+    (entrance_at k (nv_of nv) ≡ refused (string_bytes text))
+IsRefusedOf k packages OutOfMemory = Unit {0}

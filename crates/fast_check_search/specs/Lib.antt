@@ -1,9 +1,0 @@
-pub mod Numbers
-pub mod Done
-pub mod SymbolWorklist
-pub mod Led
-pub mod Wanted
-pub mod Parts
-pub mod Found
-pub mod Searched
-pub mod Universe
