@@ -1,11 +1,16 @@
-//! The finder as one loop over one kind of demand: what was asked for, what of it waits, and that following it all makes an account.
-//!
-//! The calls of one ask stand here, with the relations and lemmas of a loop that makes them. The finder that runs is that of
-//! `fast_check_finder`, until the loop takes its place.
+//! Follows demands of packages, of names of modules and of symbols in one loop, until none waits.
 #![tactic(auto)]
 
 mod asked;
+mod demand;
+mod find;
+mod finder;
+mod follow;
 mod names;
 
 pub use asked::{AskedAs, AskedSymbol, AskedSymbols};
+pub use demand::{Dependency, NamesAt, Place, SymbolAt};
+pub use fast_check_packages::{BuildFault, PackageNv, WorkspaceMember};
+pub use find::{FinderInput, find_all};
+pub use finder::{Finder, FollowedModule};
 pub use names::ask_names;

@@ -1,0 +1,182 @@
+//! What was asked for, what of it waits, and what was found so far.
+
+ghost use Rattle.std.specs.Prelude.{◌≡◌, [], None, false, IfOk, OnOk};
+ghost use Rattle.fast_check_packages.specs.Package.{nv_of};
+ghost use Rattle.fast_check_demands.specs.Demands.{demand_of};
+ghost use Rattle.fast_check_name_demands.specs.Files.{names_of};
+ghost use Rattle.fast_check_range_finder.specs.Finder.{search_of, yields_in, AsksOne, AsksEach, IsPlaced, Depends};
+ghost use Rattle.fast_check_range_finder.specs.Search.{AsksNames, IsFresh};
+
+use crate::asked::AskedSymbols;
+use crate::demand::{Dependency, NamesAt, Place, SymbolAt};
+use crate::names::ask_names;
+use fast_check_demands::{Demands, SymbolDemand};
+use fast_check_findings::found::{Entrance, FoundModule};
+use fast_check_graph::AnyModuleInfo;
+use fast_check_lattice::HandledExports;
+use fast_check_name_demands::NameDemand;
+use fast_check_packages::PackageNv;
+use fast_check_traces::ReExportIndex;
+use fast_check_worklists::AskedPackages;
+use indexmap::IndexMap;
+use std::alloc::{AllocError, Global};
+use std::collections::BTreeSet;
+use url::Url;
+
+/// A module that is followed for a package.
+#[derive(Drop)]
+pub struct FollowedModule<'a> {
+    /// The demands of its symbols that were asked for.
+    pub asked: AskedSymbols<'a>,
+    /// The names behind its re-exports of all, once one was looked for there.
+    pub index: Option<ReExportIndex<'a>>,
+    /// Whether all its re-exports of all stand among the ranges.
+    pub shows_all: bool,
+    pub found: FoundModule<'a>,
+}
+
+/// What was asked for, what of it waits, and what was found.
+#[derive(Drop)]
+pub struct Finder<'a> {
+    pub packages: AskedPackages,
+    /// How many of the packages were entered.
+    pub entered: usize,
+    pub handled: HandledExports,
+    /// The names that wait.
+    pub names: Vec<NamesAt<'a>>,
+    pub modules: IndexMap<Place<'a>, FollowedModule<'a>>,
+    /// The demands of symbols that wait.
+    pub symbols: Vec<SymbolAt<'a>>,
+    pub entrances: Vec<(PackageNv, Entrance)>,
+    pub dependencies: BTreeSet<Dependency>,
+    /// The specifiers of modules whose types are not known, by which these were asked for.
+    pub untyped: Vec<(PackageNv, Url)>,
+}
+
+impl<'a> FollowedModule<'a> {
+    fn new(alloc: Global, info: &'a AnyModuleInfo) -> FollowedModule<'a>
+        ensures info { result.found.info.now ≡ info.entry.now }
+        ensures ranges { result.found.ranges.items ≡ [] }
+        ensures implementations { result.found.implementations.items ≡ [] }
+        ensures faults { result.found.faults.items ≡ [] }
+        ensures asked { result.asked ≡ [] }
+        ensures index { result.index ≡ None }
+        ensures shows_all { result.shows_all ≡ false }
+    {
+        FollowedModule {
+            asked: AskedSymbols::new(alloc),
+            index: None,
+            shows_all: false,
+            found: FoundModule::new(alloc, info),
+        }
+    }
+
+}
+
+/// Asks for a demand of a symbol. If it is new, it waits.
+fn ask_one<'a>(
+    place: usize,
+    demand: SymbolDemand<'a>,
+    asked: &mut AskedSymbols<'a>,
+    symbols: &mut Vec<SymbolAt<'a>>,
+) -> Result<(), AllocError>
+    ensures { OnOk result (AsksOne place (demand_of demand.entry) asked.old asked.new symbols.old.items symbols.new.items) }
+{
+    if asked.add(demand)? {
+        symbols.push(SymbolAt { place, demand })?;
+    }
+    Ok(())
+}
+
+/// Asks for each of these demands of symbols.
+pub fn ask_each<'a>(
+    place: usize,
+    demands: &Demands<'a>,
+    asked: &mut AskedSymbols<'a>,
+    symbols: &mut Vec<SymbolAt<'a>>,
+) -> Result<(), AllocError>
+    ensures { OnOk result (AsksEach place demands.now asked.old asked.new symbols.old.items symbols.new.items) }
+{
+    for demand in demands.as_slice() {
+        ask_one(place, *demand, asked, symbols)?;
+    }
+    Ok(())
+}
+
+/// The place of a module that is followed for a package, which is new where it was not followed.
+pub fn place_of<'a>(
+    alloc: Global,
+    modules: &mut IndexMap<Place<'a>, FollowedModule<'a>>,
+    owner: PackageNv,
+    info: &'a AnyModuleInfo,
+) -> Result<usize, AllocError>
+    ensures { IfOk result (λ place. IsPlaced (nv_of owner) info.entry.now place modules.old.entries modules.new.entries) }
+{
+    let place = Place {
+        package: owner,
+        specifier: info.specifier(),
+    };
+    if let Some(number) = modules.get_index_of(&place) {
+        return Ok(number);
+    }
+    let number = modules.len();
+    modules.insert(place, FollowedModule::new(alloc, info))?;
+    Ok(number)
+}
+
+impl<'a> Finder<'a> {
+    pub fn new(alloc: Global) -> Finder<'a>
+        ensures fresh { IsFresh (search_of result) }
+        ensures found { yields_in result ≡ [] }
+    {
+        Finder {
+            packages: AskedPackages::new(alloc),
+            entered: 0,
+            handled: HandledExports::default(alloc),
+            names: Vec::new(alloc),
+            modules: IndexMap::new(alloc),
+            symbols: Vec::new(alloc),
+            entrances: Vec::new(alloc),
+            dependencies: BTreeSet::new(alloc),
+            untyped: Vec::new(alloc),
+        }
+    }
+
+    /// Asks for names of a module for a package. What of them is new waits.
+    pub fn ask_names(
+        &mut self,
+        alloc: Global,
+        owner: &PackageNv,
+        specifier: &Url,
+        names: NameDemand<'a>,
+    ) -> Result<(), AllocError>
+        ensures asked { OnOk result (AsksNames (nv_of owner.now) specifier.now (names_of names.entry) (search_of self.old) (search_of self.new)) }
+        ensures found { OnOk result (yields_in self.new ≡ yields_in self.old) }
+        ensures modules { OnOk result (self.new.modules ≡ self.old.modules) }
+        ensures symbols { OnOk result (self.new.symbols ≡ self.old.symbols) }
+        ensures packages { OnOk result (self.new.packages ≡ self.old.packages) }
+        ensures entered { OnOk result (self.new.entered ≡ self.old.entered) }
+    {
+        if let Some(names) = ask_names(alloc, &mut self.handled, specifier, names)? {
+            self.names.push(NamesAt {
+                package: owner.clone()?,
+                specifier: specifier.clone()?,
+                names,
+            })?;
+        }
+        Ok(())
+    }
+
+    /// Asks for a package on which another depends.
+    pub fn depend(&mut self, owner: &PackageNv, on: PackageNv) -> Result<(), AllocError>
+        ensures { OnOk result (Depends (nv_of owner.now) (nv_of on) self.old self.new) }
+    {
+        self.packages.add(&on)?;
+        let dependency = Dependency {
+            package: owner.clone()?,
+            on,
+        };
+        self.dependencies.insert(dependency)?;
+        Ok(())
+    }
+}
