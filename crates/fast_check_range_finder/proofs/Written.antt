@@ -226,7 +226,7 @@ module _ (k : Known) where
       alias_within p extent f x i (FileRef specifier (Named name)) e =
           each_one FileWithin (wants (string_bytes specifier) (path_demand (string_bytes name ∷ p) extent))
           (path_within (string_bytes name ∷ p) extent (fits_more A (string_bytes name) L p (name_fits x specifier name i e) f))
-      alias_within p extent f x i (Definition node) e = each_nil FileWithin
+      alias_within p extent f x i (Definition _) e = each_nil FileWithin
 
       symbol_within : (n : Namespace) → Each FileWithin (symbol_files n s)
       symbol_within n = each_cond FileWithin s.is_private_member [] (flat_map (decl_files n) s.decls.items) (each_nil FileWithin)
