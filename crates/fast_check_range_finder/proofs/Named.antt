@@ -1,5 +1,5 @@
 -- What a demand of a symbol names is made of the ids and paths of which it is made, and of those that the tables write.
-use Rattle.std.proofs.Common.{◌≡◌, sym, refl, subst, Bool, true, false, cond, ◌&&◌, not, List, [], ◌∷◌, ◌++◌, map, Option, Some, None, ◌⊎◌, inl, inr}
+use Rattle.std.proofs.Common.{◌≡◌, sym, refl, subst, Bool, true, false, cond, ◌&&◌, not, List, [], ◌∷◌, ◌++◌, Option, Some, None, ◌⊎◌, inl, inr}
 use Rattle.std.proofs.Common.{⊎_elim, string_bytes}
 use Rattle.std.specs.Prelude.{option_map, option_to_list}
 use Rattle.std.specs.Option.{option_or, option_and_then}

@@ -1,5 +1,5 @@
 -- What follows from what can be demanded can be demanded.
-use Rattle.std.proofs.Common.{◌≡◌, sym, ap, refl, subst, ℕ, suc, List, [], ◌∷◌, ◌++◌, map, length, Option, Some, None, option_map}
+use Rattle.std.proofs.Common.{◌≡◌, sym, refl, subst, ℕ, suc, List, [], ◌∷◌, ◌++◌, map, length, Option, Some, None, option_map}
 use Rattle.std.proofs.Common.{option_to_list, is_some, string_bytes}
 use Rattle.std.specs.List.{Contains, flat_map}
 use Rattle.std.specs.Map.{lookup}
@@ -7,7 +7,7 @@ use Rattle.std.proofs.lemmas.List.Elements.{Contains-append_left, Contains-appen
 use Rattle.url.specs.Parts.{Parts, serialize}
 use Rattle.fast_check_packages.specs.Package.{Nv}
 use Rattle.fast_check_cache.specs.Cache.{ItemView}
-use Rattle.fast_check_lattice.specs.Names.{Name, Path}
+use Rattle.fast_check_lattice.specs.Names.{Name}
 use Rattle.fast_check_lattice.specs.Imports.{default_name, NameDemand, names_but_default, each_name, subset_at, whole_at}
 use Rattle.fast_check_symbols.specs.declared.tables.ReExportAllNode.{ReExportAllNode}
 use Rattle.fast_check_symbols.specs.Tables.{Tables, resolved_export}
@@ -35,7 +35,7 @@ use Rattle.fast_check_range_finder.specs.Measure.{IsWithin, IsInside, IsWantInsi
 use Rattle.fast_check_range_finder.specs.Rules.{own_text, names_wants, symbol_wants, entry_want, unless_faulty, entrance_at}
 use Rattle.fast_check_range_finder.specs.Rules.{entered_wants, entry_wants, world}
 use Rattle.fast_check_range_finder.specs.Universe.{IsAmong}
-use Rattle.fast_check_range_finder.specs.Reach.{all_names, paths_up_to, symbol_paths, all_ids, own_texts, targets, answers}
+use Rattle.fast_check_range_finder.specs.Reach.{all_names, paths_up_to, symbol_paths, all_ids, targets, answers}
 use Rattle.fast_check_range_finder.specs.Reach.{entry_texts, outer_texts, all_packages, urls_in, reach}
 use Rattle.fast_check_range_finder.proofs.Paths.{fits_in, fits_empty, fits_more, empty_in, all_within, asked_within}
 use Rattle.fast_check_range_finder.proofs.Among.{in_demands, of_demands}

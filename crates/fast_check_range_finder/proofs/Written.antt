@@ -1,6 +1,6 @@
 -- What the tables of a module write can be demanded, with what follows from it within the module.
 use Rattle.std.proofs.Common.{◌≡◌, ◌∙◌, sym, ap, refl, subst, ℕ, suc, ◌≤◌, Bool, true, false, cond, ◌&&◌, ◌||◌, not, List, [], ◌∷◌, ◌++◌}
-use Rattle.std.proofs.Common.{map, length, Option, Some, None, ⊎_elim, ◌⊎◌, inl, inr, arith, string_bytes}
+use Rattle.std.proofs.Common.{length, Option, Some, None, ⊎_elim, ◌⊎◌, inl, inr, arith, string_bytes}
 use Rattle.std.specs.Prelude.{option_to_list}
 use Rattle.std.specs.List.{Contains, flat_map}
 use Rattle.std.specs.Map.{lookup, values_of}
