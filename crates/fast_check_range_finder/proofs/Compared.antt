@@ -22,7 +22,7 @@ use Rattle.fast_check_demands.specs.symbol_demands.declared.demand.Extent.{Exten
 use Rattle.fast_check_demands.specs.symbol_demands.declared.demand.Extent.TheVariants.{Touched, Whole}
 use Rattle.fast_check_demands.specs.Demands.{Demand}
 use Rattle.fast_check_demands.specs.Account.{same_namespace, same_extent, same_path, same, essence, alike, referred}
-use Rattle.fast_check_name_demands.proofs.Parts.{contains_map}
+use Rattle.fast_check_demands.proofs.Elements.{in_map as contains_map}
 use Rattle.fast_check_worklists.proofs.Maps.{none_in, first_in, rest_in, split_in}
 use Rattle.fast_check_range_finder.specs.contracts.asked.AskedSymbolOrd.TheImpl as order
 use Rattle.fast_check_range_finder.specs.declared.asked.AskedAs.{AskedAs}

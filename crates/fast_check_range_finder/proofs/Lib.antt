@@ -6,3 +6,12 @@ pub mod Added
 pub mod Kept
 pub mod Falls
 pub mod Turns
+pub mod OwnYields
+pub mod Refused
+mod Paths
+mod Among
+mod Named
+mod Written
+pub mod Reach
+pub mod Stored
+pub mod Homes

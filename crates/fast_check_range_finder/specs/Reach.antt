@@ -10,6 +10,7 @@ use Rattle.fast_check_lattice.specs.Names.{Name, Path, path_of}
 use Rattle.fast_check_lattice.specs.Imports.{default_name}
 use Rattle.fast_check_symbols.specs.declared.file_dep_name.FileDepName.{FileDepName}
 use Rattle.fast_check_symbols.specs.declared.file_dep_name.FileDepName.TheVariants.{Star, Name as Named}
+use Rattle.fast_check_symbols.specs.declared.symbol_id.SymbolId.{SymbolId}
 use Rattle.fast_check_symbols.specs.declared.symbol.Symbol.{Symbol}
 use Rattle.fast_check_symbols.specs.declared.decl.SymbolDeclKind.{SymbolDeclKind}
 use Rattle.fast_check_symbols.specs.declared.decl.SymbolDeclKind.TheVariants.{Target, QualifiedTarget, FileRef}
@@ -17,9 +18,11 @@ use Rattle.fast_check_symbols.specs.declared.decl.SymbolDeclKind.TheVariants.{De
 use Rattle.fast_check_symbols.specs.declared.node.SymbolDep.{SymbolDep}
 use Rattle.fast_check_symbols.specs.declared.node.SymbolDep.TheVariants as deps
 use Rattle.fast_check_symbols.specs.Tables.{Tables}
+use Rattle.fast_check_graph.specs.Root.{specifier_of}
 use Rattle.fast_check_traces.specs.Modules.{tables_in}
 use Rattle.fast_check_worklists.specs.Demands.{Text}
 use Rattle.fast_check_range_finder.specs.Measure.{Universe}
+use Rattle.fast_check_range_finder.specs.Universe.{table_ids, demands_among}
 use Rattle.fast_check_entries.specs.Entries.{Entrance, passed_over, refused, entered}
 use Rattle.fast_check_sources.specs.Sources.{Known}
 use Rattle.fast_check_range_finder.specs.Rules.{entrance_at}
@@ -55,6 +58,17 @@ all_names k = default_name ∷ flat_map (λ e. table_names (tables_in e.1)) k.ro
 abbrev pub paths_up_to : ℕ → List Name → List Path
 paths_up_to zero ns = [] ∷ []
 paths_up_to (suc n) ns = [] ∷ flat_map (λ m. map (λ p. m ∷ p) (paths_up_to n ns)) ns
+
+-- those that are asked of a symbol: of a module they may have one name more
+abbrev pub symbol_paths : Known → List Path
+symbol_paths k = paths_up_to (length (all_names k)) (all_names k)
+
+-- the ids that the tables of modules mention, and the modules' own names
+abbrev pub all_ids : Known → List SymbolId
+all_ids k = flat_map (λ e. table_ids (tables_in e.1)) k.root_symbol.modules.entries
+
+abbrev pub own_texts : Known → List Text
+own_texts k = map (λ e. serialize (specifier_of e.1)) k.root_symbol.modules.entries
 
 -- what the texts of modules resolve to, and the modules that answer exports
 abbrev pub targets : Known → List Text
@@ -97,5 +111,6 @@ reach k stored roots = record {
   packages = all_packages k stored roots;
   texts = outer_texts k ++ entry_texts k (all_packages k stored roots);
   paths = paths_up_to (suc (length (all_names k))) (all_names k);
-  below = paths_up_to (length (all_names k)) (all_names k);
+  own_texts = own_texts k;
+  symbols = demands_among (all_ids k) (symbol_paths k);
 }

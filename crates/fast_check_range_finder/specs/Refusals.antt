@@ -6,6 +6,7 @@ use Rattle.fast_check_packages.specs.declared.fault.BuildFault.{BuildFault}
 use Rattle.fast_check_packages.specs.declared.fault.BuildFault.TheVariants.{InvalidExport, OutOfMemory}
 use Rattle.fast_check_worklists.specs.Demands.{of_package}
 use Rattle.fast_check_range_finder.specs.Account.{Account, Chained}
+use Rattle.fast_check_entries.specs.findings.Yields.{Yield, refused_export}
 use Rattle.fast_check_entries.specs.Entries.{Entrance, passed_over, refused, entered}
 use Rattle.fast_check_sources.specs.Sources.{Known}
 use Rattle.fast_check_range_finder.specs.Rules.{entrance_at, world}
@@ -24,6 +25,11 @@ IsNotRefused (entered urls) = Unit {0}
 -- the export texts of each package of the account join
 abbrev pub JoinAll : Known → Account → Type 0
 JoinAll k account = (nv : Nv) → Contains account (of_package nv) → IsNotRefused (entrance_at k nv)
+
+-- it tells of no export text that does not join
+abbrev pub NotRefusedYield : Yield → Type 0
+NotRefusedYield (refused_export nv text) = ⊥
+NotRefusedYield _ = Unit {0}
 
 -- one of these packages, and its first export text that does not join
 abbrev pub IsRefusedOf : Known → List Nv → BuildFault → Type 0
