@@ -4,3 +4,4 @@ pub mod Told
 pub mod Diagnostics
 pub mod Yields
 pub mod Findings
+pub mod Found

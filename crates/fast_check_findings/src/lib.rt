@@ -5,6 +5,7 @@ mod demand_fault;
 mod diagnostics;
 mod faulty_module;
 mod finding;
+pub mod found;
 mod namesakes;
 
 pub use demand_fault::{DemandFault, faults_in};
