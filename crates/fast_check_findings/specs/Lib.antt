@@ -5,3 +5,4 @@ pub mod Diagnostics
 pub mod Yields
 pub mod Findings
 pub mod Found
+pub mod ModuleFaults

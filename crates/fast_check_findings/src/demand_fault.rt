@@ -1,10 +1,11 @@
 //! A fault of a demand at its place in a module, by the names that a user knows.
 
-ghost use Rattle.std.specs.Prelude.{◌≡◌, ◌++◌, [], map, IfOk, OnOk, string_bytes};
+ghost use Rattle.std.specs.Prelude.{◌≡◌, ◌++◌, [], map, option_map, IfOk, OnOk, string_bytes};
 ghost use Rattle.std.specs.List.{flat_map};
+ghost use Rattle.std.specs.Rc.{rc_str_bytes};
 ghost use Rattle.fast_check_lattice.specs.Names.{path_of};
-ghost use Rattle.fast_check_demands.specs.Yields.{Adds};
-ghost use Rattle.fast_check_findings.specs.Faults.{placed_in, full_name, below, source_of, placed_seen};
+ghost use Rattle.fast_check_demands.specs.Yields.{Adds, fault_seen};
+ghost use Rattle.fast_check_findings.specs.Faults.{placed_in, placed_with, placed_at, placed, full_name, below, source_of, placed_seen};
 ghost use Rattle.fast_check_findings.specs.Namesakes.{AreNamesakes};
 ghost use Rattle.fast_check_findings.specs.Told.{told_at, tells, AreMet, AreTold};
 
@@ -56,6 +57,41 @@ fn full_name(alloc: Global, name: &str, names: &[String]) -> Result<String, Allo
     let mut full = String::from_str(alloc, name)?;
     push_below(names, &mut full)?;
     Ok(full)
+}
+
+/// A fault, where the first declaration of its symbol has this range.
+fn placed_at(
+    alloc: Global,
+    faulty: FaultyModule<'_>,
+    fault: SymbolFault<'_>,
+    range: SourceRange,
+) -> Result<DemandFault, AllocError>
+    ensures { IfOk result (λ f. placed_with f (rc_str_bytes faulty.entry.text.now) ≡ placed_at (source_of faulty.entry) (fault_seen fault.entry) range) }
+{
+    let symbol = name_of(faulty.tables.symbol(fault.symbol));
+    let referrer = name_of(faulty.tables.symbol(fault.referrer));
+    Ok(DemandFault {
+        range,
+        kind: fault.kind,
+        name: full_name(alloc, symbol, fault.names)?,
+        referrer: String::from_str(alloc, referrer)?,
+        specifier: faulty.specifier.clone()?,
+    })
+}
+
+/// A fault at its place, if its symbol has a declaration.
+pub(crate) fn placed(
+    alloc: Global,
+    faulty: FaultyModule<'_>,
+    fault: SymbolFault<'_>,
+) -> Result<Option<DemandFault>, AllocError>
+    ensures { IfOk result (λ found. option_map (λ f. placed_with f (rc_str_bytes faulty.entry.text.now)) found
+        ≡ placed (source_of faulty.entry) (fault_seen fault.entry)) }
+{
+    match range_of(faulty.tables, fault.symbol) {
+        None => Ok(None),
+        Some(range) => Ok(Some(placed_at(alloc, faulty, fault, range)?)),
+    }
 }
 
 fn told_of<'a>(faulty: FaultyModule<'a>, fault: SymbolFault<'a>) -> ToldFault<'a>

@@ -12,7 +12,7 @@ use std::rc::{Rc, RcStr};
 use url::Url;
 
 /// What is wrong with an entry point of a package.
-#[derive(Clone, Copy, Debug, PartialEq, Eq)]
+#[derive(Clone, Copy, Debug, PartialEq, Eq, PartialOrd, Ord)]
 pub enum EntryFault {
     /// The graph does not have it.
     NotFound,

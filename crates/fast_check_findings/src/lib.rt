@@ -6,12 +6,13 @@ mod diagnostics;
 mod faulty_module;
 mod finding;
 pub mod found;
+mod module_faults;
 mod namesakes;
 
 pub use demand_fault::{DemandFault, faults_in};
-pub use diagnostics::diagnostics_of;
 pub use fast_check_packages::PackageNv;
 pub use faulty_module::FaultyModule;
 pub use finding::{
     EnteredPackage, EntryFault, Finding, FollowedModule, FoundModule, KeptPackage, UntypedModule,
 };
+pub use module_faults::ModuleFaults;

@@ -1,12 +1,10 @@
 pub mod Maps
 pub mod Sets
-pub mod Dependencies
 pub mod Converted
+pub mod Dependencies
+pub mod Lists
+pub mod About
 pub mod Joined
-pub mod FoundSays
-pub mod Diagnosed
-pub mod Only
-pub mod KeptSays
+pub mod Followed
+pub mod Known
 pub mod Answered
-pub mod Put
-pub mod Stand
