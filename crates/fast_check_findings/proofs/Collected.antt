@@ -3,7 +3,7 @@ use Rattle.std.proofs.Common.{◌≡◌, ◌∙◌, refl, sym, ap, subst, Bool, 
 use Rattle.std.proofs.Common.{⊎_elim, append_assoc, append-nil, ℕ, ◌+◌, ◌<◌, length, take}
 use Rattle.std.specs.Prelude.{not}
 use lib.ListN.{get_or}
-use Rattle.std.specs.List.{list_any, flat_map, filter, AllByRecursion, Contains}
+use Rattle.std.specs.List.{list_any, flat_map, AllByRecursion, Contains}
 use Rattle.std.specs.Map.{lookup}
 use Rattle.std.specs.BTreeMap.{is_at, insert_entry}
 use Rattle.std.specs.Option.{is_some}

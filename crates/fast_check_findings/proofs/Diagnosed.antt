@@ -1,6 +1,6 @@
 -- The diagnostics of a module tell what is to be told.
 use Rattle.std.proofs.Common.{◌≡◌, ◌∙◌, refl, sym, ap, subst, Bool, true, false, cond, ◌||◌, List, [], ◌∷◌, ◌++◌, map, Option, Some, None, arith}
-use Rattle.std.specs.List.{list_any, AllByRecursion, All, Contains, IsDistinct}
+use Rattle.std.specs.List.{list_any, AllByRecursion, Contains, IsDistinct}
 use Rattle.std.specs.declared.alloc.Global.{Global}
 use Rattle.std.specs.declared.rc.RcStr.{RcStr}
 use Rattle.std.specs.Cmp.Lexicographic.{nat_list_eq_equiv}

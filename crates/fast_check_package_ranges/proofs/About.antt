@@ -1,8 +1,8 @@
 -- Which packages and modules what is found is about.
-use Rattle.std.proofs.Common.{◌≡◌, ◌∙◌, refl, sym, ap, Bool, true, false, cond, ◌||◌, List, [], ◌∷◌, ◌++◌, map}
-use Rattle.std.specs.List.{list_any, filter, flat_map, AllByRecursion}
+use Rattle.std.proofs.Common.{◌≡◌, ◌∙◌, refl, sym, ap, false, cond, List, [], ◌∷◌, map}
+use Rattle.std.specs.List.{list_any, flat_map, AllByRecursion}
 use Rattle.std.specs.Str.{bytes_eq}
-use Rattle.std.specs.Prelude.{ℕ, Option, Some, None, option_to_list, slice_get}
+use Rattle.std.specs.Prelude.{Option, Some, None, option_to_list, slice_get}
 use Rattle.url.specs.Parts.{Parts, serialize}
 use Rattle.fast_check_packages.specs.Package.{Nv}
 use Rattle.fast_check_graph.specs.ModuleNames.{specifier_of}
@@ -11,8 +11,8 @@ use Rattle.fast_check_findings.specs.Faults.{placed_seen}
 use Rattle.fast_check_findings.specs.Findings.{faulty_module, placed_yield}
 use Rattle.fast_check_findings.specs.Found.{source_in, own_text, module_yields, entry_fault_yields, entrance_yields}
 use Rattle.fast_check_findings.specs.Found.{dependency_yields, untyped_yields, package_yields}
-use Rattle.fast_check_findings.specs.Yields.{ModuleFault, Yield, known_package, entry_point, dependency, recorded, public}
-use Rattle.fast_check_findings.specs.Yields.{implementing, faulty, kept, of_demand}
+use Rattle.fast_check_findings.specs.Yields.{ModuleFault, Yield, entry_point, dependency, public}
+use Rattle.fast_check_findings.specs.Yields.{implementing}
 use Rattle.fast_check_findings.specs.declared.found.Entrance.{Entrance}
 use Rattle.fast_check_findings.specs.declared.found.Entrance.TheVariants.{Entered, Kept}
 use Rattle.fast_check_findings.specs.declared.found.FoundModule.{FoundModule}

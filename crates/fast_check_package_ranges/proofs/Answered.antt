@@ -1,11 +1,10 @@
 -- The answer of a package, and of packages one by one.
 use Rattle.std.proofs.Common.{◌≡◌, ◌∙◌, refl, sym, ap, subst, Bool, true, false, cond, ◌||◌, List, [], ◌∷◌, ◌++◌, map, Option, Some, None}
 use Rattle.std.proofs.Common.{append-nil, ⊎_elim, arith}
-use Rattle.std.specs.List.{list_any, filter, flat_map, AllByRecursion, Contains, IsDistinct}
-use Rattle.std.specs.Map.{keys_of, lookup}
+use Rattle.std.specs.List.{list_any, flat_map, AllByRecursion, IsDistinct}
+use Rattle.std.specs.Map.{keys_of}
 use Rattle.std.specs.BTreeMap.{BTreeMap}
 use Rattle.std.specs.BTreeMap as tree
-use Rattle.std.specs.Ordering.{eq_by_cmp}
 use Rattle.std.specs.Str.{bytes_eq}
 use Rattle.std.proofs.lemmas.Bool.{cases_Bool, false≢true}
 use Rattle.std.proofs.lemmas.List.Concat.{flat_map-append}
@@ -13,7 +12,7 @@ use Rattle.std.proofs.lemmas.List.Elements.{filter-append}
 use Rattle.std.proofs.lemmas.List.Folds.{list_any-append}
 use Rattle.std.proofs.lemmas.Map.Keys.{IsDistinct-head, IsDistinct-tail}
 use Rattle.url.specs.Parts.{Parts, serialize}
-use Rattle.fast_check_packages.specs.Package.{Nv, nv_of, nv_cmp}
+use Rattle.fast_check_packages.specs.Package.{Nv, nv_of}
 use Rattle.fast_check_packages.specs.PackageOrder.{nv_ties}
 use Rattle.fast_check_packages.specs.Packages.{package_cmp}
 use Rattle.fast_check_packages.specs.declared.package.PackageNv.{PackageNv}
@@ -25,8 +24,8 @@ use Rattle.fast_check_findings.specs.Found.{package_yields}
 use Rattle.fast_check_findings.specs.Yields.{Yield}
 use Rattle.fast_check_findings.specs.declared.found.FoundPackage.{FoundPackage}
 use Rattle.fast_check_findings.proofs.Lists.{any_map}
-use Rattle.fast_check_package_ranges.specs.Answers.{entry_points_of, dependencies_of, package_of, about, is_filled, items_of, StandsFor}
-use Rattle.fast_check_package_ranges.specs.Answers.{lookup_package, IsItemAnswer, IsAnswerBy, IsPackageAnswer, AreAnswers}
+use Rattle.fast_check_package_ranges.specs.Answers.{package_of, about, is_filled, StandsFor}
+use Rattle.fast_check_package_ranges.specs.Answers.{lookup_package, IsItemAnswer, IsAnswerBy, IsPackageAnswer}
 use Rattle.fast_check_package_ranges.specs.Parts.{is_package, urls_at, item_at, named_at, yields_at, AreAnswered, IsAdded}
 use Rattle.fast_check_package_ranges.proofs.About.{of_package}
 use Rattle.fast_check_package_ranges.proofs.Followed.{all_points, all_dependencies, all_items, no_refusals}
@@ -39,11 +38,11 @@ module _ (packages : List Nv) (nv : Nv) (p : FoundPackage) where
 
   filled_item : (answer : PackagePublicRanges) → IsItemAnswer (urls_at p.entrance) (item_at p.entrance) answer →
       is_filled answer.cache_items.items ≡ is_filled (item_at p.entrance).1
-  filled_item answer a = go answer.cache_items.items _ a.modules_are
+  filled_item answer a = go _ answer.cache_items.items (item_at p.entrance).1 a.modules_are
     where
-      go : {X Z : Type 0} {f : X → Z} (xs : List X) (zs : List Z) → map f xs ≡ zs → is_filled xs ≡ is_filled zs
-      go {X} {Z} {f} [] zs e = ap is_filled e
-      go {X} {Z} {f} (x ∷ xs) zs e = ap is_filled e
+      go : {X Z : Type 0} (f : X → Z) (xs : List X) (zs : List Z) → map f xs ≡ zs → is_filled xs ≡ is_filled zs
+      go f [] zs e = ap is_filled e
+      go f (x ∷ xs) zs e = ap is_filled e
 
   -- the item is used
   pub by_item : (answer : PackagePublicRanges) → IsItemAnswer (urls_at p.entrance) (item_at p.entrance) answer →
@@ -90,7 +89,7 @@ module _ {K X : Type 0} (eq : K → K → Bool) where
     differ xs x rest (IsDistinct-tail eq y.0 (keys_of (xs ++ x ∷ rest)) d),
   )
 
-abbrev Found : Type 0
+abbrev pub Found : Type 0
 Found = PackageNv × FoundPackage
 
 module _ (packages : List Nv) (nv : Nv) where

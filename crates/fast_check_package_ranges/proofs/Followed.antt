@@ -1,5 +1,5 @@
 -- What the yields of a package say of it, but of its modules.
-use Rattle.std.proofs.Common.{◌≡◌, ◌∙◌, refl, sym, ap, Bool, true, false, cond, List, [], ◌∷◌, ◌++◌, map, append-nil, Option, Some, None}
+use Rattle.std.proofs.Common.{◌≡◌, ◌∙◌, refl, ap, cond, List, [], ◌∷◌, ◌++◌, map, append-nil, Option, Some, None}
 use Rattle.std.specs.Prelude.{ℕ, option_to_list, slice_get}
 use Rattle.std.specs.List.{flat_map, AllByRecursion}
 use Rattle.std.proofs.lemmas.List.Concat.{flat_map-append, flat_map_single}
@@ -7,14 +7,14 @@ use Rattle.std.proofs.lemmas.List.Folds.{flat_map-map}
 use Rattle.url.specs.Parts.{Parts, serialize}
 use Rattle.fast_check_syntax.specs.declared.source.SourceRange.{SourceRange}
 use Rattle.fast_check_packages.specs.Package.{Nv}
-use Rattle.fast_check_cache.specs.Cache.{ItemView, item_of}
 use Rattle.fast_check_worklists.specs.Demands.{Text}
 use Rattle.fast_check_findings.specs.Faults.{placed_seen}
 use Rattle.fast_check_findings.specs.Findings.{placed_yield}
 use Rattle.fast_check_findings.specs.Found.{source_in, own_text, module_yields, entry_fault_yields, entrance_yields}
 use Rattle.fast_check_findings.specs.Found.{dependency_yields, untyped_yields, package_yields}
 use Rattle.fast_check_findings.specs.Yields.{ModuleFault, Yield, known_package, entry_point, dependency, recorded, public}
-use Rattle.fast_check_findings.specs.Yields.{implementing, faulty, kept, of_demand}
+use Rattle.fast_check_findings.specs.Yields.{implementing, faulty, of_demand}
+use Rattle.fast_check_findings.specs.declared.finding.EntryFault.{EntryFault}
 use Rattle.fast_check_findings.specs.declared.found.Entrance.{Entrance}
 use Rattle.fast_check_findings.specs.declared.found.Entrance.TheVariants.{Entered, Kept}
 use Rattle.fast_check_findings.specs.declared.found.FoundModule.{FoundModule}
@@ -24,12 +24,12 @@ use Rattle.fast_check_package_ranges.specs.Parts.{urls_at, item_at, named_at}
 use Rattle.fast_check_package_ranges.proofs.Lists.{all_append, all_map, all_flat, none_given}
 
 -- it gives nothing of what is found of modules
-record IsSilent {X : Type 0} (f : Yield → List X) : Type 0 where
-  known : (nv : Nv) → f (known_package nv) ≡ []
-  recorded : (nv : Nv) (t : Text) → f (recorded nv t) ≡ []
-  public : (nv : Nv) (t : Text) (r : SourceRange) → f (public nv t r) ≡ []
-  implementing : (nv : Nv) (t : Text) (r : SourceRange) → f (implementing nv t r) ≡ []
-  faulty : (nv : Nv) (t : Text) (g : ModuleFault) → f (faulty nv t g) ≡ []
+pub record IsSilent {X : Type 0} (f : Yield → List X) : Type 0 where
+  pub known : (nv : Nv) → f (known_package nv) ≡ []
+  pub recorded : (nv : Nv) (t : Text) → f (recorded nv t) ≡ []
+  pub public : (nv : Nv) (t : Text) (r : SourceRange) → f (public nv t r) ≡ []
+  pub implementing : (nv : Nv) (t : Text) (r : SourceRange) → f (implementing nv t r) ≡ []
+  pub faulty : (nv : Nv) (t : Text) (g : ModuleFault) → f (faulty nv t g) ≡ []
 
 module _ {X : Type 0} (f : Yield → List X) (silent : IsSilent f) (packages : List Nv) (nv : Nv) where
   abbrev None_ : Yield → Type 0
@@ -61,14 +61,17 @@ module _ {X : Type 0} (f : Yield → List X) (silent : IsSilent f) (packages : L
       (flat_map-append f d (m ++ u) ∙ (ap (λ x. flat_map f d ++ x) none ∙ append-nil (flat_map f d)))
 
   -- where it gives nothing of entry points
-  pub of_entered : ((t : Text) → f (entry_point nv t) ≡ []) → (urls : List Parts) (faults : List (Parts × _)) →
+  pub of_entered : ((t : Text) → f (entry_point nv t) ≡ []) → (urls : List Parts) (faults : List (Parts × EntryFault)) →
       flat_map f (known_package nv ∷ (map (λ url. entry_point nv (serialize url)) urls ++ flat_map (entry_fault_yields nv) faults)) ≡ []
-  of_entered h urls faults = none_given f _ (
-    silent.known nv,
-    all_append None_ (map (λ url. entry_point nv (serialize url)) urls) _
-        (all_map None_ (λ url. entry_point nv (serialize url)) (λ url. h (serialize url)) urls)
-        (all_flat None_ (entry_fault_yields nv) (λ x. (silent.recorded nv (serialize x.0), (silent.faulty nv (serialize x.0) _, tt))) faults),
-  )
+  of_entered h urls faults =
+      let ys : List Yield = known_package nv ∷ (map (λ url. entry_point nv (serialize url)) urls ++ flat_map (entry_fault_yields nv) faults) in
+      let none : AllByRecursion None_ ys = (
+        silent.known nv,
+        all_append None_ (map (λ url. entry_point nv (serialize url)) urls) _
+            (all_map None_ (λ url. entry_point nv (serialize url)) (λ url. h (serialize url)) urls)
+            (all_flat None_ (entry_fault_yields nv) (λ x. (silent.recorded nv (serialize x.0), (silent.faulty nv (serialize x.0) _, tt))) faults),
+      ) in
+      none_given f ys none
 
   -- or of dependencies
   pub of_dependencies : ((d : Nv) → f (dependency nv d) ≡ []) → (places : List ℕ) →

@@ -1,27 +1,34 @@
 -- What the yields about modules come to, piece by piece.
-use Rattle.std.proofs.Common.{◌≡◌, ◌∙◌, refl, sym, ap, subst, Bool, true, false, cond, List, [], ◌∷◌, ◌++◌, Option, Some, None, unwrap_or}
+use Rattle.std.proofs.Common.{◌≡◌, ◌∙◌, refl, sym, ap, subst, Bool, true, false, cond, List, [], ◌∷◌, ◌++◌, map, Option, Some, None, unwrap_or, Vec}
 use Rattle.std.proofs.Common.{append_assoc, append-nil}
-use Rattle.std.specs.List.{list_any, filter, flat_map, AllByRecursion}
+use Rattle.std.specs.List.{list_any, flat_map, AllByRecursion}
 use Rattle.std.specs.Map.{lookup}
 use Rattle.std.specs.BTreeMap.{BTreeMap, is_at}
 use Rattle.std.specs.BTreeMap as tree
 use Rattle.std.specs.Cmp.Lexicographic.{slice_cmp}
 use Rattle.std.specs.Ordering.{nat_cmp}
 use Rattle.std.specs.Str.{bytes_eq}
+use Rattle.std.specs.BTreeSet.{BTreeSet}
+use Rattle.std.specs.declared.alloc.Global.{Global}
 use Rattle.std.specs.declared.cmp.Ordering.{Ordering}
+use Rattle.std.specs.declared.rc.Rc.{Rc}
 use Rattle.std.proofs.lemmas.List.Concat.{flat_map-append}
 use Rattle.std.proofs.lemmas.List.Elements.{filter-append}
 use Rattle.url.specs.Parts.{Parts, serialize}
 use Rattle.fast_check_diagnostics.specs.PublicRanges.{PublicRanges}
+use Rattle.fast_check_packages.specs.Package.{Nv}
 use Rattle.fast_check_worklists.specs.Demands.{Text}
+use Rattle.fast_check_findings.specs.Found.{entry_fault_yields, entrance_yields}
+use Rattle.fast_check_findings.specs.declared.finding.EntryFault.{EntryFault}
+use Rattle.fast_check_findings.specs.declared.found.Entrance.TheVariants.{Entered}
 use Rattle.fast_check_findings.specs.ModuleFaults.{AreFaultsOf}
-use Rattle.fast_check_findings.specs.Yields.{ModuleFault, Yield}
+use Rattle.fast_check_findings.specs.Yields.{ModuleFault, Yield, known_package, entry_point}
 use Rattle.fast_check_package_ranges.specs.declared.modules.ModuleParts.{ModuleParts}
 use Rattle.fast_check_package_ranges.specs.Answers.{modules_of, ranges_of, implementations_of, faults_of, about_module, is_filled}
 use Rattle.fast_check_package_ranges.specs.Answers.{StandsFor, lookup_text, IsModuleAnswer}
 use Rattle.fast_check_package_ranges.specs.Parts.{is_text, AreParts, AreModules, Joins, IsAnswerOf}
 use Rattle.fast_check_package_ranges.proofs.About.{AreOf, of_module, of_none}
-use Rattle.fast_check_package_ranges.proofs.Lists.{filled_right}
+use Rattle.fast_check_package_ranges.proofs.Lists.{all_map, filled_right}
 use Rattle.fast_check_package_ranges.proofs.Maps.{text_one, text_total, lookup_key, lookup_after}
 
 -- of one module
@@ -59,6 +66,15 @@ joins_more gives ss s a b c p q = subst (λ (x : List Yield). Joins x a c)
 pub joins_silent : (more : List Yield) → AllByRecursion (λ y. modules_of y ≡ []) more → (old : Modules) → Joins more old old
 joins_silent more none old ys a t = subst (λ (x : List Yield). StandsFor AreParts x (lookup_text t old))
     (sym (about_more t ys more ∙ (ap (λ x. about_module t ys ++ x) (of_none t more none) ∙ append-nil (about_module t ys)))) (a t)
+
+-- those of a package that is entered with these faults
+pub joins_entered : (nv : Nv) (entry_points : Rc (BTreeSet Parts) Global) (faults : Vec (Parts × EntryFault) Global) (old new : Modules) →
+    Joins (flat_map (entry_fault_yields nv) faults.items) old new → Joins (entrance_yields nv (Some (Entered entry_points faults))) old new
+joins_entered nv entry_points faults old new h =
+    let urls : List Yield = map (λ url. entry_point nv (serialize url)) entry_points.value.keys in
+    joins_then (known_package nv ∷ urls) (flat_map (entry_fault_yields nv) faults.items) old old new
+    (joins_silent (known_package nv ∷ urls)
+    (refl, all_map (λ y. modules_of y ≡ []) (λ url. entry_point nv (serialize url)) (λ url. refl) entry_points.value.keys) old) h
 
 -- yields about one module
 module _ (url : Parts) (more : List Yield) (filled : is_filled more ≡ true) (each : AreOf url more) (none w : ModuleParts)

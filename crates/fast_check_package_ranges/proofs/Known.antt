@@ -1,8 +1,11 @@
 -- Whether anything is found of a package.
-use Rattle.std.proofs.Common.{◌≡◌, ◌∙◌, refl, sym, ap, ℕ, Bool, true, false, ◌||◌, List, [], ◌∷◌, ◌++◌, map, length, Option, Some, None, arith, ⊎_elim}
-use Rattle.std.specs.Prelude.{◌<◌, ◌≤◌, nat_lt, option_to_list, slice_get}
+use Rattle.std.proofs.Common.{◌≡◌, ◌∙◌, refl, ap, ℕ, true, ◌||◌, List, [], ◌∷◌, ◌++◌, length, Option, Some, None, arith}
+use Rattle.std.specs.Cmp.{both_ways}
+use Rattle.std.specs.Prelude.{◌<◌, nat_lt, option_to_list, slice_get}
 use Rattle.std.specs.List.{list_any, flat_map}
 use Rattle.std.specs.Option.{is_some}
+use Rattle.std.proofs.lemmas.Bool.{false≢true, lt-ltb, ltb-true}
+use Rattle.std.proofs.lemmas.Option.{slice_get_within, slice_get-get_or}
 use Rattle.fast_check_packages.specs.Package.{Nv}
 use Rattle.fast_check_findings.specs.Found.{module_yields, entrance_yields, dependency_yields, untyped_yields, package_yields}
 use Rattle.fast_check_findings.specs.Yields.{dependency}
@@ -13,9 +16,19 @@ use Rattle.fast_check_package_ranges.specs.Answers.{is_filled}
 use Rattle.fast_check_package_ranges.proofs.Lists.{filled_append, filled_map, filled_flat}
 
 filled_at : {X : Type 0} (xs : List X) (i : ℕ) → is_filled (option_to_list (slice_get xs i)) ≡ nat_lt i (length xs)
-filled_at [] i = refl
-filled_at (x ∷ xs) 0 = refl
-filled_at (x ∷ xs) (suc i) = filled_at xs i
+filled_at {X} xs i = both_ways (is_filled (option_to_list (slice_get xs i))) (nat_lt i (length xs))
+    (λ h. within (slice_get xs i) refl h) (λ h. there xs (ltb-true i (length xs) h))
+  where
+    none_below : i < 0 → ⊥
+    none_below l = omega (arith, l)
+
+    within : (o : Option X) → slice_get xs i ≡ o → is_filled (option_to_list o) ≡ true → nat_lt i (length xs) ≡ true
+    within None e h = absurd (false≢true h)
+    within (Some x) e h = lt-ltb i (length xs) (slice_get_within xs i x e)
+
+    there : (ys : List X) → i < length ys → is_filled (option_to_list (slice_get ys i)) ≡ true
+    there [] l = absurd (none_below l)
+    there (y ∷ ys) l = ap (λ o. is_filled (option_to_list o)) (slice_get-get_or (y ∷ ys) i y l)
 
 entered : (nv : Nv) (e : Option Entrance) → is_filled (entrance_yields nv e) ≡ is_some e
 entered nv None = refl

@@ -163,7 +163,8 @@ fn module_ranges(
         faults,
     } = parts;
     let diagnostics = faults.into_diagnostics(alloc, specifier)?;
-    ModulePublicRanges::from_parts(alloc, ranges, implementations, diagnostics)
+    let made = ModulePublicRanges::from_parts(alloc, ranges, implementations, diagnostics)?;
+    Ok(made)
 }
 
 /// What is told of modules.

@@ -1,4 +1,4 @@
-use Rattle.std.proofs.Common.{rules, ap, subst, map, List}
+use Rattle.std.proofs.Common.{rules, subst, map, List}
 use Rattle.std.specs.List.{flat_map}
 use Rattle.std.proofs.lemmas.List.{take_all}
 use Rattle.fast_check_demands.specs.declared.fault.SymbolFault.{SymbolFault}

@@ -1,13 +1,11 @@
-use Rattle.std.proofs.Common.{◌≡◌, ◌∙◌, refl, sym, ap, subst, unwrap_or, List, rules}
+use Rattle.std.proofs.Common.{◌∙◌, refl, sym, ap, subst, unwrap_or, List, rules}
 use Rattle.std.proofs.lemmas.Result.{on_ok_weaker}
 use Rattle.std.specs.BTreeMap.Entry.{map_with_value}
-use Rattle.url.specs.Parts.{Parts, serialize}
-use Rattle.fast_check_findings.specs.Findings.{entry_fault}
-use Rattle.fast_check_findings.specs.Found.{module_yields, entry_fault_yields, untyped_yields}
-use Rattle.fast_check_findings.specs.Yields.{untyped_module}
+use Rattle.url.specs.Parts.{Parts}
+use Rattle.fast_check_findings.specs.Found.{module_yields}
 use Rattle.fast_check_package_ranges.specs.declared.modules.ModuleParts.{ModuleParts}
 use Rattle.fast_check_package_ranges.specs.Parts.{AreParts, Joins}
-use Rattle.fast_check_package_ranges.proofs.About.{followed_of, faulty_of}
+use Rattle.fast_check_package_ranges.proofs.About.{followed_of}
 use Rattle.fast_check_package_ranges.proofs.Joined.{joins}
 use Rattle.fast_check_package_ranges.proofs.modules.add_followed.Goals as goal
 

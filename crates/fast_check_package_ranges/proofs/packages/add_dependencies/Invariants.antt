@@ -1,6 +1,5 @@
 use Rattle.std.proofs.Common.{◌≡◌, ◌||◌, map}
 use Rattle.std.specs.List.{list_any}
-use Rattle.std.specs.Map.Iter.{deref}
 use Rattle.fast_check_packages.specs.Package.{Nv, nv_of}
 use Rattle.fast_check_worklists.specs.Demands.{same_nv}
 use Rattle.fast_check_package_ranges.specs.Parts.{is_package, named_at}

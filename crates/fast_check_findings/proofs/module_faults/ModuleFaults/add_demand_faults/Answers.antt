@@ -1,9 +1,8 @@
-use Rattle.std.proofs.Common.{◌≡◌, refl, ap, subst, map}
+use Rattle.std.proofs.Common.{refl, subst, map}
 use Rattle.std.specs.List.{flat_map}
 use Rattle.std.proofs.lemmas.Result.{on_ok_weaker}
 use Rattle.fast_check_findings.specs.Faults.{FaultSource, placed_seen, source_of}
 use Rattle.fast_check_findings.specs.declared.module_faults.ModuleFaults.{ModuleFaults}
-use Rattle.fast_check_findings.specs.Found.{source_in}
 use Rattle.fast_check_findings.specs.Yields.{of_demand}
 use Rattle.fast_check_findings.specs.ModuleFaults.{AddsTo}
 use Rattle.fast_check_findings.proofs.Collected.{demands_are_others, adds_others}

@@ -10,7 +10,6 @@ use Rattle.fast_check_findings.specs.Found.{source_in, own_text, module_yields}
 use Rattle.fast_check_findings.specs.Yields.{ModuleFault, Yield, recorded, public, implementing, of_demand}
 use Rattle.fast_check_findings.specs.ModuleFaults.{AreFaultsOf}
 use Rattle.fast_check_findings.specs.declared.found.FoundModule.{FoundModule}
-use Rattle.fast_check_package_ranges.specs.declared.modules.ModuleParts.{ModuleParts}
 use Rattle.fast_check_package_ranges.specs.Answers.{ranges_of, implementations_of, faults_of}
 use Rattle.fast_check_package_ranges.proofs.Joined.{parts_more}
 use Rattle.fast_check_package_ranges.proofs.Lists.{all_map, none_given}
@@ -73,6 +72,7 @@ returns c = on_ok_weaker c.add_demand_faults.result (λ adds nv ys a.
     parts_more ys (module_yields nv m) c.args.self.now _
     (c.in_ok-append.ensures.items ∙ ap (λ xs. c.args.self.now.ranges.items ++ xs) (sym (ranges_are nv m)))
     (c.in_ok-append-2.ensures.items ∙ ap (λ xs. c.args.self.now.implementations.items ++ xs) (sym (implementations_are nv m)))
-    (subst (λ (fs : List ModuleFault). AreFaultsOf (flat_map faults_of ys ++ fs) c.add_demand_faults.new.self) (sym (faults_are nv m))
-    ?) a)
+    (subst (λ (fs : List ModuleFault). AreFaultsOf (flat_map faults_of ys ++ fs) c.add_demand_faults.new.self)
+    (ap (λ xs. map of_demand (flat_map (placed_seen (source_in m.info.now)) xs)) c.as_slice.ensures.value ∙ sym (faults_are nv m))
+    (adds (flat_map faults_of ys) a.faults)) a)
     c.add_demand_faults.ensures
