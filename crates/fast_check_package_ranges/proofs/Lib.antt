@@ -8,3 +8,4 @@ pub mod Joined
 pub mod Followed
 pub mod Known
 pub mod Answered
+pub mod Shown

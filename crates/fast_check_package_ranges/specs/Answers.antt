@@ -2,6 +2,7 @@
 use Rattle.std.specs.Prelude.{◌≡◌, Bool, true, false, cond, List, [], ◌∷◌, map, Option, Some, None}
 use Rattle.std.specs.List.{list_any, filter, flat_map, Contains}
 use Rattle.std.specs.Map.{lookup}
+use Rattle.std.specs.Option.{option_and_then}
 use Rattle.std.specs.Str.{bytes_eq}
 use Rattle.std.specs.BTreeMap.{BTreeMap}
 use Rattle.url.specs.Parts.{Parts, serialize}
@@ -129,3 +130,8 @@ IsPackageAnswer ys p = IsAnswerBy (flat_map items_of ys) ys p
 abbrev pub AreAnswers : List Yield → BTreeMap PackageNv PackagePublicRanges → Type 0
 AreAnswers yields answers =
     (nv : Nv) → StandsFor IsPackageAnswer (about nv yields) (lookup_package nv answers.entries)
+
+-- the answer about a module of a package
+abbrev pub module_answer : BTreeMap PackageNv PackagePublicRanges → Nv → Text → Option PublicRanges
+module_answer answers nv t = option_and_then (λ p. lookup_text t p.module_ranges.entries)
+    (lookup_package nv answers.entries)
