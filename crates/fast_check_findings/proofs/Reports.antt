@@ -7,7 +7,7 @@ use Rattle.std.specs.Rc.{rc_str_bytes}
 use Rattle.std.specs.declared.alloc.Global.{Global}
 use Rattle.std.specs.declared.rc.RcStr.{RcStr}
 use Rattle.std.proofs.lemmas.Map.Keys.{IsDistinct-cons, IsDistinct-head, IsDistinct-tail}
-use Rattle.fast_check_findings.specs.declared.finding.EntryFault.TheVariants.{NotFound, Untyped}
+use Rattle.fast_check_findings.specs.declared.found.EntryFault.TheVariants.{NotFound, Untyped}
 use Rattle.fast_check_findings.specs.contracts.module_faults.ToldFaultOrd.TheImpl as order
 use Rattle.fast_check_findings.specs.declared.module_faults.ToldFault.{ToldFault}
 use Rattle.fast_check_findings.specs.declared.module_faults.ToldFault.TheVariants.{OfEntry, OfDemand}

@@ -1,6 +1,4 @@
 pub mod Faults
-pub mod Namesakes
-pub mod Told
 pub mod Diagnostics
 pub mod Yields
 pub mod Findings

@@ -14,7 +14,7 @@ ghost use Rattle.fast_check_findings.specs.ModuleFaults.{fault_with, fault_of, A
 use crate::demand_fault::{DemandFault, placed};
 use crate::diagnostics::demand_diagnostic;
 use crate::faulty_module::{FaultyModule, faulty, text_of};
-use crate::finding::EntryFault;
+use crate::found::EntryFault;
 use fast_check_demands::SymbolFault;
 use fast_check_diagnostics::FastCheckDiagnostic;
 use fast_check_graph::AnyModuleInfo;

@@ -14,7 +14,7 @@ use Rattle.fast_check_findings.specs.Found.{source_in, own_text, module_yields, 
 use Rattle.fast_check_findings.specs.Found.{dependency_yields, untyped_yields, package_yields}
 use Rattle.fast_check_findings.specs.Yields.{ModuleFault, Yield, known_package, entry_point, dependency, recorded, public}
 use Rattle.fast_check_findings.specs.Yields.{implementing, faulty, of_demand}
-use Rattle.fast_check_findings.specs.declared.finding.EntryFault.{EntryFault}
+use Rattle.fast_check_findings.specs.declared.found.EntryFault.{EntryFault}
 use Rattle.fast_check_findings.specs.declared.found.Entrance.{Entrance}
 use Rattle.fast_check_findings.specs.declared.found.Entrance.TheVariants.{Entered, Kept}
 use Rattle.fast_check_findings.specs.declared.found.FoundModule.{FoundModule}

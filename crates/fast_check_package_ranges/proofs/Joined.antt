@@ -19,7 +19,7 @@ use Rattle.fast_check_diagnostics.specs.PublicRanges.{PublicRanges}
 use Rattle.fast_check_packages.specs.Package.{Nv}
 use Rattle.fast_check_worklists.specs.Demands.{Text}
 use Rattle.fast_check_findings.specs.Found.{entry_fault_yields, entrance_yields}
-use Rattle.fast_check_findings.specs.declared.finding.EntryFault.{EntryFault}
+use Rattle.fast_check_findings.specs.declared.found.EntryFault.{EntryFault}
 use Rattle.fast_check_findings.specs.declared.found.Entrance.TheVariants.{Entered}
 use Rattle.fast_check_findings.specs.ModuleFaults.{AreFaultsOf}
 use Rattle.fast_check_findings.specs.Yields.{ModuleFault, Yield, known_package, entry_point}

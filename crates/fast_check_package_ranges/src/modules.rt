@@ -12,8 +12,7 @@ ghost use Rattle.fast_check_package_ranges.specs.Answers.{IsModuleAnswer};
 ghost use Rattle.fast_check_package_ranges.specs.Parts.{AreParts, AreModules, Joins, AreAnswered};
 
 use fast_check_diagnostics::ModulePublicRanges;
-use fast_check_findings::found::FoundModule;
-use fast_check_findings::{EntryFault, ModuleFaults};
+use fast_check_findings::{EntryFault, FoundModule, ModuleFaults};
 use fast_check_syntax::SourceRange;
 use std::alloc::{AllocError, Global};
 use std::collections::BTreeMap;

@@ -13,8 +13,7 @@ use crate::modules::{
     ModuleParts, add_all_followed, add_all_untyped, add_entry_faults, all_module_ranges,
 };
 use fast_check_cache::{FastCheckCacheItem, FastCheckCacheModuleItem, PackagePublicRanges};
-use fast_check_findings::PackageNv;
-use fast_check_findings::found::{Entrance, FoundPackage};
+use fast_check_findings::{Entrance, FoundPackage, PackageNv};
 use fast_check_worklists::copy_of;
 use std::alloc::{AllocError, Global};
 use std::collections::{BTreeMap, BTreeSet};

@@ -8,8 +8,7 @@ ghost use Rattle.fast_check_package_ranges.specs.Parts.{IsAdded};
 
 use crate::packages::{answer_of, is_known};
 use fast_check_cache::PackagePublicRanges;
-use fast_check_findings::PackageNv;
-use fast_check_findings::found::FoundPackage;
+use fast_check_findings::{FoundPackage, PackageNv};
 use fast_check_worklists::copy_of;
 use indexmap::IndexMap;
 use std::alloc::{AllocError, Global};

@@ -1,7 +1,7 @@
 use Rattle.std.proofs.Common.{refl, [], ◌∷◌}
 use Rattle.std.proofs.lemmas.Result.{on_ok_weaker}
-use Rattle.fast_check_findings.specs.declared.finding.EntryFault.{EntryFault}
-use Rattle.fast_check_findings.specs.declared.finding.EntryFault.TheVariants.{NotFound, Untyped}
+use Rattle.fast_check_findings.specs.declared.found.EntryFault.{EntryFault}
+use Rattle.fast_check_findings.specs.declared.found.EntryFault.TheVariants.{NotFound, Untyped}
 use Rattle.fast_check_findings.specs.Findings.{entry_fault}
 use Rattle.fast_check_findings.proofs.Collected.{AreOthers, adds_others}
 use Rattle.fast_check_findings.proofs.module_faults.ModuleFaults.add_entry_fault.Goals as goal

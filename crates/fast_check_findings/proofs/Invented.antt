@@ -1,4 +1,4 @@
--- An answer of the finder has no diagnostic of a cache, and none that a module as a whole is told under another specifier.
+-- The diagnostics of a module have none of a cache, and none that a module as a whole is told under another specifier.
 use Rattle.std.proofs.Common.{◌≡◌, ◌∙◌, sym, ap, refl, subst, Bool, true, false, cond, List, [], ◌∷◌, map, Option, Some, None, arith}
 use Rattle.std.specs.List.{Contains}
 use Rattle.std.specs.Option.{is_some}
@@ -7,12 +7,12 @@ use Rattle.std.proofs.lemmas.Bool.{false≢true}
 use Rattle.std.proofs.lemmas.List.Elements.{All-from_recursion, All-contains}
 use Rattle.std.specs.List.{AllByRecursion}
 use Rattle.url.specs.Parts.{Parts, serialize}
-use Rattle.fast_check_modules.specs.diagnostics.declared.diagnostics.FastCheckDiagnostic.{FastCheckDiagnostic}
-use Rattle.fast_check_modules.specs.diagnostics.declared.diagnostics.FastCheckDiagnostic.TheVariants.{Cached, ExportNotFound}
+use Rattle.fast_check_diagnostics.specs.declared.diagnostics.FastCheckDiagnostic.{FastCheckDiagnostic}
+use Rattle.fast_check_diagnostics.specs.declared.diagnostics.FastCheckDiagnostic.TheVariants.{Cached, ExportNotFound}
 use Rattle.fast_check_worklists.specs.Demands.{Text}
-use Rattle.fast_check_package_ranges.specs.findings.Faults.{demand_fault}
-use Rattle.fast_check_package_ranges.specs.findings.Yields.{ModuleFault, missing_entry}
-use Rattle.fast_check_package_ranges.specs.findings.Diagnostics.{fault_told, AreDiagnosed}
+use Rattle.fast_check_findings.specs.Faults.{demand_fault}
+use Rattle.fast_check_findings.specs.Yields.{ModuleFault, missing_entry}
+use Rattle.fast_check_findings.specs.Diagnostics.{fault_told, AreDiagnosed}
 
 cached_tells_nothing : (t : Text) (specifier : Parts) → fault_told t (Cached specifier) ≡ None
 unfolding demand_fault
