@@ -1,5 +1,7 @@
 -- What is public in the modules of packages is declared in them.
 use Rattle.std.proofs.Common.{◌≡◌, ◌∙◌, ap, refl, subst, Bool, true, List, [], ◌∷◌, ◌++◌, Option, Some, None}
+use Rattle.std.specs.Prelude.{IfSome}
+use Rattle.std.specs.Option.{option_and_then}
 use Rattle.std.specs.List.{Contains, AllByRecursion}
 use Rattle.std.specs.Map.{lookup, IsKeyTest}
 use Rattle.std.specs.BTreeMap.{BTreeMap, keys, IsOrdered}
@@ -21,18 +23,16 @@ use Rattle.fast_check_graph.specs.declared.root_symbol.RootSymbol.{RootSymbol}
 use Rattle.fast_check_graph.specs.Root.{found_module}
 use Rattle.fast_check_cache.specs.declared.package_ranges.PackagePublicRanges.{PackagePublicRanges}
 use Rattle.fast_check_search.proofs.Each.{Contains_first, Contains_later}
-use Rattle.fast_check_package_ranges.specs.Questions.{about, whether_public}
-use Rattle.fast_check_package_ranges.specs.Parts.{is_text, is_package, lookup_text, lookup_package}
-use Rattle.fast_check_package_ranges.specs.Answers.{module_answer, package_answer, answer}
+use Rattle.fast_check_package_ranges.specs.Parts.{is_text, is_package}
+use Rattle.fast_check_package_ranges.specs.Answers.{lookup_text, lookup_package, module_answer}
 use Rattle.fast_check_package_ranges.proofs.Maps.{lookup_key, text_one, text_total, package_one, package_total}
-use Rattle.fast_check_package_ranges.specs.findings.Diagnostics.{where_found}
 use Rattle.fast_check_package_answers.specs.PackageFaults.{PublicModule}
 use Rattle.fast_check_package_answers.specs.PackageAnswer.{TreeModule, with_tree, tree_modules, OwnsPublic, OwnsModule, OwnsAll}
 use Rattle.fast_check_package_answers.specs.Answered.{by_text, by_nv}
 use Rattle.fast_check_package_answers.specs.Owned.{IsOwned, AreOwned}
 use Rattle.fast_check_finder.specs.turns.wants.Sources.{Known}
 use Rattle.fast_check_finder.specs.turns.Own.{IsOwnRange}
-use Rattle.fast_check_build.specs.Found.{IsFound}
+use Rattle.fast_check_build.specs.Found.{OwnsRanges, IsFound}
 
 -- an entry of a map is found by its own key
 found_entry : {K X : Type 0} {cmp : K → K → Ordering} (o : IsTotalOrder cmp) (test : K → Bool) → IsKeyTest (eq_by_cmp cmp) test →
@@ -64,14 +64,13 @@ all_trees root (m ∷ ms) h = both (with_tree m (found_module root m.0)) (tree_m
 
 module _ (k : Known) (roots : List Nv) (ranges : BTreeMap PackageNv PackagePublicRanges) (found : IsFound k roots ranges)
     (ordered : IsOrdered by_nv ranges) where
-  -- what is public in a module of a package is what is answered about it
+  -- the answer about a module of a package
   is_answered : (p : PackageNv × PackagePublicRanges) → Contains ranges.entries p → IsOrdered by_text p.1.module_ranges →
       (m : PublicModule) →
-      Contains p.1.module_ranges.entries m → (r : SourceRange) →
-      answer ranges (nv_of p.0) (about (serialize m.0) (whether_public r)) ≡ is_public m.1 r
-  is_answered p c in_order m d r =
-      ap (where_found (package_answer (about (serialize m.0) (whether_public r)))) (found_package ranges ordered p c)
-      ∙ ap (where_found (module_answer (serialize m.0) (whether_public r))) (found_ranges p.1.module_ranges in_order m d)
+      Contains p.1.module_ranges.entries m → module_answer ranges (nv_of p.0) (serialize m.0) ≡ Some m.1
+  is_answered p c in_order m d =
+      ap (option_and_then (λ (x : PackagePublicRanges). lookup_text (serialize m.0) x.module_ranges.entries)) (found_package ranges ordered p c)
+      ∙ found_ranges p.1.module_ranges in_order m d
 
   owned_module : (p : PackageNv × PackagePublicRanges) → Contains ranges.entries p → IsOrdered by_text p.1.module_ranges →
       (m : PublicModule) →
@@ -83,7 +82,8 @@ module _ (k : Known) (roots : List Nv) (ranges : BTreeMap PackageNv PackagePubli
       go (Some (Json info)) e = tt
       go (Some (Esm info)) e = (
         λ r h. subst (λ (o : Option AnyModuleInfo). IsOwnRange o r) e
-            (found.own (nv_of p.0) (serialize m.0) r (is_answered p c in_order m d r ∙ h)),
+            ((subst (λ (o : Option PublicRanges). IfSome o (OwnsRanges k.root_symbol (serialize m.0))) (is_answered p c in_order m d)
+            (found.own (nv_of p.0) (serialize m.0))).public r h),
         tt,
       )
 

@@ -1,5 +1,4 @@
 mod OwnRanges
 pub mod Built
-pub mod Invented
 pub mod Said
 pub mod LentBack

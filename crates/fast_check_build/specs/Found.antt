@@ -1,5 +1,5 @@
 -- What is found of packages that are handed in.
-use Rattle.std.specs.Prelude.{◌≡◌, ℕ, true, List, Option}
+use Rattle.std.specs.Prelude.{◌≡◌, ℕ, true, List, Option, IfSome}
 use Rattle.std.specs.BTreeMap.{BTreeMap}
 use Rattle.fast_check_syntax.specs.declared.source.SourceRange.{SourceRange}
 use Rattle.fast_check_packages.specs.Package.{Nv}
@@ -9,11 +9,11 @@ use Rattle.fast_check_packages.specs.declared.package.WorkspaceMember.{Workspace
 use Rattle.fast_check_graph.specs.declared.graph.ModuleGraph.{ModuleGraph}
 use Rattle.fast_check_graph.specs.declared.root_symbol.RootSymbol.{RootSymbol}
 use Rattle.fast_check_cache.specs.declared.package_ranges.PackagePublicRanges.{PackagePublicRanges}
+use Rattle.fast_check_modules.specs.diagnostics.PublicRanges.{PublicRanges, is_public, is_implementation}
 use Rattle.fast_check_worklists.specs.Demands.{Text}
 use Rattle.fast_check_worklists.specs.Account.{Account, IsAccount, IsYield}
 use Rattle.fast_check_package_ranges.specs.findings.Yields.{Yield}
-use Rattle.fast_check_package_ranges.specs.Questions.{about, whether_public, whether_implementing}
-use Rattle.fast_check_package_ranges.specs.Answers.{answer, AreAnswers}
+use Rattle.fast_check_package_ranges.specs.Answers.{AreAnswers, module_answer}
 use Rattle.fast_check_finder.specs.turns.wants.Sources.{none_used, Known, owner_by, named_at}
 use Rattle.fast_check_finder.specs.turns.Rules.{world}
 use Rattle.fast_check_finder.specs.turns.Yields.{gives}
@@ -31,6 +31,11 @@ known_of graph root_symbol members url_of nv_at = record {
   used = none_used;
 }
 
+-- what is public in a module, or implements overloads, is declared in it
+pub record OwnsRanges (root : RootSymbol) (t : Text) (m : PublicRanges) : Type 0 where
+  pub public : (r : SourceRange) → is_public m r ≡ true → IsOwnRange (named_at root t) r
+  pub implementing : (r : SourceRange) → is_implementation m r ≡ true → IsOwnRange (named_at root t) r
+
 -- There is an account of demands, from the packages that are handed in, whose export texts all join; and the answers
 -- say what its demands give, and nothing else. A package whose item is used demands what the item depends on, and gives
 -- the item. What is public in a module is declared in it, so that the module admits it.
@@ -41,8 +46,4 @@ pub record IsFound (k : Known) (roots : List Nv) (answers : BTreeMap PackageNv P
   pub is_yield : IsYield (gives k) account yields
   pub join : JoinAll k account
   pub says : AreAnswers yields answers
-  pub own : (nv : Nv) (t : Text) (r : SourceRange) → answer answers nv (about t (whether_public r)) ≡ true →
-      IsOwnRange (named_at k.root_symbol t) r
-  pub own_implementations : (nv : Nv) (t : Text) (r : SourceRange) →
-      answer answers nv (about t (whether_implementing r)) ≡ true →
-      IsOwnRange (named_at k.root_symbol t) r
+  pub own : (nv : Nv) (t : Text) → IfSome (module_answer answers nv t) (OwnsRanges k.root_symbol t)

@@ -22,8 +22,8 @@ use Rattle.fast_check_graph.specs.Graph.{module_at, exports_of}
 use Rattle.fast_check_graph.specs.Modules.{is_typed_module}
 use Rattle.fast_check_packages.specs.declared.fault.BuildFault.{BuildFault}
 use Rattle.fast_check_packages.specs.declared.fault.BuildFault.TheVariants.{InvalidExport, OutOfMemory}
-use Rattle.fast_check_findings.specs.declared.finding.EntryFault.{EntryFault}
-use Rattle.fast_check_findings.specs.declared.finding.EntryFault.TheVariants.{NotFound, Untyped}
+use Rattle.fast_check_findings.specs.declared.found.EntryFault.{EntryFault}
+use Rattle.fast_check_findings.specs.declared.found.EntryFault.TheVariants.{NotFound, Untyped}
 
 -- exports
 

@@ -2,6 +2,7 @@ pub mod Bools
 pub mod Lists
 pub mod Compared
 pub mod Kept
-pub mod Distinct
-pub mod Told
-pub mod Alike
+pub mod Reports
+pub mod Collected
+pub mod Diagnosed
+pub mod Invented

@@ -4,7 +4,6 @@ use Rattle.std.specs.List.{list_any, flat_map}
 use Rattle.std.specs.Option.{is_some}
 use Rattle.std.proofs.lemmas.Bool.{false≢true}
 use Rattle.std.proofs.lemmas.List.Folds.{list_any-append}
-use Rattle.fast_check_findings.specs.Diagnostics.{where_found}
 use Rattle.fast_check_findings.proofs.Bools.{or_none}
 
 pub any_map : {X Y : Type 0} (test : Y → Bool) (f : X → Y) (xs : List X) → list_any test (map f xs) ≡ list_any (λ x. test (f x)) xs
@@ -30,10 +29,6 @@ any_none test h xs = any_alike test (λ x. false) h xs ∙ any_false xs
 pub any_and : {X : Type 0} (b : Bool) (test : X → Bool) (xs : List X) → list_any (λ x. b && test x) xs ≡ (b && list_any test xs)
 any_and true test xs = refl
 any_and false test xs = any_false xs
-
-pub found_none : {X : Type 0} (test : X → Bool) → ((x : X) → test x ≡ false) → (o : Option X) → where_found test o ≡ false
-found_none test h None = refl
-found_none test h (Some x) = h x
 
 pub any_push : {X : Type 0} (test : X → Bool) (xs : List X) (x : X) → list_any test (xs ++ x ∷ []) ≡ (list_any test xs || test x)
 any_push test xs x = list_any-append test xs (x ∷ []) ∙ ap (λ b. list_any test xs || b) (or_none (test x))

@@ -1,27 +1,20 @@
--- Diagnostics of faults of demands.
-use Rattle.std.specs.Prelude.{⊤, [], ◌∷◌, ◌&&◌, not, Option, Some, None, ◌≡◌, Bool, true, false, List}
-use Rattle.std.specs.declared.alloc.Global.{Global}
-use Rattle.std.specs.declared.rc.RcStr.{RcStr}
-use Rattle.fast_check_diagnostics.specs.declared.diagnostics.FastCheckDiagnostic.{FastCheckDiagnostic}
+-- What is told of a module, and by which diagnostics.
+use Rattle.std.specs.Prelude.{◌≡◌, Bool, true, false, cond, not, ◌&&◌, List, [], ◌∷◌, map, Option, Some, None, option_map}
+use Rattle.std.specs.List.{list_any, filter, Contains, IsDistinct}
 use Rattle.std.specs.Str.{bytes_eq}
 use Rattle.url.specs.Parts.{serialize}
 use Rattle.fast_check_diagnostics.specs.PublicRanges.{same_range}
+use Rattle.fast_check_diagnostics.specs.declared.diagnostics.FastCheckDiagnostic.{FastCheckDiagnostic}
+use Rattle.fast_check_diagnostics.specs.declared.diagnostics.FastCheckDiagnostic.TheVariants.{
+  ExportNotFound,
+  UnsupportedJavaScriptEntrypoint,
+  UnsupportedNestedJavaScript,
+}
 use Rattle.fast_check_demands.specs.declared.fault.DemandFaultKind.{DemandFaultKind}
 use Rattle.fast_check_demands.specs.declared.fault.DemandFaultKind.TheVariants.{PrivateMember, NotFound, TooComplex}
-use Rattle.fast_check_findings.specs.Faults.{PlacedFault, placed_in, demand_fault}
-use Rattle.fast_check_findings.specs.declared.demand_fault.DemandFault.{DemandFault}
-
--- there is one, and it passes the test
-abbrev pub where_found : {X : Type 0} → (X → Bool) → Option X → Bool
-where_found test None = false
-where_found test (Some x) = test x
-
--- a diagnostic of a demand's fault that passes the test
-abbrev pub diagnoses : (PlacedFault → Bool) → FastCheckDiagnostic → Bool
-diagnoses test d = where_found test (demand_fault d)
-
-abbrev pub any_fault : PlacedFault → Bool
-any_fault r = true
+use Rattle.fast_check_worklists.specs.Demands.{Text}
+use Rattle.fast_check_findings.specs.Faults.{PlacedFault, demand_fault}
+use Rattle.fast_check_findings.specs.Yields.{ModuleFault, missing_entry, untyped_entry, untyped_module, of_demand}
 
 abbrev pub same_kind : DemandFaultKind → DemandFaultKind → Bool
 same_kind PrivateMember PrivateMember = true
@@ -36,24 +29,43 @@ same_fault a b = same_range a.range b.range
     && (bytes_eq a.name b.name &&
     (bytes_eq a.referrer b.referrer && bytes_eq (serialize a.specifier) (serialize b.specifier))))
 
--- two diagnostics tell of one fault of a demand
-abbrev pub diagnose_one_fault : FastCheckDiagnostic → FastCheckDiagnostic → Bool
-diagnose_one_fault a b = where_found (λ r. diagnoses (same_fault r) b) (demand_fault a)
+-- and so are two reports of a module
+abbrev pub same_report : ModuleFault → ModuleFault → Bool
+same_report missing_entry missing_entry = true
+same_report untyped_entry untyped_entry = true
+same_report untyped_module untyped_module = true
+same_report (of_demand a) (of_demand b) = same_fault a b
+same_report _ _ = false
 
--- a fault with its source text passes the test
-abbrev pub passes : (PlacedFault → Bool) → DemandFault × RcStr Global → Bool
-passes test e = test (placed_in e)
+abbrev pub is_untyped : ModuleFault → Bool
+is_untyped untyped_module = true
+is_untyped _ = false
 
--- these diagnostics are those of the faults, one by one
-abbrev pub AreOf : List FastCheckDiagnostic → List (DemandFault × RcStr Global) → Type 0
-AreOf [] [] = ⊤
-AreOf (d ∷ ds) (e ∷ es) = (demand_fault d ≡ Some (placed_in e)) × AreOf ds es
-AreOf _ _ = ⊥
+abbrev pub others : List ModuleFault → List ModuleFault
+others faults = filter (λ f. not (is_untyped f)) faults
 
--- faults that are one pass the test alike
-abbrev pub IsFair : (PlacedFault → Bool) → Type 0
-IsFair test = (a b : PlacedFault) → same_fault a b ≡ true → test a ≡ test b
+-- That the types of a module are not known is told where nothing else is wrong with it.
+abbrev pub told_of : List ModuleFault → List ModuleFault → List ModuleFault
+told_of [] faults = faults
+told_of (f ∷ fs) faults = f ∷ fs
 
--- a diagnostic that is of no fault of a demand
-abbrev pub is_other : FastCheckDiagnostic → Bool
-is_other d = not (diagnoses any_fault d)
+abbrev pub told : List ModuleFault → List ModuleFault
+told faults = told_of (others faults) faults
+
+-- what a diagnostic tells of the module: one of the module as a whole carries its specifier
+abbrev pub fault_told : Text → FastCheckDiagnostic → Option ModuleFault
+fault_told t (ExportNotFound specifier) = cond (bytes_eq t (serialize specifier)) (Some missing_entry) None
+fault_told t (UnsupportedJavaScriptEntrypoint specifier) =
+    cond (bytes_eq t (serialize specifier)) (Some untyped_entry) None
+fault_told t (UnsupportedNestedJavaScript specifier) =
+    cond (bytes_eq t (serialize specifier)) (Some untyped_module) None
+fault_told t d = option_map of_demand (demand_fault d)
+
+-- These diagnostics of a module tell what of these faults is to be told, with its source text, and nothing else. All
+-- that is to be told is told, but no two tell the same.
+pub record AreDiagnosed (t : Text) (faults : List ModuleFault) (ds : List FastCheckDiagnostic) : Type 0 where
+  pub reports : List ModuleFault
+  pub tell : map (fault_told t) ds ≡ map Some reports
+  pub once : IsDistinct same_report reports
+  pub only : (f : ModuleFault) → Contains reports f → Contains (told faults) f
+  pub all : (f : ModuleFault) → Contains (told faults) f → list_any (same_report f) reports ≡ true

@@ -58,9 +58,6 @@ placed_with f text = record {
   referrer = string_bytes f.referrer;
 }
 
-abbrev pub placed_in : DemandFault × RcStr Global → PlacedFault
-placed_in e = placed_with e.0 (rc_str_bytes e.1)
-
 -- the fault of a demand that a diagnostic is of, if it is of one
 unfoldable pub demand_fault : FastCheckDiagnostic → Option PlacedFault
 demand_fault (UnsupportedPrivateMemberReference place name referrer) =

@@ -1,7 +1,6 @@
 pub mod Faults
-pub mod Namesakes
-pub mod Told
 pub mod Diagnostics
 pub mod Yields
 pub mod Findings
 pub mod Found
+pub mod ModuleFaults

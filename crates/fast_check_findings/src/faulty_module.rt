@@ -1,12 +1,16 @@
 //! A module, and its symbols, by what faults have of them.
 
-ghost use Rattle.std.specs.Prelude.{◌≡◌};
+ghost use Rattle.std.specs.Prelude.{◌≡◌, IfOk};
 ghost use Rattle.std.specs.Option.{option_copied};
+ghost use Rattle.std.specs.Rc.{rc_str_bytes};
 ghost use Rattle.fast_check_symbols.specs.Symbols.{symbol_of};
-ghost use Rattle.fast_check_findings.specs.Faults.{name_of, first_range, first_of};
+ghost use Rattle.fast_check_findings.specs.Faults.{name_of, first_range, first_of, source_of};
+ghost use Rattle.fast_check_findings.specs.Found.{text_of, symbols_of, source_in};
 
 use fast_check_demands::{CheckedTables, SourceRange, SymbolId};
+use fast_check_graph::AnyModuleInfo;
 use fast_check_symbols::Symbol;
+use std::alloc::{AllocError, Global};
 use std::rc::RcStr;
 use url::Url;
 
@@ -48,4 +52,34 @@ pub(crate) fn range_of(tables: &CheckedTables, id: SymbolId) -> Option<SourceRan
 {
     let symbol = tables.symbol(id)?;
     first_range(symbol)
+}
+
+/// The source text of a module; one of JSON has none.
+pub(crate) fn text_of(alloc: Global, info: &AnyModuleInfo) -> Result<RcStr, AllocError>
+    ensures { IfOk result (λ text. rc_str_bytes text ≡ text_of info.now) }
+{
+    match info {
+        AnyModuleInfo::Esm(module) => module.source().text.clone(),
+        AnyModuleInfo::Json(_) => RcStr::from_str(alloc, ""),
+    }
+}
+
+fn tables_of(info: &AnyModuleInfo) -> &CheckedTables
+    ensures { result.now.symbols ≡ symbols_of info.now }
+{
+    match info {
+        AnyModuleInfo::Esm(module) => module.tables(),
+        AnyModuleInfo::Json(module) => module.tables(),
+    }
+}
+
+/// A module with its source text, by what its faults have of it.
+pub(crate) fn faulty<'a>(info: &'a AnyModuleInfo, text: &'a RcStr) -> FaultyModule<'a>
+    ensures { rc_str_bytes text.entry.now ≡ text_of info.entry.now → source_of result ≡ source_in info.entry.now }
+{
+    FaultyModule {
+        specifier: info.specifier(),
+        text,
+        tables: tables_of(info),
+    }
 }

@@ -2,7 +2,6 @@
 
 ghost use Rattle.std.specs.Prelude.{◌≡◌, [], None};
 
-use crate::finding::EntryFault;
 use fast_check_cache::FastCheckCacheItem;
 use fast_check_demands::{SourceRange, SymbolFault};
 use fast_check_graph::AnyModuleInfo;
@@ -10,6 +9,15 @@ use std::alloc::Global;
 use std::collections::{BTreeMap, BTreeSet};
 use std::rc::Rc;
 use url::Url;
+
+/// What is wrong with an entry point of a package.
+#[derive(Clone, Copy, Debug, PartialEq, Eq, PartialOrd, Ord)]
+pub enum EntryFault {
+    /// The graph does not have it.
+    NotFound,
+    /// The graph has it, and its types are not known.
+    Untyped,
+}
 
 /// What is found of a module that was followed, for a package. Each range and fault may stand here more than once.
 #[derive(Drop)]

@@ -1,17 +1,12 @@
-//! What following packages and modules finds, piece by piece, and the faults of demands as diagnostics.
+//! What following packages and modules finds, and the faults of demands as diagnostics.
 #![tactic(auto)]
 
 mod demand_fault;
 mod diagnostics;
 mod faulty_module;
-mod finding;
-pub mod found;
-mod namesakes;
+mod found;
+mod module_faults;
 
-pub use demand_fault::{DemandFault, faults_in};
-pub use diagnostics::diagnostics_of;
 pub use fast_check_packages::PackageNv;
-pub use faulty_module::FaultyModule;
-pub use finding::{
-    EnteredPackage, EntryFault, Finding, FollowedModule, FoundModule, KeptPackage, UntypedModule,
-};
+pub use found::{Entrance, EntryFault, FoundModule, FoundPackage};
+pub use module_faults::ModuleFaults;

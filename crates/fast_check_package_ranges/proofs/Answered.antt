@@ -1,211 +1,167 @@
--- Answers say what findings say.
-use Rattle.std.proofs.Common.{◌≡◌, ◌∙◌, refl, sym, ap, ℕ, Bool, true, false, cond, ◌&&◌, ◌||◌, List, [], ◌∷◌, ◌++◌, map, Option, Some}
-use Rattle.std.proofs.Common.{None}
-use Rattle.std.specs.List.{list_any, flat_map}
-use Rattle.std.specs.Prelude.{not}
+-- The answer of a package, and of packages one by one.
+use Rattle.std.proofs.Common.{◌≡◌, ◌∙◌, refl, sym, ap, subst, Bool, true, false, cond, ◌||◌, List, [], ◌∷◌, ◌++◌, map, Option, Some, None}
+use Rattle.std.proofs.Common.{append-nil, ⊎_elim, arith}
+use Rattle.std.specs.List.{list_any, flat_map, AllByRecursion, IsDistinct}
+use Rattle.std.specs.Map.{keys_of}
 use Rattle.std.specs.BTreeMap.{BTreeMap}
+use Rattle.std.specs.BTreeMap as tree
+use Rattle.std.specs.Str.{bytes_eq}
+use Rattle.std.proofs.lemmas.Bool.{cases_Bool, false≢true}
+use Rattle.std.proofs.lemmas.List.Concat.{flat_map-append}
+use Rattle.std.proofs.lemmas.List.Elements.{filter-append}
 use Rattle.std.proofs.lemmas.List.Folds.{list_any-append}
-use Rattle.url.specs.Parts.{serialize}
+use Rattle.std.proofs.lemmas.Map.Keys.{IsDistinct-head, IsDistinct-tail}
+use Rattle.url.specs.Parts.{Parts, serialize}
 use Rattle.fast_check_packages.specs.Package.{Nv, nv_of}
+use Rattle.fast_check_packages.specs.PackageOrder.{nv_ties}
+use Rattle.fast_check_packages.specs.Packages.{package_cmp}
 use Rattle.fast_check_packages.specs.declared.package.PackageNv.{PackageNv}
-use Rattle.fast_check_diagnostics.specs.PublicRanges.{PublicRanges}
+use Rattle.fast_check_packages.specs.contracts.package.PackageNvPartialEq.TheImpl as package_eq
+use Rattle.fast_check_cache.specs.Cache.{ItemView}
 use Rattle.fast_check_cache.specs.declared.package_ranges.PackagePublicRanges.{PackagePublicRanges}
-use Rattle.fast_check_findings.specs.Faults.{PlacedFault, placed_in}
 use Rattle.fast_check_worklists.specs.Demands.{same_nv}
-use Rattle.fast_check_findings.specs.declared.finding.EnteredPackage.{EnteredPackage}
-use Rattle.fast_check_findings.specs.declared.finding.FollowedModule.{FollowedModule}
-use Rattle.fast_check_cache.specs.Cache.{item_of}
-use Rattle.fast_check_findings.specs.declared.finding.KeptPackage.{KeptPackage}
-use Rattle.fast_check_findings.specs.declared.finding.Finding.{Finding}
-use Rattle.fast_check_findings.specs.declared.finding.Finding.TheVariants.{Entered, Followed, Untyped, Kept}
-use Rattle.fast_check_findings.specs.Yields.{ModuleFault, untyped_module}
-use Rattle.fast_check_findings.specs.Yields.{Yield, known_package, entry_point, dependency, recorded, public, implementing, faulty, kept}
-use Rattle.fast_check_findings.specs.Findings.{entry_fault, faulty_module, entered_yields, placed_yield, placed_yields, followed_yields}
-use Rattle.fast_check_findings.specs.Findings.{kept_yields, yields_of}
-use Rattle.fast_check_package_ranges.specs.declared.parts.JoinedModule.{JoinedModule}
-use Rattle.fast_check_package_ranges.specs.declared.parts.JoinedPackage.{JoinedPackage}
-use Rattle.fast_check_package_ranges.specs.Questions.{ModuleQuestion, whether_recorded, whether_public, whether_implementing}
-use Rattle.fast_check_package_ranges.specs.Questions.{whether_missing, whether_untyped_entry, whether_untyped, whether_faulty}
-use Rattle.fast_check_package_ranges.specs.Questions.{whether_otherwise_faulty, Question, whether_known, whether_entry_point}
-use Rattle.fast_check_package_ranges.specs.Questions.{whether_dependency, whether_refused, about, package_of, yield_says, yields_say}
-use Rattle.fast_check_package_ranges.specs.Questions.{is_kept, is_said, IsTextless, IsTextlessAbout, has_modules}
-use Rattle.fast_check_findings.specs.Diagnostics.{where_found}
-use Rattle.fast_check_package_ranges.specs.Parts.{module_says, package_says, packages_say, lookup_text, lookup_package}
-use Rattle.fast_check_package_ranges.specs.Parts.{package_found, followed_in, findings_say}
-use Rattle.fast_check_package_ranges.specs.Answers.{module_answer, package_answer, answer}
-use Rattle.fast_check_package_ranges.specs.Made.{module_is_said, AreModuleAnswers, IsPackageAnswer, ArePackageAnswers}
-use Rattle.fast_check_findings.proofs.Bools.{or_none, and_or, and_none}
-use Rattle.fast_check_findings.proofs.Lists.{any_map, any_flat, any_alike, any_and}
-use Rattle.fast_check_package_ranges.proofs.Only.{only, once, uncached}
-use Rattle.fast_check_package_ranges.proofs.KeptSays.{IsSaidAt, not_kept_says}
+use Rattle.fast_check_findings.specs.Found.{package_yields}
+use Rattle.fast_check_findings.specs.Yields.{Yield}
+use Rattle.fast_check_findings.specs.declared.found.FoundPackage.{FoundPackage}
+use Rattle.fast_check_findings.proofs.Lists.{any_map}
+use Rattle.fast_check_package_ranges.specs.Answers.{package_of, about, is_filled, StandsFor}
+use Rattle.fast_check_package_ranges.specs.Answers.{lookup_package, IsItemAnswer, IsAnswerBy, IsPackageAnswer}
+use Rattle.fast_check_package_ranges.specs.Parts.{is_package, urls_at, item_at, named_at, yields_at, AreAnswered, IsAdded}
+use Rattle.fast_check_package_ranges.proofs.About.{of_package}
+use Rattle.fast_check_package_ranges.proofs.Followed.{all_points, all_dependencies, all_items, no_refusals}
+use Rattle.fast_check_package_ranges.proofs.Lists.{not_filled}
+use Rattle.fast_check_package_ranges.proofs.Maps.{package_one, package_total, lookup_after}
 
--- all these yields are of one package
-abbrev Owned : Nv → Nv → List Yield → Type 0
-Owned nv n ys = (g : Yield → Bool) → list_any (λ y. same_nv nv (package_of y) && g y) ys ≡ (same_nv nv n && list_any g ys)
+module _ (packages : List Nv) (nv : Nv) (p : FoundPackage) where
+  abbrev Y : List Yield
+  Y = package_yields packages nv p
 
-own_none : (nv n : Nv) → Owned nv n []
-own_none nv n g = sym (and_none (same_nv nv n))
+  filled_item : (answer : PackagePublicRanges) → IsItemAnswer (urls_at p.entrance) (item_at p.entrance) answer →
+      is_filled answer.cache_items.items ≡ is_filled (item_at p.entrance).1
+  filled_item answer a = go _ answer.cache_items.items (item_at p.entrance).1 a.modules_are
+    where
+      go : {X Z : Type 0} (f : X → Z) (xs : List X) (zs : List Z) → map f xs ≡ zs → is_filled xs ≡ is_filled zs
+      go f [] zs e = ap is_filled e
+      go f (x ∷ xs) zs e = ap is_filled e
 
-own_both : (nv n : Nv) (xs ys : List Yield) → Owned nv n xs → Owned nv n ys → Owned nv n (xs ++ ys)
-own_both nv n xs ys h k g = list_any-append (λ y. same_nv nv (package_of y) && g y) xs ys ∙
-    (ap (λ b. b || list_any (λ y. same_nv nv (package_of y) && g y) ys) (h g) ∙
-    (ap (λ b. (same_nv nv n && list_any g xs) || b) (k g) ∙
-    (sym (and_or (same_nv nv n) (list_any g xs) (list_any g ys)) ∙ ap (λ b. same_nv nv n && b) (sym (list_any-append g xs ys)))))
+  -- the item is used
+  pub by_item : (answer : PackagePublicRanges) → IsItemAnswer (urls_at p.entrance) (item_at p.entrance) answer →
+      is_filled answer.cache_items.items ≡ true → IsPackageAnswer Y answer
+  by_item answer a h = subst (λ (is : List (List Parts × ItemView)). IsAnswerBy is Y answer)
+      (sym (all_items packages nv p ∙ ap (λ b. cond b ((urls_at p.entrance, item_at p.entrance) ∷ []) []) (sym (filled_item answer a) ∙ h)))
+      ((urls_at p.entrance, item_at p.entrance), (0, omega arith, refl), a)
 
-own_one : (nv : Nv) (y : Yield) → Owned nv (package_of y) (y ∷ [])
-own_one nv y g = or_none (same_nv nv (package_of y) && g y) ∙ ap (λ b. same_nv nv (package_of y) && b) (sym (or_none (g y)))
+  -- or what was found is answered
+  pub by_parts : (start answer : PackagePublicRanges) → IsItemAnswer (urls_at p.entrance) (item_at p.entrance) start →
+      is_filled start.cache_items.items ≡ false → answer.entrypoints.keys ≡ start.entrypoints.keys →
+      answer.cache_items.items ≡ start.cache_items.items →
+      ((d : Nv) → list_any (is_package d) answer.dependencies.keys ≡
+      (list_any (is_package d) start.dependencies.keys || list_any (same_nv d) (named_at packages p.dependencies.keys))) →
+      AreAnswered Y answer.module_ranges.entries → IsPackageAnswer Y answer
+  by_parts start answer a n points items depends modules = subst (λ (is : List (List Parts × ItemView)). IsAnswerBy is Y answer)
+      (sym (all_items packages nv p ∙ ap (λ b. cond b ((urls_at p.entrance, item_at p.entrance) ∷ []) []) (sym (filled_item start a) ∙ n)))
+      (record {
+        entry_points = λ t. ap (λ xs. list_any (bytes_eq t) (map serialize xs)) (points ∙ a.entry_points_are)
+            ∙ ap (list_any (bytes_eq t)) (sym (all_points packages nv p));
+        dependencies = λ d. any_map (same_nv d) nv_of answer.dependencies.keys ∙ (depends d
+            ∙ (ap (λ b. b || list_any (same_nv d) (named_at packages p.dependencies.keys))
+            (sym (any_map (same_nv d) nv_of start.dependencies.keys) ∙ ap (list_any (same_nv d)) a.dependencies_are)
+            ∙ (sym (list_any-append (same_nv d) (item_at p.entrance).0 (named_at packages p.dependencies.keys))
+            ∙ ap (list_any (same_nv d)) (sym (all_dependencies packages nv p)))));
+        modules = modules;
+        uncached = items ∙ not_filled start.cache_items.items n;
+        not_refused = no_refusals packages nv p;
+      })
 
-own_map : {X : Type 0} (nv n : Nv) (f : X → Yield) → ((x : X) → package_of (f x) ≡ n) → (xs : List X) → Owned nv n (map f xs)
-own_map nv n f h xs g = any_map (λ y. same_nv nv (package_of y) && g y) f xs ∙
-    (any_alike (λ x. same_nv nv (package_of (f x)) && g (f x)) (λ x. same_nv nv n && g (f x))
-    (λ x. ap (λ p. same_nv nv p && g (f x)) (h x)) xs ∙
-    (any_and (same_nv nv n) (λ x. g (f x)) xs ∙ ap (λ b. same_nv nv n && b) (sym (any_map g f xs))))
+-- packages one by one
 
-own_flat : {X : Type 0} (nv n : Nv) (f : X → List Yield) → ((x : X) → Owned nv n (f x)) → (xs : List X) → Owned nv n (flat_map f xs)
-own_flat nv n f h xs g = any_flat (λ y. same_nv nv (package_of y) && g y) f xs ∙
-    (any_alike (λ x. list_any (λ y. same_nv nv (package_of y) && g y) (f x)) (λ x. same_nv nv n && list_any g (f x)) (λ x. h x g) xs ∙
-    (any_and (same_nv nv n) (λ x. list_any g (f x)) xs ∙ ap (λ b. same_nv nv n && b) (sym (any_flat g f xs))))
+-- those before one differ from it
+module _ {K X : Type 0} (eq : K → K → Bool) where
+  at_middle : (P : K → Type 0) (xs : List (K × X)) (x : K × X) (rest : List (K × X)) → AllByRecursion P (keys_of (xs ++ x ∷ rest)) → P x.0
+  at_middle P [] x rest a = a.0
+  at_middle P (y ∷ xs) x rest a = at_middle P xs x rest a.1
 
-own_faulty : (nv n : Nv) (t : List ℕ) (f : ModuleFault) → Owned nv n (faulty_module n t f)
-own_faulty nv n t f = own_both nv n (recorded n t ∷ []) (faulty n t f ∷ []) (own_one nv (recorded n t)) (own_one nv (faulty n t f))
+  pub differ : (xs : List (K × X)) (x : K × X) (rest : List (K × X)) → IsDistinct eq (keys_of (xs ++ x ∷ rest)) →
+      AllByRecursion (λ y. eq y.0 x.0 ≡ false) xs
+  differ [] x rest d = tt
+  differ (y ∷ xs) x rest d = (
+    at_middle (λ k. eq y.0 k ≡ false) xs x rest (IsDistinct-head eq y.0 (keys_of (xs ++ x ∷ rest)) d),
+    differ xs x rest (IsDistinct-tail eq y.0 (keys_of (xs ++ x ∷ rest)) d),
+  )
 
-own_entered : (nv : Nv) (e : EnteredPackage) → Owned nv (nv_of e.package) (entered_yields e)
-own_entered nv e = own_both nv (nv_of e.package) (known_package (nv_of e.package) ∷ []) _ (own_one nv (known_package (nv_of e.package)))
-    (own_both nv (nv_of e.package) (map (λ url. entry_point (nv_of e.package) (serialize url)) e.entry_points.items)
-    (flat_map (λ f. faulty_module (nv_of e.package) (serialize f.0) (entry_fault f.1)) e.faults.items)
-    (own_map nv (nv_of e.package) (λ url. entry_point (nv_of e.package) (serialize url)) (λ url. refl) e.entry_points.items)
-    (own_flat nv (nv_of e.package) (λ f. faulty_module (nv_of e.package) (serialize f.0) (entry_fault f.1))
-    (λ f. own_faulty nv (nv_of e.package) (serialize f.0) (entry_fault f.1)) e.faults.items))
+abbrev pub Found : Type 0
+Found = PackageNv × FoundPackage
 
-own_followed : (nv : Nv) (f : FollowedModule) → Owned nv (nv_of f.package) (followed_yields f)
-own_followed nv f =
-    let n = nv_of f.package in
-    let t = serialize f.specifier.now in
-    let publics = map (public n t) f.found.ranges.items in
-    let others = map (implementing n t) f.found.implementations.items in
-    let faults = placed_yields n t (map placed_in f.found.faults.items) in
-    let asked = map (λ p. dependency n (nv_of p.value)) f.dependencies.items in
-    own_both nv n (recorded n t ∷ []) (publics ++ (others ++ (faults ++ asked))) (own_one nv (recorded n t))
-    (own_both nv n publics (others ++ (faults ++ asked)) (own_map nv n (public n t) (λ r. refl) f.found.ranges.items)
-    (own_both nv n others (faults ++ asked) (own_map nv n (implementing n t) (λ r. refl) f.found.implementations.items)
-    (own_both nv n faults asked (own_map nv n (placed_yield n t) (λ x. refl) (map placed_in f.found.faults.items))
-    (own_map nv n (λ p. dependency n (nv_of p.value)) (λ p. refl) f.dependencies.items))))
+module _ (packages : List Nv) (nv : Nv) where
+  about_found : (xs ys : List Yield) → about nv (xs ++ ys) ≡ about nv xs ++ about nv ys
+  about_found xs ys = filter-append (λ y. same_nv nv (package_of y)) xs ys
 
-own_kept : (nv : Nv) (k : KeptPackage) (filled : Bool) → Owned nv (nv_of k.package) (cond filled [] (kept_yields k))
-own_kept nv k true = own_none nv (nv_of k.package)
-own_kept nv k false = own_one nv (kept (nv_of k.package) k.entry_points.keys (item_of k.item))
+  about_one : (x : Found) → about nv (yields_at packages x) ≡ cond (is_package nv x.0) (yields_at packages x) []
+  about_one x = of_package packages (nv_of x.0) nv x.1
 
-own_finding : (nv : Nv) (f : Finding) → Owned nv (package_found f) (followed_in f)
-own_finding nv (Entered e) = own_entered nv e
-own_finding nv (Followed f) = own_followed nv f
-own_finding nv (Untyped u) = own_faulty nv (nv_of u.package) (serialize u.specifier) untyped_module
-own_finding nv (Kept k) = own_kept nv k (has_modules (item_of k.item))
+  none_before : (xs : List Found) → AllByRecursion (λ y. is_package nv y.0 ≡ false) xs → about nv (flat_map (yields_at packages) xs) ≡ []
+  none_before [] a = refl
+  none_before (x ∷ xs) a = about_found (yields_at packages x) (flat_map (yields_at packages) xs)
+      ∙ (ap (λ ys. ys ++ about nv (flat_map (yields_at packages) xs))
+      (about_one x ∙ ap (λ b. cond b (yields_at packages x) []) a.0) ∙ none_before xs a.1)
 
--- findings say what their yields say
-all_yields : (found : List Finding) (nv : Nv) (q : Question) →
-    list_any (λ f. same_nv nv (package_found f) && list_any (λ y. yield_says y q) (followed_in f)) found ≡ yields_say
-    (flat_map followed_in found) nv q
-all_yields found nv q = sym (any_flat (λ y. same_nv nv (package_of y) && yield_says y q) followed_in found ∙
-    any_alike (λ f. list_any (λ y. same_nv nv (package_of y) && yield_says y q) (followed_in f))
-    (λ f. same_nv nv (package_found f) && list_any (λ y. yield_says y q) (followed_in f))
-    (λ f. own_finding nv f (λ y. yield_says y q)) found)
+  others : (x : PackageNv) → is_package nv x ≡ true → (xs : List Found) → AllByRecursion (λ y. package_eq.eq-value.it y.0 x ≡ false) xs →
+      AllByRecursion (λ y. is_package nv y.0 ≡ false) xs
+  others x h [] a = tt
+  others x h (y ∷ ys) a = (
+    ⊎_elim
+        (λ yes. absurd (false≢true (sym a.0 ∙ (nv_ties y.0 x ∙ (sym (package_one nv y.0 x yes) ∙ h)))))
+        (λ no. no)
+        (cases_Bool (is_package nv y.0)),
+    others x h ys a.1,
+  )
 
--- the answer about a module, by what is known of it
-module_one : (t : List ℕ) (q : ModuleQuestion) → IsTextlessAbout q → (parts : Option JoinedModule) (m : Option PublicRanges) →
-    AreModuleAnswers t parts m →
-    where_found (module_answer t q) m ≡ where_found (λ p. module_is_said p q) parts
-module_one t q fair None None h = refl
-module_one t q fair None (Some m) h = absurd h
-module_one t q fair (Some p) None h = absurd h
-module_one t q fair (Some p) (Some m) h = h.said q fair
+  -- an answer that stands for nothing is none
+  none_stands : (ys : List Yield) (o : Option PackagePublicRanges) → ys ≡ [] → StandsFor IsPackageAnswer ys o → o ≡ None
+  none_stands ys None e a = refl
+  none_stands ys (Some p) e a = absurd (false≢true (sym (ap is_filled e) ∙ a.0))
 
-exact_one : (t : List ℕ) (test : PlacedFault → Bool) (parts : Option JoinedModule) (m : Option PublicRanges) → AreModuleAnswers t parts m →
-    where_found (module_answer t (whether_faulty test)) m ≡ true → where_found (λ p. module_says p (whether_faulty test)) parts ≡ true
-exact_one t test None None h e = e
-exact_one t test None (Some m) h e = absurd h
-exact_one t test (Some p) None h e = absurd h
-exact_one t test (Some p) (Some m) h e = h.exact test e
+  pub added : (xs : List Found) (x : Found) (old new : List (PackageNv × PackagePublicRanges)) → IsAdded packages x old new →
+      AllByRecursion (λ y. package_eq.eq-value.it y.0 x.0 ≡ false) xs →
+      StandsFor IsPackageAnswer (about nv (flat_map (yields_at packages) xs)) (lookup_package nv old) →
+      StandsFor IsPackageAnswer (about nv (flat_map (yields_at packages) (xs ++ x ∷ []))) (lookup_package nv new)
+  added xs x old new is apart a = ⊎_elim
+      (λ yes.
+      let none : about nv (flat_map (yields_at packages) xs) ≡ [] = none_before xs (others x.0 yes xs apart) in
+      subst (λ (ys : List Yield). StandsFor IsPackageAnswer ys (lookup_package nv new))
+      (sym (more ∙ (ap (λ ys. ys ++ about nv (yields_at packages x)) none
+      ∙ (about_one x ∙ ap (λ b. cond b (yields_at packages x) []) yes))))
+      (is.stands nv (nv_of x.0) yes (none_stands (about nv (flat_map (yields_at packages) xs)) (lookup_package nv old) none a)))
+      (λ no. subst (λ (o : Option PackagePublicRanges). StandsFor IsPackageAnswer (about nv (flat_map (yields_at packages) (xs ++ x ∷ []))) o)
+      (sym (is.stays nv no))
+      (subst (λ (ys : List Yield). StandsFor IsPackageAnswer ys (lookup_package nv old))
+      (sym (more ∙ (ap (λ ys. about nv (flat_map (yields_at packages) xs) ++ ys)
+      (about_one x ∙ ap (λ b. cond b (yields_at packages x) []) no) ∙ append-nil (about nv (flat_map (yields_at packages) xs))))) a))
+      (cases_Bool (is_package nv x.0))
+    where
+      more : about nv (flat_map (yields_at packages) (xs ++ x ∷ [])) ≡
+          about nv (flat_map (yields_at packages) xs) ++ about nv (yields_at packages x)
+      more = ap (about nv) (flat_map-append (yields_at packages) xs (x ∷ [])
+          ∙ ap (λ ys. flat_map (yields_at packages) xs ++ ys) (append-nil (yields_at packages x)))
+          ∙ about_found (flat_map (yields_at packages) xs) (yields_at packages x)
 
--- what is to be said of a package
-abbrev package_is_said : JoinedPackage → Question → Bool
-package_is_said p (about t q) = where_found (λ m. module_is_said m q) (lookup_text t p.modules.entries)
-package_is_said p q = package_says p q
+-- the answer of one more
+pub is_passed : (packages : List Nv) (x : Found) (old : List (PackageNv × PackagePublicRanges)) →
+    ((q : Nv) → is_filled (package_yields packages q x.1) ≡ false) → IsAdded packages x old old
+is_passed packages x old n = record {
+  stays = λ nv no. refl;
+  stands = λ nv q yes none. subst (λ (o : Option PackagePublicRanges). StandsFor IsPackageAnswer (package_yields packages q x.1) o) (sym none)
+      (not_filled (package_yields packages q x.1) (n q));
+}
 
-package_one : (q : Question) → IsTextless q → (parts : JoinedPackage) (p : PackagePublicRanges) → IsPackageAnswer parts p →
-    package_answer q p ≡ package_is_said parts q
-package_one whether_known fair parts p h = refl
-package_one (whether_entry_point t) fair parts p h = h.entry_points t
-package_one (whether_dependency nv) fair parts p h = h.dependencies nv
-package_one (whether_refused t) fair parts p h = refl
-package_one (about t q) fair parts p h = module_one t q fair (lookup_text t parts.modules.entries) (lookup_text t p.module_ranges.entries)
-    (h.modules t)
-
-packages_one : (q : Question) → IsTextless q → (parts : Option JoinedPackage) (p : Option PackagePublicRanges) → ArePackageAnswers parts p →
-    where_found (package_answer q) p ≡ where_found (λ x. package_is_said x q) parts
-packages_one q fair None None h = refl
-packages_one q fair None (Some p) h = absurd h
-packages_one q fair (Some x) None h = absurd h
-packages_one q fair (Some x) (Some p) h = package_one q fair x p h
-
-packages_exact : (t : List ℕ) (test : PlacedFault → Bool) (parts : Option JoinedPackage) (p : Option PackagePublicRanges) →
-    ArePackageAnswers parts p →
-    where_found (package_answer (about t (whether_faulty test))) p ≡ true →
-    where_found (λ x. package_says x (about t (whether_faulty test))) parts ≡ true
-packages_exact t test None None h e = e
-packages_exact t test None (Some p) h e = absurd h
-packages_exact t test (Some x) None h e = absurd h
-packages_exact t test (Some x) (Some p) h e = exact_one t test (lookup_text t x.modules.entries) (lookup_text t p.module_ranges.entries)
-    (h.modules t) e
-
--- that types are not known, where nothing else is wrong
-hidden_module : (o : Option JoinedModule) → where_found (λ m. module_is_said m whether_untyped) o
-    ≡ (where_found (λ m. module_says m whether_untyped) o && not (where_found (λ m. module_says m whether_otherwise_faulty) o))
-hidden_module None = refl
-hidden_module (Some m) = refl
-
-hidden : (t : List ℕ) (o : Option JoinedPackage) → where_found (λ x. package_is_said x (about t whether_untyped)) o
-    ≡ (where_found (λ x. package_says x (about t whether_untyped)) o &&
-    not (where_found (λ x. package_says x (about t whether_otherwise_faulty)) o))
-hidden t None = refl
-hidden t (Some p) = hidden_module (lookup_text t p.modules.entries)
-
-module _ (found : List Finding) (packages : List (PackageNv × JoinedPackage)) (answers : BTreeMap PackageNv PackagePublicRanges)
-    (joined : (nv : Nv) (q : Question) → packages_say packages nv q ≡ findings_say found nv q)
-    (made : (nv : Nv) → ArePackageAnswers (lookup_package nv packages) (lookup_package nv answers.entries))
-    (nv : Nv) (not_kept : is_kept (flat_map yields_of found) nv ≡ false) where
-  first : (q : Question) → IsTextless q → answer answers nv q ≡ where_found (λ x. package_is_said x q) (lookup_package nv packages)
-  first q fair = packages_one q fair (lookup_package nv packages) (lookup_package nv answers.entries) (made nv)
-
-  says_so : (q : Question) → packages_say packages nv q ≡ yields_say (flat_map yields_of found) nv q
-  says_so q = joined nv q ∙ (all_yields found nv q ∙ not_kept_says nv q found not_kept)
-
-  said : (q : Question) → IsTextless q → answer answers nv q ≡ is_said (flat_map yields_of found) nv q
-  said whether_known fair = first whether_known fair ∙ says_so whether_known
-  said (whether_entry_point t) fair = first (whether_entry_point t) fair ∙ says_so (whether_entry_point t)
-  said (whether_dependency d) fair = first (whether_dependency d) fair ∙ says_so (whether_dependency d)
-  said (whether_refused t) fair = first (whether_refused t) fair ∙ says_so (whether_refused t)
-  said (about t whether_untyped) fair = first (about t whether_untyped) fair ∙ (hidden t (lookup_package nv packages) ∙
-      (ap (λ b. b && not (packages_say packages nv (about t whether_otherwise_faulty))) (says_so (about t whether_untyped)) ∙
-      ap (λ b. yields_say (flat_map yields_of found) nv (about t whether_untyped) && not b) (says_so (about t whether_otherwise_faulty))))
-  said (about t whether_recorded) fair = first (about t whether_recorded) fair ∙ says_so (about t whether_recorded)
-  said (about t (whether_public r)) fair = first (about t (whether_public r)) fair ∙ says_so (about t (whether_public r))
-  said (about t (whether_implementing r)) fair = first (about t (whether_implementing r)) fair ∙ says_so (about t (whether_implementing r))
-  said (about t whether_missing) fair = first (about t whether_missing) fair ∙ says_so (about t whether_missing)
-  said (about t whether_untyped_entry) fair = first (about t whether_untyped_entry) fair ∙ says_so (about t whether_untyped_entry)
-  said (about t (whether_faulty test)) fair = first (about t (whether_faulty test)) fair ∙ says_so (about t (whether_faulty test))
-  said (about t whether_otherwise_faulty) fair = first (about t whether_otherwise_faulty) fair ∙ says_so (about t whether_otherwise_faulty)
-
-  exact : (t : List ℕ) (test : PlacedFault → Bool) → answer answers nv (about t (whether_faulty test)) ≡ true →
-      is_said (flat_map yields_of found) nv (about t (whether_faulty test)) ≡ true
-  exact t test e = sym (says_so (about t (whether_faulty test))) ∙
-      packages_exact t test (lookup_package nv packages) (lookup_package nv answers.entries) (made nv) e
-
-  -- of a package whose item is not used
-  pub joined_at : IsSaidAt (flat_map yields_of found) nv (lookup_package nv answers.entries)
-  joined_at = record {
-    said = said;
-    exact = exact;
-    only = only packages answers made (flat_map yields_of found) nv said exact;
-    once = once packages answers made nv;
-    uncached = uncached packages answers made nv;
-  }
+pub is_put : (packages : List Nv) (x : Found) (old new : BTreeMap PackageNv PackagePublicRanges) (answer : PackagePublicRanges) →
+    ((q : Nv) → is_filled (package_yields packages q x.1) ≡ true) → ((q : Nv) → IsPackageAnswer (package_yields packages q x.1) answer) →
+    tree.UpdatesBy package_cmp (package_cmp x.0) old new (Some answer) → IsAdded packages x old.entries new.entries
+is_put packages x old new answer filled is u = record {
+  stays = λ nv no. lookup_after package_total (is_package nv) (package_one nv) x.0 old new (Some answer) u
+      ∙ ap (λ b. cond b (Some answer) (lookup_package nv old.entries)) no;
+  stands = λ nv q yes none. subst (λ (o : Option PackagePublicRanges). StandsFor IsPackageAnswer (package_yields packages q x.1) o)
+      (sym (lookup_after package_total (is_package nv) (package_one nv) x.0 old new (Some answer) u
+      ∙ ap (λ b. cond b (Some answer) (lookup_package nv old.entries)) yes))
+      (filled q, is q);
+}

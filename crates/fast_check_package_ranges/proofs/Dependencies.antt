@@ -7,7 +7,7 @@ use Rattle.std.specs.BTreeSet.{BTreeSet, contains, Updates}
 use Rattle.fast_check_packages.specs.declared.package.PackageNv.{PackageNv}
 use Rattle.fast_check_packages.specs.Package.{Nv}
 use Rattle.fast_check_packages.specs.Packages.{package_cmp}
-use Rattle.fast_check_findings.proofs.Lists.{any_alike, any_push}
+use Rattle.fast_check_findings.proofs.Lists.{any_push}
 use Rattle.fast_check_package_ranges.specs.Parts.{is_package}
 use Rattle.fast_check_package_ranges.proofs.Maps.{package_one, package_total}
 use Rattle.fast_check_package_ranges.proofs.Sets.{collected}
@@ -29,15 +29,3 @@ has_more old new key u nv =
     ∙ (or_last (eq_by_cmp package_cmp q key) (contains package_cmp old q)
     ∙ sym (any_push (eq_by_cmp package_cmp q) old.keys key))))
     ∙ any_push (is_package nv) old.keys key
-
-absorbed : (l b : Bool) → (b ≡ true → l ≡ true) → l ≡ (l || b)
-absorbed true b h = refl
-absorbed false true h = h refl
-absorbed false false h = refl
-
--- one that is there is no other
-pub has_already : (old : BTreeSet PackageNv) (p : PackageNv) → contains package_cmp old p ≡ true → (nv : Nv)
-    → list_any (is_package nv) old.keys ≡ (list_any (is_package nv) old.keys || is_package nv p)
-has_already old p there nv =
-    absorbed (list_any (is_package nv) old.keys) (is_package nv p)
-    (λ y. any_alike (is_package nv) (eq_by_cmp package_cmp p) (λ k. package_one nv p k y) old.keys ∙ there)

@@ -1,127 +1,137 @@
 -- What answers by package say.
-use Rattle.std.specs.Prelude.{◌≡◌, Bool, true, false, ◌&&◌, ◌||◌, List, [], map, Option, Some, None}
-use Rattle.std.specs.List.{list_any, Contains, IsDistinct}
+use Rattle.std.specs.Prelude.{◌≡◌, Bool, true, false, cond, List, [], ◌∷◌, map, Option, Some, None}
+use Rattle.std.specs.List.{list_any, filter, flat_map, Contains}
+use Rattle.std.specs.Map.{lookup}
+use Rattle.std.specs.Option.{option_and_then}
+use Rattle.std.specs.Str.{bytes_eq}
 use Rattle.std.specs.BTreeMap.{BTreeMap}
+use Rattle.url.specs.Parts.{Parts, serialize}
+use Rattle.fast_check_syntax.specs.declared.source.SourceRange.{SourceRange}
 use Rattle.fast_check_packages.specs.Package.{Nv, nv_of}
 use Rattle.fast_check_packages.specs.declared.package.PackageNv.{PackageNv}
-use Rattle.url.specs.Parts.{Parts}
-use Rattle.fast_check_cache.specs.Cache.{ItemView, module_of}
-use Rattle.fast_check_cache.specs.declared.item.FastCheckCacheModuleItem.{FastCheckCacheModuleItem}
+use Rattle.fast_check_cache.specs.Cache.{ItemView, module_of as item_module}
 use Rattle.fast_check_cache.specs.declared.package_ranges.PackagePublicRanges.{PackagePublicRanges}
-use Rattle.fast_check_diagnostics.specs.PublicRanges.{PublicRanges, is_public, is_implementation}
-use Rattle.fast_check_diagnostics.specs.declared.diagnostics.FastCheckDiagnostic.{FastCheckDiagnostic}
-use Rattle.fast_check_diagnostics.specs.declared.diagnostics.FastCheckDiagnostic.TheVariants.{
-  ExportNotFound,
-  UnsupportedJavaScriptEntrypoint,
-  UnsupportedNestedJavaScript,
-}
+use Rattle.fast_check_diagnostics.specs.PublicRanges.{PublicRanges, same_range}
 use Rattle.fast_check_worklists.specs.Demands.{Text, same_nv}
-use Rattle.fast_check_findings.specs.Faults.{PlacedFault, demand_fault}
-use Rattle.fast_check_findings.specs.Yields.{Yield, kept}
-use Rattle.fast_check_package_ranges.specs.Questions.{ModuleQuestion, whether_recorded, whether_public}
-use Rattle.fast_check_package_ranges.specs.Questions.{whether_implementing, whether_missing, whether_untyped_entry}
-use Rattle.fast_check_package_ranges.specs.Questions.{whether_untyped, whether_faulty, whether_otherwise_faulty}
-use Rattle.fast_check_package_ranges.specs.Questions.{Question, whether_known, whether_entry_point, whether_dependency}
-use Rattle.fast_check_package_ranges.specs.Questions.{whether_refused, about, is_fault, is_kept, is_said, IsTextless}
-use Rattle.fast_check_findings.specs.Diagnostics.{any_fault, diagnoses, where_found, diagnose_one_fault}
-use Rattle.fast_check_package_ranges.specs.Parts.{is_text, is_package, lookup_text, lookup_package}
+use Rattle.fast_check_findings.specs.Diagnostics.{AreDiagnosed}
+use Rattle.fast_check_findings.specs.Yields.{ModuleFault, Yield, known_package, entry_point, refused_export, dependency}
+use Rattle.fast_check_findings.specs.Yields.{recorded, public, implementing, faulty, kept}
 
--- Diagnostics of a module as a whole carry its specifier.
-abbrev pub diagnoses_missing : Text → FastCheckDiagnostic → Bool
-diagnoses_missing t (ExportNotFound specifier) = is_text t specifier
-diagnoses_missing t _ = false
+-- which package a yield is about, and which module of it
 
-abbrev pub diagnoses_untyped_entry : Text → FastCheckDiagnostic → Bool
-diagnoses_untyped_entry t (UnsupportedJavaScriptEntrypoint specifier) = is_text t specifier
-diagnoses_untyped_entry t _ = false
+abbrev pub package_of : Yield → Nv
+package_of (known_package nv) = nv
+package_of (entry_point nv t) = nv
+package_of (refused_export nv t) = nv
+package_of (dependency nv d) = nv
+package_of (recorded nv t) = nv
+package_of (public nv t r) = nv
+package_of (implementing nv t r) = nv
+package_of (faulty nv t f) = nv
+package_of (kept nv entry_points item) = nv
 
-abbrev pub diagnoses_untyped : Text → FastCheckDiagnostic → Bool
-diagnoses_untyped t (UnsupportedNestedJavaScript specifier) = is_text t specifier
-diagnoses_untyped t _ = false
+abbrev pub modules_of : Yield → List Text
+modules_of (recorded nv t) = t ∷ []
+modules_of (public nv t r) = t ∷ []
+modules_of (implementing nv t r) = t ∷ []
+modules_of (faulty nv t f) = t ∷ []
+modules_of y = []
 
-abbrev pub diagnoses_otherwise : Text → FastCheckDiagnostic → Bool
-diagnoses_otherwise t d = diagnoses_missing t d || (diagnoses_untyped_entry t d || diagnoses any_fault d)
+abbrev pub about : Nv → List Yield → List Yield
+about nv yields = filter (λ y. same_nv nv (package_of y)) yields
 
--- two diagnostics tell the same of a module
-abbrev pub diagnose_alike : Text → FastCheckDiagnostic → FastCheckDiagnostic → Bool
-diagnose_alike t a b = (diagnoses_missing t a && diagnoses_missing t b)
-    || ((diagnoses_untyped_entry t a && diagnoses_untyped_entry t b)
-    || ((diagnoses_untyped t a && diagnoses_untyped t b) || diagnose_one_fault a b))
+abbrev pub about_module : Text → List Yield → List Yield
+about_module t yields = filter (λ y. list_any (bytes_eq t) (modules_of y)) yields
 
--- the yields say what a diagnostic tells of a module: of the module as a whole, or of a fault of a demand, with its
--- source text
-abbrev pub is_so : List Yield → Nv → Text → FastCheckDiagnostic → Bool
-is_so yields nv t d = (diagnoses_missing t d && is_said yields nv (about t whether_missing))
-    || ((diagnoses_untyped_entry t d && is_said yields nv (about t whether_untyped_entry))
-    || ((diagnoses_untyped t d && is_said yields nv (about t whether_untyped))
-    || where_found (λ r. is_said yields nv (about t (whether_faulty (is_fault r)))) (demand_fault d)))
+-- what a yield says of its package, and of its module
 
--- the answer about a module
-abbrev pub module_answer : Text → ModuleQuestion → PublicRanges → Bool
-module_answer t whether_recorded m = true
-module_answer t (whether_public r) m = is_public m r
-module_answer t (whether_implementing r) m = is_implementation m r
-module_answer t whether_missing m = list_any (diagnoses_missing t) m.diagnostics
-module_answer t whether_untyped_entry m = list_any (diagnoses_untyped_entry t) m.diagnostics
-module_answer t whether_untyped m = list_any (diagnoses_untyped t) m.diagnostics
-module_answer t (whether_faulty test) m = list_any (diagnoses test) m.diagnostics
-module_answer t whether_otherwise_faulty m = list_any (diagnoses_otherwise t) m.diagnostics
+abbrev pub entry_points_of : Yield → List Text
+entry_points_of (entry_point nv t) = t ∷ []
+entry_points_of (kept nv entry_points item) = map serialize entry_points
+entry_points_of y = []
 
--- about a package
-abbrev pub package_answer : Question → PackagePublicRanges → Bool
-package_answer whether_known p = true
-package_answer (whether_entry_point t) p = list_any (is_text t) p.entrypoints.keys
-package_answer (whether_dependency nv) p = list_any (is_package nv) p.dependencies.keys
-package_answer (whether_refused t) p = false
-package_answer (about t q) p = where_found (module_answer t q) (lookup_text t p.module_ranges.entries)
+abbrev pub dependencies_of : Yield → List Nv
+dependencies_of (dependency nv d) = d ∷ []
+dependencies_of (kept nv entry_points item) = item.0
+dependencies_of y = []
 
--- and about any
-abbrev pub answer : BTreeMap PackageNv PackagePublicRanges → Nv → Question → Bool
-answer answers nv q = where_found (package_answer q) (lookup_package nv answers.entries)
+abbrev pub ranges_of : Yield → List SourceRange
+ranges_of (public nv t r) = r ∷ []
+ranges_of y = []
 
--- the diagnostics of a module in the answers
-abbrev pub module_diagnostics : Option PublicRanges → List FastCheckDiagnostic
-module_diagnostics None = []
-module_diagnostics (Some m) = m.diagnostics
+abbrev pub implementations_of : Yield → List SourceRange
+implementations_of (implementing nv t r) = r ∷ []
+implementations_of y = []
 
-abbrev pub package_diagnostics : Text → Option PackagePublicRanges → List FastCheckDiagnostic
-package_diagnostics t None = []
-package_diagnostics t (Some p) = module_diagnostics (lookup_text t p.module_ranges.entries)
+abbrev pub faults_of : Yield → List ModuleFault
+faults_of (faulty nv t f) = f ∷ []
+faults_of y = []
 
-abbrev pub diagnostics_of : BTreeMap PackageNv PackagePublicRanges → Nv → Text → List FastCheckDiagnostic
-diagnostics_of answers nv t = package_diagnostics t (lookup_package nv answers.entries)
+abbrev pub refused_of : Yield → List Text
+refused_of (refused_export nv t) = t ∷ []
+refused_of y = []
 
--- what of a package comes from a cache
-abbrev pub cached_of : Option PackagePublicRanges → List (Parts × FastCheckCacheModuleItem)
-cached_of None = []
-cached_of (Some p) = p.cache_items.items
+abbrev pub is_filled : {X : Type 0} → List X → Bool
+is_filled [] = false
+is_filled (x ∷ xs) = true
 
--- the answer of a package whose item is used: its entry points, and the dependencies and modules of the item, in their
--- order
-pub record IsKeptAnswer (entry_points : List Parts) (item : ItemView) (p : PackagePublicRanges) : Type 0 where
+-- an item that is used and has modules, with the entry points
+abbrev pub items_of : Yield → List (List Parts × ItemView)
+items_of (kept nv entry_points item) = cond (is_filled item.1) ((entry_points, item) ∷ []) []
+items_of y = []
+
+-- two lists have the same, by a test of what is the same
+abbrev pub AreSame : {X : Type 0} → (X → X → Bool) → List X → List X → Type 0
+AreSame {X} same xs ys = (x : X) → list_any (same x) xs ≡ list_any (same x) ys
+
+-- an answer stands exactly if there are yields about it, and answers them
+abbrev pub StandsFor : {X : Type 0} → (List Yield → X → Type 0) → List Yield → Option X → Type 0
+StandsFor P ys None = ys ≡ []
+StandsFor P ys (Some x) = (is_filled ys ≡ true) × P ys x
+
+abbrev pub lookup_text : {X : Type 0} → Text → List (Parts × X) → Option X
+lookup_text t modules = lookup (λ url. bytes_eq t (serialize url)) modules
+
+abbrev pub lookup_package : {X : Type 0} → Nv → List (PackageNv × X) → Option X
+lookup_package nv packages = lookup (λ p. same_nv nv (nv_of p)) packages
+
+-- a module, by the yields about it
+pub record IsModuleAnswer (t : Text) (ys : List Yield) (m : PublicRanges) : Type 0 where
+  pub ranges : AreSame same_range m.ranges (flat_map ranges_of ys)
+  pub implementations : AreSame same_range m.implementations (flat_map implementations_of ys)
+  pub diagnosed : AreDiagnosed t (flat_map faults_of ys) m.diagnostics
+
+-- a package, by the yields about it
+pub record IsFollowedAnswer (ys : List Yield) (p : PackagePublicRanges) : Type 0 where
+  pub entry_points : AreSame bytes_eq (map serialize p.entrypoints.keys) (flat_map entry_points_of ys)
+  pub dependencies : AreSame same_nv (map nv_of p.dependencies.keys) (flat_map dependencies_of ys)
+  pub modules : (t : Text) → StandsFor (IsModuleAnswer t) (about_module t ys) (lookup_text t p.module_ranges.entries)
+  pub uncached : p.cache_items.items ≡ []
+  pub not_refused : flat_map refused_of ys ≡ []
+
+-- a package whose item is used: its entry points, and the dependencies and modules of the item, in their order
+pub record IsItemAnswer (entry_points : List Parts) (item : ItemView) (p : PackagePublicRanges) : Type 0 where
   pub entry_points_are : p.entrypoints.keys ≡ entry_points
   pub dependencies_are : map nv_of p.dependencies.keys ≡ item.0
-  pub modules_are : map (λ e. (e.0, module_of e.1)) p.cache_items.items ≡ item.1
+  pub modules_are : map (λ e. (e.0, item_module e.1)) p.cache_items.items ≡ item.1
   pub nothing_else : p.module_ranges.entries ≡ []
 
--- and that of some yield of the package
-abbrev pub IsKeptIn : List Yield → Nv → Option PackagePublicRanges → Type 0
-IsKeptIn yields nv None = ⊥
-IsKeptIn yields nv (Some p) = (q : Nv) × (entry_points : List Parts) × (item : ItemView) ×
-    Contains yields (kept q entry_points item)
-    × (same_nv nv q ≡ true) × IsKeptAnswer entry_points item p
+-- an item that is used and has modules is answered in place of all that the yields say of its package
+abbrev pub IsAnswerBy : List (List Parts × ItemView) → List Yield → PackagePublicRanges → Type 0
+IsAnswerBy [] ys p = IsFollowedAnswer ys p
+IsAnswerBy (i ∷ items) ys p = (e : List Parts × ItemView) × Contains (i ∷ items) e × IsItemAnswer e.0 e.1 p
 
--- The answers say what the yields say, and nothing else. What is told of a fault is, with its source text, what some
--- yield tells; every diagnostic of a module tells what its yields say, and no two tell the same; and nothing comes from
--- a cache. But an item that is used and has modules is answered in place of all that the yields say of its package.
-pub record AreAnswers (yields : List Yield) (answers : BTreeMap PackageNv PackagePublicRanges) : Type 0 where
-  pub said : (nv : Nv) (q : Question) → is_kept yields nv ≡ false → IsTextless q →
-      answer answers nv q ≡ is_said yields nv q
-  pub exact : (nv : Nv) (t : Text) (test : PlacedFault → Bool) →
-      answer answers nv (about t (whether_faulty test)) ≡ true →
-      is_said yields nv (about t (whether_faulty test)) ≡ true
-  pub only : (nv : Nv) (t : Text) (d : FastCheckDiagnostic) → Contains (diagnostics_of answers nv t) d →
-      is_so yields nv t d ≡ true
-  pub once : (nv : Nv) (t : Text) → IsDistinct (diagnose_alike t) (diagnostics_of answers nv t)
-  pub uncached : (nv : Nv) → is_kept yields nv ≡ false → cached_of (lookup_package nv answers.entries) ≡ []
-  pub cached : (nv : Nv) → is_kept yields nv ≡ true → IsKeptIn yields nv (lookup_package nv answers.entries)
+abbrev pub IsPackageAnswer : List Yield → PackagePublicRanges → Type 0
+IsPackageAnswer ys p = IsAnswerBy (flat_map items_of ys) ys p
+
+-- The answers say what the yields say, and nothing else: each package stands exactly if a yield is about it, and each
+-- module of it alike, with the sets of what the yields say of them. Each diagnostic tells what some yield says, and all
+-- that is to be told is told, but nothing twice; and nothing comes from a cache but an item that is used.
+abbrev pub AreAnswers : List Yield → BTreeMap PackageNv PackagePublicRanges → Type 0
+AreAnswers yields answers =
+    (nv : Nv) → StandsFor IsPackageAnswer (about nv yields) (lookup_package nv answers.entries)
+
+-- the answer about a module of a package
+abbrev pub module_answer : BTreeMap PackageNv PackagePublicRanges → Nv → Text → Option PublicRanges
+module_answer answers nv t = option_and_then (λ p. lookup_text t p.module_ranges.entries)
+    (lookup_package nv answers.entries)

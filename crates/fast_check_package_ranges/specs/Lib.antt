@@ -1,5 +1,3 @@
 pub use Rattle.fast_check_findings.specs as findings
-pub mod Questions
-pub mod Parts
 pub mod Answers
-pub mod Made
+pub mod Parts

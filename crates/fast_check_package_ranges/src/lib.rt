@@ -1,9 +1,8 @@
-//! What following packages found, by package and module.
+//! What is found of packages, as it is answered: by package and module.
 #![tactic(auto)]
 
-mod found;
-mod kept;
-mod parts;
+mod modules;
+mod packages;
 mod ranges;
 
 pub use ranges::package_ranges;

@@ -12,7 +12,7 @@ use Rattle.fast_check_demands.specs.Rules.{each_of, names}
 use Rattle.fast_check_demands.proofs.Elements.{later, in_flat}
 use Rattle.fast_check_demands.proofs.Each.{Each, each_nil, each_one, each_append, each_cons, each_map, each_flat}
 use Rattle.fast_check_name_demands.specs.Files.{FileDemand, files}
-use Rattle.fast_check_findings.specs.declared.finding.EntryFault.{EntryFault}
+use Rattle.fast_check_findings.specs.declared.found.EntryFault.{EntryFault}
 use Rattle.fast_check_traces.specs.declared.modules.TracedModule.{TracedModule}
 use Rattle.fast_check_traces.specs.Modules.{own_tables}
 use Rattle.fast_check_traces.specs.Roots.{roots}

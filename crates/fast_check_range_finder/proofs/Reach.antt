@@ -27,7 +27,7 @@ use Rattle.fast_check_traces.specs.Wants.{Want as ModuleWant, re_exported, answe
 use Rattle.fast_check_worklists.specs.Demands.{Text, same_nv, asked_by, Want, to_package, to_module, to_symbol, Demand, of_package}
 use Rattle.fast_check_worklists.specs.Demands.{of_module, of_symbol}
 use Rattle.fast_check_worklists.proofs.Maps.{first_in, found_in}
-use Rattle.fast_check_findings.specs.declared.finding.EntryFault.{EntryFault}
+use Rattle.fast_check_findings.specs.declared.found.EntryFault.{EntryFault}
 use Rattle.fast_check_entries.specs.Entries.{Entrance, passed_over, refused, entered, all_faults}
 use Rattle.fast_check_sources.specs.Sources.{Used, Known, named_at, info_at, traced_as}
 use Rattle.fast_check_sources.specs.Wants.{file_at, behind, resolved, file_wants, left_wants}

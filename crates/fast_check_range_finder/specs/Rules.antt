@@ -14,7 +14,7 @@ use Rattle.fast_check_traces.specs.declared.modules.TracedModule.{TracedModule}
 use Rattle.fast_check_traces.specs.Modules.{own_tables}
 use Rattle.fast_check_traces.specs.Roots.{roots}
 use Rattle.fast_check_traces.specs.Wants.{module_wants}
-use Rattle.fast_check_entries.specs.findings.declared.finding.EntryFault.{EntryFault}
+use Rattle.fast_check_entries.specs.findings.declared.found.EntryFault.{EntryFault}
 use Rattle.fast_check_entries.specs.Entries.{Entrance, passed_over, refused, entered, all_faults, entrance_of}
 use Rattle.fast_check_worklists.specs.Demands.{Text, asked_by, Want, to_package, to_module, to_symbol, of_package}
 use Rattle.fast_check_worklists.specs.Demands.{of_module, of_symbol, World}

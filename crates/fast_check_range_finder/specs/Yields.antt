@@ -20,7 +20,7 @@ use Rattle.fast_check_traces.specs.Modules.{own_tables}
 use Rattle.fast_check_traces.specs.Wants.{re_export_ranges}
 use Rattle.fast_check_worklists.specs.Demands.{Text, Want, to_package, to_module, to_symbol, Demand, of_package}
 use Rattle.fast_check_worklists.specs.Demands.{of_module, of_symbol}
-use Rattle.fast_check_entries.specs.findings.declared.finding.EntryFault.{EntryFault}
+use Rattle.fast_check_entries.specs.findings.declared.found.EntryFault.{EntryFault}
 use Rattle.fast_check_entries.specs.findings.Yields.{Yield, known_package, entry_point, refused_export, dependency}
 use Rattle.fast_check_entries.specs.findings.Yields.{recorded, public, implementing, untyped_module, kept}
 use Rattle.fast_check_entries.specs.findings.Findings.{faulty_module, entry_fault, placed_yields}

@@ -3,7 +3,7 @@
 use crate::finder::Finder;
 use fast_check_cache::{FastCheckCache, FastCheckCacheItem, look_up};
 use fast_check_entries::{MemberEntries, entry_faults, entry_points};
-use fast_check_findings::found::Entrance;
+use fast_check_findings::Entrance;
 use fast_check_name_demands::NameDemand;
 use fast_check_packages::{BuildFault, JsrUrlProvider, PackageNv};
 use fast_check_sources::Sources;

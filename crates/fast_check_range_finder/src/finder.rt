@@ -11,7 +11,7 @@ use crate::asked::AskedSymbols;
 use crate::demand::{Dependency, NamesAt, Place, SymbolAt};
 use crate::names::ask_names;
 use fast_check_demands::{Demands, SymbolDemand};
-use fast_check_findings::found::{Entrance, FoundModule};
+use fast_check_findings::{Entrance, FoundModule};
 use fast_check_graph::AnyModuleInfo;
 use fast_check_lattice::HandledExports;
 use fast_check_name_demands::NameDemand;

@@ -23,7 +23,7 @@ returns-clause-found g c =
     subst (λ (ps : List PackageNv). IsFound k (map nv_of ps) c.in_ok-answers.answers)
     (c.as_slice.ensures.value ∙ c.into_vec-roots.ensures.items)
     (found_public k
-    (map nv_of c.as_slice.result.now) c.in_ok-found.found.items c.in_ok-answers.answers c.in_ok-found.ensures.found c.in_ok-answers.ensures
+    (map nv_of c.as_slice.result.now) c.in_ok-found.found.entries c.in_ok-answers.answers c.in_ok-found.ensures.found c.in_ok-answers.ensures
     c.own_names_find.ensures)
 
 pub returns-in_err-found-clause-refused : goal.returns-in_err-found-clause-refused

@@ -1,0 +1,38 @@
+use Rattle.std.proofs.Common.{◌∙◌, refl, sym, ap, subst, List, [], ◌++◌, map}
+use Rattle.std.specs.List.{flat_map}
+use Rattle.url.specs.Parts.{Parts}
+use Rattle.fast_check_packages.specs.Package.{nv_of}
+use Rattle.fast_check_findings.specs.Found.{module_yields, entrance_yields, dependency_yields, untyped_yields, package_yields}
+use Rattle.fast_check_package_ranges.specs.declared.modules.ModuleParts.{ModuleParts}
+use Rattle.fast_check_package_ranges.specs.Answers.{is_filled}
+use Rattle.fast_check_package_ranges.specs.Parts.{AreModules}
+use Rattle.fast_check_package_ranges.proofs.Answered.{by_item, by_parts}
+use Rattle.fast_check_package_ranges.proofs.Followed.{silent_of_modules}
+use Rattle.fast_check_package_ranges.proofs.Joined.{joined_none, joins_then, joins_silent}
+use Rattle.fast_check_package_ranges.proofs.packages.answer_of.Goals as goal
+
+pub returns-then-has_modules : goal.returns-then-has_modules
+returns-then-has_modules c = λ nv.
+    by_item (map nv_of c.args.packages.now) nv c.args.found c.in_ok-answer.answer c.in_ok-answer.ensures.answer
+    (sym (c.has_modules.ensures ∙ ap is_filled c.as_slice.ensures.value) ∙ c.if-has_modules.true)
+
+pub returns : goal.returns
+returns c = λ nv.
+    let packages = map nv_of c.args.packages.now in
+    let found = c.args.found in
+    let e = entrance_yields nv found.entrance in
+    let d = flat_map (dependency_yields packages nv) found.dependencies.keys in
+    let m = flat_map (λ x. module_yields nv x.1) found.modules.entries in
+    let u = flat_map (untyped_yields nv) found.untyped.items in
+    let m0 = c.new-modules.result.entries in
+    let m1 = c.entered_answer.new.modules.entries in
+    let m2 = c.add_all_followed.new.modules.entries in
+    let m3 = c.add_all_untyped.new.modules.entries in
+    let modules : AreModules (package_yields packages nv found) m3 =
+    joins_then e (d ++ (m ++ u)) m0 m1 m3 (c.in_ok-answer.ensures.modules nv)
+    (joins_then d (m ++ u) m1 m1 m3 (joins_silent d (silent_of_modules packages nv found) m1)
+    (joins_then m u m1 m2 m3 (c.in_ok-add_all_followed.ensures nv) (c.in_ok-add_all_untyped.ensures nv)))
+    [] (subst (λ (es : List (Parts × ModuleParts)). AreModules [] es) (sym c.new-modules.ensures.empty) joined_none) in
+    by_parts packages nv found c.in_ok-answer.answer _ c.in_ok-answer.ensures.answer
+    (sym (c.has_modules.ensures ∙ ap is_filled c.as_slice.ensures.value) ∙ c.if-has_modules.false)
+    refl refl c.in_ok-add_dependencies.ensures (c.in_ok-answer-2.ensures (package_yields packages nv found) modules)
