@@ -4,16 +4,15 @@ ghost use Rattle.std.specs.Prelude.{IfOk, IfErr};
 ghost use Rattle.fast_check_build_requests.specs.Input.{HoldsBuild, LacksBuild};
 
 use crate::request::{BuildRequest, read_build_value};
-use fast_check_read::read_input;
-use fast_check_requests::Refusal;
+use fast_check_requests::{Refusal, take_input};
 use std::alloc::Global;
 
 /// The request of `build` in the bytes of a file: `NotJson` where they are no JSON value, and `BadForm` where they are the JSON of
-/// no request.
-pub fn read_build(alloc: Global, bytes: &[u8]) -> Result<BuildRequest, Refusal>
-    ensures request { IfOk result (HoldsBuild bytes.now) }
-    ensures refusal { IfErr result (LacksBuild bytes.now) }
+/// no request. The bytes are dropped before the request is made of the value.
+pub fn read_build(alloc: Global, bytes: Vec<u8>) -> Result<BuildRequest, Refusal>
+    ensures request { IfOk result (HoldsBuild bytes.items) }
+    ensures refusal { IfErr result (LacksBuild bytes.items) }
 {
-    let value = read_input(alloc, bytes)?;
+    let value = take_input(alloc, bytes)?;
     Ok(read_build_value(alloc, value)?)
 }

@@ -114,8 +114,13 @@ fn say_request(alloc: Global, request: TransformRequest, line: &str, said: &mut 
     say_made(alloc, &graph, &made, &public_ranges, said);
 }
 
+/// The request in a copy of the bytes.
+fn read_copy(alloc: Global, bytes: &[u8]) -> Result<TransformRequest, Refusal> {
+    read_request(alloc, bytes.to_vec(alloc)?)
+}
+
 fn say_line(alloc: Global, bytes: &[u8], line: &str, said: &mut Said) {
-    match read_request(alloc, bytes) {
+    match read_copy(alloc, bytes) {
         Ok(request) => say_request(alloc, request, line, said),
         Err(refusal) => said.say(refusal.line()),
     }

@@ -9,7 +9,7 @@ use std::alloc::Global;
 use std::{fs, io};
 
 /// Transforms the module of the bytes of a file.
-fn say_file(alloc: Global, bytes: &[u8], said: &mut Said) {
+fn say_file(alloc: Global, bytes: Vec<u8>, said: &mut Said) {
     match read_request(alloc, bytes) {
         Ok(request) => say_calls(alloc, request, said),
         Err(refusal) => said.say(refusal.line()),
@@ -20,7 +20,7 @@ fn run_file(rt: &HostRuntime, name: &str) -> io::Result<()> {
     println!(rt; "{name}")?;
     let bytes = fs::read(rt, name)?;
     let mut said = Said::new(rt.alloc());
-    say_file(rt.alloc(), bytes.as_slice(), &mut said);
+    say_file(rt.alloc(), bytes, &mut said);
     println!(rt; "{}", said.text().unwrap_or("no memory"))
 }
 

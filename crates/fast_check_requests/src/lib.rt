@@ -13,7 +13,7 @@ mod words;
 
 pub use command::{Answer, Command};
 pub use ending::Ending;
-pub use input::{read_bytes, read_request};
+pub use input::{read_bytes, read_request, take_input};
 pub use lines::{LineWriter, Lines};
 pub use program::run_commands;
 pub use refusal::Refusal;

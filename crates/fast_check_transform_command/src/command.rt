@@ -2,7 +2,6 @@
 
 ghost use Rattle.std.specs.Prelude.{◌≡◌, ◌<◌, IfOk, IfErr};
 ghost use Rattle.fast_check_modules.specs.EsModule.{Admits};
-ghost use Rattle.fast_check_requests.specs.Input.{HoldsRequest, LacksRequest};
 ghost use Rattle.fast_check_requests.specs.Run.{IsOfBytes};
 ghost use Rattle.fast_check_transform_command.specs.Line.{IsAnswer};
 ghost use Rattle.fast_check_transform_command.specs.Transform.{AnswersModule, RefusesModule, AnswersRequest, RefusesRequest, IsAnswerTo, RefusesBytes};
@@ -22,15 +21,7 @@ pub fn answer_transform(alloc: Global, bytes: Vec<u8>) -> Result<Answer, Refusal
     ensures refusal { IfErr result (λ refusal. RefusesBytes refusal bytes.items) }
     ensures of_bytes { IfErr result IsOfBytes }
 {
-    answer_request(alloc, read_transform(alloc, bytes)?)
-}
-
-/// The request in the bytes of a file, which are dropped.
-fn read_transform(alloc: Global, bytes: Vec<u8>) -> Result<TransformRequest, Refusal>
-    ensures request { IfOk result (HoldsRequest bytes.items) }
-    ensures refusal { IfErr result (LacksRequest bytes.items) }
-{
-    read_request(alloc, bytes.as_slice())
+    answer_request(alloc, read_request(alloc, bytes)?)
 }
 
 /// The answer to a request, or why it is refused.

@@ -2,11 +2,10 @@
 
 ghost use Rattle.std.specs.Prelude.{◌<◌, IfOk, IfErr};
 ghost use Rattle.fast_check_requests.specs.Run.{IsOfBytes};
-ghost use Rattle.fast_check_build_requests.specs.Input.{HoldsBuild, LacksBuild};
 ghost use Rattle.fast_check_commands.specs.build_command.Build.{IsAnswerTo, RefusesBytes};
 
 use crate::build_command::request::answer_request;
-use fast_check_build_requests::{BuildRequest, read_build};
+use fast_check_build_requests::read_build;
 use fast_check_requests::{Answer, Refusal};
 use std::alloc::Global;
 
@@ -17,13 +16,5 @@ pub fn answer_build(alloc: Global, bytes: Vec<u8>) -> Result<Answer, Refusal>
     ensures refusal { IfErr result (λ refusal. RefusesBytes refusal bytes.items) }
     ensures of_bytes { IfErr result IsOfBytes }
 {
-    answer_request(alloc, read_request(alloc, bytes)?)
-}
-
-/// The request in the bytes of a file, which are dropped.
-fn read_request(alloc: Global, bytes: Vec<u8>) -> Result<BuildRequest, Refusal>
-    ensures request { IfOk result (HoldsBuild bytes.items) }
-    ensures refusal { IfErr result (LacksBuild bytes.items) }
-{
-    read_build(alloc, bytes.as_slice())
+    answer_request(alloc, read_build(alloc, bytes)?)
 }

@@ -5,7 +5,6 @@ ghost use Rattle.fast_check_modules.specs.EsModule.{Admits};
 ghost use Rattle.fast_check_modules.specs.FitProgram.{IsModuleFault};
 ghost use Rattle.fast_check_requests.specs.Run.{IsOfBytes};
 ghost use Rattle.fast_check_transform_command.specs.Transform.{IsModuleOf};
-ghost use Rattle.fast_check_commands.specs.pair_command.Input.{HoldsPair, LacksPair};
 ghost use Rattle.fast_check_commands.specs.pair_command.Line.{status_of, IsPairAnswer};
 ghost use Rattle.fast_check_commands.specs.pair_command.Second.{AnswersSecond, RefusesSecond};
 ghost use Rattle.fast_check_commands.specs.pair_command.Pair.{AnswersModules, RefusesModules, AnswersPair, RefusesPair, IsAnswerTo, RefusesBytes};
@@ -36,15 +35,7 @@ pub fn answer_pair(alloc: Global, bytes: Vec<u8>) -> Result<Answer, Refusal>
     ensures refusal { IfErr result (λ refusal. RefusesBytes refusal bytes.items) }
     ensures of_bytes { IfErr result IsOfBytes }
 {
-    answer_request(alloc, read_request(alloc, bytes)?)
-}
-
-/// The request in the bytes of a file, which are dropped.
-fn read_request(alloc: Global, bytes: Vec<u8>) -> Result<PairRequest, Refusal>
-    ensures request { IfOk result (HoldsPair bytes.items) }
-    ensures refusal { IfErr result (LacksPair bytes.items) }
-{
-    read_pair_input(alloc, bytes.as_slice())
+    answer_request(alloc, read_pair_input(alloc, bytes)?)
 }
 
 /// The module of these parts, or the fault of its tables.

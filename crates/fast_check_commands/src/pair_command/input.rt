@@ -4,16 +4,15 @@ ghost use Rattle.std.specs.Prelude.{IfOk, IfErr};
 ghost use Rattle.fast_check_commands.specs.pair_command.Input.{HoldsPair, LacksPair};
 
 use crate::pair_command::request::{PairRequest, read_pair_request};
-use fast_check_read::read_input;
-use fast_check_requests::Refusal;
+use fast_check_requests::{Refusal, take_input};
 use std::alloc::Global;
 
 /// The request of `pair` in the bytes of a file: `NotJson` where they are no JSON value, and `BadForm` where they are the JSON of no
-/// request.
-pub fn read_pair_input(alloc: Global, bytes: &[u8]) -> Result<PairRequest, Refusal>
-    ensures request { IfOk result (HoldsPair bytes.now) }
-    ensures refusal { IfErr result (LacksPair bytes.now) }
+/// request. The bytes are dropped before the request is made of the value.
+pub fn read_pair_input(alloc: Global, bytes: Vec<u8>) -> Result<PairRequest, Refusal>
+    ensures request { IfOk result (HoldsPair bytes.items) }
+    ensures refusal { IfErr result (LacksPair bytes.items) }
 {
-    let value = read_input(alloc, bytes)?;
+    let value = take_input(alloc, bytes)?;
     Ok(read_pair_request(alloc, &value)?)
 }
