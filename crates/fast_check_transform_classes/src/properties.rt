@@ -14,12 +14,12 @@ use fast_check_swc_helpers::ranges::range_of_node;
 use fast_check_swc_helpers::{DeclMutabilityKind, any_type_ann, maybe_infer_type, type_ann};
 use fast_check_syntax::{Part, Tree};
 use fast_check_transform_expressions::bindings::unresolved_context;
-use fast_check_transform_expressions::leave_value;
+use fast_check_transform_expressions::transform_value;
 use std::alloc::{AllocError, Global};
 
 /// The value of a property as it stays, where it is to give the type; where there is none that may stay, that is a fault at
 /// the key.
-fn keep_value(
+fn transform_property_value(
     alloc: Global,
     info: &EsModuleInfo,
     member: Part<'_>,
@@ -37,7 +37,7 @@ fn keep_value(
         faults.push(fault)?;
         return Ok(Tree::Absent);
     }
-    leave_value(alloc, info, value, Some(place), fault, faults)
+    transform_value(alloc, info, value, Some(place), fault, faults)
 }
 
 /// A property of this type, a `TsTypeAnn`.
@@ -68,7 +68,7 @@ fn untyped_property(
             typed_property(alloc, member, ty)
         }
         None => {
-            let value = keep_value(alloc, info, member, faults)?;
+            let value = transform_property_value(alloc, info, member, faults)?;
             property_head(alloc, member)?.valued(alloc, value)
         }
     }

@@ -35,7 +35,7 @@ fn is_ambient_class(around: Surroundings<'_>, decl: Part<'_>) -> bool
 }
 
 /// The class of a declaration; an ambient one as it is written, but for private members with computed keys.
-fn keep_class_of(
+fn transform_class_of(
     alloc: Global,
     around: Surroundings<'_>,
     decl: Part<'_>,
@@ -57,7 +57,7 @@ fn keep_class_of(
 }
 
 /// A class declaration.
-fn keep_class(
+fn transform_class_decl(
     alloc: Global,
     around: Surroundings<'_>,
     decl: Part<'_>,
@@ -69,13 +69,13 @@ fn keep_class(
     let made = ClassDecl {
         ident: ident.to_tree(alloc)?,
         declare,
-        class: keep_class_of(alloc, around, decl, faults)?,
+        class: transform_class_of(alloc, around, decl, faults)?,
     };
     made.into_tree(alloc)
 }
 
 /// A class declaration, which is public by `place`; none where it is not.
-pub fn keep_public_class(
+pub fn transform_public_class(
     alloc: Global,
     around: Surroundings<'_>,
     place: SourceRange,
@@ -88,7 +88,7 @@ pub fn keep_public_class(
     if !around.public_ranges.contains(&place) {
         return Ok(None);
     }
-    Ok(Some(keep_class(alloc, around, decl, faults)?))
+    Ok(Some(transform_class_decl(alloc, around, decl, faults)?))
 }
 
 /// Removes the comments before the members of a class that go.

@@ -15,7 +15,9 @@ use fast_check_signatures::{Fault, FaultKind, FunctionKind};
 use fast_check_swc_helpers::ranges::range_of_node;
 use fast_check_syntax::{Part, SourceRange, Tree};
 use fast_check_transform_classes::transform_class;
-use fast_check_transform_classes::values::{leave_expr, transform_fn, transform_implementation};
+use fast_check_transform_classes::values::{
+    transform_expr, transform_fn, transform_implementation,
+};
 use fast_check_transform_imports::surroundings::Surroundings;
 use fast_check_transform_imports::surroundings::skeleton::DefaultRule;
 use std::alloc::{AllocError, Global};
@@ -43,7 +45,7 @@ fn is_public_default(around: Surroundings<'_>, item: Part<'_>, rule: DefaultRule
 }
 
 /// The default export of an expression. Where the expression may not stay, that is a fault.
-fn keep_value(
+fn transform_default_value(
     alloc: Global,
     around: Surroundings<'_>,
     item: Part<'_>,
@@ -52,7 +54,7 @@ fn keep_value(
     ensures { IfOk result (λ tree. Adds (default_value_answer (seen_around around.entry) (seen item.entry)) (Some tree) faults.old.items faults.new.items) }
 {
     let ExportDefaultExpr { span, expr } = ExportDefaultExpr::of(item);
-    match leave_expr(alloc, around.es_module_info, expr, None, faults)? {
+    match transform_expr(alloc, around.es_module_info, expr, None, faults)? {
         Some(expr) => ExportDefaultExpr { span, expr }.into_tree(alloc),
         None => {
             faults.push(Fault {
@@ -66,7 +68,7 @@ fn keep_value(
 }
 
 /// A class that is exported by default. It is never ambient.
-fn keep_class(
+fn transform_class_decl(
     alloc: Global,
     around: Surroundings<'_>,
     decl: Part<'_>,
@@ -127,7 +129,7 @@ fn transform_signature(
 }
 
 /// A function that is exported by default, by its signature; where all is ambient as it is written.
-fn keep_function(
+fn transform_default_function(
     alloc: Global,
     around: Surroundings<'_>,
     place: SourceRange,
@@ -149,7 +151,7 @@ fn keep_function(
 }
 
 /// A public default export with which this is done.
-fn keep_public(
+fn transform_public_default(
     alloc: Global,
     around: Surroundings<'_>,
     item: Part<'_>,
@@ -161,13 +163,13 @@ fn keep_public(
 {
     let ExportDefaultDecl { span, decl } = ExportDefaultDecl::of(item);
     match rule {
-        DefaultRule::Value => keep_value(alloc, around, item, faults),
+        DefaultRule::Value => transform_default_value(alloc, around, item, faults),
         DefaultRule::Class => {
-            let decl = keep_class(alloc, around, decl, faults)?;
+            let decl = transform_class_decl(alloc, around, decl, faults)?;
             ExportDefaultDecl { span, decl }.into_tree(alloc)
         }
         DefaultRule::Function => {
-            let decl = keep_function(alloc, around, span, decl, faults)?;
+            let decl = transform_default_function(alloc, around, span, decl, faults)?;
             ExportDefaultDecl { span, decl }.into_tree(alloc)
         }
         DefaultRule::Interface => {
@@ -178,7 +180,7 @@ fn keep_public(
 }
 
 /// What is public of a default export with which this is done; none where nothing is.
-pub fn keep_default(
+pub fn transform_default_export(
     alloc: Global,
     around: Surroundings<'_>,
     item: Part<'_>,
@@ -191,5 +193,5 @@ pub fn keep_default(
     if !is_public_default(around, item, rule) {
         return Ok(None);
     }
-    Ok(Some(keep_public(alloc, around, item, rule, faults)?))
+    Ok(Some(transform_public_default(alloc, around, item, rule, faults)?))
 }

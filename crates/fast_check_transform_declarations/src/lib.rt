@@ -4,6 +4,6 @@
 mod classes;
 mod defaults;
 
-pub use classes::{keep_public_class, remove_inside};
-pub use defaults::keep_default;
+pub use classes::{remove_inside, transform_public_class};
+pub use defaults::transform_default_export;
 pub use fast_check_transform_imports::surroundings;

@@ -19,8 +19,8 @@ use std::alloc::{AllocError, Global};
 /// The expression as it stays, or `None` where it may not (deno_graph's `maybe_transform_expr_if_leavable`). A fault of a
 /// function or an arrow stands at `place`, that of the parent that names it, or else at itself. `info` is the module that
 /// it stands in. The faults are added in reading order.
-#[cycle(leave)]
-pub fn leave_expr(
+#[cycle(transform)]
+pub fn transform_expr(
     alloc: Global,
     info: &EsModuleInfo,
     expr: Part<'_>,
@@ -31,7 +31,7 @@ pub fn leave_expr(
 {
     let kind = expr.kind();
     if is_compound(kind) {
-        return leave_parts(alloc, info, expr, faults);
+        return transform_parts(alloc, info, expr, faults);
     }
     if is_plain(kind) {
         return Ok(Some(expr.to_tree(alloc)?));
@@ -40,14 +40,14 @@ pub fn leave_expr(
         return Ok(Some(transform_arrow(alloc, info, expr, place, faults)?));
     }
     match row_of(alloc, info, expr)? {
-        Some(row) => leave_slots(alloc, info, expr, row, place, faults),
+        Some(row) => transform_slots(alloc, info, expr, row, place, faults),
         None => Ok(None),
     }
 }
 
 /// A node whose parts all stay, round them as they stay.
-#[cycle(leave)]
-fn leave_parts(
+#[cycle(transform)]
+fn transform_parts(
     alloc: Global,
     info: &EsModuleInfo,
     expr: Part<'_>,
@@ -59,7 +59,7 @@ fn leave_parts(
 {
     let mut items = Items::new(alloc);
     for part in expr.parts() {
-        match leave_expr(alloc, info, part.read(), None, faults)? {
+        match transform_expr(alloc, info, part.read(), None, faults)? {
             Some(tree) => items.push(tree)?,
             None => return Ok(None),
         }
@@ -68,8 +68,8 @@ fn leave_parts(
 }
 
 /// A node whose parts stay as the slots of this row say, round them.
-#[cycle(leave)]
-fn leave_slots(
+#[cycle(transform)]
+fn transform_slots(
     alloc: Global,
     info: &EsModuleInfo,
     expr: Part<'_>,
@@ -84,7 +84,7 @@ fn leave_slots(
 {
     let mut stay = Items::new(alloc);
     for (index, slot) in row.iter().enumerate() {
-        match leave_slot(alloc, info, expr.part(index), *slot, place, faults)? {
+        match transform_slot(alloc, info, expr.part(index), *slot, place, faults)? {
             Some(tree) => stay.push(tree)?,
             None => return Ok(None),
         }
@@ -93,8 +93,8 @@ fn leave_slots(
 }
 
 /// A part of an expression, as its slot says.
-#[cycle(leave)]
-fn leave_slot(
+#[cycle(transform)]
+fn transform_slot(
     alloc: Global,
     info: &EsModuleInfo,
     part: Part<'_>,
@@ -110,7 +110,7 @@ fn leave_slot(
         Slot::Scope => Ok(Some(Tree::Context(part.context()))),
         Slot::Written => Ok(Some(part.to_tree(alloc)?)),
         Slot::Never => Ok(Some(never_in_parens(alloc)?)),
-        Slot::Value => leave_expr(alloc, info, part, None, faults),
+        Slot::Value => transform_expr(alloc, info, part, None, faults),
         Slot::Function => {
             let place = or_own(place, Function::of(part).span);
             let kind = FunctionKind::ExpressionLike;
@@ -120,8 +120,8 @@ fn leave_slot(
 }
 
 /// A value that has to stay; where it may not, this fault and an empty option.
-#[cycle(leave)]
-pub fn leave_value(
+#[cycle(transform)]
+pub fn transform_value(
     alloc: Global,
     info: &EsModuleInfo,
     value: Part<'_>,
@@ -132,7 +132,7 @@ pub fn leave_value(
     ensures { IfOk result (λ tree. Adds (demanded fault (answer_to (expr_seen (bindings_of info.now) (seen value.entry) place))) tree faults.old.items
         faults.new.items) }
 {
-    match leave_expr(alloc, info, value, place, faults)? {
+    match transform_expr(alloc, info, value, place, faults)? {
         Some(tree) => Ok(tree),
         None => {
             faults.push(fault)?;

@@ -9,7 +9,7 @@ ghost use Rattle.fast_check_signatures.specs.Functions.{any_params_from};
 ghost use Rattle.fast_check_transform_expressions.specs.Looked.{known_type, known_answer};
 ghost use Rattle.fast_check_bindings.specs.Bindings.{bindings_of};
 
-use crate::expressions::leave_value;
+use crate::expressions::transform_value;
 use crate::parameters::{transform_params, transform_pats};
 use fast_check_bindings::unresolved_context;
 use fast_check_class_forms::{Function, Param};
@@ -196,7 +196,7 @@ pub fn any_params(alloc: Global, params: Part<'_>) -> Result<Items<Tree>, AllocE
 /// A function, a `Function`: its return type is the written one, or that its body shows, and its body stands for that.
 /// A fault of the return type stands at `place`, and comes before those of the parameters. `info` is the module that it
 /// stands in.
-#[cycle(leave)]
+#[cycle(transform)]
 pub fn transform_fn(
     alloc: Global,
     info: &EsModuleInfo,
@@ -217,7 +217,7 @@ pub fn transform_fn(
 /// An arrow: its return type is the written one, or that its body shows; else its value gives it, if it may stay. A fault
 /// of the return type stands at `place`, that of the parent that names the arrow, or else at the arrow, and comes before
 /// those of the parameters. `info` is the module that it stands in.
-#[cycle(leave)]
+#[cycle(transform)]
 pub fn transform_arrow(
     alloc: Global,
     info: &EsModuleInfo,
@@ -241,7 +241,7 @@ pub fn transform_arrow(
                 is_async: form.is_async,
             };
             let fault = Fault { kind, range: place };
-            let value = leave_value(alloc, info, form.body, None, fault, faults)?;
+            let value = transform_value(alloc, info, form.body, None, fault, faults)?;
             let params = transform_pats(alloc, info, form.params, faults)?;
             kept_arrow(alloc, arrow, value, params)
         }

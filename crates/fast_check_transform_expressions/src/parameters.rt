@@ -12,7 +12,7 @@ ghost use Rattle.fast_check_signatures.specs.Parameters.{typed, rest_seen, defau
 ghost use Rattle.fast_check_transform_expressions.specs.Looked.{IsStartOfParams, params_looked};
 ghost use Rattle.fast_check_bindings.specs.Bindings.{bindings_of};
 
-use crate::expressions::leave_value;
+use crate::expressions::transform_value;
 use fast_check_bindings::unresolved_context;
 use fast_check_class_forms::Param;
 use fast_check_expression_forms::{ArrayPat, AssignPat, ObjectPat, RestPat};
@@ -94,7 +94,7 @@ fn start_of_params(params: &[Tree]) -> ParamsOptionalStartIndex
 }
 
 /// The patterns of an arrow's parameters, in order.
-#[cycle(leave)]
+#[cycle(transform)]
 pub fn transform_pats(
     alloc: Global,
     info: &EsModuleInfo,
@@ -115,7 +115,7 @@ pub fn transform_pats(
 }
 
 /// The parameters of a function, in order.
-#[cycle(leave)]
+#[cycle(transform)]
 pub fn transform_params(
     alloc: Global,
     info: &EsModuleInfo,
@@ -140,7 +140,7 @@ pub fn transform_params(
 
 /// The pattern of a parameter (deno_graph's `handle_param_pat`). `is_optional` says whether all parameters from it on may
 /// be left out. One without a type that is written or shown is a fault; in its place stands an empty option.
-#[cycle(leave)]
+#[cycle(transform)]
 pub fn transform_param_pat(
     alloc: Global,
     info: &EsModuleInfo,
@@ -172,7 +172,7 @@ pub fn transform_param_pat(
 }
 
 /// A parameter's pattern with a default.
-#[cycle(leave)]
+#[cycle(transform)]
 fn transform_assign_pat(
     alloc: Global,
     info: &EsModuleInfo,
@@ -193,7 +193,7 @@ fn transform_assign_pat(
             let range = Ident::of(BindingIdent::of(left).id).span;
             let name = Some(range);
             let left = left.to_tree(alloc)?;
-            leave_default(alloc, info, pat, left, LeftSide { name, range }, faults)
+            transform_default(alloc, info, pat, left, LeftSide { name, range }, faults)
         }
         Kind::ArrayPat => {
             let ArrayPat {
@@ -204,7 +204,7 @@ fn transform_assign_pat(
             let left = emptied_array(alloc, left)?;
             if type_ann.is_absent() {
                 let side = LeftSide { name: None, range };
-                return leave_default(alloc, info, pat, left, side, faults);
+                return transform_default(alloc, info, pat, left, side, faults);
             }
             with_default(alloc, pat, left, never_array(alloc)?)
         }
@@ -217,7 +217,7 @@ fn transform_assign_pat(
             let left = emptied_object(alloc, left)?;
             if type_ann.is_absent() {
                 let side = LeftSide { name: None, range };
-                return leave_default(alloc, info, pat, left, side, faults);
+                return transform_default(alloc, info, pat, left, side, faults);
             }
             with_default(alloc, pat, left, never_value(alloc)?)
         }
@@ -226,8 +226,8 @@ fn transform_assign_pat(
 }
 
 /// A pattern whose default has to stay; where it may not, its type is missing at the left side.
-#[cycle(leave)]
-fn leave_default(
+#[cycle(transform)]
+fn transform_default(
     alloc: Global,
     info: &EsModuleInfo,
     pat: Part<'_>,
@@ -245,6 +245,6 @@ fn leave_default(
         range: side.range,
     };
     let right = AssignPat::of(pat).right;
-    let right = leave_value(alloc, info, right, side.name, fault, faults)?;
+    let right = transform_value(alloc, info, right, side.name, fault, faults)?;
     with_default(alloc, pat, left, right)
 }

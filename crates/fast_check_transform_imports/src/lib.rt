@@ -7,6 +7,6 @@ mod sources;
 pub mod surroundings;
 
 pub use fast_check_diagnostics::parsed_source::StaticSource;
-pub use links::keep_link;
+pub use links::transform_link;
 pub use relative::RelativeSources;
 pub use sources::static_sources;

@@ -84,7 +84,7 @@ fn public_specifiers(
 }
 
 /// An import with its public specifiers; none where it has none.
-fn keep_import(
+fn transform_import(
     alloc: Global,
     around: Surroundings<'_>,
     item: Part<'_>,
@@ -120,7 +120,7 @@ fn keep_import(
 }
 
 /// An export of names with its public specifiers; none where it has none.
-fn keep_export(
+fn transform_export_names(
     alloc: Global,
     around: Surroundings<'_>,
     item: Part<'_>,
@@ -153,7 +153,7 @@ fn keep_export(
 }
 
 /// `export * from source`; none where it is not public.
-fn keep_all(
+fn transform_export_all(
     alloc: Global,
     around: Surroundings<'_>,
     item: Part<'_>,
@@ -183,7 +183,7 @@ fn keep_all(
 }
 
 /// `import A = B.C` as it is written; none where it is not public.
-fn keep_alias(
+fn transform_alias(
     alloc: Global,
     around: Surroundings<'_>,
     item: Part<'_>,
@@ -200,7 +200,7 @@ fn keep_alias(
 }
 
 /// What is public of an import or an export with which this is done; none where nothing is. Nothing can be wrong with it.
-pub fn keep_link(
+pub fn transform_link(
     alloc: Global,
     around: Surroundings<'_>,
     item: Part<'_>,
@@ -212,9 +212,9 @@ pub fn keep_link(
     ensures sources { IfOk result (λ _. AreRelative (seen_around around.entry) sources.old → AreRelative (seen_around around.entry) sources.new) }
 {
     match rule {
-        LinkRule::Import => keep_import(alloc, around, item, sources),
-        LinkRule::Export => keep_export(alloc, around, item, sources),
-        LinkRule::All => keep_all(alloc, around, item, sources),
-        LinkRule::Alias => keep_alias(alloc, around, item),
+        LinkRule::Import => transform_import(alloc, around, item, sources),
+        LinkRule::Export => transform_export_names(alloc, around, item, sources),
+        LinkRule::All => transform_export_all(alloc, around, item, sources),
+        LinkRule::Alias => transform_alias(alloc, around, item),
     }
 }

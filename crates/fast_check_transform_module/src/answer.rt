@@ -7,7 +7,7 @@ ghost use Rattle.fast_check_transform_declarations.specs.links.surroundings.bind
 ghost use Rattle.fast_check_transform_module.specs.Transform.{skeleton, sources, comments, faults};
 ghost use Rattle.fast_check_transform_faults.specs.Diagnostics.{AreDiagnosticsOf, diagnosed};
 
-use crate::program::{KeptModule, keep_module};
+use crate::program::{KeptModule, transform_es_module};
 use fast_check_diagnostics::parsed_source::{FastCheckModule, ModuleInfo};
 use fast_check_graph::ModuleGraph;
 use fast_check_modules::EsModuleInfo;
@@ -53,7 +53,7 @@ pub fn transform(
         program,
         comments,
         faults,
-    } = keep_module(alloc, graph, es_module_info, public_ranges)?;
+    } = transform_es_module(alloc, graph, es_module_info, public_ranges)?;
     if !faults.is_empty() {
         let first_alone = options.should_error_on_first_diagnostic;
         return Ok(Err(diagnose(alloc, es_module_info, faults, first_alone)?));

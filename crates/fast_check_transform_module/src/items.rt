@@ -23,18 +23,20 @@ use fast_check_transform_declarations::surroundings::skeleton::expandos::{
     ExpandoProperty, keep_namespaces,
 };
 use fast_check_transform_declarations::surroundings::skeleton::{DeclRule, ItemRule, item_rule};
-use fast_check_transform_declarations::{keep_default, keep_public_class, remove_inside};
-use fast_check_transform_imports::{RelativeSources, keep_link};
+use fast_check_transform_declarations::{
+    remove_inside, transform_default_export, transform_public_class,
+};
+use fast_check_transform_imports::{RelativeSources, transform_link};
 use fast_check_transform_statements::{
-    items_inside, keep_assignment, keep_public_function, keep_standing, keep_statement, keep_using,
-    module_fault, namespace_with,
+    items_inside, module_fault, namespace_with, transform_assignment, transform_public_function,
+    transform_standing, transform_statement, transform_using,
 };
 use std::alloc::{AllocError, Global};
 
 /// What is public of the items of a body, that of a module or of a namespace, and behind it the namespaces for the expando properties
 /// that its assignments declare. The comments before the others go.
 #[cycle(items)]
-pub fn keep_items(
+pub fn transform_items(
     alloc: Global,
     around: Surroundings<'_>,
     body: Part<'_>,
@@ -49,7 +51,7 @@ pub fn keep_items(
     ensures sources { IfOk result (λ _. AreRelative (seen_around around.entry) sources.new) }
 {
     let mut properties = Vec::new(alloc);
-    let mut items = keep_each(
+    let mut items = transform_each(
         alloc,
         around,
         body,
@@ -64,7 +66,7 @@ pub fn keep_items(
 
 /// What is public of the items of a body, one by one, and the expando properties that they declare.
 #[cycle(items)]
-fn keep_each(
+fn transform_each(
     alloc: Global,
     around: Surroundings<'_>,
     body: Part<'_>,
@@ -85,11 +87,11 @@ fn keep_each(
     for item in body.parts() {
         let item = item.read();
         if is_assigned(item) {
-            keep_assignment(alloc, around, ExprStmt::of(item).expr, properties, faults)?;
+            transform_assignment(alloc, around, ExprStmt::of(item).expr, properties, faults)?;
             comments.remove_leading(range_of_node(item).start);
             continue;
         }
-        match keep_item(alloc, around, item, comments, sources, faults)? {
+        match transform_item(alloc, around, item, comments, sources, faults)? {
             None => {
                 comments.remove_leading(range_of_node(item).start);
                 remove_inside(alloc, around, item, comments)?;
@@ -107,7 +109,7 @@ fn keep_each(
 /// What is public of a namespace, which is public by `place`: the items in its innermost block are those of a body, and all
 /// else of it stands as it is written. None where it is not public. What no skeleton has is a fault, public or not.
 #[cycle(items)]
-fn keep_namespace(
+fn transform_namespace(
     alloc: Global,
     around: Surroundings<'_>,
     place: SourceRange,
@@ -130,7 +132,7 @@ fn keep_namespace(
     if !around.public_ranges.contains(&place) {
         return Ok(None);
     }
-    let items = keep_items(
+    let items = transform_items(
         alloc,
         around.inside(decl),
         items_inside(decl),
@@ -151,7 +153,7 @@ struct Declared<'a> {
 
 /// What is public of a declaration; none where nothing is.
 #[cycle(items)]
-fn keep_decl(
+fn transform_decl(
     alloc: Global,
     around: Surroundings<'_>,
     declared: Declared<'_>,
@@ -170,21 +172,21 @@ fn keep_decl(
 {
     let Declared { decl, rule, place } = declared;
     match rule {
-        DeclRule::Variables => keep_statement(alloc, around, decl, faults),
-        DeclRule::Function => keep_public_function(alloc, around, place, decl, faults),
-        DeclRule::Class => keep_public_class(alloc, around, place, decl, faults),
-        DeclRule::Standing => keep_standing(alloc, around, place, decl),
-        DeclRule::Namespace => keep_namespace(
+        DeclRule::Variables => transform_statement(alloc, around, decl, faults),
+        DeclRule::Function => transform_public_function(alloc, around, place, decl, faults),
+        DeclRule::Class => transform_public_class(alloc, around, place, decl, faults),
+        DeclRule::Standing => transform_standing(alloc, around, place, decl),
+        DeclRule::Namespace => transform_namespace(
             alloc, around, place, decl, comments, sources, faults,
         ),
-        DeclRule::Using => keep_using(around, place, decl, faults),
+        DeclRule::Using => transform_using(around, place, decl, faults),
         DeclRule::NoDeclaration => Ok(None),
     }
 }
 
 /// What is public of an export of a declaration with which this is done; none where nothing is.
 #[cycle(items)]
-fn keep_export(
+fn transform_export(
     alloc: Global,
     around: Surroundings<'_>,
     item: Part<'_>,
@@ -206,7 +208,7 @@ fn keep_export(
         rule,
         place: span,
     };
-    match keep_decl(alloc, around, declared, comments, sources, faults)? {
+    match transform_decl(alloc, around, declared, comments, sources, faults)? {
         Some(decl) => Ok(Some(ExportDecl { span, decl }.into_tree(alloc)?)),
         None => Ok(None),
     }
@@ -235,7 +237,7 @@ fn is_assigned(item: Part<'_>) -> bool
 /// What is public of an item of a body that is no assignment; none where nothing is. Of a namespace the comments before the items that
 /// go, go too.
 #[cycle(items)]
-fn keep_item(
+fn transform_item(
     alloc: Global,
     around: Surroundings<'_>,
     item: Part<'_>,
@@ -257,13 +259,13 @@ fn keep_item(
                 rule,
                 place: range_of_node(item),
             };
-            keep_decl(alloc, around, declared, comments, sources, faults)
+            transform_decl(alloc, around, declared, comments, sources, faults)
         }
-        ItemRule::Exported(rule) => keep_export(
+        ItemRule::Exported(rule) => transform_export(
             alloc, around, item, rule, comments, sources, faults,
         ),
-        ItemRule::Linked(rule) => keep_link(alloc, around, item, rule, sources),
-        ItemRule::Default(rule) => keep_default(alloc, around, item, rule, faults),
+        ItemRule::Linked(rule) => transform_link(alloc, around, item, rule, sources),
+        ItemRule::Default(rule) => transform_default_export(alloc, around, item, rule, faults),
         ItemRule::Refused(kind) => refuse(item, kind, faults),
         ItemRule::Assigned => Ok(None),
         ItemRule::Silent => Ok(None),

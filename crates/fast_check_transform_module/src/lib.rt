@@ -7,4 +7,4 @@ mod program;
 
 pub use answer::{TransformOptions, transform};
 pub use fast_check_diagnostics::parsed_source::{FastCheckModule, ModuleInfo, StaticSource};
-pub use program::{KeptModule, keep_module};
+pub use program::{KeptModule, transform_es_module};

@@ -8,7 +8,7 @@ ghost use Rattle.fast_check_transform_imports.specs.Relative.{AreRelative};
 ghost use Rattle.fast_check_transform_module.specs.PartAnswers.{program_answer};
 ghost use Rattle.fast_check_transform_module.specs.Transform.{surroundings_of, skeleton, comments, faults};
 
-use crate::items::keep_items;
+use crate::items::transform_items;
 use fast_check_comments::{Comments, CommentsMut};
 use fast_check_graph::ModuleGraph;
 use fast_check_modules::EsModuleInfo;
@@ -42,7 +42,7 @@ fn surroundings_of<'a>(
 
 /// What is public of the module with these tables, the comments that stay with it, and what is wrong with it: of a module with faults
 /// the tree is not to be used. `transform` and `FastCheckTransformer` answer what this finds. An `Err` is want of memory.
-pub fn keep_module(
+pub fn transform_es_module(
     alloc: Global,
     graph: &ModuleGraph,
     es_module_info: &EsModuleInfo,
@@ -57,7 +57,7 @@ pub fn keep_module(
     let mut comments = CommentsMut::new(source.comments.clone()?);
     let mut sources = RelativeSources::new(alloc);
     let mut faults = Vec::new(alloc);
-    let program = keep_program(
+    let program = transform_program(
         alloc,
         around,
         source.program.read(),
@@ -73,7 +73,7 @@ pub fn keep_module(
 }
 
 /// A module with what is public of its items. The comments before the others go.
-fn keep_program(
+fn transform_program(
     alloc: Global,
     around: Surroundings<'_>,
     program: Part<'_>,
@@ -90,7 +90,7 @@ fn keep_program(
         body,
         shebang,
     } = Module::of(program);
-    let items = keep_items(alloc, around, body, comments, sources, faults)?;
+    let items = transform_items(alloc, around, body, comments, sources, faults)?;
     let module = Module {
         span,
         body: Tree::list(items),

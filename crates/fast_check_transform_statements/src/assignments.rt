@@ -15,7 +15,7 @@ ghost use Rattle.fast_check_expandos.specs.Objects.{exports_name};
 ghost use Rattle.fast_check_transform_imports.specs.surroundings.Surroundings.{seen_around};
 ghost use Rattle.fast_check_transform_statements.specs.Assigned.{assignment_answer, assignment_properties, missing_at};
 
-use crate::declarations::keep_value;
+use crate::declarations::transform_init;
 use fast_check_expandos::{ExpandoProperty, expando_property, exports_property, object_of};
 use fast_check_expression_forms::{AssignExpr, MemberExpr};
 use fast_check_modules::{Symbol, is_expando_assignment};
@@ -28,7 +28,7 @@ use std::alloc::{AllocError, Global};
 /// An assignment that is a statement. Nothing of it stays. Where it is public, by its own range, its right side is tested, and what
 /// is wrong there is pushed to the faults. Of expando form it declares a property if the right side may stay; if not, the type is missing
 /// at the target, unless the object exports a property of this name.
-pub fn keep_assignment(
+pub fn transform_assignment(
     alloc: Global,
     around: Surroundings<'_>,
     assignment: Part<'_>,
@@ -43,15 +43,15 @@ pub fn keep_assignment(
     if !around.public_ranges.contains(&span) {
         return Ok(());
     }
-    let value = keep_value(alloc, around, range_of_node(right), right, faults)?;
+    let value = transform_init(alloc, around, range_of_node(right), right, faults)?;
     if !is_expando_assignment(assignment) {
         return Ok(());
     }
-    keep_property(alloc, around, assignment, value, properties, faults)
+    transform_expando(alloc, around, assignment, value, properties, faults)
 }
 
 /// The property that an assignment of expando form declares, if its right side may stay.
-fn keep_property(
+fn transform_expando(
     alloc: Global,
     around: Surroundings<'_>,
     assignment: Part<'_>,

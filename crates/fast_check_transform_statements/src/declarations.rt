@@ -20,7 +20,7 @@ use fast_check_statement_forms::{UsingDecl, VarDecl, VarDeclarator};
 use fast_check_swc_helpers::ranges::range_of_node;
 use fast_check_swc_helpers::{DeclMutabilityKind, maybe_infer_type, never_value, type_ann};
 use fast_check_syntax::{Items, Kind, Part, SourceRange, Tree, Word};
-use fast_check_transform_expressions::leave_expr;
+use fast_check_transform_expressions::transform_expr;
 use fast_check_transform_imports::surroundings::Surroundings;
 use fast_check_transform_imports::surroundings::bindings::unresolved_context;
 use std::alloc::{AllocError, Global};
@@ -70,7 +70,7 @@ fn declared(alloc: Global, declarator: Part<'_>, ty: Tree) -> Result<Tree, Alloc
 
 /// The value of a declarator as it stays, where it shows no type; none where it may not stay, or is not there. It is
 /// named by the identifier at `place`.
-pub fn keep_value(
+pub fn transform_init(
     alloc: Global,
     around: Surroundings<'_>,
     place: SourceRange,
@@ -82,7 +82,7 @@ pub fn keep_value(
     if value.is_absent() {
         return Ok(None);
     }
-    leave_expr(alloc, around.es_module_info, value, Some(place), faults)
+    transform_expr(alloc, around.es_module_info, value, Some(place), faults)
 }
 
 /// A declarator without type, with the value that gives it. Where there is none that may stay, that is a fault at the
@@ -97,7 +97,7 @@ fn valued_declarator(
 {
     let VarDeclarator { name, init, .. } = VarDeclarator::of(declarator);
     let place = Ident::of(BindingIdent::of(name).id).span;
-    match keep_value(alloc, around, place, init, faults)? {
+    match transform_init(alloc, around, place, init, faults)? {
         Some(value) => retyped(alloc, declarator, Tree::Absent, value),
         None => {
             faults.push(Fault {
@@ -161,7 +161,7 @@ fn typed_declarator(
 }
 
 /// A declarator of a statement, that of an ambient one as it is written; none where it is not public.
-fn keep_declarator(
+fn transform_declarator(
     alloc: Global,
     around: Surroundings<'_>,
     statement: Part<'_>,
@@ -195,7 +195,7 @@ fn public_declarators(
 {
     let mut items = Items::new(alloc);
     for declarator in VarDecl::of(statement).decls.parts() {
-        match keep_declarator(alloc, around, statement, declarator.read(), faults)? {
+        match transform_declarator(alloc, around, statement, declarator.read(), faults)? {
             None => continue,
             Some(declarator) => items.push(declarator)?,
         }
@@ -204,7 +204,7 @@ fn public_declarators(
 }
 
 /// A variable statement with its public declarators; none where it has none.
-pub fn keep_statement(
+pub fn transform_statement(
     alloc: Global,
     around: Surroundings<'_>,
     statement: Part<'_>,
@@ -270,7 +270,7 @@ fn using_place(decl: Part<'_>) -> SourceRange
 }
 
 /// The fault of `using`, if it is public; no skeleton has what it declares.
-pub fn keep_using(
+pub fn transform_using(
     around: Surroundings<'_>,
     place: SourceRange,
     decl: Part<'_>,
@@ -289,7 +289,7 @@ pub fn keep_using(
 }
 
 /// A declaration that stands as it is written, which is public by `place`; none where it is not.
-pub fn keep_standing(
+pub fn transform_standing(
     alloc: Global,
     around: Surroundings<'_>,
     place: SourceRange,

@@ -45,7 +45,7 @@ fn transform_signature(
 
 /// A public function: where all is ambient as it is written; an implementation behind overloads, by the count of its
 /// parameters; another, by its signature.
-fn keep_function(
+fn transform_fn_decl(
     alloc: Global,
     around: Surroundings<'_>,
     place: SourceRange,
@@ -69,7 +69,7 @@ fn keep_function(
 }
 
 /// A function, which is public by `place`; none where it is not.
-pub fn keep_public_function(
+pub fn transform_public_function(
     alloc: Global,
     around: Surroundings<'_>,
     place: SourceRange,
@@ -82,5 +82,5 @@ pub fn keep_public_function(
     if !around.public_ranges.contains(&place) {
         return Ok(None);
     }
-    Ok(Some(keep_function(alloc, around, place, decl, faults)?))
+    Ok(Some(transform_fn_decl(alloc, around, place, decl, faults)?))
 }

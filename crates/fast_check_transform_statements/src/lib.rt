@@ -6,8 +6,8 @@ mod declarations;
 mod functions;
 mod namespaces;
 
-pub use assignments::keep_assignment;
-pub use declarations::{keep_standing, keep_statement, keep_using};
+pub use assignments::transform_assignment;
+pub use declarations::{transform_standing, transform_statement, transform_using};
 pub use fast_check_transform_imports::surroundings;
-pub use functions::keep_public_function;
+pub use functions::transform_public_function;
 pub use namespaces::{items_inside, module_fault, namespace_with};

@@ -12,7 +12,7 @@ use fast_check_modules::EsModuleInfo;
 use fast_check_modules::diagnostics::{FastCheckDiagnostic, ModulePublicRanges};
 use fast_check_syntax::Tree;
 use fast_check_transform_faults::diagnose;
-use fast_check_transform_module::{KeptModule, keep_module};
+use fast_check_transform_module::{KeptModule, transform_es_module};
 use std::alloc::{AllocError, Global};
 
 /// Transforms a module, and keeps what is wrong with it beside what is public of it. `transform` answers the one or the other.
@@ -81,7 +81,7 @@ impl<'a> FastCheckTransformer<'a> {
             program,
             comments,
             faults,
-        } = keep_module(alloc, self.graph, self.es_module_info, self.public_ranges)?;
+        } = transform_es_module(alloc, self.graph, self.es_module_info, self.public_ranges)?;
         if self.should_error_on_first_diagnostic && !faults.is_empty() {
             return Ok(Err(diagnose(alloc, self.es_module_info, faults, true)?));
         }

@@ -30,11 +30,11 @@ use Rattle.fast_check_transform_module.proofs.items.+items.Goals as goal
 
 -- ---- the items of a body
 
-pub keep_items-keep_each-requires : goal.keep_items-keep_each-requires
-keep_items-keep_each-requires t c = (omega (arith, c.decreases), c.requires.sources)
+pub transform_items-transform_each-requires : goal.transform_items-transform_each-requires
+transform_items-transform_each-requires t c = (omega (arith, c.decreases), c.requires.sources)
 
-pub keep_items-returns-clause-answer : goal.keep_items-returns-clause-answer
-keep_items-returns-clause-answer t c =
+pub transform_items-returns-clause-answer : goal.transform_items-returns-clause-answer
+transform_items-returns-clause-answer t c =
     let around = seen_around c.args.around in
     let items = parts (seen c.args.body) in
     let each = c.in_ok-items.ensures in
@@ -42,11 +42,11 @@ keep_items-returns-clause-answer t c =
     (each.properties ∙ ap (λ (ps : List ExpandoProperty). ps ++ flat_map (item_properties around) items) c.new-properties.ensures.items)
     c.in_ok-keep_namespaces.ensures c.in_ok-append.ensures
 
-pub keep_items-returns-clause-comments : goal.keep_items-returns-clause-comments
-keep_items-returns-clause-comments t c = c.in_ok-items.ensures.comments
+pub transform_items-returns-clause-comments : goal.transform_items-returns-clause-comments
+transform_items-returns-clause-comments t c = c.in_ok-items.ensures.comments
 
-pub keep_each-keep_item-requires : goal.keep_each-keep_item-requires
-keep_each-keep_item-requires t c =
+pub transform_each-transform_item-requires : goal.transform_each-transform_item-requires
+transform_each-transform_item-requires t c =
     let item = seen c.read-item.result in
     let all = c.parts-item-items.result.now in
     let i = c.loop-item.item-index in
@@ -54,16 +54,16 @@ keep_each-keep_item-requires t c =
     let lower = item_lower (seen c.args.body) item all i c.loop-item-test.true c.parts-item-items.ensures here in
     (omega (arith, c.decreases, lower), (sym c.is_assigned.ensures ∙ c.if-is_assigned.false, c.loop-item.invariant.sources))
 
-pub keep_each-loop-item-init : goal.keep_each-loop-item-init
-keep_each-loop-item-init t c = record {
+pub transform_each-loop-item-init : goal.transform_each-loop-item-init
+transform_each-loop-item-init t c = record {
   answer = no_items (seen_around c.args.around) c.new-items.ensures c.args.faults.now.items;
   properties = sym (append-nil c.args.properties.now.items);
   comments = refl;
   sources = c.requires.sources;
 }
 
-pub keep_each-loop-item-preserved-then-is_assigned : goal.keep_each-loop-item-preserved-then-is_assigned
-keep_each-loop-item-preserved-then-is_assigned t c =
+pub transform_each-loop-item-preserved-then-is_assigned : goal.transform_each-loop-item-preserved-then-is_assigned
+transform_each-loop-item-preserved-then-is_assigned t c =
     let around = seen_around c.args.around in
     let item = seen c.read-item.result in
     let all = c.parts-item-items.result.now in
@@ -71,7 +71,7 @@ keep_each-loop-item-preserved-then-is_assigned t c =
     let here : item ≡ get_or all i item = c.read-item.ensures ∙ (c.item-item.is ∙ ap (get_or all i) (sym c.read-item.ensures)) in
     let rule = assigned_is (item_rule item) (sym c.is_assigned.ensures ∙ c.if-is_assigned.true) in
     let start = ap (λ r. r.start) c.range_of_node.ensures in
-    let kept = c.in_ok-keep_assignment.ensures in
+    let kept = c.in_ok-transform_assignment.ensures in
     record {
       answer =
           one_more_assigned around all i item c.loop-item-test.true here rule c.of.ensures.expr c.loop-item.invariant.answer kept.answer;
@@ -84,12 +84,12 @@ keep_each-loop-item-preserved-then-is_assigned t c =
       sources = c.loop-item.invariant.sources;
     }
 
-pub keep_each-loop-item-preserved-in-None : goal.keep_each-loop-item-preserved-in-None
-keep_each-loop-item-preserved-in-None t c =
+pub transform_each-loop-item-preserved-in-None : goal.transform_each-loop-item-preserved-in-None
+transform_each-loop-item-preserved-in-None t c =
     let around = seen_around c.args.around in
     let item = seen c.read-item.result in
     let start = ap (λ r. r.start) c.range_of_node-in-None.ensures in
-    let kept = c.in_ok-keep_item.ensures in
+    let kept = c.in_ok-transform_item.ensures in
     let all = c.parts-item-items.result.now in
     let i = c.loop-item.item-index in
     let here : item ≡ get_or all i item = c.read-item.ensures ∙ (c.item-item.is ∙ ap (get_or all i) (sym c.read-item.ensures)) in
@@ -111,11 +111,11 @@ keep_each-loop-item-preserved-in-None t c =
       sources = kept.sources;
     }
 
-pub keep_each-loop-item-preserved : goal.keep_each-loop-item-preserved
-keep_each-loop-item-preserved t c =
+pub transform_each-loop-item-preserved : goal.transform_each-loop-item-preserved
+transform_each-loop-item-preserved t c =
     let around = seen_around c.args.around in
     let item = seen c.read-item.result in
-    let kept = c.in_ok-keep_item.ensures in
+    let kept = c.in_ok-transform_item.ensures in
     let all = c.parts-item-items.result.now in
     let i = c.loop-item.item-index in
     let here : item ≡ get_or all i item = c.read-item.ensures ∙ (c.item-item.is ∙ ap (get_or all i) (sym c.read-item.ensures)) in
@@ -134,270 +134,270 @@ keep_each-loop-item-preserved t c =
       sources = kept.sources;
     }
 
-pub keep_each-returns-clause-answer : goal.keep_each-returns-clause-answer
-keep_each-returns-clause-answer t c =
+pub transform_each-returns-clause-answer : goal.transform_each-returns-clause-answer
+transform_each-returns-clause-answer t c =
     all_items
     (seen_around c.args.around) c.loop-item.item-index c.loop-item-test.false c.parts-item-items.ensures c.loop-item.invariant.answer
 
-pub keep_each-returns-clause-properties : goal.keep_each-returns-clause-properties
-keep_each-returns-clause-properties t c =
+pub transform_each-returns-clause-properties : goal.transform_each-returns-clause-properties
+transform_each-returns-clause-properties t c =
     all_properties
     (seen_around c.args.around) c.loop-item.item-index c.loop-item-test.false c.parts-item-items.ensures _ c.loop-item.invariant.properties
 
-pub keep_each-returns-clause-comments : goal.keep_each-returns-clause-comments
-keep_each-returns-clause-comments t c =
+pub transform_each-returns-clause-comments : goal.transform_each-returns-clause-comments
+transform_each-returns-clause-comments t c =
     let all = take_all c.loop-item.item-index c.parts-item-items.result.now c.loop-item-test.false ∙ c.parts-item-items.ensures in
     c.loop-item.invariant.comments ∙ ap (λ ts. without_all_leading (removed_from (seen_around c.args.around) ts) c.args.comments.now) all
 
-pub keep_each-returns-clause-sources : goal.keep_each-returns-clause-sources
-keep_each-returns-clause-sources t c = c.loop-item.invariant.sources
+pub transform_each-returns-clause-sources : goal.transform_each-returns-clause-sources
+transform_each-returns-clause-sources t c = c.loop-item.invariant.sources
 
 -- ---- namespaces
 
-pub keep_namespace-keep_items-requires : goal.keep_namespace-keep_items-requires
-keep_namespace-keep_items-requires t c = (
+pub transform_namespace-transform_items-requires : goal.transform_namespace-transform_items-requires
+transform_namespace-transform_items-requires t c = (
   omega (arith, c.decreases, inside_at_most (seen c.args.decl) (seen c.items_inside.result) c.items_inside.ensures),
   λ text other there. c.requires.sources text other there ∙ ap (λ (a : Surroundings). a.relative text) (sym c.inside.ensures),
 )
 
-pub keep_namespace-returns-in-Some-clause-answer : goal.keep_namespace-returns-in-Some-clause-answer
-keep_namespace-returns-in-Some-clause-answer t c =
+pub transform_namespace-returns-in-Some-clause-answer : goal.transform_namespace-returns-in-Some-clause-answer
+transform_namespace-returns-in-Some-clause-answer t c =
     refused_module (seen_around c.args.around) c.args.place (seen c.args.decl)
     (sym c.module_fault.ensures ∙ c.in-Some.is) c.in_ok-push.ensures.items
 
-pub keep_namespace-returns-in-Some-clause-comments : goal.keep_namespace-returns-in-Some-clause-comments
-keep_namespace-returns-in-Some-clause-comments t c =
+pub transform_namespace-returns-in-Some-clause-comments : goal.transform_namespace-returns-in-Some-clause-comments
+transform_namespace-returns-in-Some-clause-comments t c =
     ap (λ starts. without_all_leading starts c.args.comments.now)
     (sym (nothing_refused (seen_around c.args.around) c.args.place (seen c.args.decl) (sym c.module_fault.ensures ∙ c.in-Some.is)))
 
-pub keep_namespace-returns-then-not-contains-clause-answer : goal.keep_namespace-returns-then-not-contains-clause-answer
-keep_namespace-returns-then-not-contains-clause-answer t c =
+pub transform_namespace-returns-then-not-contains-clause-answer : goal.transform_namespace-returns-then-not-contains-clause-answer
+transform_namespace-returns-then-not-contains-clause-answer t c =
     private_namespace (seen_around c.args.around) c.args.place (seen c.args.decl)
     (sym c.module_fault.ensures ∙ none_of c.module_fault.result
     (λ f e. c.in_default.not-Some f e))
     (sym c.contains.ensures ∙ c.if-not-contains.true) c.args.faults.now.items
 
-pub keep_namespace-returns-then-not-contains-clause-comments : goal.keep_namespace-returns-then-not-contains-clause-comments
-keep_namespace-returns-then-not-contains-clause-comments t c =
+pub transform_namespace-returns-then-not-contains-clause-comments : goal.transform_namespace-returns-then-not-contains-clause-comments
+transform_namespace-returns-then-not-contains-clause-comments t c =
     ap (λ starts. without_all_leading starts c.args.comments.now)
     (sym (nothing_private (seen_around c.args.around) c.args.place (seen c.args.decl)
     (sym c.module_fault.ensures ∙ none_of c.module_fault.result
     (λ f e. c.in_default.not-Some f e))
     (sym c.contains.ensures ∙ c.if-not-contains.true)))
 
-pub keep_namespace-returns-clause-answer : goal.keep_namespace-returns-clause-answer
-keep_namespace-returns-clause-answer t c =
+pub transform_namespace-returns-clause-answer : goal.transform_namespace-returns-clause-answer
+transform_namespace-returns-clause-answer t c =
     public_namespace (seen_around c.args.around) c.args.place (seen c.args.decl) (sym c.module_fault.ensures ∙ none_of c.module_fault.result
     (λ f e. c.in_default.not-Some f e))
     (sym c.contains.ensures ∙
     c.if-not-contains.false) c.in_ok-items.ensures.answer c.inside.ensures c.items_inside.ensures c.in_ok-namespace_with.ensures
 
-pub keep_namespace-returns-clause-comments : goal.keep_namespace-returns-clause-comments
-keep_namespace-returns-clause-comments t c =
+pub transform_namespace-returns-clause-comments : goal.transform_namespace-returns-clause-comments
+transform_namespace-returns-clause-comments t c =
     c.in_ok-items.ensures.comments
     ∙ ap (λ starts. without_all_leading starts c.args.comments.now)
     (sym (all_inside (seen_around c.args.around) c.args.place (seen c.args.decl) (sym c.module_fault.ensures ∙ none_of c.module_fault.result
     (λ f e. c.in_default.not-Some f e))
     (sym c.contains.ensures ∙ c.if-not-contains.false) c.inside.ensures c.items_inside.ensures))
 
-pub keep_namespace-returns-clause-sources : goal.keep_namespace-returns-clause-sources
-keep_namespace-returns-clause-sources t c = λ text other there.
+pub transform_namespace-returns-clause-sources : goal.transform_namespace-returns-clause-sources
+transform_namespace-returns-clause-sources t c = λ text other there.
     c.in_ok-items.ensures.sources text other there ∙ ap (λ (a : Surroundings). a.relative text) c.inside.ensures
 
 -- ---- declarations
 
-pub keep_decl-returns-in-Variables-clause-answer : goal.keep_decl-returns-in-Variables-clause-answer
-keep_decl-returns-in-Variables-clause-answer t c =
-    IfOk-weaker c.keep_statement.result _ _
+pub transform_decl-returns-in-Variables-clause-answer : goal.transform_decl-returns-in-Variables-clause-answer
+transform_decl-returns-in-Variables-clause-answer t c =
+    IfOk-weaker c.transform_statement.result _ _
     (λ tree h. variables (seen_around c.args.around) c.args.declared.place (seen c.args.declared.decl) c.in-Variables.is h)
-    c.keep_statement.ensures
+    c.transform_statement.ensures
 
-pub keep_decl-returns-in-Function-clause-answer : goal.keep_decl-returns-in-Function-clause-answer
-keep_decl-returns-in-Function-clause-answer t c =
-    IfOk-weaker c.keep_public_function.result _ _ (λ tree h. functions (seen_around c.args.around) c.args.declared.place
-    (seen c.args.declared.decl) c.in-Function.is h) c.keep_public_function.ensures
+pub transform_decl-returns-in-Function-clause-answer : goal.transform_decl-returns-in-Function-clause-answer
+transform_decl-returns-in-Function-clause-answer t c =
+    IfOk-weaker c.transform_public_function.result _ _ (λ tree h. functions (seen_around c.args.around) c.args.declared.place
+    (seen c.args.declared.decl) c.in-Function.is h) c.transform_public_function.ensures
 
-pub keep_decl-returns-in-Class-clause-answer : goal.keep_decl-returns-in-Class-clause-answer
-keep_decl-returns-in-Class-clause-answer t c =
-    IfOk-weaker c.keep_public_class.result _ _
+pub transform_decl-returns-in-Class-clause-answer : goal.transform_decl-returns-in-Class-clause-answer
+transform_decl-returns-in-Class-clause-answer t c =
+    IfOk-weaker c.transform_public_class.result _ _
     (λ tree h. classes (seen_around c.args.around) c.args.declared.place (seen c.args.declared.decl) c.in-Class.is h)
-    c.keep_public_class.ensures
+    c.transform_public_class.ensures
 
-pub keep_decl-returns-in-Using-clause-answer : goal.keep_decl-returns-in-Using-clause-answer
-keep_decl-returns-in-Using-clause-answer t c =
-    IfOk-weaker c.keep_using.result _ _
+pub transform_decl-returns-in-Using-clause-answer : goal.transform_decl-returns-in-Using-clause-answer
+transform_decl-returns-in-Using-clause-answer t c =
+    IfOk-weaker c.transform_using.result _ _
     (λ tree h. using_stays (seen_around c.args.around) c.args.declared.place (seen c.args.declared.decl) c.in-Using.is h)
-    c.keep_using.ensures
+    c.transform_using.ensures
 
-pub keep_decl-returns-in-Standing-clause-answer : goal.keep_decl-returns-in-Standing-clause-answer
-keep_decl-returns-in-Standing-clause-answer t c =
-    IfOk-weaker c.keep_standing.result _ _
+pub transform_decl-returns-in-Standing-clause-answer : goal.transform_decl-returns-in-Standing-clause-answer
+transform_decl-returns-in-Standing-clause-answer t c =
+    IfOk-weaker c.transform_standing.result _ _
     (λ tree h. standing (seen_around c.args.around) c.args.declared.place
-    (seen c.args.declared.decl) c.in-Standing.is tree h c.args.faults.now.items) c.keep_standing.ensures
+    (seen c.args.declared.decl) c.in-Standing.is tree h c.args.faults.now.items) c.transform_standing.ensures
 
-pub keep_decl-returns-in-Namespace-clause-answer : goal.keep_decl-returns-in-Namespace-clause-answer
-keep_decl-returns-in-Namespace-clause-answer t c =
-    IfOk-weaker c.keep_namespace.result _ _
+pub transform_decl-returns-in-Namespace-clause-answer : goal.transform_decl-returns-in-Namespace-clause-answer
+transform_decl-returns-in-Namespace-clause-answer t c =
+    IfOk-weaker c.transform_namespace.result _ _
     (λ tree h. namespaces (seen_around c.args.around) c.args.declared.place (seen c.args.declared.decl) c.in-Namespace.is h)
-    c.keep_namespace.ensures.answer
+    c.transform_namespace.ensures.answer
 
-pub keep_decl-returns-in-NoDeclaration-clause-answer : goal.keep_decl-returns-in-NoDeclaration-clause-answer
-keep_decl-returns-in-NoDeclaration-clause-answer t c =
+pub transform_decl-returns-in-NoDeclaration-clause-answer : goal.transform_decl-returns-in-NoDeclaration-clause-answer
+transform_decl-returns-in-NoDeclaration-clause-answer t c =
     undeclared (seen_around c.args.around) c.args.declared.place (seen c.args.declared.decl) c.in-NoDeclaration.is c.args.faults.now.items
 
-pub keep_decl-returns-in-Variables-clause-comments : goal.keep_decl-returns-in-Variables-clause-comments
-keep_decl-returns-in-Variables-clause-comments t c =
-    IfOk-weaker c.keep_statement.result _ _
+pub transform_decl-returns-in-Variables-clause-comments : goal.transform_decl-returns-in-Variables-clause-comments
+transform_decl-returns-in-Variables-clause-comments t c =
+    IfOk-weaker c.transform_statement.result _ _
     (λ tree h. ap (λ r. without_all_leading (starts_in_body start_look (seen_around c.args.around) c.args.declared.place
-    (seen c.args.declared.decl) r) c.args.comments.now) (sym c.in-Variables.is)) c.keep_statement.ensures
+    (seen c.args.declared.decl) r) c.args.comments.now) (sym c.in-Variables.is)) c.transform_statement.ensures
 
-pub keep_decl-returns-in-Function-clause-comments : goal.keep_decl-returns-in-Function-clause-comments
-keep_decl-returns-in-Function-clause-comments t c =
-    IfOk-weaker c.keep_public_function.result _ _
+pub transform_decl-returns-in-Function-clause-comments : goal.transform_decl-returns-in-Function-clause-comments
+transform_decl-returns-in-Function-clause-comments t c =
+    IfOk-weaker c.transform_public_function.result _ _
     (λ tree h. ap (λ r. without_all_leading (starts_in_body start_look (seen_around c.args.around) c.args.declared.place
-    (seen c.args.declared.decl) r) c.args.comments.now) (sym c.in-Function.is)) c.keep_public_function.ensures
+    (seen c.args.declared.decl) r) c.args.comments.now) (sym c.in-Function.is)) c.transform_public_function.ensures
 
-pub keep_decl-returns-in-Class-clause-comments : goal.keep_decl-returns-in-Class-clause-comments
-keep_decl-returns-in-Class-clause-comments t c =
-    IfOk-weaker c.keep_public_class.result _ _
+pub transform_decl-returns-in-Class-clause-comments : goal.transform_decl-returns-in-Class-clause-comments
+transform_decl-returns-in-Class-clause-comments t c =
+    IfOk-weaker c.transform_public_class.result _ _
     (λ tree h. ap (λ r. without_all_leading (starts_in_body start_look (seen_around c.args.around) c.args.declared.place
-    (seen c.args.declared.decl) r) c.args.comments.now) (sym c.in-Class.is)) c.keep_public_class.ensures
+    (seen c.args.declared.decl) r) c.args.comments.now) (sym c.in-Class.is)) c.transform_public_class.ensures
 
-pub keep_decl-returns-in-Standing-clause-comments : goal.keep_decl-returns-in-Standing-clause-comments
-keep_decl-returns-in-Standing-clause-comments t c =
-    IfOk-weaker c.keep_standing.result _ _
+pub transform_decl-returns-in-Standing-clause-comments : goal.transform_decl-returns-in-Standing-clause-comments
+transform_decl-returns-in-Standing-clause-comments t c =
+    IfOk-weaker c.transform_standing.result _ _
     (λ tree h. ap (λ r. without_all_leading (starts_in_body start_look (seen_around c.args.around) c.args.declared.place
-    (seen c.args.declared.decl) r) c.args.comments.now) (sym c.in-Standing.is)) c.keep_standing.ensures
+    (seen c.args.declared.decl) r) c.args.comments.now) (sym c.in-Standing.is)) c.transform_standing.ensures
 
-pub keep_decl-returns-in-Using-clause-comments : goal.keep_decl-returns-in-Using-clause-comments
-keep_decl-returns-in-Using-clause-comments t c =
-    IfOk-weaker c.keep_using.result _ _
+pub transform_decl-returns-in-Using-clause-comments : goal.transform_decl-returns-in-Using-clause-comments
+transform_decl-returns-in-Using-clause-comments t c =
+    IfOk-weaker c.transform_using.result _ _
     (λ tree h. ap (λ r. without_all_leading (starts_in_body start_look (seen_around c.args.around) c.args.declared.place
-    (seen c.args.declared.decl) r) c.args.comments.now) (sym c.in-Using.is)) c.keep_using.ensures
+    (seen c.args.declared.decl) r) c.args.comments.now) (sym c.in-Using.is)) c.transform_using.ensures
 
-pub keep_decl-returns-in-Namespace-clause-comments : goal.keep_decl-returns-in-Namespace-clause-comments
-keep_decl-returns-in-Namespace-clause-comments t c =
-    IfOk-weaker c.keep_namespace.result _ _
+pub transform_decl-returns-in-Namespace-clause-comments : goal.transform_decl-returns-in-Namespace-clause-comments
+transform_decl-returns-in-Namespace-clause-comments t c =
+    IfOk-weaker c.transform_namespace.result _ _
     (λ tree h. h ∙ ap (λ r. without_all_leading (starts_in_body start_look (seen_around c.args.around) c.args.declared.place
-    (seen c.args.declared.decl) r) c.args.comments.now) (sym c.in-Namespace.is)) c.keep_namespace.ensures.comments
+    (seen c.args.declared.decl) r) c.args.comments.now) (sym c.in-Namespace.is)) c.transform_namespace.ensures.comments
 
-pub keep_decl-returns-in-NoDeclaration-clause-comments : goal.keep_decl-returns-in-NoDeclaration-clause-comments
-keep_decl-returns-in-NoDeclaration-clause-comments t c =
+pub transform_decl-returns-in-NoDeclaration-clause-comments : goal.transform_decl-returns-in-NoDeclaration-clause-comments
+transform_decl-returns-in-NoDeclaration-clause-comments t c =
     ap (λ r. without_all_leading
     (starts_in_body start_look (seen_around c.args.around) c.args.declared.place (seen c.args.declared.decl) r) c.args.comments.now)
     (sym c.in-NoDeclaration.is)
 
-pub keep_decl-returns-in-Namespace-clause-sources : goal.keep_decl-returns-in-Namespace-clause-sources
-keep_decl-returns-in-Namespace-clause-sources t c = c.keep_namespace.ensures.sources
+pub transform_decl-returns-in-Namespace-clause-sources : goal.transform_decl-returns-in-Namespace-clause-sources
+transform_decl-returns-in-Namespace-clause-sources t c = c.transform_namespace.ensures.sources
 
 -- ---- exports
 
-pub keep_export-keep_decl-requires : goal.keep_export-keep_decl-requires
-keep_export-keep_decl-requires t c =
+pub transform_export-transform_decl-requires : goal.transform_export-transform_decl-requires
+transform_export-transform_decl-requires t c =
     (omega (arith, c.decreases, height_at_most (seen c.args.item) 1, ap height c.of.ensures.decl), c.requires.sources)
 
-pub keep_export-returns-in_ok-into_tree-in-Some-clause-answer : goal.keep_export-returns-in_ok-into_tree-in-Some-clause-answer
-keep_export-returns-in_ok-into_tree-in-Some-clause-answer t c =
+pub transform_export-returns-in_ok-into_tree-in-Some-clause-answer : goal.transform_export-returns-in_ok-into_tree-in-Some-clause-answer
+transform_export-returns-in_ok-into_tree-in-Some-clause-answer t c =
     made_export (seen_around c.args.around) (seen c.args.item) c.args.rule c.in_ok-decl.ensures.answer c.of.ensures.span c.of.ensures.decl
     (ap as_list c.in-Some.is)
     (c.in_ok-into_tree-in-Some.ensures ∙ ap (λ s. export_decl s c.in-Some.decl) c.of.ensures.span)
 
-pub keep_export-returns-in-None-clause-answer : goal.keep_export-returns-in-None-clause-answer
-keep_export-returns-in-None-clause-answer t c =
+pub transform_export-returns-in-None-clause-answer : goal.transform_export-returns-in-None-clause-answer
+transform_export-returns-in-None-clause-answer t c =
     no_export (seen_around c.args.around) (seen c.args.item) c.args.rule c.in_ok-decl.ensures.answer c.of.ensures.span c.of.ensures.decl
     (ap as_list c.in-None.is)
 
-pub keep_export-returns-in_ok-into_tree-in-Some-clause-comments : goal.keep_export-returns-in_ok-into_tree-in-Some-clause-comments
-keep_export-returns-in_ok-into_tree-in-Some-clause-comments t c =
+pub transform_export-returns-in_ok-into_tree-in-Some-clause-comments : goal.transform_export-returns-in_ok-into_tree-in-Some-clause-comments
+transform_export-returns-in_ok-into_tree-in-Some-clause-comments t c =
     c.in_ok-decl.ensures.comments ∙ (λ i. without_all_leading (starts_in_body start_look (seen_around c.args.around) (c.of.ensures.span i)
     (c.of.ensures.decl i) c.args.rule) c.args.comments.now)
 
-pub keep_export-returns-in-None-clause-comments : goal.keep_export-returns-in-None-clause-comments
-keep_export-returns-in-None-clause-comments t c =
+pub transform_export-returns-in-None-clause-comments : goal.transform_export-returns-in-None-clause-comments
+transform_export-returns-in-None-clause-comments t c =
     c.in_ok-decl.ensures.comments ∙ (λ i. without_all_leading (starts_in_body start_look (seen_around c.args.around) (c.of.ensures.span i)
     (c.of.ensures.decl i) c.args.rule) c.args.comments.now)
 
 -- ---- items
 
-pub keep_item-returns-in-Declared-clause-answer : goal.keep_item-returns-in-Declared-clause-answer
-keep_item-returns-in-Declared-clause-answer t c =
-    IfOk-weaker c.keep_decl.result _ _
+pub transform_item-returns-in-Declared-clause-answer : goal.transform_item-returns-in-Declared-clause-answer
+transform_item-returns-in-Declared-clause-answer t c =
+    IfOk-weaker c.transform_decl.result _ _
     (λ tree h. declared (seen_around c.args.around) (seen c.args.item)
     (sym c.item_rule.ensures ∙ c.in-Declared.is) h c.range_of_node.ensures)
-    c.keep_decl.ensures.answer
+    c.transform_decl.ensures.answer
 
-pub keep_item-returns-in-Exported-clause-answer : goal.keep_item-returns-in-Exported-clause-answer
-keep_item-returns-in-Exported-clause-answer t c =
-    IfOk-weaker c.keep_export.result _ _
+pub transform_item-returns-in-Exported-clause-answer : goal.transform_item-returns-in-Exported-clause-answer
+transform_item-returns-in-Exported-clause-answer t c =
+    IfOk-weaker c.transform_export.result _ _
     (λ tree h. exported (seen_around c.args.around) (seen c.args.item)
-    (sym c.item_rule.ensures ∙ c.in-Exported.is) h) c.keep_export.ensures.answer
+    (sym c.item_rule.ensures ∙ c.in-Exported.is) h) c.transform_export.ensures.answer
 
-pub keep_item-returns-in-Linked-clause-answer : goal.keep_item-returns-in-Linked-clause-answer
-keep_item-returns-in-Linked-clause-answer t c =
-    IfOk-weaker c.keep_link.result _ _
+pub transform_item-returns-in-Linked-clause-answer : goal.transform_item-returns-in-Linked-clause-answer
+transform_item-returns-in-Linked-clause-answer t c =
+    IfOk-weaker c.transform_link.result _ _
     (λ tree h. linked (seen_around c.args.around) (seen c.args.item)
     (sym c.item_rule.ensures ∙ c.in-Linked.is) tree (h c.requires.sources) c.args.faults.now.items)
-    c.keep_link.ensures.answer
+    c.transform_link.ensures.answer
 
-pub keep_item-returns-in-Default-clause-answer : goal.keep_item-returns-in-Default-clause-answer
-keep_item-returns-in-Default-clause-answer t c =
-    IfOk-weaker c.keep_default.result _ _
+pub transform_item-returns-in-Default-clause-answer : goal.transform_item-returns-in-Default-clause-answer
+transform_item-returns-in-Default-clause-answer t c =
+    IfOk-weaker c.transform_default_export.result _ _
     (λ tree h. default_export (seen_around c.args.around) (seen c.args.item)
-    (sym c.item_rule.ensures ∙ c.in-Default.is) h) c.keep_default.ensures
+    (sym c.item_rule.ensures ∙ c.in-Default.is) h) c.transform_default_export.ensures
 
-pub keep_item-returns-in-Refused-clause-answer : goal.keep_item-returns-in-Refused-clause-answer
-keep_item-returns-in-Refused-clause-answer t c =
+pub transform_item-returns-in-Refused-clause-answer : goal.transform_item-returns-in-Refused-clause-answer
+transform_item-returns-in-Refused-clause-answer t c =
     IfOk-weaker c.refuse.result _ _
     (λ tree h. refused (seen_around c.args.around) (seen c.args.item) (sym c.item_rule.ensures ∙ c.in-Refused.is) h) c.refuse.ensures
 
-pub keep_item-returns-in-Silent-clause-answer : goal.keep_item-returns-in-Silent-clause-answer
-keep_item-returns-in-Silent-clause-answer t c =
+pub transform_item-returns-in-Silent-clause-answer : goal.transform_item-returns-in-Silent-clause-answer
+transform_item-returns-in-Silent-clause-answer t c =
     silent (seen_around c.args.around) (seen c.args.item) (sym c.item_rule.ensures ∙ c.in-Silent.is) c.args.faults.now.items
 
-pub keep_item-returns-in-Declared-clause-comments : goal.keep_item-returns-in-Declared-clause-comments
-keep_item-returns-in-Declared-clause-comments t c =
-    below_declared (seen_around c.args.around) (seen c.args.item) c.keep_decl.result _ c.args.comments.now (sym c.item_rule.ensures ∙
+pub transform_item-returns-in-Declared-clause-comments : goal.transform_item-returns-in-Declared-clause-comments
+transform_item-returns-in-Declared-clause-comments t c =
+    below_declared (seen_around c.args.around) (seen c.args.item) c.transform_decl.result _ c.args.comments.now (sym c.item_rule.ensures ∙
     c.in-Declared.is) c.range_of_node.ensures
-    c.keep_decl.ensures.comments
+    c.transform_decl.ensures.comments
 
-pub keep_item-returns-in-Exported-clause-comments : goal.keep_item-returns-in-Exported-clause-comments
-keep_item-returns-in-Exported-clause-comments t c =
-    below_exported (seen_around c.args.around) (seen c.args.item) c.keep_export.result _ c.args.comments.now (sym c.item_rule.ensures ∙
-    c.in-Exported.is) c.keep_export.ensures.comments
+pub transform_item-returns-in-Exported-clause-comments : goal.transform_item-returns-in-Exported-clause-comments
+transform_item-returns-in-Exported-clause-comments t c =
+    below_exported (seen_around c.args.around) (seen c.args.item) c.transform_export.result _ c.args.comments.now (sym c.item_rule.ensures ∙
+    c.in-Exported.is) c.transform_export.ensures.comments
 
-pub keep_item-returns-in-Linked-clause-comments : goal.keep_item-returns-in-Linked-clause-comments
-keep_item-returns-in-Linked-clause-comments t c =
-    IfOk-weaker c.keep_link.result _ _
+pub transform_item-returns-in-Linked-clause-comments : goal.transform_item-returns-in-Linked-clause-comments
+transform_item-returns-in-Linked-clause-comments t c =
+    IfOk-weaker c.transform_link.result _ _
     (λ tree h. below_nothing (seen_around c.args.around) (seen c.args.item) c.args.comments.now
     (sym c.item_rule.ensures ∙ c.in-Linked.is) refl)
-    c.keep_link.ensures.answer
+    c.transform_link.ensures.answer
 
-pub keep_item-returns-in-Default-clause-comments : goal.keep_item-returns-in-Default-clause-comments
-keep_item-returns-in-Default-clause-comments t c =
-    IfOk-weaker c.keep_default.result _ _
+pub transform_item-returns-in-Default-clause-comments : goal.transform_item-returns-in-Default-clause-comments
+transform_item-returns-in-Default-clause-comments t c =
+    IfOk-weaker c.transform_default_export.result _ _
     (λ tree h. below_nothing (seen_around c.args.around) (seen c.args.item) c.args.comments.now
     (sym c.item_rule.ensures ∙ c.in-Default.is) refl)
-    c.keep_default.ensures
+    c.transform_default_export.ensures
 
-pub keep_item-returns-in-Refused-clause-comments : goal.keep_item-returns-in-Refused-clause-comments
-keep_item-returns-in-Refused-clause-comments t c =
+pub transform_item-returns-in-Refused-clause-comments : goal.transform_item-returns-in-Refused-clause-comments
+transform_item-returns-in-Refused-clause-comments t c =
     IfOk-weaker c.refuse.result _ _
     (λ tree h. below_nothing (seen_around c.args.around) (seen c.args.item) c.args.comments.now
     (sym c.item_rule.ensures ∙ c.in-Refused.is) refl)
     c.refuse.ensures
 
-pub keep_item-returns-in-Silent-clause-comments : goal.keep_item-returns-in-Silent-clause-comments
-keep_item-returns-in-Silent-clause-comments t c =
+pub transform_item-returns-in-Silent-clause-comments : goal.transform_item-returns-in-Silent-clause-comments
+transform_item-returns-in-Silent-clause-comments t c =
     below_nothing (seen_around c.args.around) (seen c.args.item) c.args.comments.now (sym c.item_rule.ensures ∙ c.in-Silent.is) refl
 
-pub keep_item-returns-in-Assigned-clause-answer : goal.keep_item-returns-in-Assigned-clause-answer
-keep_item-returns-in-Assigned-clause-answer t c =
+pub transform_item-returns-in-Assigned-clause-answer : goal.transform_item-returns-in-Assigned-clause-answer
+transform_item-returns-in-Assigned-clause-answer t c =
     absurd (true≢false (sym (ap is_assigned (sym c.item_rule.ensures ∙ c.in-Assigned.is)) ∙ c.requires.no_assignment))
 
-pub keep_item-returns-in-Assigned-clause-comments : goal.keep_item-returns-in-Assigned-clause-comments
-keep_item-returns-in-Assigned-clause-comments t c =
+pub transform_item-returns-in-Assigned-clause-comments : goal.transform_item-returns-in-Assigned-clause-comments
+transform_item-returns-in-Assigned-clause-comments t c =
     below_nothing (seen_around c.args.around) (seen c.args.item) c.args.comments.now (sym c.item_rule.ensures ∙ c.in-Assigned.is) refl
 
-pub keep_item-returns-in-Linked-clause-sources : goal.keep_item-returns-in-Linked-clause-sources
-keep_item-returns-in-Linked-clause-sources t c =
-    IfOk-weaker c.keep_link.result _ _ (λ tree h. h c.requires.sources) c.keep_link.ensures.sources
+pub transform_item-returns-in-Linked-clause-sources : goal.transform_item-returns-in-Linked-clause-sources
+transform_item-returns-in-Linked-clause-sources t c =
+    IfOk-weaker c.transform_link.result _ _ (λ tree h. h c.requires.sources) c.transform_link.ensures.sources

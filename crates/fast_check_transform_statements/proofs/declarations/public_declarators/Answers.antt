@@ -14,7 +14,7 @@ loop-declarator-preserved c =
     one_more_declarator (seen_around c.args.around)
     (seen c.args.statement) c.parts-declarator-items.result.now c.loop-declarator.declarator-index
     (seen c.read.result)
-    c.loop-declarator-test.true (search rules) c.loop-declarator.invariant c.in_ok-keep_declarator.ensures
+    c.loop-declarator-test.true (search rules) c.loop-declarator.invariant c.in_ok-transform_declarator.ensures
     (c.in_ok-push-in-Some.ensures.ok ∙ ap (λ o. c.loop-declarator.items ++ as_list o) (sym c.in-Some.is))
 
 pub loop-declarator-preserved-in-None : goal.loop-declarator-preserved-in-None
@@ -22,7 +22,7 @@ loop-declarator-preserved-in-None c =
     one_more_declarator (seen_around c.args.around)
     (seen c.args.statement) c.parts-declarator-items.result.now c.loop-declarator.declarator-index
     (seen c.read.result)
-    c.loop-declarator-test.true (search rules) c.loop-declarator.invariant c.in_ok-keep_declarator.ensures
+    c.loop-declarator-test.true (search rules) c.loop-declarator.invariant c.in_ok-transform_declarator.ensures
     (sym (append-nil c.loop-declarator.items) ∙ ap (λ o. c.loop-declarator.items ++ as_list o) (sym c.in-None.is))
 
 pub returns : goal.returns
