@@ -30,8 +30,8 @@ use Rattle.fast_check_package_answers.specs.PackageFaults.{PublicModule}
 use Rattle.fast_check_package_answers.specs.PackageAnswer.{TreeModule, with_tree, tree_modules, OwnsPublic, OwnsModule, OwnsAll}
 use Rattle.fast_check_package_answers.specs.Answered.{by_text, by_nv}
 use Rattle.fast_check_package_answers.specs.Owned.{IsOwned, AreOwned}
-use Rattle.fast_check_finder.specs.turns.wants.Sources.{Known}
-use Rattle.fast_check_finder.specs.turns.Own.{IsOwnRange}
+use Rattle.fast_check_range_finder.specs.wants.Sources.{Known}
+use Rattle.fast_check_range_finder.specs.Own.{IsOwnRange}
 use Rattle.fast_check_build.specs.Found.{OwnsRanges, IsFound}
 
 -- an entry of a map is found by its own key

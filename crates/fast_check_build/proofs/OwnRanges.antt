@@ -13,10 +13,10 @@ use Rattle.fast_check_worklists.specs.Account.{Account, IsYield}
 use Rattle.fast_check_package_ranges.specs.findings.Yields.{Yield}
 use Rattle.fast_check_package_ranges.specs.Answers.{about, about_module, IsModuleAnswer, AreAnswers, module_answer}
 use Rattle.fast_check_package_ranges.proofs.Shown.{shown, implemented, module_stands}
-use Rattle.fast_check_finder.specs.turns.wants.Sources.{Known}
-use Rattle.fast_check_finder.specs.turns.Yields.{gives}
-use Rattle.fast_check_finder.specs.turns.Own.{IsOwnYield}
-use Rattle.fast_check_finder.proofs.turn_proofs.OwnYields.{own_yields}
+use Rattle.fast_check_range_finder.specs.wants.Sources.{Known}
+use Rattle.fast_check_range_finder.specs.Yields.{gives}
+use Rattle.fast_check_range_finder.specs.Own.{IsOwnYield}
+use Rattle.fast_check_range_finder.proofs.OwnYields.{own_yields}
 use Rattle.fast_check_build.specs.Found.{OwnsRanges}
 
 module _ (k : Known) (account : Account) (yields : List Yield) (of_account : IsYield (gives k) account yields)

@@ -9,11 +9,11 @@ use Rattle.fast_check_worklists.specs.Account.{Account, IsAccount, IsYield}
 use Rattle.fast_check_package_ranges.specs.findings.Found.{found_yields}
 use Rattle.fast_check_package_ranges.specs.findings.declared.found.FoundPackage.{FoundPackage}
 use Rattle.fast_check_package_ranges.specs.Answers.{AreAnswers}
-use Rattle.fast_check_finder.specs.turns.wants.Sources.{Used, none_used, with_used, Known}
-use Rattle.fast_check_finder.specs.turns.Lent.{used_of}
-use Rattle.fast_check_finder.specs.turns.Rules.{world}
-use Rattle.fast_check_finder.specs.turns.Yields.{gives}
-use Rattle.fast_check_finder.specs.Refusals.{JoinAll}
+use Rattle.fast_check_range_finder.specs.wants.Sources.{Used, none_used, with_used, Known}
+use Rattle.fast_check_range_finder.specs.Lent.{used_of}
+use Rattle.fast_check_range_finder.specs.Rules.{world}
+use Rattle.fast_check_range_finder.specs.Yields.{gives}
+use Rattle.fast_check_range_finder.specs.Refusals.{JoinAll}
 use Rattle.fast_check_graph.specs.Root.{AreFoundByOwnNames}
 use Rattle.fast_check_build.specs.Found.{IsFound}
 use Rattle.fast_check_build.proofs.OwnRanges.{own_answers}

@@ -9,8 +9,8 @@ use Rattle.fast_check_cache.specs.Cache.{ItemView}
 use Rattle.fast_check_cache.specs.declared.package_ranges.PackagePublicRanges.{PackagePublicRanges}
 use Rattle.fast_check_package_answers.specs.PackageAnswer.{Answer}
 use Rattle.fast_check_package_answers.specs.Answered.{by_nv, AreAnswered, sets}
-use Rattle.fast_check_finder.specs.turns.wants.Sources.{Known}
-use Rattle.fast_check_finder.specs.Refusals.{IsRefusal}
+use Rattle.fast_check_range_finder.specs.wants.Sources.{Known}
+use Rattle.fast_check_range_finder.specs.Refusals.{IsRefusal}
 use Rattle.fast_check_build.specs.Found.{IsFound}
 
 -- it was found what is public in the packages that are handed in, and in all that follow from them; and each of them is

@@ -14,11 +14,11 @@ use Rattle.fast_check_worklists.specs.Demands.{Text}
 use Rattle.fast_check_worklists.specs.Account.{Account, IsAccount, IsYield}
 use Rattle.fast_check_package_ranges.specs.findings.Yields.{Yield}
 use Rattle.fast_check_package_ranges.specs.Answers.{AreAnswers, module_answer}
-use Rattle.fast_check_finder.specs.turns.wants.Sources.{none_used, Known, owner_by, named_at}
-use Rattle.fast_check_finder.specs.turns.Rules.{world}
-use Rattle.fast_check_finder.specs.turns.Yields.{gives}
-use Rattle.fast_check_finder.specs.turns.Own.{IsOwnRange}
-use Rattle.fast_check_finder.specs.Refusals.{JoinAll}
+use Rattle.fast_check_range_finder.specs.wants.Sources.{none_used, Known, owner_by, named_at}
+use Rattle.fast_check_range_finder.specs.Rules.{world}
+use Rattle.fast_check_range_finder.specs.Yields.{gives}
+use Rattle.fast_check_range_finder.specs.Own.{IsOwnRange}
+use Rattle.fast_check_range_finder.specs.Refusals.{JoinAll}
 
 -- what is known of modules and packages, where a provider is lent, and no cache
 abbrev pub known_of : ModuleGraph → RootSymbol → List WorkspaceMember → (Nv → Parts) → (Text → Option Nv) → Known

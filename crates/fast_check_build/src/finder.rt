@@ -4,13 +4,13 @@ ghost use Rattle.std.specs.Prelude.{◌≡◌, ⊤, map, MatchOption, IfOk, IfEr
 ghost use Rattle.fast_check_packages.specs.Package.{nv_of};
 ghost use Rattle.fast_check_packages.specs.MembersIn.{members_in};
 ghost use Rattle.fast_check_cache.specs.CachedPackages.{used_item};
-ghost use Rattle.fast_check_finder.specs.turns.wants.Sources.{with_used};
-ghost use Rattle.fast_check_finder.specs.turns.Lent.{used_of};
-ghost use Rattle.fast_check_finder.specs.Refusals.{IsRefusal};
+ghost use Rattle.fast_check_range_finder.specs.wants.Sources.{with_used};
+ghost use Rattle.fast_check_range_finder.specs.Lent.{used_of};
+ghost use Rattle.fast_check_range_finder.specs.Refusals.{IsRefusal};
 ghost use Rattle.fast_check_build.specs.Found.{known_of, IsFound};
 
 use fast_check_cache::{FastCheckCache, PackagePublicRanges};
-use fast_check_finder::{FinderInput, Sources, find_all};
+use fast_check_range_finder::{FinderInput, Sources, find_all};
 use fast_check_graph::{ModuleGraph, RootSymbol};
 use fast_check_package_ranges::package_ranges;
 use fast_check_packages::{BuildFault, IndexedMembers, JsrUrlProvider, PackageNv, WorkspaceMember};

@@ -2,15 +2,15 @@
 ghost use Rattle.std.specs.Prelude.{◌≡◌, ⊤, map, MatchOption, IfOk, IfErr};
 ghost use Rattle.fast_check_packages.specs.Package.{nv_of};
 ghost use Rattle.fast_check_cache.specs.CachedPackages.{used_item};
-ghost use Rattle.fast_check_finder.specs.turns.wants.Sources.{with_used};
-ghost use Rattle.fast_check_finder.specs.Refusals.{IsRefusal};
+ghost use Rattle.fast_check_range_finder.specs.wants.Sources.{with_used};
+ghost use Rattle.fast_check_range_finder.specs.Refusals.{IsRefusal};
 ghost use Rattle.fast_check_build.specs.Found.{known_of};
 ghost use Rattle.fast_check_build.specs.Build.{IsBuilt, IsBuiltWith, IsStopped};
 ghost use Rattle.fast_check_build.specs.Lent.{OldNew};
 
 use crate::finder::{find_public_ranges, find_seeded};
 use fast_check_cache::FastCheckCache;
-use fast_check_finder::{FinderInput, Sources};
+use fast_check_range_finder::{FinderInput, Sources};
 use fast_check_graph::{ModuleGraph, RootSymbol};
 use fast_check_package_answers::transform::TransformOptions;
 use fast_check_package_answers::{BuildInput, ModuleAnswer, answer_all, answer_and_set_all};

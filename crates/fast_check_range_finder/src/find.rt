@@ -3,10 +3,11 @@
 use crate::finder::Finder;
 use fast_check_cache::{FastCheckCache, FastCheckCacheItem, look_up};
 use fast_check_entries::{MemberEntries, entry_faults, entry_points};
-use fast_check_findings::Entrance;
+use fast_check_findings::{Entrance, FoundPackage};
 use fast_check_name_demands::NameDemand;
 use fast_check_packages::{BuildFault, JsrUrlProvider, PackageNv};
 use fast_check_sources::Sources;
+use indexmap::IndexMap;
 use std::alloc::{AllocError, Global};
 use std::collections::BTreeSet;
 use std::rc::Rc;
@@ -114,12 +115,12 @@ pub fn find_all<'a>(
     provider: &dyn JsrUrlProvider,
     cache: Option<&dyn FastCheckCache>,
     roots: &[PackageNv],
-) -> Result<Finder<'a>, BuildFault> {
+) -> Result<IndexMap<PackageNv, FoundPackage<'a>>, BuildFault> {
     let mut finder = Finder::new(alloc);
     let mut members = MemberEntries::new(alloc);
     for nv in roots {
         finder.packages.add(nv)?;
     }
     'turns: while finder.turn(alloc, input, provider, cache, &mut members)? {}
-    Ok(finder)
+    Ok(finder.into_found(alloc)?)
 }

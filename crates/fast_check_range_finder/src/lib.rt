@@ -7,10 +7,12 @@ mod find;
 mod finder;
 mod follow;
 mod names;
+mod packages;
 
 pub use asked::{AskedAs, AskedSymbol, AskedSymbols};
 pub use demand::{Dependency, NamesAt, Place, SymbolAt};
 pub use fast_check_packages::{BuildFault, PackageNv, WorkspaceMember};
+pub use fast_check_sources::Sources;
 pub use find::{FinderInput, find_all};
 pub use finder::{Finder, FollowedModule};
 pub use names::ask_names;
