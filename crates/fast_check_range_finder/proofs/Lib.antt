@@ -15,3 +15,4 @@ mod Written
 pub mod Reach
 pub mod Stored
 pub mod Homes
+pub mod Homed
