@@ -4,3 +4,4 @@ pub mod Request
 pub mod Input
 pub mod Opened
 pub mod Run
+pub mod build_requests

@@ -2,6 +2,7 @@
 //! what all commands share, and each answers by its own `Command`.
 #![tactic(auto)]
 
+pub mod build_requests;
 mod command;
 mod ending;
 mod input;

@@ -5,9 +5,9 @@ use Rattle.fast_check_packages.specs.declared.listed.ListedPackages.{ListedPacka
 use Rattle.fast_check_graph.specs.declared.root_symbol.RootSymbol.{RootSymbol}
 use Rattle.fast_check_requests.specs.declared.refusal.Refusal.{Refusal}
 use Rattle.fast_check_requests.specs.declared.refusal.Refusal.TheVariants as refusals
-use Rattle.fast_check_build_requests.specs.declared.request.BuildRequest.{BuildRequest}
+use Rattle.fast_check_requests.specs.declared.build_requests.request.BuildRequest.{BuildRequest}
 use Rattle.fast_check_requests.specs.Run.{IsOfBytes}
-use Rattle.fast_check_build_requests.specs.Input.{HoldsBuild, LacksBuild}
+use Rattle.fast_check_requests.specs.build_requests.Input.{HoldsBuild, LacksBuild}
 use Rattle.fast_check_commands.specs.build_command.Line.{has_diagnostics}
 use Rattle.fast_check_commands.specs.build_command.Build.{known_by, known_in, roots_in, IsRootIn, IsExportRefusal, AnswersBuild}
 use Rattle.fast_check_commands.specs.build_command.Build.{RefusesBuild, RefusesBytes}

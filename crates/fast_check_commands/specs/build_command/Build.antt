@@ -17,9 +17,9 @@ use Rattle.fast_check_build.specs.Build.{IsBuilt}
 use Rattle.fast_check_requests.specs.declared.refusal.Refusal.{Refusal}
 use Rattle.fast_check_requests.specs.declared.refusal.Refusal.TheVariants as refusals
 use Rattle.fast_check_requests.specs.Input.{IsNotJson}
-use Rattle.fast_check_build_requests.specs.declared.request.BuildRequest.{BuildRequest}
-use Rattle.fast_check_build_requests.specs.Input.{HoldsBuild, IsNoBuild}
-use Rattle.fast_check_build_requests.specs.Root.{IsRootOfParts, StandUnderNames, IsBuildFault}
+use Rattle.fast_check_requests.specs.declared.build_requests.request.BuildRequest.{BuildRequest}
+use Rattle.fast_check_requests.specs.build_requests.Input.{HoldsBuild, IsNoBuild}
+use Rattle.fast_check_requests.specs.build_requests.Root.{IsRootOfParts, StandUnderNames, IsBuildFault}
 use Rattle.fast_check_commands.specs.build_command.Line.{IsLineOf}
 
 -- ---- modules and packages

@@ -5,7 +5,7 @@ ghost use Rattle.fast_check_requests.specs.Run.{IsOfBytes};
 ghost use Rattle.fast_check_commands.specs.build_command.Build.{IsAnswerTo, RefusesBytes};
 
 use crate::build_command::request::answer_request;
-use fast_check_build_requests::read_build;
+use fast_check_requests::build_requests::read_build;
 use fast_check_requests::{Answer, Refusal};
 use std::alloc::Global;
 

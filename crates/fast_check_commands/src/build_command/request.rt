@@ -8,9 +8,9 @@ ghost use Rattle.fast_check_commands.specs.build_command.Build.{known_by, IsExpo
 use crate::build_command::answer::answer_of;
 use fast_check_build::build_fast_check_type_graph;
 use fast_check_build::package_answers::ModuleAnswer;
-use fast_check_build_requests::{BuildRequest, root_symbol_of};
 use fast_check_graph::{ModuleGraph, RootSymbol};
 use fast_check_packages::{BuildFault, IndexedPackages, PackageNv};
+use fast_check_requests::build_requests::{BuildRequest, root_symbol_of};
 use fast_check_requests::{Answer, Refusal};
 use fast_check_transform_module::TransformOptions;
 use std::alloc::Global;

@@ -1,5 +1,0 @@
-use Rattle.fast_check_build_requests.proofs.Turns.{Goes}
-use Rattle.fast_check_build_requests.proofs.modules.modules_of.Given as goal
-
-abbrev pub invariant-loop-name : goal.invariant-loop-name
-invariant-loop-name l = Goes l.fn.modules.items l.name-iterator.rest.items l.made.items
