@@ -11,36 +11,36 @@ use Rattle.fast_check_signatures.specs.declared.fault.FaultKind.{FaultKind}
 use Rattle.fast_check_signatures.specs.Answers.{Answer, Adds, fault_at, faultless, with_tree, answer_to, answer_of}
 use Rattle.fast_check_signatures.specs.Seen.{Seen, faulty}
 use Rattle.fast_check_signatures.proofs.Adding.{adds_nothing, adds_fault, adds_same}
-use Rattle.fast_check_transform_declarations.specs.links.surroundings.skeleton.declared.rules.DeclRule.{DeclRule}
-use Rattle.fast_check_transform_declarations.specs.links.surroundings.skeleton.declared.rules.DeclRule.TheVariants.{Variables, Function, Class, Standing}
-use Rattle.fast_check_transform_declarations.specs.links.surroundings.skeleton.declared.rules.DeclRule.TheVariants.{Namespace, Using, NoDeclaration}
-use Rattle.fast_check_transform_declarations.specs.links.surroundings.skeleton.declared.rules.DefaultRule.{DefaultRule}
-use Rattle.fast_check_transform_declarations.specs.links.surroundings.skeleton.declared.rules.LinkRule.{LinkRule}
-use Rattle.fast_check_transform_declarations.specs.links.surroundings.skeleton.declared.rules.ItemRule.{ItemRule}
-use Rattle.fast_check_transform_declarations.specs.links.surroundings.skeleton.declared.rules.ItemRule.TheVariants.{Declared, Exported, Linked, Default}
-use Rattle.fast_check_transform_declarations.specs.links.surroundings.skeleton.declared.rules.ItemRule.TheVariants.{Refused, Assigned, Silent}
+use Rattle.fast_check_transform_statements.specs.transform_declarations.links.surroundings.skeleton.declared.rules.DeclRule.{DeclRule}
+use Rattle.fast_check_transform_statements.specs.transform_declarations.links.surroundings.skeleton.declared.rules.DeclRule.TheVariants.{Variables, Function, Class, Standing}
+use Rattle.fast_check_transform_statements.specs.transform_declarations.links.surroundings.skeleton.declared.rules.DeclRule.TheVariants.{Namespace, Using, NoDeclaration}
+use Rattle.fast_check_transform_statements.specs.transform_declarations.links.surroundings.skeleton.declared.rules.DefaultRule.{DefaultRule}
+use Rattle.fast_check_transform_statements.specs.transform_declarations.links.surroundings.skeleton.declared.rules.LinkRule.{LinkRule}
+use Rattle.fast_check_transform_statements.specs.transform_declarations.links.surroundings.skeleton.declared.rules.ItemRule.{ItemRule}
+use Rattle.fast_check_transform_statements.specs.transform_declarations.links.surroundings.skeleton.declared.rules.ItemRule.TheVariants.{Declared, Exported, Linked, Default}
+use Rattle.fast_check_transform_statements.specs.transform_declarations.links.surroundings.skeleton.declared.rules.ItemRule.TheVariants.{Refused, Assigned, Silent}
 use Rattle.std.specs.List.{flat_map}
 use Rattle.std.specs.Prelude.{refl}
 use Rattle.std.proofs.lemmas.List.{take_more, take_all, append_assoc}
 use Rattle.std.proofs.lemmas.List.Concat.{flat_map-append}
 use Rattle.fast_check_statement_forms.specs.Statements.{ExprStmt-expr}
 use Rattle.fast_check_signatures.proofs.Adding.{adds_joined, answer_append}
-use Rattle.fast_check_transform_declarations.specs.links.surroundings.skeleton.expandos.declared.properties.ExpandoProperty.{ExpandoProperty}
-use Rattle.fast_check_transform_declarations.specs.links.surroundings.skeleton.expandos.Assignments.{assignment_seen, declared_properties}
-use Rattle.fast_check_transform_declarations.specs.links.surroundings.skeleton.expandos.Expandos.{namespaces_seen}
+use Rattle.fast_check_transform_statements.specs.transform_declarations.links.surroundings.skeleton.expandos.declared.properties.ExpandoProperty.{ExpandoProperty}
+use Rattle.fast_check_transform_statements.specs.transform_declarations.links.surroundings.skeleton.expandos.Assignments.{assignment_seen, declared_properties}
+use Rattle.fast_check_transform_statements.specs.transform_declarations.links.surroundings.skeleton.expandos.Expandos.{namespaces_seen}
 use Rattle.fast_check_transform_statements.specs.Assigned.{assignment_answer, assignment_properties}
-use Rattle.fast_check_transform_declarations.specs.links.surroundings.skeleton.Visible.{properties_by_rule, item_properties, item_look}
-use Rattle.fast_check_transform_declarations.specs.links.surroundings.skeleton.Rules.{is_assigned, item_rule}
-use Rattle.fast_check_transform_declarations.specs.links.surroundings.skeleton.Surroundings.{Surroundings}
-use Rattle.fast_check_transform_declarations.specs.links.surroundings.skeleton.Visible.{decl_seen, exported_seen, seen_by_rule, item_seen}
-use Rattle.fast_check_transform_declarations.proofs.links_proofs.surroundings.skeleton_proofs.Namespaces.{item_seen_is}
-use Rattle.fast_check_transform_declarations.proofs.links_proofs.surroundings.skeleton_proofs.Standing.{OneTree, decl_one, export_is}
-use Rattle.fast_check_transform_declarations.specs.links.surroundings.Kept.{as_list}
+use Rattle.fast_check_transform_statements.specs.transform_declarations.links.surroundings.skeleton.Visible.{properties_by_rule, item_properties, item_look}
+use Rattle.fast_check_transform_statements.specs.transform_declarations.links.surroundings.skeleton.Rules.{is_assigned, item_rule}
+use Rattle.fast_check_transform_statements.specs.transform_declarations.links.surroundings.skeleton.Surroundings.{Surroundings}
+use Rattle.fast_check_transform_statements.specs.transform_declarations.links.surroundings.skeleton.Visible.{decl_seen, exported_seen, seen_by_rule, item_seen}
+use Rattle.fast_check_transform_statements.proofs.transform_declarations.links_proofs.surroundings.skeleton_proofs.Namespaces.{item_seen_is}
+use Rattle.fast_check_transform_statements.proofs.transform_declarations.links_proofs.surroundings.skeleton_proofs.Standing.{OneTree, decl_one, export_is}
+use Rattle.fast_check_transform_statements.specs.transform_declarations.links.surroundings.Kept.{as_list}
 use Rattle.fast_check_transform_imports.specs.Links.{link_answer}
 use Rattle.fast_check_transform_statements.specs.PartAnswers.{statement_answer, public_function_answer, standing_answer, using_answer}
-use Rattle.fast_check_transform_declarations.specs.ClassAnswers.{public_class_answer}
-use Rattle.fast_check_transform_declarations.specs.ClassAnswers.{default_answer}
-use Rattle.fast_check_transform_declarations.proofs.links_proofs.surroundings.Listed.{alone, one_more, whole}
+use Rattle.fast_check_transform_statements.specs.transform_declarations.ClassAnswers.{public_class_answer}
+use Rattle.fast_check_transform_statements.specs.transform_declarations.ClassAnswers.{default_answer}
+use Rattle.fast_check_transform_statements.proofs.transform_declarations.links_proofs.surroundings.Listed.{alone, one_more, whole}
 use Rattle.fast_check_transform_module.specs.PartAnswers.{namespace_answer, decl_answer, export_answer, refused_answer, item_answer}
 use Rattle.fast_check_transform_module.specs.PartAnswers.{each_answer, items_answer}
 

@@ -2,7 +2,7 @@
 use Rattle.std.specs.Prelude.{◌≡◌, List, [], ◌++◌, Result, IfOk}
 use Rattle.std.proofs.Common.{ap, ◌∙◌, subst, sym}
 use Rattle.std.proofs.lemmas.Result.{IfOk-weaker}
-use Rattle.fast_check_transform_declarations.specs.links.surroundings.bindings.Bindings.{bindings_of}
+use Rattle.fast_check_transform_statements.specs.transform_declarations.links.surroundings.bindings.Bindings.{bindings_of}
 use Rattle.fast_check_syntax.specs.declared.tree.Tree.{Tree}
 use Rattle.fast_check_syntax.specs.Shape.{parts, list}
 use Rattle.fast_check_program_forms.specs.Programs.{Module-span, Module-body, Module-shebang, module'}
@@ -13,9 +13,9 @@ use Rattle.fast_check_modules.specs.diagnostics.PublicRanges.{PublicRanges}
 use Rattle.fast_check_signatures.specs.declared.fault.Fault.{Fault}
 use Rattle.fast_check_signatures.specs.Answers.{Adds}
 use Rattle.fast_check_signatures.proofs.Adding.{adds_made}
-use Rattle.fast_check_transform_declarations.specs.links.surroundings.skeleton.Grammar.{IsSkeleton}
-use Rattle.fast_check_transform_declarations.specs.links.surroundings.skeleton.Surroundings.{Surroundings}
-use Rattle.fast_check_transform_declarations.proofs.links_proofs.surroundings.skeleton_proofs.Standing.{skeleton_stands}
+use Rattle.fast_check_transform_statements.specs.transform_declarations.links.surroundings.skeleton.Grammar.{IsSkeleton}
+use Rattle.fast_check_transform_statements.specs.transform_declarations.links.surroundings.skeleton.Surroundings.{Surroundings}
+use Rattle.fast_check_transform_statements.proofs.transform_declarations.links_proofs.surroundings.skeleton_proofs.Standing.{skeleton_stands}
 use Rattle.fast_check_transform_module.specs.PartAnswers.{items_answer, program_answer}
 use Rattle.fast_check_transform_module.specs.Transform.{surroundings_of, skeleton, faults}
 

@@ -1,3 +1,3 @@
-pub use Rattle.fast_check_transform_declarations.specs.links.surroundings.skeleton as skeleton
+pub use Rattle.fast_check_transform_statements.specs.transform_declarations.links.surroundings.skeleton as skeleton
 pub mod PartAnswers
 pub mod Transform

@@ -12,12 +12,12 @@ use Rattle.fast_check_swc_helpers.specs.ranges.Ranges.{range_of_node}
 use Rattle.fast_check_signatures.specs.declared.fault.FaultKind.{FaultKind}
 use Rattle.fast_check_signatures.specs.Seen.{faulty}
 use Rattle.fast_check_signatures.specs.Answers.{Answer, made, answer_of}
-use Rattle.fast_check_transform_declarations.specs.links.surroundings.skeleton.declared.rules.DeclRule.{DeclRule}
-use Rattle.fast_check_transform_declarations.specs.links.surroundings.skeleton.KeptComments.{start_look, starts_in_body}
-use Rattle.fast_check_transform_declarations.specs.links.surroundings.skeleton.Skeleton.{transformed}
-use Rattle.fast_check_transform_declarations.specs.links.surroundings.skeleton.Surroundings.{Surroundings}
-use Rattle.fast_check_transform_declarations.specs.links.surroundings.skeleton.Visible.{item_look, body_seen, namespace_seen, decl_seen}
-use Rattle.fast_check_transform_declarations.specs.links.surroundings.skeleton.Visible.{exported_seen, item_seen}
+use Rattle.fast_check_transform_statements.specs.transform_declarations.links.surroundings.skeleton.declared.rules.DeclRule.{DeclRule}
+use Rattle.fast_check_transform_statements.specs.transform_declarations.links.surroundings.skeleton.KeptComments.{start_look, starts_in_body}
+use Rattle.fast_check_transform_statements.specs.transform_declarations.links.surroundings.skeleton.Skeleton.{transformed}
+use Rattle.fast_check_transform_statements.specs.transform_declarations.links.surroundings.skeleton.Surroundings.{Surroundings}
+use Rattle.fast_check_transform_statements.specs.transform_declarations.links.surroundings.skeleton.Visible.{item_look, body_seen, namespace_seen, decl_seen}
+use Rattle.fast_check_transform_statements.specs.transform_declarations.links.surroundings.skeleton.Visible.{exported_seen, item_seen}
 
 -- to a namespace, which is public by `place`
 unfoldable pub namespace_answer : Surroundings → SourceRange → Tree → Answer (List Tree)

@@ -3,11 +3,11 @@ ghost use Rattle.std.specs.Prelude.{◌≡◌, ◌++◌, false, flat_map, IfOk};
 ghost use Rattle.fast_check_syntax.specs.Part.{seen};
 ghost use Rattle.fast_check_syntax.specs.Shape.{parts};
 ghost use Rattle.fast_check_signatures.specs.Answers.{Adds};
-ghost use Rattle.fast_check_transform_declarations.specs.links.surroundings.skeleton.KeptComments.{removed_from, start_look, starts_in_body, starts_in_namespace, starts_below, without_all_leading};
-ghost use Rattle.fast_check_transform_declarations.specs.links.surroundings.skeleton.Rules.{is_assigned, item_rule};
-ghost use Rattle.fast_check_transform_declarations.specs.links.surroundings.skeleton.Visible.{item_properties};
-ghost use Rattle.fast_check_transform_declarations.specs.links.surroundings.Surroundings.{seen_around};
-ghost use Rattle.fast_check_transform_declarations.specs.links.surroundings.Kept.{as_list};
+ghost use Rattle.fast_check_transform_statements.specs.transform_declarations.links.surroundings.skeleton.KeptComments.{removed_from, start_look, starts_in_body, starts_in_namespace, starts_below, without_all_leading};
+ghost use Rattle.fast_check_transform_statements.specs.transform_declarations.links.surroundings.skeleton.Rules.{is_assigned, item_rule};
+ghost use Rattle.fast_check_transform_statements.specs.transform_declarations.links.surroundings.skeleton.Visible.{item_properties};
+ghost use Rattle.fast_check_transform_statements.specs.transform_declarations.links.surroundings.Surroundings.{seen_around};
+ghost use Rattle.fast_check_transform_statements.specs.transform_declarations.links.surroundings.Kept.{as_list};
 ghost use Rattle.fast_check_transform_imports.specs.Relative.{AreRelative};
 ghost use Rattle.fast_check_transform_module.specs.PartAnswers.{namespace_answer, decl_answer, export_answer, starts_in_export, refused_answer, item_answer};
 ghost use Rattle.fast_check_transform_module.specs.PartAnswers.{each_answer, items_answer};
@@ -18,15 +18,17 @@ use fast_check_signatures::{Fault, FaultKind};
 use fast_check_statement_forms::ExprStmt;
 use fast_check_swc_helpers::ranges::range_of_node;
 use fast_check_syntax::{Items, Part, SourceRange, Tree};
-use fast_check_transform_declarations::surroundings::Surroundings;
-use fast_check_transform_declarations::surroundings::skeleton::expandos::{
+use fast_check_transform_imports::{RelativeSources, transform_link};
+use fast_check_transform_statements::transform_declarations::surroundings::Surroundings;
+use fast_check_transform_statements::transform_declarations::surroundings::skeleton::expandos::{
     ExpandoProperty, keep_namespaces,
 };
-use fast_check_transform_declarations::surroundings::skeleton::{DeclRule, ItemRule, item_rule};
-use fast_check_transform_declarations::{
+use fast_check_transform_statements::transform_declarations::surroundings::skeleton::{
+    DeclRule, ItemRule, item_rule,
+};
+use fast_check_transform_statements::transform_declarations::{
     remove_inside, transform_default_export, transform_public_class,
 };
-use fast_check_transform_imports::{RelativeSources, transform_link};
 use fast_check_transform_statements::{
     items_inside, module_fault, namespace_with, transform_assignment, transform_public_function,
     transform_standing, transform_statement, transform_using,

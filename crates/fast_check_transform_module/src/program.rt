@@ -2,8 +2,8 @@
 ghost use Rattle.std.specs.Prelude.{◌≡◌, IfOk};
 ghost use Rattle.fast_check_syntax.specs.Part.{seen};
 ghost use Rattle.fast_check_signatures.specs.Answers.{Adds};
-ghost use Rattle.fast_check_transform_declarations.specs.links.surroundings.skeleton.KeptComments.{removed_starts, without_all_leading};
-ghost use Rattle.fast_check_transform_declarations.specs.links.surroundings.Surroundings.{seen_around};
+ghost use Rattle.fast_check_transform_statements.specs.transform_declarations.links.surroundings.skeleton.KeptComments.{removed_starts, without_all_leading};
+ghost use Rattle.fast_check_transform_statements.specs.transform_declarations.links.surroundings.Surroundings.{seen_around};
 ghost use Rattle.fast_check_transform_imports.specs.Relative.{AreRelative};
 ghost use Rattle.fast_check_transform_module.specs.PartAnswers.{program_answer};
 ghost use Rattle.fast_check_transform_module.specs.Transform.{surroundings_of, skeleton, comments, faults};
@@ -16,8 +16,8 @@ use fast_check_modules::diagnostics::ModulePublicRanges;
 use fast_check_program_forms::Module;
 use fast_check_signatures::Fault;
 use fast_check_syntax::{Part, Tree};
-use fast_check_transform_declarations::surroundings::Surroundings;
 use fast_check_transform_imports::RelativeSources;
+use fast_check_transform_statements::transform_declarations::surroundings::Surroundings;
 use std::alloc::{AllocError, Global};
 
 /// What is public of a module, the comments that stay with it, and what is wrong with it, in reading order.

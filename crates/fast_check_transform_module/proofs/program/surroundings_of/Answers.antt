@@ -1,6 +1,6 @@
 use Rattle.std.proofs.Common.{◌∙◌, ap}
 use Rattle.fast_check_graph.specs.Graph.{resolutions_of}
-use Rattle.fast_check_transform_declarations.specs.links.surroundings.Surroundings.{surroundings_by}
+use Rattle.fast_check_transform_statements.specs.transform_declarations.links.surroundings.Surroundings.{surroundings_by}
 use Rattle.fast_check_transform_module.proofs.program.surroundings_of.Goals as goal
 
 pub returns : goal.returns

@@ -1,6 +1,6 @@
 use Rattle.std.proofs.Common.{rules}
 use Rattle.fast_check_transform_module.proofs.Transformed.{skeleton_is, faults_are}
-use Rattle.fast_check_transform_declarations.specs.links.surroundings.Surroundings.{seen_around}
+use Rattle.fast_check_transform_statements.specs.transform_declarations.links.surroundings.Surroundings.{seen_around}
 use Rattle.fast_check_transform_module.proofs.program.transform_es_module.Goals as goal
 
 pub transform_program-requires : goal.transform_program-requires

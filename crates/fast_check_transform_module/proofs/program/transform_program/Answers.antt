@@ -2,7 +2,7 @@ use Rattle.std.proofs.Common.{rules, ap, ◌∙◌}
 use Rattle.fast_check_program_forms.specs.Programs.{module'}
 use Rattle.fast_check_syntax.specs.Part.{seen}
 use Rattle.fast_check_syntax.specs.Shape.{parts}
-use Rattle.fast_check_transform_declarations.specs.links.surroundings.Surroundings.{seen_around}
+use Rattle.fast_check_transform_statements.specs.transform_declarations.links.surroundings.Surroundings.{seen_around}
 use Rattle.fast_check_transform_module.proofs.Transformed.{made_program}
 use Rattle.fast_check_transform_module.proofs.program.transform_program.Goals as goal
 

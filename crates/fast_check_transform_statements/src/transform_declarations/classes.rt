@@ -1,0 +1,192 @@
+//! Classes that are declared, and the comments before their members that go.
+ghost use Rattle.std.specs.Prelude.{◌≡◌, IfOk, Some};
+ghost use Rattle.fast_check_syntax.specs.Part.{seen};
+ghost use Rattle.fast_check_syntax.specs.Shape.{parts};
+ghost use Rattle.fast_check_signatures.specs.Answers.{Adds};
+ghost use Rattle.fast_check_transform_imports.specs.surroundings.skeleton.KeptComments.{starts_of_removed, starts_in_decl, starts_in_default, starts_inside};
+ghost use Rattle.fast_check_transform_imports.specs.surroundings.skeleton.KeptComments.{without_all_leading};
+ghost use Rattle.fast_check_transform_imports.specs.surroundings.skeleton.Rules.{item_rule};
+ghost use Rattle.fast_check_transform_imports.specs.surroundings.skeleton.Visible.{is_ambient_class};
+ghost use Rattle.fast_check_transform_imports.specs.surroundings.Surroundings.{seen_around};
+ghost use Rattle.fast_check_transform_imports.specs.surroundings.Kept.{as_list};
+ghost use Rattle.fast_check_transform_statements.specs.transform_declarations.ClassAnswers.{class_in_answer, class_answer, public_class_answer};
+
+use fast_check_class_forms::Class;
+use fast_check_comments::CommentsMut;
+use fast_check_expression_forms::{AssignExpr, ClassExpr};
+use fast_check_program_forms::{ExportDecl, ExportDefaultDecl};
+use fast_check_signatures::Fault;
+use fast_check_statement_forms::{ClassDecl, ExprStmt};
+use fast_check_swc_helpers::ranges::range_of_node;
+use fast_check_syntax::{Part, SourceRange, Tree};
+use fast_check_transform_classes::class_nodes::Earlier;
+use fast_check_transform_classes::{ambient_class, transform_class};
+use fast_check_transform_imports::surroundings::Surroundings;
+use fast_check_transform_imports::surroundings::skeleton::{
+    DeclRule, DefaultRule, ItemRule, item_rule,
+};
+use std::alloc::{AllocError, Global};
+
+/// Whether a class is ambient.
+fn is_ambient_class(around: Surroundings<'_>, decl: Part<'_>) -> bool
+    ensures { result ≡ is_ambient_class (seen_around around.entry) (seen decl.entry) }
+{
+    around.is_ambient || ClassDecl::of(decl).declare
+}
+
+/// The class of a declaration; an ambient one as it is written, but for private members with computed keys.
+fn transform_class_of(
+    alloc: Global,
+    around: Surroundings<'_>,
+    decl: Part<'_>,
+    faults: &mut Vec<Fault>,
+) -> Result<Tree, AllocError>
+    ensures { IfOk result (λ tree. Adds (class_in_answer (seen_around around.entry) (seen decl.entry)) (Some tree) faults.old.items faults.new.items) }
+{
+    let class = ClassDecl::of(decl).class;
+    if is_ambient_class(around, decl) {
+        return ambient_class(alloc, class);
+    }
+    transform_class(
+        alloc,
+        around.public_ranges,
+        around.es_module_info,
+        class,
+        faults,
+    )
+}
+
+/// A class declaration.
+fn transform_class_decl(
+    alloc: Global,
+    around: Surroundings<'_>,
+    decl: Part<'_>,
+    faults: &mut Vec<Fault>,
+) -> Result<Tree, AllocError>
+    ensures { IfOk result (λ tree. Adds (class_answer (seen_around around.entry) (seen decl.entry)) (Some tree) faults.old.items faults.new.items) }
+{
+    let ClassDecl { ident, declare, .. } = ClassDecl::of(decl);
+    let made = ClassDecl {
+        ident: ident.to_tree(alloc)?,
+        declare,
+        class: transform_class_of(alloc, around, decl, faults)?,
+    };
+    made.into_tree(alloc)
+}
+
+/// A class declaration, which is public by `place`; none where it is not.
+pub fn transform_public_class(
+    alloc: Global,
+    around: Surroundings<'_>,
+    place: SourceRange,
+    decl: Part<'_>,
+    faults: &mut Vec<Fault>,
+) -> Result<Option<Tree>, AllocError>
+    ensures { IfOk result (λ tree.
+        Adds (public_class_answer (seen_around around.entry) place (seen decl.entry)) (as_list tree) faults.old.items faults.new.items) }
+{
+    if !around.public_ranges.contains(&place) {
+        return Ok(None);
+    }
+    Ok(Some(transform_class_decl(alloc, around, decl, faults)?))
+}
+
+/// Removes the comments before the members of a class that go.
+fn remove_before_members(
+    alloc: Global,
+    class: Part<'_>,
+    comments: &mut CommentsMut,
+) -> Result<(), AllocError>
+    ensures { IfOk result (λ _. comments.new ≡ without_all_leading (starts_of_removed (seen class.entry)) comments.old) }
+{
+    let mut earlier = Earlier::new(alloc);
+    for member in Class::of(class).body.parts() {
+        let member = member.read();
+        if earlier.stays(member)? {
+            continue;
+        }
+        comments.remove_leading(range_of_node(member).start);
+    }
+    Ok(())
+}
+
+/// Removes the comments before what goes inside of a declaration that stays and with which this is done.
+fn remove_in_decl(
+    alloc: Global,
+    around: Surroundings<'_>,
+    place: SourceRange,
+    decl: Part<'_>,
+    rule: DeclRule,
+    comments: &mut CommentsMut,
+) -> Result<(), AllocError>
+    ensures { IfOk result (λ _.
+        comments.new ≡ without_all_leading (starts_in_decl (seen_around around.entry) place (seen decl.entry) rule) comments.old) }
+{
+    match rule {
+        DeclRule::Class => {
+            if !around.public_ranges.contains(&place) || is_ambient_class(around, decl) {
+                return Ok(());
+            }
+            remove_before_members(alloc, ClassDecl::of(decl).class, comments)
+        }
+        DeclRule::Variables
+        | DeclRule::Function
+        | DeclRule::Standing
+        | DeclRule::Namespace
+        | DeclRule::Using
+        | DeclRule::NoDeclaration => Ok(()),
+    }
+}
+
+/// Removes the comments before what goes inside of a default export with which this is done.
+fn remove_in_default(
+    alloc: Global,
+    around: Surroundings<'_>,
+    item: Part<'_>,
+    rule: DefaultRule,
+    comments: &mut CommentsMut,
+) -> Result<(), AllocError>
+    ensures { IfOk result (λ _.
+        comments.new ≡ without_all_leading (starts_in_default (seen_around around.entry) (seen item.entry) rule) comments.old) }
+{
+    match rule {
+        DefaultRule::Class => {
+            let ExportDefaultDecl { span, decl } = ExportDefaultDecl::of(item);
+            if !around.public_ranges.contains(&span) {
+                return Ok(());
+            }
+            remove_before_members(alloc, ClassExpr::of(decl).class, comments)
+        }
+        DefaultRule::Value | DefaultRule::Function | DefaultRule::Interface => Ok(()),
+    }
+}
+
+/// Removes the comments before what goes inside of an item.
+pub fn remove_inside(
+    alloc: Global,
+    around: Surroundings<'_>,
+    item: Part<'_>,
+    comments: &mut CommentsMut,
+) -> Result<(), AllocError>
+    ensures { IfOk result (λ _.
+        comments.new ≡ without_all_leading (starts_inside (seen_around around.entry) (seen item.entry) (item_rule (seen item.entry))) comments.old) }
+{
+    match item_rule(item) {
+        ItemRule::Declared(rule) => {
+            remove_in_decl(alloc, around, range_of_node(item), item, rule, comments)
+        }
+        ItemRule::Exported(rule) => {
+            let ExportDecl { span, decl } = ExportDecl::of(item);
+            remove_in_decl(alloc, around, span, decl, rule, comments)
+        }
+        ItemRule::Default(rule) => remove_in_default(alloc, around, item, rule, comments),
+        ItemRule::Assigned => {
+            let assignment = AssignExpr::of(ExprStmt::of(item).expr);
+            if around.public_ranges.contains(&assignment.span) {
+                comments.remove_leading(range_of_node(item).start);
+            }
+            Ok(())
+        }
+        ItemRule::Linked(_) | ItemRule::Refused(_) | ItemRule::Silent => Ok(()),
+    }
+}

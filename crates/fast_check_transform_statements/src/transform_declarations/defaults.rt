@@ -1,0 +1,197 @@
+//! Default exports: of a class, a function, an interface or a value.
+ghost use Rattle.std.specs.Prelude.{◌≡◌, IfOk, Some};
+ghost use Rattle.fast_check_syntax.specs.Part.{seen};
+ghost use Rattle.fast_check_signatures.specs.Answers.{Adds};
+ghost use Rattle.fast_check_transform_imports.specs.surroundings.skeleton.Defaults.{default_place, is_public_value};
+ghost use Rattle.fast_check_transform_imports.specs.surroundings.Surroundings.{seen_around};
+ghost use Rattle.fast_check_transform_imports.specs.surroundings.Kept.{as_list};
+ghost use Rattle.fast_check_transform_statements.specs.transform_declarations.ClassAnswers.{is_public_default, default_value_answer, default_class_answer};
+ghost use Rattle.fast_check_transform_statements.specs.transform_declarations.ClassAnswers.{default_signature_answer, default_function_answer, default_decl_answer, default_answer};
+
+use fast_check_class_forms::Function;
+use fast_check_expression_forms::{ClassExpr, FnExpr};
+use fast_check_program_forms::{ExportDefaultDecl, ExportDefaultExpr, Ident};
+use fast_check_signatures::{Fault, FaultKind, FunctionKind};
+use fast_check_swc_helpers::ranges::range_of_node;
+use fast_check_syntax::{Part, SourceRange, Tree};
+use fast_check_transform_classes::transform_class;
+use fast_check_transform_classes::values::{
+    transform_expr, transform_fn, transform_implementation,
+};
+use fast_check_transform_imports::surroundings::Surroundings;
+use fast_check_transform_imports::surroundings::skeleton::DefaultRule;
+use std::alloc::{AllocError, Global};
+
+/// Whether the default export of an expression is public: by its own range, or by that of the expression.
+fn is_public_value(around: Surroundings<'_>, item: Part<'_>) -> bool
+    ensures { result ≡ is_public_value (seen_around around.entry) (seen item.entry) }
+{
+    let ExportDefaultExpr { span, expr } = ExportDefaultExpr::of(item);
+    around.public_ranges.contains(&span) || around.public_ranges.contains(&range_of_node(expr))
+}
+
+/// Whether a default export with which this is done is public.
+fn is_public_default(around: Surroundings<'_>, item: Part<'_>, rule: DefaultRule) -> bool
+    ensures { result ≡ is_public_default (seen_around around.entry) (seen item.entry) rule }
+{
+    match rule {
+        DefaultRule::Value => is_public_value(around, item),
+        DefaultRule::Class | DefaultRule::Function | DefaultRule::Interface => {
+            around
+                .public_ranges
+                .contains(&ExportDefaultDecl::of(item).span)
+        }
+    }
+}
+
+/// The default export of an expression. Where the expression may not stay, that is a fault.
+fn transform_default_value(
+    alloc: Global,
+    around: Surroundings<'_>,
+    item: Part<'_>,
+    faults: &mut Vec<Fault>,
+) -> Result<Tree, AllocError>
+    ensures { IfOk result (λ tree. Adds (default_value_answer (seen_around around.entry) (seen item.entry)) (Some tree) faults.old.items faults.new.items) }
+{
+    let ExportDefaultExpr { span, expr } = ExportDefaultExpr::of(item);
+    match transform_expr(alloc, around.es_module_info, expr, None, faults)? {
+        Some(expr) => ExportDefaultExpr { span, expr }.into_tree(alloc),
+        None => {
+            faults.push(Fault {
+                kind: FaultKind::UnsupportedDefaultExportExpr,
+                range: span,
+            })?;
+            let expr = Tree::Absent;
+            ExportDefaultExpr { span, expr }.into_tree(alloc)
+        }
+    }
+}
+
+/// A class that is exported by default. It is never ambient.
+fn transform_class_decl(
+    alloc: Global,
+    around: Surroundings<'_>,
+    decl: Part<'_>,
+    faults: &mut Vec<Fault>,
+) -> Result<Tree, AllocError>
+    ensures { IfOk result (λ tree. Adds (default_class_answer (seen_around around.entry) (seen decl.entry)) (Some tree) faults.old.items faults.new.items) }
+{
+    let ClassExpr { ident, class } = ClassExpr::of(decl);
+    let made = ClassExpr {
+        ident: ident.to_tree(alloc)?,
+        class: transform_class(
+            alloc,
+            around.public_ranges,
+            around.es_module_info,
+            class,
+            faults,
+        )?,
+    };
+    made.into_tree(alloc)
+}
+
+/// Where the return type of a function would be missing: at its name, or else at the function.
+fn default_place(decl: Part<'_>) -> SourceRange
+    ensures { result ≡ default_place (seen decl.entry) }
+{
+    let FnExpr { ident, function } = FnExpr::of(decl);
+    if ident.is_absent() {
+        Function::of(function).span
+    } else {
+        Ident::of(ident).span
+    }
+}
+
+/// The signature of a function that is exported by default: of an implementation behind overloads the count of its
+/// parameters.
+fn transform_signature(
+    alloc: Global,
+    around: Surroundings<'_>,
+    place: SourceRange,
+    decl: Part<'_>,
+    faults: &mut Vec<Fault>,
+) -> Result<Tree, AllocError>
+    ensures { IfOk result (λ tree.
+        Adds (default_signature_answer (seen_around around.entry) place (seen decl.entry)) (Some tree) faults.old.items faults.new.items) }
+{
+    let function = FnExpr::of(decl).function;
+    if around.public_ranges.is_impl_with_overloads(&place) {
+        return transform_implementation(alloc, function);
+    }
+    transform_fn(
+        alloc,
+        around.es_module_info,
+        FunctionKind::DeclarationLike,
+        default_place(decl),
+        function,
+        faults,
+    )
+}
+
+/// A function that is exported by default, by its signature; where all is ambient as it is written.
+fn transform_default_function(
+    alloc: Global,
+    around: Surroundings<'_>,
+    place: SourceRange,
+    decl: Part<'_>,
+    faults: &mut Vec<Fault>,
+) -> Result<Tree, AllocError>
+    ensures { IfOk result (λ tree.
+        Adds (default_function_answer (seen_around around.entry) place (seen decl.entry)) (Some tree) faults.old.items faults.new.items) }
+{
+    if around.is_ambient {
+        return decl.to_tree(alloc);
+    }
+    let ident = FnExpr::of(decl).ident;
+    let made = FnExpr {
+        ident: ident.to_tree(alloc)?,
+        function: transform_signature(alloc, around, place, decl, faults)?,
+    };
+    made.into_tree(alloc)
+}
+
+/// A public default export with which this is done.
+fn transform_public_default(
+    alloc: Global,
+    around: Surroundings<'_>,
+    item: Part<'_>,
+    rule: DefaultRule,
+    faults: &mut Vec<Fault>,
+) -> Result<Tree, AllocError>
+    ensures { IfOk result (λ tree.
+        Adds (default_decl_answer (seen_around around.entry) (seen item.entry) rule) (Some tree) faults.old.items faults.new.items) }
+{
+    let ExportDefaultDecl { span, decl } = ExportDefaultDecl::of(item);
+    match rule {
+        DefaultRule::Value => transform_default_value(alloc, around, item, faults),
+        DefaultRule::Class => {
+            let decl = transform_class_decl(alloc, around, decl, faults)?;
+            ExportDefaultDecl { span, decl }.into_tree(alloc)
+        }
+        DefaultRule::Function => {
+            let decl = transform_default_function(alloc, around, span, decl, faults)?;
+            ExportDefaultDecl { span, decl }.into_tree(alloc)
+        }
+        DefaultRule::Interface => {
+            let decl = decl.to_tree(alloc)?;
+            ExportDefaultDecl { span, decl }.into_tree(alloc)
+        }
+    }
+}
+
+/// What is public of a default export with which this is done; none where nothing is.
+pub fn transform_default_export(
+    alloc: Global,
+    around: Surroundings<'_>,
+    item: Part<'_>,
+    rule: DefaultRule,
+    faults: &mut Vec<Fault>,
+) -> Result<Option<Tree>, AllocError>
+    ensures { IfOk result (λ tree.
+        Adds (default_answer (seen_around around.entry) (seen item.entry) rule) (as_list tree) faults.old.items faults.new.items) }
+{
+    if !is_public_default(around, item, rule) {
+        return Ok(None);
+    }
+    Ok(Some(transform_public_default(alloc, around, item, rule, faults)?))
+}
