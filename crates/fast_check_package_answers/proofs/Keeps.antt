@@ -13,7 +13,7 @@ use Rattle.fast_check_graph.specs.declared.graph.ModuleGraph.{ModuleGraph}
 use Rattle.fast_check_graph.specs.declared.root_symbol.RootSymbol.{RootSymbol}
 use Rattle.fast_check_cache.specs.declared.item.FastCheckCacheModuleItem.{FastCheckCacheModuleItem}
 use Rattle.fast_check_cache.specs.declared.package_ranges.PackagePublicRanges.{PackagePublicRanges}
-use Rattle.fast_check_transform_faults.specs.Diagnostics.{IsDiagnosticOf}
+use Rattle.fast_check_transform_module.specs.transform_faults.Diagnostics.{IsDiagnosticOf}
 use Rattle.fast_check_package_answers.specs.PackageFaults.{PackageFault, met, found, Diagnoses, subject, package_faults, sound_front}
 use Rattle.fast_check_package_answers.specs.PackageAnswer.{Answer, TreeModule, IsShown, ShowsMore, tree_modules}
 use Rattle.fast_check_package_answers.specs.Kept.{entry_of, kept_info, kept_skeleton, kept_diagnostic, kept_by, kept_modules, item_for}

@@ -23,7 +23,7 @@ use Rattle.fast_check_graph.specs.declared.root_symbol.AnyModuleInfo.TheVariants
 use Rattle.fast_check_graph.specs.declared.root_symbol.RootSymbol.{RootSymbol}
 use Rattle.fast_check_cache.specs.declared.package_ranges.PackagePublicRanges.{PackagePublicRanges}
 use Rattle.fast_check_transform_module.specs.Transform.{skeleton, sources, comments}
-use Rattle.fast_check_transform_faults.specs.Diagnostics.{AreDiagnosticsOf, diagnosed}
+use Rattle.fast_check_transform_module.specs.transform_faults.Diagnostics.{AreDiagnosticsOf, diagnosed}
 use Rattle.fast_check_package_answers.specs.PackageFaults.{PublicModule, PackageFault, met, found, Diagnoses, found_or, faults_in_tree}
 use Rattle.fast_check_package_answers.specs.PackageFaults.{first_list, module_faults, package_faults, sound_front}
 use Rattle.fast_check_package_answers.specs.PackageAnswer.{Answer, TreeModule, IsShown, ShowsMore, with_tree, tree_modules, IsSkeletonOf}

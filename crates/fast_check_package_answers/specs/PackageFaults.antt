@@ -13,7 +13,7 @@ use Rattle.fast_check_graph.specs.declared.root_symbol.AnyModuleInfo.{AnyModuleI
 use Rattle.fast_check_graph.specs.declared.root_symbol.AnyModuleInfo.TheVariants.{Esm, Json}
 use Rattle.fast_check_graph.specs.declared.root_symbol.RootSymbol.{RootSymbol}
 use Rattle.fast_check_transform_module.specs.Transform.{faults}
-use Rattle.fast_check_transform_faults.specs.Diagnostics.{IsDiagnosticOf, diagnosed}
+use Rattle.fast_check_transform_module.specs.transform_faults.Diagnostics.{IsDiagnosticOf, diagnosed}
 
 -- a module of a package: its specifier, and what is public in it
 abbrev pub PublicModule : Type 0

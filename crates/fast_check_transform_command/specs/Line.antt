@@ -7,7 +7,7 @@ use Rattle.fast_check_graph.specs.declared.graph.ModuleGraph.{ModuleGraph}
 use Rattle.fast_check_modules.specs.EsModule.{EsModule}
 use Rattle.fast_check_modules.specs.diagnostics.PublicRanges.{PublicRanges}
 use Rattle.fast_check_transform_module.specs.Transform.{skeleton, comments, sources, faults}
-use Rattle.fast_check_transform_faults.specs.Diagnostics.{AreDiagnosticsOf, diagnosed}
+use Rattle.fast_check_transform_module.specs.transform_faults.Diagnostics.{AreDiagnosticsOf, diagnosed}
 use Rattle.fast_check_requests.specs.Refusal.{line_end}
 use Rattle.fast_check_print.specs.Answer.{skeleton_data, diagnostics_data}
 

@@ -5,15 +5,15 @@ ghost use Rattle.fast_check_diagnostics.specs.parsed_source.MediaType.{is_declar
 ghost use Rattle.fast_check_modules.specs.EsModule.{Admits};
 ghost use Rattle.fast_check_transform_statements.specs.transform_declarations.links.surroundings.bindings.Bindings.{bindings_of};
 ghost use Rattle.fast_check_transform_module.specs.Transform.{skeleton, sources, comments, faults};
-ghost use Rattle.fast_check_transform_faults.specs.Diagnostics.{AreDiagnosticsOf, diagnosed};
+ghost use Rattle.fast_check_transform_module.specs.transform_faults.Diagnostics.{AreDiagnosticsOf, diagnosed};
 
 use crate::program::{KeptModule, transform_es_module};
+use crate::transform_faults::diagnose;
 use fast_check_diagnostics::parsed_source::{FastCheckModule, ModuleInfo};
 use fast_check_graph::ModuleGraph;
 use fast_check_modules::EsModuleInfo;
 use fast_check_modules::diagnostics::{FastCheckDiagnostic, ModulePublicRanges};
 use fast_check_packages::WorkspaceMember;
-use fast_check_transform_faults::diagnose;
 use fast_check_transform_imports::static_sources;
 use std::alloc::{AllocError, Global};
 

@@ -4,6 +4,7 @@
 mod answer;
 mod items;
 mod program;
+pub mod transform_faults;
 
 pub use answer::{TransformOptions, transform};
 pub use fast_check_diagnostics::parsed_source::{FastCheckModule, ModuleInfo, StaticSource};

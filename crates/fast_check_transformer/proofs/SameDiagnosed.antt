@@ -20,7 +20,7 @@ use Rattle.fast_check_signatures.specs.declared.fault.FaultKind.{FaultKind}
 use Rattle.fast_check_skeleton.specs.Worlds.{SameFault}
 use Rattle.fast_check_syntax.specs.Moves.{Renaming}
 use Rattle.fast_check_syntax.specs.Same.{SameRange, Each}
-use Rattle.fast_check_transform_faults.specs.Diagnostics.{IsPlaceOf, IsDiagnosticOf, AreDiagnosticsOf, diagnosed}
+use Rattle.fast_check_transform_module.specs.transform_faults.Diagnostics.{IsPlaceOf, IsDiagnosticOf, AreDiagnosticsOf, diagnosed}
 use Rattle.fast_check_transformer.specs.Compared.{SamePlace, diagnosed_by, SameDiagnostic}
 
 -- a diagnostic tells its fault, at a place of the module

@@ -11,7 +11,7 @@ use Rattle.fast_check_transform_module.specs.Transform as transform
 use Rattle.fast_check_diagnostics.specs.parsed_source.MediaType.{is_declaration}
 use Rattle.fast_check_diagnostics.specs.declared.parsed_source.tables.fast_check_module.FastCheckModule.{FastCheckModule}
 use Rattle.fast_check_skeleton.specs.Grammar.{IsSkeleton}
-use Rattle.fast_check_transform_faults.specs.Diagnostics.{AreDiagnosticsOf, diagnosed}
+use Rattle.fast_check_transform_module.specs.transform_faults.Diagnostics.{AreDiagnosticsOf, diagnosed}
 
 -- a skeleton, or diagnostics
 abbrev pub ModuleAnswer : Type 0

@@ -4,14 +4,14 @@ ghost use Rattle.fast_check_skeleton.specs.Grammar.{IsSkeleton};
 ghost use Rattle.fast_check_diagnostics.specs.parsed_source.MediaType.{is_declaration};
 ghost use Rattle.fast_check_modules.specs.EsModule.{Admits};
 ghost use Rattle.fast_check_bindings.specs.Bindings.{bindings_of};
-ghost use Rattle.fast_check_transform_faults.specs.Diagnostics.{AreDiagnosticsOf, diagnosed};
+ghost use Rattle.fast_check_transform_module.specs.transform_faults.Diagnostics.{AreDiagnosticsOf, diagnosed};
 
 use fast_check_comments::Comments;
 use fast_check_graph::ModuleGraph;
 use fast_check_modules::EsModuleInfo;
 use fast_check_modules::diagnostics::{FastCheckDiagnostic, ModulePublicRanges};
 use fast_check_syntax::Tree;
-use fast_check_transform_faults::diagnose;
+use fast_check_transform_module::transform_faults::diagnose;
 use fast_check_transform_module::{KeptModule, transform_es_module};
 use std::alloc::{AllocError, Global};
 

@@ -1,9 +1,9 @@
 use Rattle.std.proofs.Common.{List, sym, subst}
 use Rattle.fast_check_modules.specs.diagnostics.declared.diagnostics.FastCheckDiagnostic.{FastCheckDiagnostic}
 use Rattle.fast_check_signatures.specs.declared.fault.Fault.{Fault}
-use Rattle.fast_check_transform_faults.specs.Diagnostics.{IsDiagnosticOf, AreDiagnosticsOf}
-use Rattle.fast_check_transform_faults.proofs.Diagnosed.{next_of}
-use Rattle.fast_check_transform_faults.proofs.diagnostics.diagnostics_of.Goals as goal
+use Rattle.fast_check_transform_module.specs.transform_faults.Diagnostics.{IsDiagnosticOf, AreDiagnosticsOf}
+use Rattle.fast_check_transform_module.proofs.transform_faults.Diagnosed.{next_of}
+use Rattle.fast_check_transform_module.proofs.transform_faults.diagnostics.diagnostics_of.Goals as goal
 
 pub loop-fault-preserved : goal.loop-fault-preserved
 loop-fault-preserved c =

@@ -6,7 +6,7 @@ use Rattle.std.proofs.lemmas.List.{take_more}
 use Rattle.fast_check_modules.specs.EsModule.{EsModule}
 use Rattle.fast_check_modules.specs.diagnostics.declared.diagnostics.FastCheckDiagnostic.{FastCheckDiagnostic}
 use Rattle.fast_check_signatures.specs.declared.fault.Fault.{Fault}
-use Rattle.fast_check_transform_faults.specs.Diagnostics.{IsDiagnosticOf, AreDiagnosticsOf}
+use Rattle.fast_check_transform_module.specs.transform_faults.Diagnostics.{IsDiagnosticOf, AreDiagnosticsOf}
 
 pub one_more : (info : EsModule) (fs : List Fault) (ds : List FastCheckDiagnostic) (f : Fault) (d : FastCheckDiagnostic) →
     AreDiagnosticsOf info fs ds → IsDiagnosticOf info f d → AreDiagnosticsOf info (fs ++ f ∷ []) (ds ++ d ∷ [])

@@ -1,6 +1,5 @@
 //! The faults that the transform meets, as diagnostics.
-#![tactic(auto)]
 
 mod diagnostics;
 
-pub use diagnostics::diagnose;
+pub use crate::transform_faults::diagnostics::diagnose;

@@ -1,6 +1,6 @@
 //! Faults of the transform as diagnostics.
 ghost use Rattle.std.specs.Prelude.{◌≡◌, IfOk};
-ghost use Rattle.fast_check_transform_faults.specs.Diagnostics.{IsPlaceOf, IsExpandoProperty, IsDiagnosticOf, AreDiagnosticsOf, diagnosed};
+ghost use Rattle.fast_check_transform_module.specs.transform_faults.Diagnostics.{IsPlaceOf, IsExpandoProperty, IsDiagnosticOf, AreDiagnosticsOf, diagnosed};
 
 use fast_check_modules::EsModuleInfo;
 use fast_check_modules::diagnostics::{FastCheckDiagnostic, FastCheckDiagnosticRange};
