@@ -16,3 +16,10 @@ pub mod Reach
 pub mod Stored
 pub mod Homes
 pub mod Homed
+pub mod Steps
+pub mod Places
+pub mod SymbolsAsked
+pub mod Gained
+pub mod Waits
+pub mod Followed
+pub mod Placed
