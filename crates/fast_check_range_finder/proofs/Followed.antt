@@ -7,7 +7,7 @@ use Rattle.std.specs.Map.{keys_of}
 use Rattle.std.specs.Str.{bytes_eq}
 use Rattle.std.specs.Cmp.{IsEquivalence, both_ways}
 use Rattle.std.proofs.lemmas.Bool.{and_parts, and_from}
-use Rattle.url.specs.Parts.{serialize}
+use Rattle.url.specs.Parts.{Parts, serialize}
 use Rattle.indexmap.specs.IndexMap.{set_value_at}
 use Rattle.indexmap.specs.Layout.{length-set_value_at}
 use Rattle.fast_check_syntax.specs.declared.source.SourceRange.{SourceRange}
@@ -16,20 +16,25 @@ use Rattle.fast_check_graph.specs.Root.{specifier_of}
 use Rattle.fast_check_graph.specs.declared.graph.ModuleGraph.{ModuleGraph}
 use Rattle.fast_check_graph.specs.declared.root_symbol.AnyModuleInfo.{AnyModuleInfo}
 use Rattle.fast_check_graph.specs.declared.root_symbol.RootSymbol.{RootSymbol}
+use Rattle.fast_check_packages.specs.declared.package.PackageNv.{PackageNv}
+use Rattle.fast_check_lattice.specs.declared.lattice.imported_exports.ImportedExports.{ImportedExports}
 use Rattle.fast_check_lattice.specs.Traces.{handled}
+use Rattle.fast_check_findings.specs.declared.found.Entrance.{Entrance}
 use Rattle.fast_check_demands.specs.Demands.{Demand as SymbolDemand}
 use Rattle.fast_check_demands.specs.Yields.{Joins}
 use Rattle.fast_check_demands.proofs.Elements.{in_map, of_map}
 use Rattle.fast_check_traces.specs.Origins.{IsIndexOf}
 use Rattle.fast_check_findings.specs.Yields.{Yield, recorded}
 use Rattle.fast_check_worklists.specs.Demands.{Text, same_nv, Want, to_symbol}
+use Rattle.fast_check_range_finder.specs.declared.demand.Dependency.{Dependency}
+use Rattle.fast_check_range_finder.specs.declared.demand.NamesAt.{NamesAt}
 use Rattle.fast_check_range_finder.specs.declared.demand.Place.{Place}
 use Rattle.fast_check_range_finder.specs.declared.demand.SymbolAt.{SymbolAt}
 use Rattle.fast_check_range_finder.specs.declared.finder.Finder.{Finder}
 use Rattle.fast_check_range_finder.specs.declared.finder.FollowedModule.{FollowedModule}
 use Rattle.fast_check_range_finder.specs.Search.{Search, AsksAll}
 use Rattle.fast_check_range_finder.specs.Turn.{AreSame}
-use Rattle.fast_check_range_finder.specs.Finder.{Followed, Modules, place_nv, place_text, names_seen, seen_at, search_in, search_of, entered_yields, depends, followed_yields, noted_yields, yields_in, traced_in, AreShown, AsksEach, IsModuleOf, IsSound, Goes}
+use Rattle.fast_check_range_finder.specs.Finder.{Followed, Modules, place_nv, place_text, names_seen, seen_at, search_in, search_of, entered_yields, depends, followed_yields, noted_yields, yields_by, yields_in, traced_in, AreShown, AsksEach, IsModuleOf, IsSound, Goes}
 use Rattle.fast_check_range_finder.proofs.Kept.{nv_itself, text_itself, text_is}
 use Rattle.fast_check_range_finder.proofs.Places.{nv_is}
 use Rattle.fast_check_range_finder.proofs.Steps.{same_itself, joins_left, joins_right}
@@ -61,7 +66,7 @@ module _ (eq : Place → Place → Bool) (tells : TellsPlaces eq) where
   place_laws = record {
     refl = λ a. place_same a a refl refl;
     symm = λ a b. both_ways (eq a b) (eq b a) (back a b) (back b a);
-    congr = λ a b c h. both_ways (eq a c) (eq b c) (over b a c (back a b h)) (over a b c h);
+    congr = λ a b c h. both_ways (eq a c) (eq b c) (over a b c h) (over b a c (back a b h));
   }
     where
       back : (a b : Place) → eq a b ≡ true → eq b a ≡ true
@@ -77,11 +82,11 @@ module _ (g : ModuleGraph) (r : RootSymbol) (f b : Finder) (sound : IsSound g r 
     pub modules : b.modules.entries ≡ set_value_at f.modules.entries place m
     pub packages : b.packages ≡ f.packages
     pub entered : b.entered ≡ f.entered
-    pub handled : b.handled ≡ f.handled
-    pub names : b.names ≡ f.names
-    pub entrances : b.entrances ≡ f.entrances
-    pub dependencies : b.dependencies ≡ f.dependencies
-    pub untyped : b.untyped ≡ f.untyped
+    pub handled : handled b.handled ≡ handled f.handled
+    pub names : b.names.items ≡ f.names.items
+    pub entrances : b.entrances.items ≡ f.entrances.items
+    pub dependencies : b.dependencies.keys ≡ f.dependencies.keys
+    pub untyped : b.untyped.items ≡ f.untyped.items
 
   within : place < length f.modules.entries
   within = place_within f.modules.entries place e here
@@ -102,15 +107,12 @@ module _ (g : ModuleGraph) (r : RootSymbol) (f b : Finder) (sound : IsSound g r 
         (joins_left ys (flat_map followed_yields f.modules.entries) (flat_map followed_yields (set_value_at f.modules.entries place m))
         (flat_map noted_yields f.untyped.items) (joins_set followed_yields ys f.modules.entries place e m here j))))
       where
-        yields : _ → _ → Modules → _ → List Yield
-        yields entrances dependencies ms untyped = flat_map entered_yields entrances ++ (map depends dependencies ++
-            (flat_map followed_yields ms ++ flat_map noted_yields untyped))
-
-        all : yields_in b ≡ yields f.entrances.items f.dependencies.keys (set_value_at f.modules.entries place m) f.untyped.items
-        all = ap (λ x. yields x.items b.dependencies.keys b.modules.entries b.untyped.items) w.entrances ∙
-            (ap (λ x. yields f.entrances.items x.keys b.modules.entries b.untyped.items) w.dependencies ∙
-            (ap (λ (x : Modules). yields f.entrances.items f.dependencies.keys x b.untyped.items) w.modules ∙
-            ap (λ x. yields f.entrances.items f.dependencies.keys (set_value_at f.modules.entries place m) x.items) w.untyped))
+        all : yields_in b ≡ yields_by f.entrances.items f.dependencies.keys (set_value_at f.modules.entries place m) f.untyped.items
+        all = ap (λ (x : List (PackageNv × Entrance)). yields_by x b.dependencies.keys b.modules.entries b.untyped.items) w.entrances ∙
+            (ap (λ (x : List Dependency). yields_by f.entrances.items x b.modules.entries b.untyped.items) w.dependencies ∙
+            (ap (λ (x : Modules). yields_by f.entrances.items f.dependencies.keys x b.untyped.items) w.modules ∙
+            ap (λ (x : List (PackageNv × Parts)). yields_by f.entrances.items f.dependencies.keys (set_value_at f.modules.entries place m) x)
+            w.untyped))
 
     further_sound : ((x : SymbolAt) → Contains b.symbols.items x → x.place < length f.modules.entries) → IsSound g r b
     further_sound places = record {
@@ -137,13 +139,13 @@ module _ (g : ModuleGraph) (r : RootSymbol) (f b : Finder) (sound : IsSound g r 
         where
           last : search_of b ≡ search_in (map nv_of f.packages) f.entered (handled f.handled) (map names_seen f.names.items)
               (set_value_at f.modules.entries place m) (map seen_at b.symbols.items)
-          last = ap (λ x. search_in (map nv_of x) b.entered (handled b.handled) (map names_seen b.names.items) b.modules.entries
+          last = ap (λ (x : List PackageNv). search_in (map nv_of x) b.entered (handled b.handled) (map names_seen b.names.items) b.modules.entries
               (map seen_at b.symbols.items)) w.packages ∙
               (ap (λ (x : ℕ). search_in (map nv_of f.packages) x (handled b.handled) (map names_seen b.names.items) b.modules.entries
               (map seen_at b.symbols.items)) w.entered ∙
-              (ap (λ x. search_in (map nv_of f.packages) f.entered (handled x) (map names_seen b.names.items) b.modules.entries
+              (ap (λ (x : List (Parts × ImportedExports)). search_in (map nv_of f.packages) f.entered x (map names_seen b.names.items) b.modules.entries
               (map seen_at b.symbols.items)) w.handled ∙
-              (ap (λ x. search_in (map nv_of f.packages) f.entered (handled f.handled) (map names_seen x.items) b.modules.entries
+              (ap (λ (x : List NamesAt). search_in (map nv_of f.packages) f.entered (handled f.handled) (map names_seen x) b.modules.entries
               (map seen_at b.symbols.items)) w.names ∙
               ap (λ (x : Modules). search_in (map nv_of f.packages) f.entered (handled f.handled) (map names_seen f.names.items) x
               (map seen_at b.symbols.items)) w.modules)))

@@ -15,6 +15,7 @@ use Rattle.fast_check_graph.specs.declared.graph.ModuleGraph.{ModuleGraph}
 use Rattle.fast_check_graph.specs.declared.root_symbol.AnyModuleInfo.{AnyModuleInfo}
 use Rattle.fast_check_graph.specs.declared.root_symbol.AnyModuleInfo.TheVariants.{Esm, Json}
 use Rattle.fast_check_graph.specs.declared.root_symbol.RootSymbol.{RootSymbol}
+use Rattle.fast_check_symbols.specs.declared.symbol.Symbol.{Symbol}
 use Rattle.fast_check_demands.specs.Demands.{Demand as SymbolDemand, demand_of}
 use Rattle.fast_check_demands.specs.Yields.{Joins, Fault, fault_seen}
 use Rattle.fast_check_demands.specs.declared.fault.SymbolFault.{SymbolFault}
@@ -27,6 +28,7 @@ use Rattle.fast_check_findings.specs.Faults.{FaultSource, PlacedFault, placed, p
 use Rattle.fast_check_findings.specs.Findings.{placed_yield, placed_yields}
 use Rattle.fast_check_findings.specs.Found as found
 use Rattle.fast_check_findings.specs.Found.{module_yields}
+use Rattle.fast_check_findings.specs.declared.found.FoundModule.{FoundModule}
 use Rattle.fast_check_findings.specs.Yields.{Yield, recorded, public, implementing}
 use Rattle.fast_check_worklists.specs.Demands.{Text}
 use Rattle.fast_check_worklists.proofs.Maps.{first_in, rest_in, none_in, split_in}
@@ -35,17 +37,12 @@ use Rattle.fast_check_range_finder.specs.declared.finder.FollowedModule.{Followe
 use Rattle.fast_check_range_finder.specs.Finder.{Followed, Modules, place_nv, seen_at, followed_yields, traced_in, AreShown, Shows, AsksEach, IsModuleOf}
 use Rattle.fast_check_range_finder.specs.Rules.{own_text}
 use Rattle.fast_check_range_finder.specs.Yields.{text_of, source_in, public_at, implementing_at, fault_yields, faults_at}
+use Rattle.fast_check_range_finder.proofs.Places.{no_entry, some_entry}
 use Rattle.fast_check_range_finder.proofs.Steps.{joins_none, joins_behind, joins_then, joins_left, joins_right}
 
 -- at a place
 
 module _ {K X : Type 0} where
-  no_entry : {Z : Type 0} (z : Z) → None ≡ Some z → ⊥
-  no_entry z e = cc
-
-  some_entry : (x y : K × X) → Some x ≡ Some y → x ≡ y
-  some_entry x y e = cc
-
   pub joins_set : {Y : Type 0} (f : K × X → List Y) (ys : List Y) (es : List (K × X)) (i : ℕ) (e : K × X) (w : X) → slice_get es i ≡ Some e →
       Joins ys (f e) (f (e.0, w)) → Joins ys (flat_map f es) (flat_map f (set_value_at es i w))
   joins_set f ys [] i e w h j = absurd (no_entry e h)
@@ -84,10 +81,10 @@ same_source : (m : TracedModule) → found.source_in m.info.now ≡ source_in m
 same_source m = made (found.text_of m.info.now) (text_of m.info.now) (found.symbols_of m.info.now) (tables_in m.info.now).symbols
     (same_text m.info.now) (same_symbols m.info.now)
   where
-    source : List ℕ → List _ → FaultSource
+    source : List ℕ → List Symbol → FaultSource
     source text symbols = record { specifier = specifier_of m.info.now; text = text; symbols = symbols }
 
-    made : (a b : List ℕ) (c d : List _) → a ≡ b → c ≡ d → source a c ≡ source b d
+    made : (a b : List ℕ) (c d : List Symbol) → a ≡ b → c ≡ d → source a c ≡ source b d
     made a b c d e f = cc
 
 -- faults as they are seen, at their places
@@ -103,7 +100,7 @@ abbrev parts : Nv → TracedModule → List SourceRange → List SourceRange →
 parts nv m ranges implementations faults = recorded nv (own_text m) ∷ (public_at nv m ranges ++ (implementing_at nv m implementations ++
     faults_at nv m faults))
 
-pub parts_of : (g : ModuleGraph) (r : RootSymbol) (nv : Nv) (f : _) → let m = traced_in g r f.info.now in
+pub parts_of : (g : ModuleGraph) (r : RootSymbol) (nv : Nv) (f : FoundModule) → let m = traced_in g r f.info.now in
     module_yields nv f ≡ parts nv m f.ranges.items f.implementations.items (map fault_seen f.faults.items)
 parts_of g r nv f =
     let m = traced_in g r f.info.now in
@@ -175,7 +172,7 @@ module _ (n place : ℕ) (within : place < n) where
       map seen_at new ≡ cond is_new (map seen_at old ++ (place, d) ∷ []) (map seen_at old) →
       AreWithin old → AreWithin new
   seen_within old new d false is h = same_within old new is h
-  seen_within old new d true is h x c = ⊎_elim
+  seen_within old new d true is h = λ x c. ⊎_elim
       (λ before. let o = of_map seen_at old (seen_at x) before in subst (λ (p : ℕ × SymbolDemand). p.0 < n) o.2 (h o.0 o.1))
       (λ now. subst (λ (p : ℕ × SymbolDemand). p.0 < n) now within)
       (Contains-push_cases (map seen_at old) (place, d) (seen_at x)

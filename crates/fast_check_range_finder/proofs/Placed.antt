@@ -17,6 +17,9 @@ use Rattle.fast_check_graph.specs.Root.{specifier_of}
 use Rattle.fast_check_graph.specs.declared.graph.ModuleGraph.{ModuleGraph}
 use Rattle.fast_check_graph.specs.declared.root_symbol.AnyModuleInfo.{AnyModuleInfo}
 use Rattle.fast_check_graph.specs.declared.root_symbol.RootSymbol.{RootSymbol}
+use Rattle.fast_check_packages.specs.declared.package.PackageNv.{PackageNv}
+use Rattle.fast_check_findings.specs.declared.found.Entrance.{Entrance}
+use Rattle.fast_check_traces.specs.declared.origins.ReExportIndex.{ReExportIndex}
 use Rattle.fast_check_lattice.specs.declared.lattice.imported_exports.ImportedExports.{ImportedExports}
 use Rattle.fast_check_lattice.specs.Traces.{handled}
 use Rattle.fast_check_demands.specs.Demands.{Demand as SymbolDemand}
@@ -32,12 +35,14 @@ use Rattle.fast_check_findings.specs.Yields.{Yield, recorded, public, implementi
 use Rattle.fast_check_worklists.specs.Demands.{Text, same_nv, Demand, of_package, Want}
 use Rattle.fast_check_worklists.proofs.Maps.{first_in, none_in, only_in}
 use Rattle.fast_check_sources.specs.Sources.{named_at}
+use Rattle.fast_check_range_finder.specs.declared.demand.Dependency.{Dependency}
+use Rattle.fast_check_range_finder.specs.declared.demand.NamesAt.{NamesAt}
 use Rattle.fast_check_range_finder.specs.declared.demand.Place.{Place}
 use Rattle.fast_check_range_finder.specs.declared.demand.SymbolAt.{SymbolAt}
 use Rattle.fast_check_range_finder.specs.declared.finder.Finder.{Finder}
 use Rattle.fast_check_range_finder.specs.Asked.{covers}
 use Rattle.fast_check_range_finder.specs.Search.{Search}
-use Rattle.fast_check_range_finder.specs.Finder.{Followed, Modules, place_nv, place_text, has_symbol, place_of, places, names_seen, seen_at, symbol_at, symbols_at, search_in, search_of, entered_yields, depends, followed_yields, noted_yields, yields_in, traced_in, AreShown, IsModuleOf, IsSound, IsPlaced, Goes}
+use Rattle.fast_check_range_finder.specs.Finder.{Followed, Modules, place_nv, place_text, has_symbol, place_of, places, names_seen, seen_at, symbol_at, symbols_at, search_in, search_of, entered_yields, depends, followed_yields, noted_yields, yields_by, yields_in, traced_in, AreShown, IsModuleOf, IsSound, IsPlaced, Goes}
 use Rattle.fast_check_range_finder.proofs.Steps.{same_itself, joins_left, joins_right, joins_behind}
 use Rattle.fast_check_range_finder.proofs.Gained.{get_in}
 
@@ -69,22 +74,18 @@ module _ (g : ModuleGraph) (r : RootSymbol) (f b : Finder) (sound : IsSound g r 
     (named : named_at r (serialize (specifier_of info)) ≡ Some info) (place : ℕ)
     (placed : IsPlaced nv info place f.modules.entries b.modules.entries) where
   abbrev m : Followed
-  m = placed.module
+  m = placed.followed
 
   -- nothing else changes
   pub record IsSameBeside : Type 0 where
     pub packages : b.packages ≡ f.packages
     pub entered : b.entered ≡ f.entered
-    pub handled : b.handled ≡ f.handled
-    pub names : b.names ≡ f.names
-    pub symbols : b.symbols ≡ f.symbols
-    pub entrances : b.entrances ≡ f.entrances
-    pub dependencies : b.dependencies ≡ f.dependencies
-    pub untyped : b.untyped ≡ f.untyped
-
-  yields : _ → _ → Modules → _ → List Yield
-  yields entrances dependencies ms untyped = flat_map entered_yields entrances ++ (map depends dependencies ++
-      (flat_map followed_yields ms ++ flat_map noted_yields untyped))
+    pub handled : handled b.handled ≡ handled f.handled
+    pub names : b.names.items ≡ f.names.items
+    pub symbols : b.symbols.items ≡ f.symbols.items
+    pub entrances : b.entrances.items ≡ f.entrances.items
+    pub dependencies : b.dependencies.keys ≡ f.dependencies.keys
+    pub untyped : b.untyped.items ≡ f.untyped.items
 
   abbrev IsNew : Type 0
   IsNew = (b.modules.entries ≡ f.modules.entries ++ m ∷ []) × (m.1.found.info.now ≡ info) × (m.1.asked ≡ []) ×
@@ -92,25 +93,25 @@ module _ (g : ModuleGraph) (r : RootSymbol) (f b : Finder) (sound : IsSound g r 
       (m.1.index ≡ None) × (m.1.shows_all ≡ false)
 
   module _ (w : IsSameBeside) where
-    state : Modules → Search
+    abbrev state : Modules → Search
     state ms = search_in (map nv_of f.packages) f.entered (handled f.handled) (map names_seen f.names.items) ms (map seen_at f.symbols.items)
 
     search_is : search_of b ≡ state b.modules.entries
-    search_is = ap (λ x. search_in (map nv_of x) b.entered (handled b.handled) (map names_seen b.names.items) b.modules.entries
+    search_is = ap (λ (x : List PackageNv). search_in (map nv_of x) b.entered (handled b.handled) (map names_seen b.names.items) b.modules.entries
         (map seen_at b.symbols.items)) w.packages ∙
         (ap (λ (x : ℕ). search_in (map nv_of f.packages) x (handled b.handled) (map names_seen b.names.items) b.modules.entries
         (map seen_at b.symbols.items)) w.entered ∙
-        (ap (λ x. search_in (map nv_of f.packages) f.entered (handled x) (map names_seen b.names.items) b.modules.entries
+        (ap (λ (x : List (Parts × ImportedExports)). search_in (map nv_of f.packages) f.entered x (map names_seen b.names.items) b.modules.entries
         (map seen_at b.symbols.items)) w.handled ∙
-        (ap (λ x. search_in (map nv_of f.packages) f.entered (handled f.handled) (map names_seen x.items) b.modules.entries
+        (ap (λ (x : List NamesAt). search_in (map nv_of f.packages) f.entered (handled f.handled) (map names_seen x) b.modules.entries
         (map seen_at b.symbols.items)) w.names ∙
-        ap (λ x. search_in (map nv_of f.packages) f.entered (handled f.handled) (map names_seen f.names.items) b.modules.entries
-        (map seen_at x.items)) w.symbols)))
+        ap (λ (x : List SymbolAt). search_in (map nv_of f.packages) f.entered (handled f.handled) (map names_seen f.names.items) b.modules.entries
+        (map seen_at x)) w.symbols)))
 
-    yields_are : yields_in b ≡ yields f.entrances.items f.dependencies.keys b.modules.entries f.untyped.items
-    yields_are = ap (λ x. yields x.items b.dependencies.keys b.modules.entries b.untyped.items) w.entrances ∙
-        (ap (λ x. yields f.entrances.items x.keys b.modules.entries b.untyped.items) w.dependencies ∙
-        ap (λ x. yields f.entrances.items f.dependencies.keys b.modules.entries x.items) w.untyped)
+    yields_are : yields_in b ≡ yields_by f.entrances.items f.dependencies.keys b.modules.entries f.untyped.items
+    yields_are = ap (λ (x : List (PackageNv × Entrance)). yields_by x b.dependencies.keys b.modules.entries b.untyped.items) w.entrances ∙
+        (ap (λ (x : List Dependency). yields_by f.entrances.items x b.modules.entries b.untyped.items) w.dependencies ∙
+        ap (λ (x : List (PackageNv × Parts)). yields_by f.entrances.items f.dependencies.keys b.modules.entries x) w.untyped)
 
     -- a module that was followed before
 
@@ -132,11 +133,11 @@ module _ (g : ModuleGraph) (r : RootSymbol) (f b : Finder) (sound : IsSound g r 
       are = same_itself [];
       asks = search_is ∙ ap state same;
       found = subst (λ (ys : List Yield). Joins (recorded nv (serialize (specifier_of info)) ∷ []) (yields_in f) ys)
-          (sym (yields_are ∙ ap (λ (ms : Modules). yields f.entrances.items f.dependencies.keys ms f.untyped.items) same))
+          (sym (yields_are ∙ ap (λ (ms : Modules). yields_by f.entrances.items f.dependencies.keys ms f.untyped.items) same))
           (joins_there (recorded nv (serialize (specifier_of info))) (yields_in f) (there same));
       sound = record {
         modules = λ x c. sound.modules x (subst (λ (ms : Modules). Contains ms x) same c);
-        symbols = λ x c. subst (λ (n : ℕ). x.place < n) (sym (ap length same)) (sound.symbols x (subst (λ s. Contains s.items x) w.symbols c));
+        symbols = λ x c. subst (λ (n : ℕ). x.place < n) (sym (ap length same)) (sound.symbols x (subst (λ (s : List SymbolAt). Contains s x) w.symbols c));
         entered = let h = sound.entered in let p = ap length w.packages in let n = w.entered in omega (arith, h, p, n);
       };
     }
@@ -168,7 +169,7 @@ module _ (g : ModuleGraph) (r : RootSymbol) (f b : Finder) (sound : IsSound g r 
           ap (λ (ds : List Demand). symbols_at (places f.modules.entries) (seen_at x) ++ ds)
           (waiting_same xs (λ y c. h y (Contains-append_right (x ∷ []) xs y c)))
 
-      state_with : (Nv → Text → SymbolDemand → Bool) → List Demand → Search
+      abbrev state_with : (Nv → Text → SymbolDemand → Bool) → List Demand → Search
       state_with symbols waiting = record {
         packages = map nv_of f.packages;
         handled = handled f.handled;
@@ -206,7 +207,7 @@ module _ (g : ModuleGraph) (r : RootSymbol) (f b : Finder) (sound : IsSound g r 
       own_module = record {
         named = ap (named_at r) placed.text_is ∙ (named ∙ ap Some (sym new.1));
         own = placed.text_is ∙ ap (λ (i : AnyModuleInfo). serialize (specifier_of i)) (sym new.1);
-        index = subst (λ (o : _). IfSome o (IsIndexOf (traced_in g r m.1.found.info.now))) (sym new.6) tt;
+        index = subst (λ (o : Option ReExportIndex). IfSome o (IsIndexOf (traced_in g r m.1.found.info.now))) (sym new.6) tt;
         shown = λ t. absurd (false≢true (sym new.7 ∙ t));
       }
 
@@ -216,7 +217,7 @@ module _ (g : ModuleGraph) (r : RootSymbol) (f b : Finder) (sound : IsSound g r 
         are = same_itself [];
         asks = search_is ∙ (ap state new.0 ∙ state_same);
         found = subst (λ (ys : List Yield). Joins (recorded nv (serialize (specifier_of info)) ∷ []) (yields_in f) ys)
-            (sym (yields_are ∙ ap (λ (ms : Modules). yields f.entrances.items f.dependencies.keys ms f.untyped.items) new.0))
+            (sym (yields_are ∙ ap (λ (ms : Modules). yields_by f.entrances.items f.dependencies.keys ms f.untyped.items) new.0))
             (joins_right (recorded nv (serialize (specifier_of info)) ∷ []) _ _ (flat_map entered_yields f.entrances.items)
             (joins_right (recorded nv (serialize (specifier_of info)) ∷ []) _ _ (map depends f.dependencies.keys)
             (joins_left (recorded nv (serialize (specifier_of info)) ∷ []) (flat_map followed_yields f.modules.entries)
@@ -226,7 +227,7 @@ module _ (g : ModuleGraph) (r : RootSymbol) (f b : Finder) (sound : IsSound g r 
         sound = record {
           modules = λ x c. ⊎_elim (λ old. sound.modules x old) (λ is. subst (IsModuleOf g r) is own_module)
               (Contains-push_cases f.modules.entries m x (subst (λ (ms : Modules). Contains ms x) new.0 c));
-          symbols = λ x c. let h = sound.symbols x (subst (λ s. Contains s.items x) w.symbols c) in
+          symbols = λ x c. let h = sound.symbols x (subst (λ (s : List SymbolAt). Contains s x) w.symbols c) in
               let l = ap length new.0 ∙ length-append f.modules.entries (m ∷ []) in omega (arith, h, l);
           entered = let h = sound.entered in let p = ap length w.packages in let n = w.entered in omega (arith, h, p, n);
         };

@@ -65,15 +65,15 @@ nv_is a b h =
     joined : (m n : List ℕ) (v w : VersionParts) → m ≡ n → v ≡ w → made m v ≡ made n w
     joined m n v w e f = cc
 
+pub no_entry : {Z : Type 0} (z : Z) → None ≡ Some z → ⊥
+no_entry z e = cc
+
+pub some_entry : {Z : Type 0} (x y : Z) → Some x ≡ Some y → x ≡ y
+some_entry x y e = cc
+
 -- a value at a place of a map is another one
 
 module _ {K X : Type 0} where
-  no_entry : {Z : Type 0} (z : Z) → None ≡ Some z → ⊥
-  no_entry z e = cc
-
-  some_entry : (x y : K × X) → Some x ≡ Some y → x ≡ y
-  some_entry x y e = cc
-
   pub get_set : (es : List (K × X)) (i : ℕ) (e : K × X) (w : X) → slice_get es i ≡ Some e → slice_get (set_value_at es i w) i ≡ Some (e.0, w)
   get_set [] i e w h = absurd (no_entry e h)
   get_set (x ∷ xs) zero e w h = ap (λ (y : K × X). Some (y.0, w)) (some_entry x e h)

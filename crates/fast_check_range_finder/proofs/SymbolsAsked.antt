@@ -15,10 +15,12 @@ use Rattle.indexmap.specs.IndexMap.{set_value_at}
 use Rattle.fast_check_packages.specs.Package.{Nv, nv_of}
 use Rattle.fast_check_lattice.specs.declared.lattice.imported_exports.ImportedExports.{ImportedExports}
 use Rattle.fast_check_demands.specs.Demands.{Demand as SymbolDemand, Asked, by_reference, as_child, by_path, demand_of}
+use Rattle.fast_check_symbols.specs.declared.symbol_id.SymbolId.{SymbolId}
 use Rattle.fast_check_demands.specs.Account.{alike, essence, referred, same, asker}
 use Rattle.fast_check_worklists.specs.Demands.{Text, same_nv, Demand, of_package, of_symbol, Want, to_symbol}
 use Rattle.fast_check_range_finder.specs.declared.demand.Place.{Place}
 use Rattle.fast_check_range_finder.specs.declared.demand.SymbolAt.{SymbolAt}
+use Rattle.fast_check_range_finder.specs.declared.finder.FollowedModule.{FollowedModule}
 use Rattle.fast_check_range_finder.specs.Account.{meets}
 use Rattle.fast_check_range_finder.specs.Asked.{covers, IsOneMore, AddsSymbol}
 use Rattle.fast_check_range_finder.specs.Search.{Search, IsPut, MeetsSame, IsMarked, IsSymbolPut, AsksSymbol, AsksAll}
@@ -29,7 +31,7 @@ use Rattle.fast_check_range_finder.proofs.Same.{alike_itself}
 use Rattle.fast_check_range_finder.proofs.Places.{nv_is, get_set, set_itself, set_twice, keys_set, any_set, any_of_set, any_set_same, one_entry}
 
 -- what asks for the same thing
-asker_twice : (a : Asked) (s r : _) → asker a s (asker a s r) ≡ asker a s r
+asker_twice : (a : Asked) (s r : SymbolId) → asker a s (asker a s r) ≡ asker a s r
 asker_twice (by_reference n) s r = refl
 asker_twice (as_child n) s r = refl
 asker_twice (by_path p x) s r = refl
@@ -80,7 +82,7 @@ module _ (eq : Place → Place → Bool) (laws : IsEquivalence eq) (tells : Tell
           (subst (λ (ks : List Place). IsDistinct eq ks) (sym (keys_set ms place (record e.1 { asked = xs }))) unique) place (entry xs) s.0
           (get_set ms place e (record e.1 { asked = xs }) here) s.1
           (tells e.0 s.0.0 ∙ and_from (same_nv (place_nv e) (place_nv s.0)) (bytes_eq (place_text e) (place_text s.0)) parts.0 more.0) in
-      subst (λ (m : _). list_any (covers d) m.asked ≡ true) (sym one) more.1
+      subst (λ (x : FollowedModule). list_any (covers d) x.asked ≡ true) (sym one) more.1
 
   places_same : (xs ys : List SymbolDemand) → places (with_asked xs) ≡ places (with_asked ys)
   places_same xs ys = ap (λ (ks : List Place). map place_of ks)
@@ -187,7 +189,7 @@ module _ (eq : Place → Place → Bool) (laws : IsEquivalence eq) (tells : Tell
   )
 
   -- the same, whatever else is kept of the module
-  pub asked_of_module : (ds : List SymbolDemand) (old new : List SymbolAt) (m : _) → AsksEach place ds e.1.asked m.asked old new →
+  pub asked_of_module : (ds : List SymbolDemand) (old new : List SymbolAt) (m : FollowedModule) → AsksEach place ds e.1.asked m.asked old new →
       AsksAll (map (to_symbol (place_nv e) (place_text e)) ds) (search_in packages entered handled names ms (map seen_at old))
       (search_in packages entered handled names (set_value_at ms place m) (map seen_at new))
   asked_of_module ds old new m w = subst (λ (s : Search). AsksAll (map (to_symbol (place_nv e) (place_text e)) ds)

@@ -126,6 +126,14 @@ proper (singles.Path first rest extent) = by_extent extent
         (begins_itself (first.now ∷ path_of rest.now)) refl
     by_extent Whole = whole_itself (bytes_eq first.now first.now) (text_itself first.now) (path_of rest.now)
 
+-- names that are pushed
+pub names_pushed : (old new : List NamesAt) (x : NamesAt) (p : Nv) (url : Parts) (e : NameDemand) → new ≡ old ++ x ∷ [] → nv_of x.package ≡ p →
+    x.specifier ≡ url → names_of x.names ≡ e → map names_seen new ≡ map names_seen old ++ of_module p (serialize url) e ∷ []
+names_pushed old new x p url e is f h k = ap (map names_seen) is ∙ (map-append names_seen old (x ∷ []) ∙
+    (ap (λ (q : Nv). map names_seen old ++ of_module q (serialize x.specifier) (names_of x.names) ∷ []) f ∙
+    (ap (λ (u : Parts). map names_seen old ++ of_module p (serialize u) (names_of x.names) ∷ []) h ∙
+    ap (λ (d : NameDemand). map names_seen old ++ of_module p (serialize url) d ∷ []) k)))
+
 module _ (packages : List Nv) (entered : ℕ) (ms : Modules) (symbols : List (ℕ × SymbolDemand)) where
   abbrev names_state : List (Parts × ImportedExports) → List Demand → Search
   names_state handled names = search_in packages entered handled names ms symbols

@@ -101,9 +101,12 @@ followed_yields e = module_yields (place_nv e) e.1.found
 abbrev pub noted_yields : PackageNv × Parts → List Yield
 noted_yields e = untyped_yields (nv_of e.0) e.1
 
+abbrev pub yields_by : List (PackageNv × Entrance) → List Dependency → Modules → List (PackageNv × Parts) → List Yield
+yields_by entrances dependencies ms untyped = flat_map entered_yields entrances ++ (map depends dependencies ++
+    (flat_map followed_yields ms ++ flat_map noted_yields untyped))
+
 abbrev pub yields_in : Finder → List Yield
-yields_in f = flat_map entered_yields f.entrances.items ++ (map depends f.dependencies.keys ++
-    (flat_map followed_yields f.modules.entries ++ flat_map noted_yields f.untyped.items))
+yields_in f = yields_by f.entrances.items f.dependencies.keys f.modules.entries f.untyped.items
 
 -- one demand of a symbol of the module at a place is asked, and waits if it is new
 abbrev pub AsksOne : ℕ → SymbolDemand → List SymbolDemand → List SymbolDemand → List SymbolAt → List SymbolAt → Type 0
@@ -138,18 +141,18 @@ pub record IsSound (g : ModuleGraph) (r : RootSymbol) (f : Finder) : Type 0 wher
 
 -- a module that is followed has a place: its own, or a new last one, of which nothing was asked or found
 pub record IsPlaced (nv : Nv) (info : AnyModuleInfo) (place : ℕ) (old new : Modules) : Type 0 where
-  pub module : Followed
-  pub here : slice_get new place ≡ Some module
-  pub nv_is : place_nv module ≡ nv
-  pub text_is : place_text module ≡ serialize (specifier_of info)
-  pub by : (new ≡ old) ⊎ ((new ≡ old ++ module ∷ []) × (module.1.found.info.now ≡ info) × (module.1.asked ≡ []) ×
-      (module.1.found.ranges.items ≡ []) × (module.1.found.implementations.items ≡ []) × (module.1.found.faults.items ≡ []) ×
-      (module.1.index ≡ None) × (module.1.shows_all ≡ false))
+  pub followed : Followed
+  pub here : slice_get new place ≡ Some followed
+  pub nv_is : place_nv followed ≡ nv
+  pub text_is : place_text followed ≡ serialize (specifier_of info)
+  pub by : (new ≡ old) ⊎ ((new ≡ old ++ followed ∷ []) × (followed.1.found.info.now ≡ info) × (followed.1.asked ≡ []) ×
+      (followed.1.found.ranges.items ≡ []) × (followed.1.found.implementations.items ≡ []) × (followed.1.found.faults.items ≡ []) ×
+      (followed.1.index ≡ None) × (followed.1.shows_all ≡ false))
 
 -- these ranges are shown, and nothing else changes
-pub record Shows (ranges : List SourceRange) (a b : FollowedModule) : Type 0 where
+pub record Shows (more : List SourceRange) (a b : FollowedModule) : Type 0 where
   pub info : b.found.info ≡ a.found.info
-  pub ranges : Joins ranges a.found.ranges.items b.found.ranges.items
+  pub ranges : Joins more a.found.ranges.items b.found.ranges.items
   pub implementations : b.found.implementations.items ≡ a.found.implementations.items
   pub faults : b.found.faults.items ≡ a.found.faults.items
   pub shown : AreShown b

@@ -77,7 +77,7 @@ impl<'a> Finder<'a> {
         cache: Option<&dyn FastCheckCache>,
         members: &mut MemberEntries,
     ) -> Result<bool, BuildFault>
-        requires { IsSound input.entry.sources.graph.now input.entry.sources.root_symbol.now self.old }
+        requires { IsSound input.sources.graph.now input.sources.root_symbol.now self.old }
         ensures turned { let i = input.entry in
             let used = used_of cache.entry (λ c. used_item (hash_of c.now i.seed.now) (stored c.now) i.sources.graph.now) in
             let k = with_used used (known i.sources (url_of provider.now) (nv_at provider.now)) in

@@ -22,7 +22,7 @@ use fast_check_lattice::HandledExports;
 use fast_check_name_demands::NameDemand;
 use fast_check_packages::PackageNv;
 use fast_check_traces::ReExportIndex;
-use fast_check_worklists::AskedPackages;
+use fast_check_worklists::{AskedPackages, copy_of};
 use indexmap::IndexMap;
 use std::alloc::{AllocError, Global};
 use std::collections::BTreeSet;
@@ -169,7 +169,7 @@ impl<'a> Finder<'a> {
     {
         if let Some(names) = ask_names(alloc, &mut self.handled, specifier, names)? {
             self.names.push(NamesAt {
-                package: owner.clone()?,
+                package: copy_of(owner)?,
                 specifier: specifier.clone()?,
                 names,
             })?;
@@ -183,7 +183,7 @@ impl<'a> Finder<'a> {
     {
         self.ask_package(&on)?;
         let dependency = Dependency {
-            package: owner.clone()?,
+            package: copy_of(owner)?,
             on,
         };
         self.dependencies.insert(dependency)?;

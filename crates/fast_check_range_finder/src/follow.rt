@@ -37,23 +37,23 @@ use std::alloc::{AllocError, Global};
 use url::Url;
 
 /// Adds what a demand of a symbol of a module gives.
-fn add_yields<'a>(at: SymbolAt<'a>, module: &mut FollowedModule<'a>) -> Result<(), AllocError>
-    ensures ranges { OnOk result (module.new.found.ranges.items
-        ≡ module.old.found.ranges.items ++ ranges (tables_in module.old.found.info.now) (demand_of at.demand)) }
-    ensures implementations { OnOk result (module.new.found.implementations.items
-        ≡ module.old.found.implementations.items ++ implementations (tables_in module.old.found.info.now) (demand_of at.demand)) }
-    ensures faults { OnOk result (map fault_seen module.new.found.faults.items
-        ≡ map fault_seen module.old.found.faults.items ++ faults (tables_in module.old.found.info.now) (demand_of at.demand)) }
-    ensures info { module.new.found.info ≡ module.old.found.info }
-    ensures asked { module.new.asked ≡ module.old.asked }
-    ensures index { module.new.index ≡ module.old.index }
-    ensures shows_all { module.new.shows_all ≡ module.old.shows_all }
+fn add_yields<'a>(at: SymbolAt<'a>, followed: &mut FollowedModule<'a>) -> Result<(), AllocError>
+    ensures ranges { OnOk result (followed.new.found.ranges.items
+        ≡ followed.old.found.ranges.items ++ ranges (tables_in followed.old.found.info.now) (demand_of at.entry.demand)) }
+    ensures implementations { OnOk result (followed.new.found.implementations.items
+        ≡ followed.old.found.implementations.items ++ implementations (tables_in followed.old.found.info.now) (demand_of at.entry.demand)) }
+    ensures faults { OnOk result (map fault_seen followed.new.found.faults.items
+        ≡ map fault_seen followed.old.found.faults.items ++ faults (tables_in followed.old.found.info.now) (demand_of at.entry.demand)) }
+    ensures info { followed.new.found.info ≡ followed.old.found.info }
+    ensures asked { followed.new.asked ≡ followed.old.asked }
+    ensures index { followed.new.index ≡ followed.old.index }
+    ensures shows_all { followed.new.shows_all ≡ followed.old.shows_all }
 {
-    let tables = tables_of(module.found.info);
-    push_ranges(tables, at.demand, &mut module.found.ranges)?;
-    push_implementations(tables, at.demand, &mut module.found.implementations)?;
+    let tables = tables_of(followed.found.info);
+    push_ranges(tables, at.demand, &mut followed.found.ranges)?;
+    push_implementations(tables, at.demand, &mut followed.found.implementations)?;
     if let Some(fault) = fault_of(tables, at.demand) {
-        module.found.faults.push(fault)?;
+        followed.found.faults.push(fault)?;
     }
     Ok(())
 }
@@ -62,44 +62,44 @@ fn add_yields<'a>(at: SymbolAt<'a>, module: &mut FollowedModule<'a>) -> Result<(
 fn follow_in<'a>(
     alloc: Global,
     at: SymbolAt<'a>,
-    module: &mut FollowedModule<'a>,
+    followed: &mut FollowedModule<'a>,
     symbols: &mut Vec<SymbolAt<'a>>,
 ) -> Result<(), AllocError>
-    ensures asks { OnOk result ((ds : List SymbolSeen) × AreSame ds (names (tables_in module.old.found.info.now) (demand_of at.demand))
-        × AsksEach at.place ds module.old.asked module.new.asked symbols.old.items symbols.new.items) }
-    ensures ranges { OnOk result (module.new.found.ranges.items
-        ≡ module.old.found.ranges.items ++ ranges (tables_in module.old.found.info.now) (demand_of at.demand)) }
-    ensures implementations { OnOk result (module.new.found.implementations.items
-        ≡ module.old.found.implementations.items ++ implementations (tables_in module.old.found.info.now) (demand_of at.demand)) }
-    ensures faults { OnOk result (map fault_seen module.new.found.faults.items
-        ≡ map fault_seen module.old.found.faults.items ++ faults (tables_in module.old.found.info.now) (demand_of at.demand)) }
-    ensures info { OnOk result (module.new.found.info ≡ module.old.found.info) }
-    ensures index { OnOk result (module.new.index ≡ module.old.index) }
-    ensures shows_all { OnOk result (module.new.shows_all ≡ module.old.shows_all) }
+    ensures asks { OnOk result ((ds : List SymbolSeen) × AreSame ds (names (tables_in followed.old.found.info.now) (demand_of at.entry.demand))
+        × AsksEach at.entry.place ds followed.old.asked followed.new.asked symbols.old.items symbols.new.items) }
+    ensures ranges { OnOk result (followed.new.found.ranges.items
+        ≡ followed.old.found.ranges.items ++ ranges (tables_in followed.old.found.info.now) (demand_of at.entry.demand)) }
+    ensures implementations { OnOk result (followed.new.found.implementations.items
+        ≡ followed.old.found.implementations.items ++ implementations (tables_in followed.old.found.info.now) (demand_of at.entry.demand)) }
+    ensures faults { OnOk result (map fault_seen followed.new.found.faults.items
+        ≡ map fault_seen followed.old.found.faults.items ++ faults (tables_in followed.old.found.info.now) (demand_of at.entry.demand)) }
+    ensures info { OnOk result (followed.new.found.info ≡ followed.old.found.info) }
+    ensures index { OnOk result (followed.new.index ≡ followed.old.index) }
+    ensures shows_all { OnOk result (followed.new.shows_all ≡ followed.old.shows_all) }
 {
-    add_yields(at, module)?;
-    let demands = demands_of(alloc, tables_of(module.found.info), at.demand)?;
-    ask_each(at.place, &demands, &mut module.asked, symbols)
+    add_yields(at, followed)?;
+    let demands = demands_of(alloc, tables_of(followed.found.info), at.demand)?;
+    ask_each(at.place, &demands, &mut followed.asked, symbols)
 }
 
 /// Adds what names make public of the re-exports of all of a module. All of these are added once.
-fn show(module: &mut FollowedModule<'_>, public: PublicReExports) -> Result<(), AllocError>
-    ensures shows { OnOk result (AreShown module.old → Shows (shown_ranges (tables_in module.old.found.info.now).re_exports «public») module.old module.new) }
-    ensures asked { OnOk result (module.new.asked ≡ module.old.asked) }
-    ensures index { OnOk result (module.new.index ≡ module.old.index) }
+fn show(followed: &mut FollowedModule<'_>, public: PublicReExports) -> Result<(), AllocError>
+    ensures shows { OnOk result (AreShown followed.old → Shows (shown_ranges (tables_in followed.old.found.info.now).re_exports «public») followed.old followed.new) }
+    ensures asked { OnOk result (followed.new.asked ≡ followed.old.asked) }
+    ensures index { OnOk result (followed.new.index ≡ followed.old.index) }
 {
     match public {
         PublicReExports::Nothing => Ok(()),
         PublicReExports::First(range) => {
-            module.found.ranges.push(range)?;
+            followed.found.ranges.push(range)?;
             Ok(())
         }
         PublicReExports::All => {
-            if module.shows_all {
+            if followed.shows_all {
                 return Ok(());
             }
-            push_all_ranges(tables_of(module.found.info), &mut module.found.ranges)?;
-            module.shows_all = true;
+            push_all_ranges(tables_of(followed.found.info), &mut followed.found.ranges)?;
+            followed.shows_all = true;
             Ok(())
         }
     }
@@ -111,21 +111,21 @@ fn follow_names_in<'a>(
     traced: TracedModule<'a>,
     place: usize,
     names: NameDemand<'a>,
-    module: &mut FollowedModule<'a>,
+    followed: &mut FollowedModule<'a>,
     symbols: &mut Vec<SymbolAt<'a>>,
 ) -> Result<ModuleWants<'a>, AllocError>
-    requires info { module.old.found.info.now ≡ traced.entry.info.now }
-    requires index { IfSome module.old.index (IsIndexOf traced.entry) }
+    requires info { followed.old.found.info.now ≡ traced.info.now }
+    requires index { IfSome followed.old.index (IsIndexOf traced) }
     ensures wants { IfOk result (λ out. out ≡ module_wants traced.entry (names_of names.entry)) }
-    ensures asks { OnOk result (AsksEach place (roots (own_tables traced.entry) (names_of names.entry)) module.old.asked module.new.asked
+    ensures asks { OnOk result (AsksEach place (roots (own_tables traced.entry) (names_of names.entry)) followed.old.asked followed.new.asked
         symbols.old.items symbols.new.items) }
-    ensures shows { OnOk result (AreShown module.old → Shows (re_export_ranges traced.entry (names_of names.entry)) module.old module.new) }
-    ensures index_of { OnOk result (IfSome module.new.index (IsIndexOf traced.entry)) }
+    ensures shows { OnOk result (AreShown followed.old → Shows (re_export_ranges traced.entry (names_of names.entry)) followed.old followed.new) }
+    ensures index_of { OnOk result (IfSome followed.new.index (IsIndexOf traced.entry)) }
 {
     let roots = roots_of(alloc, tables_of(traced.info), names)?;
-    ask_each(place, &roots, &mut module.asked, symbols)?;
-    let re_exports = re_exports_of(alloc, traced, names, &mut module.index)?;
-    show(module, re_exports.public)?;
+    ask_each(place, &roots, &mut followed.asked, symbols)?;
+    let re_exports = re_exports_of(alloc, traced, names, &mut followed.index)?;
+    show(followed, re_exports.public)?;
     Ok(re_exports.wants)
 }
 
@@ -136,22 +136,21 @@ impl<'a> Finder<'a> {
         alloc: Global,
         sources: Sources<'a>,
         provider: &dyn JsrUrlProvider,
-        package: &PackageNv,
+        nv: &PackageNv,
         url: &Url,
         names: NameDemand<'a>,
     ) -> Result<(), AllocError>
         ensures { let k = known sources.entry (url_of provider.now) (nv_at provider.now) in
-            let nv = nv_of package.now in
-            let ws = file_at nv (serialize url.now) (asked_by (names_of names.entry)) (k.owner (serialize url.now)) in
-            OnOk result (IsSound k.graph k.root_symbol self.old → Goes k.graph k.root_symbol ws (dependencies nv ws) self.old self.new) }
+            let ws = file_at (nv_of nv.now) (serialize url.now) (asked_by (names_of names.entry)) (k.owner (serialize url.now)) in
+            OnOk result (IsSound k.graph k.root_symbol self.old → Goes k.graph k.root_symbol ws (dependencies (nv_of nv.now) ws) self.old self.new) }
     {
         match owner_of(sources, provider, url)? {
             None => Ok(()),
             Some(owner) => {
-                if is_same_package(package, &owner) {
+                if is_same_package(nv, &owner) {
                     return self.ask_names(alloc, &owner, url, names);
                 }
-                self.depend(package, owner)
+                self.depend(nv, owner)
             }
         }
     }
@@ -162,18 +161,17 @@ impl<'a> Finder<'a> {
         alloc: Global,
         sources: Sources<'a>,
         provider: &dyn JsrUrlProvider,
-        package: &PackageNv,
+        nv: &PackageNv,
         info: &'a AnyModuleInfo,
         want: FileWant<'a>,
     ) -> Result<(), AllocError>
         ensures { let k = known sources.entry (url_of provider.now) (nv_at provider.now) in
-            let nv = nv_of package.now in
-            let ws = file_wants k nv (traced_as k info.now) (file_demand_of want.entry) in
-            OnOk result (IsSound k.graph k.root_symbol self.old → Goes k.graph k.root_symbol ws (dependencies nv ws) self.old self.new) }
+            let ws = file_wants k (nv_of nv.now) (traced_as k info.now) (file_demand_of want.entry) in
+            OnOk result (IsSound k.graph k.root_symbol self.old → Goes k.graph k.root_symbol ws (dependencies (nv_of nv.now) ws) self.old self.new) }
     {
         match sources.graph.resolve_dependency(want.specifier, info.specifier()) {
             None => Ok(()),
-            Some(url) => self.ask_file(alloc, sources, provider, package, url, want.names),
+            Some(url) => self.ask_file(alloc, sources, provider, nv, url, want.names),
         }
     }
 
@@ -183,23 +181,22 @@ impl<'a> Finder<'a> {
         alloc: Global,
         sources: Sources<'a>,
         provider: &dyn JsrUrlProvider,
-        package: &PackageNv,
+        nv: &PackageNv,
         url: &Url,
         names: NameDemand<'a>,
     ) -> Result<(), AllocError>
         ensures { let k = known sources.entry (url_of provider.now) (nv_at provider.now) in
-            let nv = nv_of package.now in
-            let ws = behind nv (serialize url.now) (asked_by (names_of names.entry)) (k.owner (serialize url.now)) in
-            OnOk result (IsSound k.graph k.root_symbol self.old → Goes k.graph k.root_symbol ws (dependencies nv ws) self.old self.new) }
+            let ws = behind (nv_of nv.now) (serialize url.now) (asked_by (names_of names.entry)) (k.owner (serialize url.now)) in
+            OnOk result (IsSound k.graph k.root_symbol self.old → Goes k.graph k.root_symbol ws (dependencies (nv_of nv.now) ws) self.old self.new) }
     {
         match owner_of(sources, provider, url)? {
             None => Ok(()),
             Some(owner) => {
                 self.ask_names(alloc, &owner, url, names)?;
-                if is_same_package(package, &owner) {
+                if is_same_package(nv, &owner) {
                     return Ok(());
                 }
-                self.depend(package, owner)
+                self.depend(nv, owner)
             }
         }
     }
@@ -210,25 +207,24 @@ impl<'a> Finder<'a> {
         alloc: Global,
         sources: Sources<'a>,
         provider: &dyn JsrUrlProvider,
-        package: &PackageNv,
+        nv: &PackageNv,
         info: &'a AnyModuleInfo,
         want: ModuleWant<'a>,
     ) -> Result<(), AllocError>
         ensures { let k = known sources.entry (url_of provider.now) (nv_at provider.now) in
-            let nv = nv_of package.now in
-            let ws = left_wants k nv (traced_as k info.now) (want_of want.entry) in
-            OnOk result (IsSound k.graph k.root_symbol self.old → Goes k.graph k.root_symbol ws (dependencies nv ws) self.old self.new) }
+            let ws = left_wants k (nv_of nv.now) (traced_as k info.now) (want_of want.entry) in
+            OnOk result (IsSound k.graph k.root_symbol self.old → Goes k.graph k.root_symbol ws (dependencies (nv_of nv.now) ws) self.old self.new) }
     {
         match want {
             ModuleWant::Answered(url, names) => {
-                self.ask_behind(alloc, sources, provider, package, url, names)
+                self.ask_behind(alloc, sources, provider, nv, url, names)
             }
             ModuleWant::ReExported(text) => {
                 match sources.graph.resolve_dependency(text, info.specifier()) {
                     None => Ok(()),
                     Some(url) => {
                         let names = NameDemand::AllButDefault;
-                        self.ask_behind(alloc, sources, provider, package, url, names)
+                        self.ask_behind(alloc, sources, provider, nv, url, names)
                     }
                 }
             }
@@ -238,17 +234,17 @@ impl<'a> Finder<'a> {
     /// What a demand of a symbol gives, and what follows from it within its module. Answers what it asks of other files.
     fn follow_at(&mut self, alloc: Global, at: SymbolAt<'a>) -> Result<FileWants<'a>, AllocError>
         requires { at.place < length self.old.modules.entries }
-        ensures { IfOk result (λ out. (g : ModuleGraphSeen) (r : RootSymbolSeen) (e : Followed) → slice_get self.old.modules.entries at.place ≡ Some e
-            → IsSound g r self.old → let m = traced_in g r e.1.found.info.now in let s = demand_of at.demand in
+        ensures { IfOk result (λ out. (g : ModuleGraphSeen) (r : RootSymbolSeen) (e : Followed) → slice_get self.old.modules.entries at.entry.place ≡ Some e
+            → IsSound g r self.old → let m = traced_in g r e.1.found.info.now in let s = demand_of at.entry.demand in
             (out ≡ files (own_tables m) s) × Goes g r (map (to_symbol (place_nv e) (own_text m)) (names (own_tables m) s))
             (public_at (place_nv e) m (ranges (own_tables m) s) ++ (implementing_at (place_nv e) m (implementations (own_tables m) s)
             ++ faults_at (place_nv e) m (faults (own_tables m) s))) self.old self.new) }
     {
-        let Some(module) = self.modules.get_index_mut(at.place) else {
+        let Some(followed) = self.modules.get_index_mut(at.place) else {
             return Ok(FileWants::new(alloc));
         };
-        let tables = tables_of(module.found.info);
-        follow_in(alloc, at, module, &mut self.symbols)?;
+        let tables = tables_of(followed.found.info);
+        follow_in(alloc, at, followed, &mut self.symbols)?;
         files_of(alloc, tables, at.demand)
     }
 
@@ -262,18 +258,18 @@ impl<'a> Finder<'a> {
     ) -> Result<(), AllocError>
         requires { at.place < length self.old.modules.entries }
         ensures { let k = known sources.entry (url_of provider.now) (nv_at provider.now) in
-            OnOk result ((e : Followed) → slice_get self.old.modules.entries at.place ≡ Some e → IsSound k.graph k.root_symbol self.old
-            → let d = of_symbol (place_nv e) (place_text e) (demand_of at.demand) in
+            OnOk result ((e : Followed) → slice_get self.old.modules.entries at.entry.place ≡ Some e → IsSound k.graph k.root_symbol self.old
+            → let d = of_symbol (place_nv e) (place_text e) (demand_of at.entry.demand) in
             Goes k.graph k.root_symbol (world k d) (gives k d) self.old self.new) }
     {
-        let Some((place, module)) = self.modules.get_index(at.place) else {
+        let Some((place, followed)) = self.modules.get_index(at.place) else {
             return Ok(());
         };
-        let package = place.package.clone()?;
-        let info = module.found.info;
+        let nv = place.package.clone()?;
+        let info = followed.found.info;
         let wants = self.follow_at(alloc, at)?;
         for want in wants.as_slice() {
-            self.ask_want(alloc, sources, provider, &package, info, *want)?;
+            self.ask_want(alloc, sources, provider, &nv, info, *want)?;
         }
         Ok(())
     }
@@ -287,22 +283,22 @@ impl<'a> Finder<'a> {
         names: NameDemand<'a>,
     ) -> Result<ModuleWants<'a>, AllocError>
         requires within { place < length self.old.modules.entries }
-        requires sound { IsSound sources.entry.graph.now sources.entry.root_symbol.now self.old }
+        requires sound { IsSound sources.graph.now sources.root_symbol.now self.old }
         ensures { IfOk result (λ out. (e : Followed) → slice_get self.old.modules.entries place ≡ Some e
             → let g = sources.entry.graph.now in let r = sources.entry.root_symbol.now in
             let m = traced_in g r e.1.found.info.now in let d = names_of names.entry in
             (out ≡ module_wants m d) × Goes g r (map (to_symbol (place_nv e) (own_text m)) (roots (own_tables m) d))
             (public_at (place_nv e) m (re_export_ranges m d)) self.old self.new) }
     {
-        let Some(module) = self.modules.get_index_mut(place) else {
+        let Some(followed) = self.modules.get_index_mut(place) else {
             return Ok(ModuleWants::new(alloc));
         };
         let traced = TracedModule {
             graph: sources.graph,
             root_symbol: sources.root_symbol,
-            info: module.found.info,
+            info: followed.found.info,
         };
-        follow_names_in(alloc, traced, place, names, module, &mut self.symbols)
+        follow_names_in(alloc, traced, place, names, followed, &mut self.symbols)
     }
 
     /// Follows names of a module that has tables.
@@ -312,21 +308,21 @@ impl<'a> Finder<'a> {
         sources: Sources<'a>,
         provider: &dyn JsrUrlProvider,
         info: &'a AnyModuleInfo,
-        package: PackageNv,
+        nv: PackageNv,
         names: NameDemand<'a>,
     ) -> Result<(), AllocError>
-        requires { IsSound sources.entry.graph.now sources.entry.root_symbol.now self.old }
+        requires { IsSound sources.graph.now sources.root_symbol.now self.old }
         ensures { let k = known sources.entry (url_of provider.now) (nv_at provider.now) in
             OnOk result ((t : Text) → info_at k.graph k.root_symbol t ≡ Some info.now
             → let m = traced_as k info.now in let d = names_of names.entry in
-            Goes k.graph k.root_symbol (names_wants k (nv_of «package») d m) (names_yields k (nv_of «package») d m) self.old self.new) }
+            Goes k.graph k.root_symbol (names_wants k (nv_of nv) d m) (names_yields k (nv_of nv) d m) self.old self.new) }
     {
         // Each module is found by its own name.
         sources.root_symbol.own_names_find();
-        let place = place_of(alloc, &mut self.modules, package.clone()?, info)?;
+        let place = place_of(alloc, &mut self.modules, nv.clone()?, info)?;
         let wants = self.follow_names_at(alloc, sources, place, names)?;
         for want in wants.as_slice() {
-            self.ask_left(alloc, sources, provider, &package, info, *want)?;
+            self.ask_left(alloc, sources, provider, &nv, info, *want)?;
         }
         Ok(())
     }
@@ -339,7 +335,7 @@ impl<'a> Finder<'a> {
         provider: &dyn JsrUrlProvider,
         at: NamesAt<'a>,
     ) -> Result<(), AllocError>
-        requires { IsSound sources.entry.graph.now sources.entry.root_symbol.now self.old }
+        requires { IsSound sources.graph.now sources.root_symbol.now self.old }
         ensures { let k = known sources.entry (url_of provider.now) (nv_at provider.now) in
             let d = names_seen at.entry in OnOk result (Goes k.graph k.root_symbol (world k d) (gives k d) self.old self.new) }
     {
