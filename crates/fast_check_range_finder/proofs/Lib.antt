@@ -16,3 +16,6 @@ pub mod Reach
 pub mod Stored
 pub mod Homes
 pub mod Homed
+pub mod Joins
+pub mod Collected
+pub mod Once

@@ -106,7 +106,10 @@ impl<'a> Finder<'a> {
         info: &'a AnyModuleInfo,
         want: FileWant<'a>,
     ) -> Result<(), AllocError> {
-        match sources.graph.resolve_dependency(want.specifier, info.specifier()) {
+        match sources
+            .graph
+            .resolve_dependency(want.specifier, info.specifier())
+        {
             None => Ok(()),
             Some(url) => self.ask_file(alloc, sources, provider, package, url, want.names),
         }
