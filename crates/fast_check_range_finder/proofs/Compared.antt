@@ -161,7 +161,7 @@ of_map (k ∷ ks) d c =
 
 -- a key at its place in the order
 
-key_kept : {K : Type 0} (R : K → K → Ordering) (ks : List K) (k x : K) → Contains ks x → Contains (insert_key R ks k) x
+pub key_kept : {K : Type 0} (R : K → K → Ordering) (ks : List K) (k x : K) → Contains ks x → Contains (insert_key R ks k) x
 key_kept R [] k x c = absurd (none_in x c)
 key_kept {K} R (y ∷ ks) k x c = go (λ r. key_kept R ks k x r) (R k y)
   where
@@ -171,7 +171,7 @@ key_kept {K} R (y ∷ ks) k x c = go (λ r. key_kept R ks k x r) (R k y)
     go below Greater = ⊎_elim (λ e. subst (λ (z : K). Contains (y ∷ insert_key R ks k) z) e (first_in y (insert_key R ks k)))
         (λ r. rest_in y x (insert_key R ks k) (below r)) (split_in y x ks c)
 
-key_only : {K : Type 0} (R : K → K → Ordering) (ks : List K) (k x : K) → Contains (insert_key R ks k) x → Contains ks x ⊎ (k ≡ x)
+pub key_only : {K : Type 0} (R : K → K → Ordering) (ks : List K) (k x : K) → Contains (insert_key R ks k) x → Contains ks x ⊎ (k ≡ x)
 key_only R [] k x c = ⊎_elim (λ e. inr e) (λ r. absurd (none_in x r)) (split_in k x [] c)
 key_only {K} R (y ∷ ks) k x c = go (λ r. key_only R ks k x r) (R k y) c
   where
@@ -190,6 +190,17 @@ key_here {K} R (y ∷ ks) k h = go (λ e. key_here R ks k e) (R k y) h
     go below Less e = first_in k (y ∷ ks)
     go below Equal e = absurd (false≢true (sym e))
     go below Greater e = rest_in y k (insert_key R ks k) (below e)
+
+-- the key stands there, or one that ties with it
+pub key_tied : {K : Type 0} (R : K → K → Ordering) (ks : List K) (k : K) → (y : K) × Contains (insert_key R ks k) y × ((k ≡ y) ⊎ (R k y ≡ Equal))
+key_tied R [] k = (k, first_in k [], inl refl)
+key_tied {K} R (y ∷ ks) k = go (R k y) refl (key_tied R ks k)
+  where
+    go : (o : Ordering) → R k y ≡ o → (z : K) × Contains (insert_key R ks k) z × ((k ≡ z) ⊎ (R k z ≡ Equal)) →
+        (z : K) × Contains (match_ordering o (k ∷ y ∷ ks) (y ∷ ks) (y ∷ insert_key R ks k)) z × ((k ≡ z) ⊎ (R k z ≡ Equal))
+    go Less e s = (k, first_in k (y ∷ ks), inl refl)
+    go Equal e s = (y, first_in y ks, inr e)
+    go Greater e s = (s.0, rest_in y s.0 (insert_key R ks k) s.1, s.2)
 
 -- one demand more, where its key was not there
 pub one_more : (d : Demand) (k : AskedSymbol) (old new : BTreeSet AskedSymbol) → demand_at k ≡ essence d →

@@ -19,3 +19,10 @@ pub mod Homed
 pub mod Joins
 pub mod Collected
 pub mod Once
+pub mod Steps
+pub mod Places
+pub mod SymbolsAsked
+pub mod Gained
+pub mod Waits
+pub mod Followed
+pub mod Placed

@@ -1,63 +1,46 @@
 //! The loop.
 
+ghost use Rattle.std.specs.Prelude.{◌≡◌, ◌<◌, [], length, map, OnOk, IfOk, IfErr};
+ghost use Rattle.fast_check_packages.specs.Package.{nv_of};
+ghost use Rattle.fast_check_graph.specs.declared.graph.ModuleGraph.{ModuleGraph as ModuleGraphSeen};
+ghost use Rattle.fast_check_graph.specs.declared.root_symbol.RootSymbol.{RootSymbol as RootSymbolSeen};
+ghost use Rattle.fast_check_packages.specs.MembersIn.{members_in};
+ghost use Rattle.fast_check_cache.specs.CachedPackages.{used_item};
+ghost use Rattle.fast_check_findings.specs.Found.{found_yields};
+ghost use Rattle.fast_check_entries.specs.Kept.{AreKept};
+ghost use Rattle.fast_check_sources.specs.Sources.{known, with_used};
+ghost use Rattle.fast_check_range_finder.specs.Account.{Account, IsAccount, IsYield};
+ghost use Rattle.fast_check_range_finder.specs.Finder.{search_of, yields_in, IsSound, Turns, TurnsTo};
+ghost use Rattle.fast_check_range_finder.specs.Lent.{used_of};
+ghost use Rattle.fast_check_range_finder.specs.Refusals.{IsRefusal, IsRefusedOf, JoinAll};
+ghost use Rattle.fast_check_range_finder.specs.Rules.{world};
+ghost use Rattle.fast_check_range_finder.specs.Turn.{IsBegun};
+ghost use Rattle.fast_check_range_finder.specs.Yields.{gives};
+
+use crate::enter::FinderInput;
 use crate::finder::Finder;
-use fast_check_cache::{FastCheckCache, FastCheckCacheItem, look_up};
-use fast_check_entries::{MemberEntries, entry_faults, entry_points};
-use fast_check_findings::{Entrance, FoundPackage};
-use fast_check_name_demands::NameDemand;
+use fast_check_cache::FastCheckCache;
+use fast_check_entries::MemberEntries;
+use fast_check_findings::FoundPackage;
 use fast_check_packages::{BuildFault, JsrUrlProvider, PackageNv};
-use fast_check_sources::Sources;
+use fast_check_worklists::copy_of;
 use indexmap::IndexMap;
 use std::alloc::{AllocError, Global};
-use std::collections::BTreeSet;
-use std::rc::Rc;
-use url::Url;
 
-/// What is known of modules and packages, and the seed of the keys of the cache.
-#[derive(Clone, Copy)]
-pub struct FinderInput<'a> {
-    pub sources: Sources<'a>,
-    pub seed: &'a str,
+/// A finder of which these packages are asked.
+fn begin<'a>(alloc: Global, roots: &[PackageNv]) -> Result<Finder<'a>, AllocError>
+    ensures begun { IfOk result (λ finder. IsBegun (map nv_of roots.now) (search_of finder)) }
+    ensures found { IfOk result (λ finder. yields_in finder ≡ []) }
+    ensures sound { IfOk result (λ finder. (g : ModuleGraphSeen) (r : RootSymbolSeen) → IsSound g r finder) }
+{
+    let mut finder = Finder::new(alloc);
+    for nv in roots {
+        finder.ask_package(nv)?;
+    }
+    Ok(finder)
 }
 
 impl<'a> Finder<'a> {
-    /// Asks for what an item depends on that is used.
-    fn enter_kept(
-        &mut self,
-        nv: &PackageNv,
-        entry_points: Rc<BTreeSet<Url>>,
-        item: FastCheckCacheItem,
-    ) -> Result<(), AllocError> {
-        for on in &item.dependencies {
-            self.packages.add(on)?;
-        }
-        let entrance = Entrance::Kept { entry_points, item };
-        self.entrances.push((nv.clone()?, entrance))?;
-        Ok(())
-    }
-
-    /// Asks for all names of each entry point, unless something is wrong with one.
-    fn enter_at(
-        &mut self,
-        alloc: Global,
-        sources: Sources<'a>,
-        nv: &PackageNv,
-        entry_points: Rc<BTreeSet<Url>>,
-    ) -> Result<(), AllocError> {
-        let faults = entry_faults(alloc, sources.graph, &entry_points)?;
-        if faults.is_empty() {
-            for url in entry_points.as_ref() {
-                self.ask_names(alloc, nv, url, NameDemand::All)?;
-            }
-        }
-        let entrance = Entrance::Entered {
-            entry_points,
-            faults,
-        };
-        self.entrances.push((nv.clone()?, entrance))?;
-        Ok(())
-    }
-
     /// Enters the next package.
     fn enter_next(
         &mut self,
@@ -66,21 +49,23 @@ impl<'a> Finder<'a> {
         provider: &dyn JsrUrlProvider,
         cache: Option<&dyn FastCheckCache>,
         members: &mut MemberEntries,
-    ) -> Result<(), BuildFault> {
-        let nv = self.packages.at(self.entered).clone()?;
+    ) -> Result<(), BuildFault>
+        requires { self.old.entered < length self.old.packages }
+        ensures turned { let i = input.entry in
+            let used = used_of cache.entry (λ c. used_item (hash_of c.now i.seed.now) (stored c.now) i.sources.graph.now) in
+            let k = with_used used (known i.sources (url_of provider.now) (nv_at provider.now)) in
+            OnOk result (AreKept k.workspace_members members.old → IsSound k.graph k.root_symbol self.old
+            → Turns k self.old self.new) }
+        ensures kept { let ours = members_in input.entry.sources.workspace_members.now in
+            OnOk result (AreKept ours members.old → AreKept ours members.new) }
+        ensures refused { let i = input.entry in
+            let used = used_of cache.entry (λ c. used_item (hash_of c.now i.seed.now) (stored c.now) i.sources.graph.now) in
+            let k = with_used used (known i.sources (url_of provider.now) (nv_at provider.now)) in
+            IfErr result (IsRefusedOf k (map nv_of self.old.packages)) }
+    {
+        let nv = copy_of(self.packages.at(self.entered))?;
         self.entered += 1;
-        let Sources {
-            graph,
-            workspace_members,
-            ..
-        } = input.sources;
-        match entry_points(alloc, graph, workspace_members, provider, &nv, members)? {
-            None => Ok(()),
-            Some(urls) => match look_up(cache, input.seed, graph, &nv, &urls)? {
-                None => Ok(self.enter_at(alloc, input.sources, &nv, urls)?),
-                Some(item) => Ok(self.enter_kept(&nv, urls, item)?),
-            },
-        }
+        self.enter(alloc, input, provider, cache, &nv, members)
     }
 
     /// Follows a demand, if any waits: those of symbols before names, and names before packages.
@@ -91,7 +76,19 @@ impl<'a> Finder<'a> {
         provider: &dyn JsrUrlProvider,
         cache: Option<&dyn FastCheckCache>,
         members: &mut MemberEntries,
-    ) -> Result<bool, BuildFault> {
+    ) -> Result<bool, BuildFault>
+        requires { IsSound input.entry.sources.graph.now input.entry.sources.root_symbol.now self.old }
+        ensures turned { let i = input.entry in
+            let used = used_of cache.entry (λ c. used_item (hash_of c.now i.seed.now) (stored c.now) i.sources.graph.now) in
+            let k = with_used used (known i.sources (url_of provider.now) (nv_at provider.now)) in
+            IfOk result (λ more. AreKept k.workspace_members members.old → TurnsTo k more self.old self.new) }
+        ensures kept { let ours = members_in input.entry.sources.workspace_members.now in
+            OnOk result (AreKept ours members.old → AreKept ours members.new) }
+        ensures refused { let i = input.entry in
+            let used = used_of cache.entry (λ c. used_item (hash_of c.now i.seed.now) (stored c.now) i.sources.graph.now) in
+            let k = with_used used (known i.sources (url_of provider.now) (nv_at provider.now)) in
+            IfErr result (IsRefusedOf k (map nv_of self.old.packages)) }
+    {
         if let Some(at) = self.symbols.pop() {
             self.follow_symbol(alloc, input.sources, provider, at)?;
             return Ok(true);
@@ -108,19 +105,32 @@ impl<'a> Finder<'a> {
     }
 }
 
-/// Follows the packages that are handed in, and all that follows from them.
+/// Follows the packages that are handed in, and all that follows from them, and answers what is found: what the demands of an account yield,
+/// neither more nor less.
+///
+/// A package whose item in the cache is used is followed to the dependencies of the item alone. The search ends on every cache.
+///
+/// A package whose exports neither the graph nor a member of the workspace has is passed over. An export text that does not join refuses the
+/// build: `InvalidExport` has the first one of its package. `OutOfMemory` where memory is wanting, or a URL comes to 4 GB.
 pub fn find_all<'a>(
     alloc: Global,
     input: FinderInput<'a>,
     provider: &dyn JsrUrlProvider,
     cache: Option<&dyn FastCheckCache>,
     roots: &[PackageNv],
-) -> Result<IndexMap<PackageNv, FoundPackage<'a>>, BuildFault> {
-    let mut finder = Finder::new(alloc);
+) -> Result<IndexMap<PackageNv, FoundPackage<'a>>, BuildFault>
+    ensures found { let i = input.entry in
+        let used = used_of cache.entry (λ c. used_item (hash_of c.now i.seed.now) (stored c.now) i.sources.graph.now) in
+        let k = with_used used (known i.sources (url_of provider.now) (nv_at provider.now)) in
+        IfOk result (λ found. (account : Account) × IsAccount (world k) (map nv_of roots.now) account
+        × IsYield (gives k) account (found_yields found.entries) × JoinAll k account) }
+    ensures refused { let i = input.entry in
+        let used = used_of cache.entry (λ c. used_item (hash_of c.now i.seed.now) (stored c.now) i.sources.graph.now) in
+        let k = with_used used (known i.sources (url_of provider.now) (nv_at provider.now)) in
+        IfErr result (IsRefusal k (map nv_of roots.now)) }
+{
+    let mut finder = begin(alloc, roots)?;
     let mut members = MemberEntries::new(alloc);
-    for nv in roots {
-        finder.packages.add(nv)?;
-    }
     'turns: while finder.turn(alloc, input, provider, cache, &mut members)? {}
     Ok(finder.into_found(alloc)?)
 }

@@ -1,11 +1,16 @@
 //! What was asked for, what of it waits, and what was found so far.
 
-ghost use Rattle.std.specs.Prelude.{◌≡◌, [], None, false, IfOk, OnOk};
+ghost use Rattle.std.specs.Prelude.{◌≡◌, [], ◌∷◌, None, false, IfOk, OnOk};
+ghost use Rattle.url.specs.Parts.{serialize};
 ghost use Rattle.fast_check_packages.specs.Package.{nv_of};
 ghost use Rattle.fast_check_demands.specs.Demands.{demand_of};
 ghost use Rattle.fast_check_name_demands.specs.Files.{names_of};
-ghost use Rattle.fast_check_range_finder.specs.Finder.{search_of, yields_in, AsksOne, AsksEach, IsPlaced, Depends};
-ghost use Rattle.fast_check_range_finder.specs.Search.{AsksNames, IsFresh};
+ghost use Rattle.fast_check_findings.specs.Yields.{dependency};
+ghost use Rattle.fast_check_worklists.specs.Demands.{asked_by, to_package, to_module};
+ghost use Rattle.fast_check_graph.specs.declared.graph.ModuleGraph.{ModuleGraph as ModuleGraphSeen};
+ghost use Rattle.fast_check_graph.specs.declared.root_symbol.RootSymbol.{RootSymbol as RootSymbolSeen};
+ghost use Rattle.fast_check_range_finder.specs.Finder.{search_of, yields_in, AsksOne, AsksEach, IsPlaced, IsSound, Goes};
+ghost use Rattle.fast_check_range_finder.specs.Search.{IsFresh};
 
 use crate::asked::AskedSymbols;
 use crate::demand::{Dependency, NamesAt, Place, SymbolAt};
@@ -70,6 +75,7 @@ impl<'a> FollowedModule<'a> {
             found: FoundModule::new(alloc, info),
         }
     }
+
 }
 
 /// Asks for a demand of a symbol. If it is new, it waits.
@@ -127,6 +133,7 @@ impl<'a> Finder<'a> {
     pub fn new(alloc: Global) -> Finder<'a>
         ensures fresh { IsFresh (search_of result) }
         ensures found { yields_in result ≡ [] }
+        ensures sound { (g : ModuleGraphSeen) (r : RootSymbolSeen) → IsSound g r result }
     {
         Finder {
             packages: AskedPackages::new(alloc),
@@ -141,6 +148,14 @@ impl<'a> Finder<'a> {
         }
     }
 
+    /// Asks for a package. It waits if it is new.
+    pub fn ask_package(&mut self, nv: &PackageNv) -> Result<(), AllocError>
+        ensures { OnOk result ((g : ModuleGraphSeen) (r : RootSymbolSeen) → IsSound g r self.old
+            → Goes g r (to_package (nv_of nv.now) ∷ []) [] self.old self.new) }
+    {
+        self.packages.add(nv)
+    }
+
     /// Asks for names of a module for a package. What of them is new waits.
     pub fn ask_names(
         &mut self,
@@ -149,12 +164,8 @@ impl<'a> Finder<'a> {
         specifier: &Url,
         names: NameDemand<'a>,
     ) -> Result<(), AllocError>
-        ensures asked { OnOk result (AsksNames (nv_of owner.now) specifier.now (names_of names.entry) (search_of self.old) (search_of self.new)) }
-        ensures found { OnOk result (yields_in self.new ≡ yields_in self.old) }
-        ensures modules { OnOk result (self.new.modules ≡ self.old.modules) }
-        ensures symbols { OnOk result (self.new.symbols ≡ self.old.symbols) }
-        ensures packages { OnOk result (self.new.packages ≡ self.old.packages) }
-        ensures entered { OnOk result (self.new.entered ≡ self.old.entered) }
+        ensures { OnOk result ((g : ModuleGraphSeen) (r : RootSymbolSeen) → IsSound g r self.old → Goes g r (to_module (nv_of owner.now) (serialize specifier.now) (asked_by (names_of names.entry)) ∷ []) []
+            self.old self.new) }
     {
         if let Some(names) = ask_names(alloc, &mut self.handled, specifier, names)? {
             self.names.push(NamesAt {
@@ -168,9 +179,9 @@ impl<'a> Finder<'a> {
 
     /// Asks for a package on which another depends.
     pub fn depend(&mut self, owner: &PackageNv, on: PackageNv) -> Result<(), AllocError>
-        ensures { OnOk result (Depends (nv_of owner.now) (nv_of on) self.old self.new) }
+        ensures { OnOk result ((g : ModuleGraphSeen) (r : RootSymbolSeen) → IsSound g r self.old → Goes g r (to_package (nv_of on) ∷ []) (dependency (nv_of owner.now) (nv_of on) ∷ []) self.old self.new) }
     {
-        self.packages.add(&on)?;
+        self.ask_package(&on)?;
         let dependency = Dependency {
             package: owner.clone()?,
             on,

@@ -1,5 +1,26 @@
 //! What follows from names of a module, and from its symbols.
 
+ghost use Rattle.std.specs.Prelude.{◌≡◌, ◌++◌, ◌<◌, List, Some, length, map, slice_get, IfOk, IfSome, OnOk};
+ghost use Rattle.url.specs.Parts.{serialize};
+ghost use Rattle.fast_check_packages.specs.Package.{nv_of};
+ghost use Rattle.fast_check_graph.specs.declared.graph.ModuleGraph.{ModuleGraph as ModuleGraphSeen};
+ghost use Rattle.fast_check_graph.specs.declared.root_symbol.RootSymbol.{RootSymbol as RootSymbolSeen};
+ghost use Rattle.fast_check_demands.specs.Demands.{Demand as SymbolSeen, demand_of};
+ghost use Rattle.fast_check_demands.specs.Rules.{names};
+ghost use Rattle.fast_check_demands.specs.Yields.{ranges, implementations, faults, fault_seen};
+ghost use Rattle.fast_check_name_demands.specs.Files.{names_of, files, file_demand_of};
+ghost use Rattle.fast_check_traces.specs.Modules.{tables_in, own_tables};
+ghost use Rattle.fast_check_traces.specs.Origins.{IsIndexOf};
+ghost use Rattle.fast_check_traces.specs.Roots.{roots};
+ghost use Rattle.fast_check_traces.specs.Wants.{module_wants, want_of, shown_ranges, re_export_ranges};
+ghost use Rattle.fast_check_worklists.specs.Demands.{Text, asked_by, of_symbol, to_symbol};
+ghost use Rattle.fast_check_sources.specs.Sources.{known, info_at, traced_as};
+ghost use Rattle.fast_check_sources.specs.Wants.{file_at, behind, file_wants, left_wants};
+ghost use Rattle.fast_check_range_finder.specs.Finder.{Followed, place_nv, place_text, names_seen, traced_in, AsksEach, AreShown, Shows, IsSound, Goes};
+ghost use Rattle.fast_check_range_finder.specs.Rules.{own_text, world, names_wants};
+ghost use Rattle.fast_check_range_finder.specs.Turn.{AreSame};
+ghost use Rattle.fast_check_range_finder.specs.Yields.{dependencies, public_at, implementing_at, faults_at, names_yields, gives};
+
 use crate::demand::{NamesAt, SymbolAt};
 use crate::finder::{Finder, FollowedModule, ask_each, place_of};
 use fast_check_demands::{demands_of, fault_of, push_implementations, push_ranges};
@@ -15,26 +36,58 @@ use fast_check_worklists::is_same_package;
 use std::alloc::{AllocError, Global};
 use url::Url;
 
-/// What a demand of a symbol gives, and what follows from it within the module. Answers what it asks of other files.
-fn follow_in<'a>(
-    alloc: Global,
-    at: SymbolAt<'a>,
-    module: &mut FollowedModule<'a>,
-    symbols: &mut Vec<SymbolAt<'a>>,
-) -> Result<FileWants<'a>, AllocError> {
+/// Adds what a demand of a symbol of a module gives.
+fn add_yields<'a>(at: SymbolAt<'a>, module: &mut FollowedModule<'a>) -> Result<(), AllocError>
+    ensures ranges { OnOk result (module.new.found.ranges.items
+        ≡ module.old.found.ranges.items ++ ranges (tables_in module.old.found.info.now) (demand_of at.demand)) }
+    ensures implementations { OnOk result (module.new.found.implementations.items
+        ≡ module.old.found.implementations.items ++ implementations (tables_in module.old.found.info.now) (demand_of at.demand)) }
+    ensures faults { OnOk result (map fault_seen module.new.found.faults.items
+        ≡ map fault_seen module.old.found.faults.items ++ faults (tables_in module.old.found.info.now) (demand_of at.demand)) }
+    ensures info { module.new.found.info ≡ module.old.found.info }
+    ensures asked { module.new.asked ≡ module.old.asked }
+    ensures index { module.new.index ≡ module.old.index }
+    ensures shows_all { module.new.shows_all ≡ module.old.shows_all }
+{
     let tables = tables_of(module.found.info);
     push_ranges(tables, at.demand, &mut module.found.ranges)?;
     push_implementations(tables, at.demand, &mut module.found.implementations)?;
     if let Some(fault) = fault_of(tables, at.demand) {
         module.found.faults.push(fault)?;
     }
-    let demands = demands_of(alloc, tables, at.demand)?;
-    ask_each(at.place, &demands, &mut module.asked, symbols)?;
-    files_of(alloc, tables, at.demand)
+    Ok(())
+}
+
+/// What a demand of a symbol gives, and what follows from it within the module.
+fn follow_in<'a>(
+    alloc: Global,
+    at: SymbolAt<'a>,
+    module: &mut FollowedModule<'a>,
+    symbols: &mut Vec<SymbolAt<'a>>,
+) -> Result<(), AllocError>
+    ensures asks { OnOk result ((ds : List SymbolSeen) × AreSame ds (names (tables_in module.old.found.info.now) (demand_of at.demand))
+        × AsksEach at.place ds module.old.asked module.new.asked symbols.old.items symbols.new.items) }
+    ensures ranges { OnOk result (module.new.found.ranges.items
+        ≡ module.old.found.ranges.items ++ ranges (tables_in module.old.found.info.now) (demand_of at.demand)) }
+    ensures implementations { OnOk result (module.new.found.implementations.items
+        ≡ module.old.found.implementations.items ++ implementations (tables_in module.old.found.info.now) (demand_of at.demand)) }
+    ensures faults { OnOk result (map fault_seen module.new.found.faults.items
+        ≡ map fault_seen module.old.found.faults.items ++ faults (tables_in module.old.found.info.now) (demand_of at.demand)) }
+    ensures info { OnOk result (module.new.found.info ≡ module.old.found.info) }
+    ensures index { OnOk result (module.new.index ≡ module.old.index) }
+    ensures shows_all { OnOk result (module.new.shows_all ≡ module.old.shows_all) }
+{
+    add_yields(at, module)?;
+    let demands = demands_of(alloc, tables_of(module.found.info), at.demand)?;
+    ask_each(at.place, &demands, &mut module.asked, symbols)
 }
 
 /// Adds what names make public of the re-exports of all of a module. All of these are added once.
-fn show(module: &mut FollowedModule<'_>, public: PublicReExports) -> Result<(), AllocError> {
+fn show(module: &mut FollowedModule<'_>, public: PublicReExports) -> Result<(), AllocError>
+    ensures shows { OnOk result (AreShown module.old → Shows (shown_ranges (tables_in module.old.found.info.now).re_exports «public») module.old module.new) }
+    ensures asked { OnOk result (module.new.asked ≡ module.old.asked) }
+    ensures index { OnOk result (module.new.index ≡ module.old.index) }
+{
     match public {
         PublicReExports::Nothing => Ok(()),
         PublicReExports::First(range) => {
@@ -55,19 +108,21 @@ fn show(module: &mut FollowedModule<'_>, public: PublicReExports) -> Result<(), 
 /// What names of a module give, and what follows from them within the module. Answers what they ask of other modules.
 fn follow_names_in<'a>(
     alloc: Global,
-    sources: Sources<'a>,
+    traced: TracedModule<'a>,
     place: usize,
     names: NameDemand<'a>,
     module: &mut FollowedModule<'a>,
     symbols: &mut Vec<SymbolAt<'a>>,
-) -> Result<ModuleWants<'a>, AllocError> {
-    let info = module.found.info;
-    let traced = TracedModule {
-        graph: sources.graph,
-        root_symbol: sources.root_symbol,
-        info,
-    };
-    let roots = roots_of(alloc, tables_of(info), names)?;
+) -> Result<ModuleWants<'a>, AllocError>
+    requires info { module.old.found.info.now ≡ traced.entry.info.now }
+    requires index { IfSome module.old.index (IsIndexOf traced.entry) }
+    ensures wants { IfOk result (λ out. out ≡ module_wants traced.entry (names_of names.entry)) }
+    ensures asks { OnOk result (AsksEach place (roots (own_tables traced.entry) (names_of names.entry)) module.old.asked module.new.asked
+        symbols.old.items symbols.new.items) }
+    ensures shows { OnOk result (AreShown module.old → Shows (re_export_ranges traced.entry (names_of names.entry)) module.old module.new) }
+    ensures index_of { OnOk result (IfSome module.new.index (IsIndexOf traced.entry)) }
+{
+    let roots = roots_of(alloc, tables_of(traced.info), names)?;
     ask_each(place, &roots, &mut module.asked, symbols)?;
     let re_exports = re_exports_of(alloc, traced, names, &mut module.index)?;
     show(module, re_exports.public)?;
@@ -84,7 +139,12 @@ impl<'a> Finder<'a> {
         package: &PackageNv,
         url: &Url,
         names: NameDemand<'a>,
-    ) -> Result<(), AllocError> {
+    ) -> Result<(), AllocError>
+        ensures { let k = known sources.entry (url_of provider.now) (nv_at provider.now) in
+            let nv = nv_of package.now in
+            let ws = file_at nv (serialize url.now) (asked_by (names_of names.entry)) (k.owner (serialize url.now)) in
+            OnOk result (IsSound k.graph k.root_symbol self.old → Goes k.graph k.root_symbol ws (dependencies nv ws) self.old self.new) }
+    {
         match owner_of(sources, provider, url)? {
             None => Ok(()),
             Some(owner) => {
@@ -105,11 +165,13 @@ impl<'a> Finder<'a> {
         package: &PackageNv,
         info: &'a AnyModuleInfo,
         want: FileWant<'a>,
-    ) -> Result<(), AllocError> {
-        match sources
-            .graph
-            .resolve_dependency(want.specifier, info.specifier())
-        {
+    ) -> Result<(), AllocError>
+        ensures { let k = known sources.entry (url_of provider.now) (nv_at provider.now) in
+            let nv = nv_of package.now in
+            let ws = file_wants k nv (traced_as k info.now) (file_demand_of want.entry) in
+            OnOk result (IsSound k.graph k.root_symbol self.old → Goes k.graph k.root_symbol ws (dependencies nv ws) self.old self.new) }
+    {
+        match sources.graph.resolve_dependency(want.specifier, info.specifier()) {
             None => Ok(()),
             Some(url) => self.ask_file(alloc, sources, provider, package, url, want.names),
         }
@@ -124,7 +186,12 @@ impl<'a> Finder<'a> {
         package: &PackageNv,
         url: &Url,
         names: NameDemand<'a>,
-    ) -> Result<(), AllocError> {
+    ) -> Result<(), AllocError>
+        ensures { let k = known sources.entry (url_of provider.now) (nv_at provider.now) in
+            let nv = nv_of package.now in
+            let ws = behind nv (serialize url.now) (asked_by (names_of names.entry)) (k.owner (serialize url.now)) in
+            OnOk result (IsSound k.graph k.root_symbol self.old → Goes k.graph k.root_symbol ws (dependencies nv ws) self.old self.new) }
+    {
         match owner_of(sources, provider, url)? {
             None => Ok(()),
             Some(owner) => {
@@ -146,7 +213,12 @@ impl<'a> Finder<'a> {
         package: &PackageNv,
         info: &'a AnyModuleInfo,
         want: ModuleWant<'a>,
-    ) -> Result<(), AllocError> {
+    ) -> Result<(), AllocError>
+        ensures { let k = known sources.entry (url_of provider.now) (nv_at provider.now) in
+            let nv = nv_of package.now in
+            let ws = left_wants k nv (traced_as k info.now) (want_of want.entry) in
+            OnOk result (IsSound k.graph k.root_symbol self.old → Goes k.graph k.root_symbol ws (dependencies nv ws) self.old self.new) }
+    {
         match want {
             ModuleWant::Answered(url, names) => {
                 self.ask_behind(alloc, sources, provider, package, url, names)
@@ -163,6 +235,23 @@ impl<'a> Finder<'a> {
         }
     }
 
+    /// What a demand of a symbol gives, and what follows from it within its module. Answers what it asks of other files.
+    fn follow_at(&mut self, alloc: Global, at: SymbolAt<'a>) -> Result<FileWants<'a>, AllocError>
+        requires { at.place < length self.old.modules.entries }
+        ensures { IfOk result (λ out. (g : ModuleGraphSeen) (r : RootSymbolSeen) (e : Followed) → slice_get self.old.modules.entries at.place ≡ Some e
+            → IsSound g r self.old → let m = traced_in g r e.1.found.info.now in let s = demand_of at.demand in
+            (out ≡ files (own_tables m) s) × Goes g r (map (to_symbol (place_nv e) (own_text m)) (names (own_tables m) s))
+            (public_at (place_nv e) m (ranges (own_tables m) s) ++ (implementing_at (place_nv e) m (implementations (own_tables m) s)
+            ++ faults_at (place_nv e) m (faults (own_tables m) s))) self.old self.new) }
+    {
+        let Some(module) = self.modules.get_index_mut(at.place) else {
+            return Ok(FileWants::new(alloc));
+        };
+        let tables = tables_of(module.found.info);
+        follow_in(alloc, at, module, &mut self.symbols)?;
+        files_of(alloc, tables, at.demand)
+    }
+
     /// Follows a demand of a symbol.
     pub fn follow_symbol(
         &mut self,
@@ -170,20 +259,50 @@ impl<'a> Finder<'a> {
         sources: Sources<'a>,
         provider: &dyn JsrUrlProvider,
         at: SymbolAt<'a>,
-    ) -> Result<(), AllocError> {
-        let Some((place, _)) = self.modules.get_index(at.place) else {
+    ) -> Result<(), AllocError>
+        requires { at.place < length self.old.modules.entries }
+        ensures { let k = known sources.entry (url_of provider.now) (nv_at provider.now) in
+            OnOk result ((e : Followed) → slice_get self.old.modules.entries at.place ≡ Some e → IsSound k.graph k.root_symbol self.old
+            → let d = of_symbol (place_nv e) (place_text e) (demand_of at.demand) in
+            Goes k.graph k.root_symbol (world k d) (gives k d) self.old self.new) }
+    {
+        let Some((place, module)) = self.modules.get_index(at.place) else {
             return Ok(());
         };
         let package = place.package.clone()?;
-        let Some(module) = self.modules.get_index_mut(at.place) else {
-            return Ok(());
-        };
         let info = module.found.info;
-        let wants = follow_in(alloc, at, module, &mut self.symbols)?;
+        let wants = self.follow_at(alloc, at)?;
         for want in wants.as_slice() {
             self.ask_want(alloc, sources, provider, &package, info, *want)?;
         }
         Ok(())
+    }
+
+    /// What names of the module at a place give, and what follows from them within the module. Answers what they ask of other modules.
+    fn follow_names_at(
+        &mut self,
+        alloc: Global,
+        sources: Sources<'a>,
+        place: usize,
+        names: NameDemand<'a>,
+    ) -> Result<ModuleWants<'a>, AllocError>
+        requires within { place < length self.old.modules.entries }
+        requires sound { IsSound sources.entry.graph.now sources.entry.root_symbol.now self.old }
+        ensures { IfOk result (λ out. (e : Followed) → slice_get self.old.modules.entries place ≡ Some e
+            → let g = sources.entry.graph.now in let r = sources.entry.root_symbol.now in
+            let m = traced_in g r e.1.found.info.now in let d = names_of names.entry in
+            (out ≡ module_wants m d) × Goes g r (map (to_symbol (place_nv e) (own_text m)) (roots (own_tables m) d))
+            (public_at (place_nv e) m (re_export_ranges m d)) self.old self.new) }
+    {
+        let Some(module) = self.modules.get_index_mut(place) else {
+            return Ok(ModuleWants::new(alloc));
+        };
+        let traced = TracedModule {
+            graph: sources.graph,
+            root_symbol: sources.root_symbol,
+            info: module.found.info,
+        };
+        follow_names_in(alloc, traced, place, names, module, &mut self.symbols)
     }
 
     /// Follows names of a module that has tables.
@@ -195,12 +314,17 @@ impl<'a> Finder<'a> {
         info: &'a AnyModuleInfo,
         package: PackageNv,
         names: NameDemand<'a>,
-    ) -> Result<(), AllocError> {
+    ) -> Result<(), AllocError>
+        requires { IsSound sources.entry.graph.now sources.entry.root_symbol.now self.old }
+        ensures { let k = known sources.entry (url_of provider.now) (nv_at provider.now) in
+            OnOk result ((t : Text) → info_at k.graph k.root_symbol t ≡ Some info.now
+            → let m = traced_as k info.now in let d = names_of names.entry in
+            Goes k.graph k.root_symbol (names_wants k (nv_of «package») d m) (names_yields k (nv_of «package») d m) self.old self.new) }
+    {
+        // Each module is found by its own name.
+        sources.root_symbol.own_names_find();
         let place = place_of(alloc, &mut self.modules, package.clone()?, info)?;
-        let Some(module) = self.modules.get_index_mut(place) else {
-            return Ok(());
-        };
-        let wants = follow_names_in(alloc, sources, place, names, module, &mut self.symbols)?;
+        let wants = self.follow_names_at(alloc, sources, place, names)?;
         for want in wants.as_slice() {
             self.ask_left(alloc, sources, provider, &package, info, *want)?;
         }
@@ -214,7 +338,11 @@ impl<'a> Finder<'a> {
         sources: Sources<'a>,
         provider: &dyn JsrUrlProvider,
         at: NamesAt<'a>,
-    ) -> Result<(), AllocError> {
+    ) -> Result<(), AllocError>
+        requires { IsSound sources.entry.graph.now sources.entry.root_symbol.now self.old }
+        ensures { let k = known sources.entry (url_of provider.now) (nv_at provider.now) in
+            let d = names_seen at.entry in OnOk result (Goes k.graph k.root_symbol (world k d) (gives k d) self.old self.new) }
+    {
         let NamesAt {
             package,
             specifier,

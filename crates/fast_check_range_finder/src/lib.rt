@@ -3,6 +3,7 @@
 
 mod asked;
 mod demand;
+mod enter;
 mod find;
 mod finder;
 mod follow;
@@ -13,6 +14,7 @@ pub use asked::{AskedAs, AskedSymbol, AskedSymbols};
 pub use demand::{Dependency, NamesAt, Place, SymbolAt};
 pub use fast_check_packages::{BuildFault, PackageNv, WorkspaceMember};
 pub use fast_check_sources::Sources;
-pub use find::{FinderInput, find_all};
+pub use enter::FinderInput;
+pub use find::find_all;
 pub use finder::{Finder, FollowedModule};
 pub use names::ask_names;

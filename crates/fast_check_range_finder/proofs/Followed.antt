@@ -1,0 +1,149 @@
+-- A module is followed further: what is asked of its symbols, and what is found of it.
+use Rattle.std.proofs.Common.{◌≡◌, ◌∙◌, sym, ap, refl, subst, ℕ, zero, suc, ◌<◌, Bool, true, ◌&&◌, List, [], ◌∷◌, ◌++◌, Option, Some, None, map}
+use Rattle.std.proofs.Common.{slice_get, length, ⊎_elim, inl, inr, ◌⊎◌, arith}
+use Rattle.std.specs.Prelude.{IfSome}
+use Rattle.std.specs.List.{flat_map, Contains, IsDistinct}
+use Rattle.std.specs.Map.{keys_of}
+use Rattle.std.specs.Str.{bytes_eq}
+use Rattle.std.specs.Cmp.{IsEquivalence, both_ways}
+use Rattle.std.proofs.lemmas.Bool.{and_parts, and_from}
+use Rattle.url.specs.Parts.{serialize}
+use Rattle.indexmap.specs.IndexMap.{set_value_at}
+use Rattle.indexmap.specs.Layout.{length-set_value_at}
+use Rattle.fast_check_syntax.specs.declared.source.SourceRange.{SourceRange}
+use Rattle.fast_check_packages.specs.Package.{Nv, nv_of}
+use Rattle.fast_check_graph.specs.Root.{specifier_of}
+use Rattle.fast_check_graph.specs.declared.graph.ModuleGraph.{ModuleGraph}
+use Rattle.fast_check_graph.specs.declared.root_symbol.AnyModuleInfo.{AnyModuleInfo}
+use Rattle.fast_check_graph.specs.declared.root_symbol.RootSymbol.{RootSymbol}
+use Rattle.fast_check_lattice.specs.Traces.{handled}
+use Rattle.fast_check_demands.specs.Demands.{Demand as SymbolDemand}
+use Rattle.fast_check_demands.specs.Yields.{Joins}
+use Rattle.fast_check_demands.proofs.Elements.{in_map, of_map}
+use Rattle.fast_check_traces.specs.Origins.{IsIndexOf}
+use Rattle.fast_check_findings.specs.Yields.{Yield, recorded}
+use Rattle.fast_check_worklists.specs.Demands.{Text, same_nv, Want, to_symbol}
+use Rattle.fast_check_range_finder.specs.declared.demand.Place.{Place}
+use Rattle.fast_check_range_finder.specs.declared.demand.SymbolAt.{SymbolAt}
+use Rattle.fast_check_range_finder.specs.declared.finder.Finder.{Finder}
+use Rattle.fast_check_range_finder.specs.declared.finder.FollowedModule.{FollowedModule}
+use Rattle.fast_check_range_finder.specs.Search.{Search, AsksAll}
+use Rattle.fast_check_range_finder.specs.Turn.{AreSame}
+use Rattle.fast_check_range_finder.specs.Finder.{Followed, Modules, place_nv, place_text, names_seen, seen_at, search_in, search_of, entered_yields, depends, followed_yields, noted_yields, yields_in, traced_in, AreShown, AsksEach, IsModuleOf, IsSound, Goes}
+use Rattle.fast_check_range_finder.proofs.Kept.{nv_itself, text_itself, text_is}
+use Rattle.fast_check_range_finder.proofs.Places.{nv_is}
+use Rattle.fast_check_range_finder.proofs.Steps.{same_itself, joins_left, joins_right}
+use Rattle.fast_check_range_finder.proofs.SymbolsAsked.{TellsPlaces, asked_of_module}
+use Rattle.fast_check_range_finder.proofs.Gained.{joins_set, set_cases, get_in, each_within}
+
+same_map : {X Y : Type 0} (f : X → Y) (xs ys : List X) → AreSame xs ys → AreSame (map f xs) (map f ys)
+same_map {X} {Y} f xs ys s = record {
+  sound = λ y c. let o = of_map f xs y c in subst (λ (z : Y). Contains (map f ys) z) o.2 (in_map f ys o.0 (s.sound o.0 o.1));
+  complete = λ y c. let o = of_map f ys y c in subst (λ (z : Y). Contains (map f xs) z) o.2 (in_map f xs o.0 (s.complete o.0 o.1));
+}
+
+-- a test that tells places by package and text is one of equality
+module _ (eq : Place → Place → Bool) (tells : TellsPlaces eq) where
+  abbrev test : Place → Place → Bool
+  test a b = same_nv (nv_of a.package) (nv_of b.package) && bytes_eq (serialize a.specifier.now) (serialize b.specifier.now)
+
+  pub place_is : (a b : Place) → eq a b ≡ true → (nv_of a.package ≡ nv_of b.package) × (serialize a.specifier.now ≡ serialize b.specifier.now)
+  place_is a b h =
+      let p = and_parts (same_nv (nv_of a.package) (nv_of b.package)) (bytes_eq (serialize a.specifier.now) (serialize b.specifier.now)) (sym (tells a b) ∙ h) in
+      (nv_is (nv_of a.package) (nv_of b.package) p.0, text_is (serialize a.specifier.now) (serialize b.specifier.now) p.1)
+
+  pub place_same : (a b : Place) → nv_of a.package ≡ nv_of b.package → serialize a.specifier.now ≡ serialize b.specifier.now → eq a b ≡ true
+  place_same a b e f = tells a b ∙ and_from (same_nv (nv_of a.package) (nv_of b.package)) (bytes_eq (serialize a.specifier.now) (serialize b.specifier.now))
+      (subst (λ (x : Nv). same_nv (nv_of a.package) x ≡ true) e (nv_itself (nv_of a.package)))
+      (subst (λ (x : Text). bytes_eq (serialize a.specifier.now) x ≡ true) f (text_itself (serialize a.specifier.now)))
+
+  pub place_laws : IsEquivalence eq
+  place_laws = record {
+    refl = λ a. place_same a a refl refl;
+    symm = λ a b. both_ways (eq a b) (eq b a) (back a b) (back b a);
+    congr = λ a b c h. both_ways (eq a c) (eq b c) (over b a c (back a b h)) (over a b c h);
+  }
+    where
+      back : (a b : Place) → eq a b ≡ true → eq b a ≡ true
+      back a b h = let p = place_is a b h in place_same b a (sym p.0) (sym p.1)
+
+      over : (a b c : Place) → eq a b ≡ true → eq a c ≡ true → eq b c ≡ true
+      over a b c h k = let p = place_is a b h in let q = place_is a c k in place_same b c (sym p.0 ∙ q.0) (sym p.1 ∙ q.1)
+
+module _ (g : ModuleGraph) (r : RootSymbol) (f b : Finder) (sound : IsSound g r f) (place : ℕ) (e : Followed)
+    (here : slice_get f.modules.entries place ≡ Some e) (m : FollowedModule) where
+  -- what else is kept stays
+  pub record IsFurther : Type 0 where
+    pub modules : b.modules.entries ≡ set_value_at f.modules.entries place m
+    pub packages : b.packages ≡ f.packages
+    pub entered : b.entered ≡ f.entered
+    pub handled : b.handled ≡ f.handled
+    pub names : b.names ≡ f.names
+    pub entrances : b.entrances ≡ f.entrances
+    pub dependencies : b.dependencies ≡ f.dependencies
+    pub untyped : b.untyped ≡ f.untyped
+
+  within : place < length f.modules.entries
+  within = place_within f.modules.entries place e here
+    where
+      place_within : {X : Type 0} (xs : List X) (i : ℕ) (x : X) → slice_get xs i ≡ Some x → i < length xs
+      place_within [] i x h = absurd (none x h)
+        where
+          none : {X : Type 0} (x : X) → None ≡ Some x → ⊥
+          none x e = cc
+      place_within (y ∷ ys) zero x h = omega arith
+      place_within (y ∷ ys) (suc i) x h = let l = place_within ys i x h in omega (arith, l)
+
+  module _ (w : IsFurther) (still : IsModuleOf g r (e.0, m)) where
+    pub further_joins : (ys : List Yield) → Joins ys (followed_yields e) (followed_yields (e.0, m)) → Joins ys (yields_in f) (yields_in b)
+    further_joins ys j = subst (λ (zs : List Yield). Joins ys (yields_in f) zs) (sym all)
+        (joins_right ys _ _ (flat_map entered_yields f.entrances.items)
+        (joins_right ys _ _ (map depends f.dependencies.keys)
+        (joins_left ys (flat_map followed_yields f.modules.entries) (flat_map followed_yields (set_value_at f.modules.entries place m))
+        (flat_map noted_yields f.untyped.items) (joins_set followed_yields ys f.modules.entries place e m here j))))
+      where
+        yields : _ → _ → Modules → _ → List Yield
+        yields entrances dependencies ms untyped = flat_map entered_yields entrances ++ (map depends dependencies ++
+            (flat_map followed_yields ms ++ flat_map noted_yields untyped))
+
+        all : yields_in b ≡ yields f.entrances.items f.dependencies.keys (set_value_at f.modules.entries place m) f.untyped.items
+        all = ap (λ x. yields x.items b.dependencies.keys b.modules.entries b.untyped.items) w.entrances ∙
+            (ap (λ x. yields f.entrances.items x.keys b.modules.entries b.untyped.items) w.dependencies ∙
+            (ap (λ (x : Modules). yields f.entrances.items f.dependencies.keys x b.untyped.items) w.modules ∙
+            ap (λ x. yields f.entrances.items f.dependencies.keys (set_value_at f.modules.entries place m) x.items) w.untyped))
+
+    further_sound : ((x : SymbolAt) → Contains b.symbols.items x → x.place < length f.modules.entries) → IsSound g r b
+    further_sound places = record {
+      modules = λ x c. ⊎_elim (λ old. sound.modules x old) (λ new. subst (IsModuleOf g r) new still)
+          (set_cases f.modules.entries place e m x here (subst (λ (ms : Modules). Contains ms x) w.modules c));
+      symbols = λ x c. subst (λ (n : ℕ). x.place < n) (sym (ap length w.modules ∙ length-set_value_at f.modules.entries place m)) (places x c);
+      entered = let h = sound.entered in let p = ap length w.packages in let n = w.entered in omega (arith, h, p, n);
+    }
+
+    module _ (eq : Place → Place → Bool) (tells : TellsPlaces eq) (unique : IsDistinct eq (keys_of f.modules.entries)) where
+      -- these demands of its symbols are asked
+      pub further_goes : (ds wants : List SymbolDemand) (ys : List Yield) → AreSame ds wants →
+          AsksEach place ds e.1.asked m.asked f.symbols.items b.symbols.items → Joins ys (followed_yields e) (followed_yields (e.0, m)) →
+          Goes g r (map (to_symbol (place_nv e) (place_text e)) wants) ys f b
+      further_goes ds wants ys same asks j = record {
+        asked = map (to_symbol (place_nv e) (place_text e)) ds;
+        are = same_map (to_symbol (place_nv e) (place_text e)) ds wants same;
+        asks = subst (λ (s : Search). AsksAll (map (to_symbol (place_nv e) (place_text e)) ds) (search_of f) s) (sym last)
+            (asked_of_module eq (place_laws eq tells) tells (map nv_of f.packages) f.entered (handled f.handled) (map names_seen f.names.items)
+            f.modules.entries place e here unique ds f.symbols.items b.symbols.items m asks);
+        found = further_joins ys j;
+        sound = further_sound (each_within (length f.modules.entries) place within ds e.1.asked m.asked f.symbols.items b.symbols.items asks sound.symbols);
+      }
+        where
+          last : search_of b ≡ search_in (map nv_of f.packages) f.entered (handled f.handled) (map names_seen f.names.items)
+              (set_value_at f.modules.entries place m) (map seen_at b.symbols.items)
+          last = ap (λ x. search_in (map nv_of x) b.entered (handled b.handled) (map names_seen b.names.items) b.modules.entries
+              (map seen_at b.symbols.items)) w.packages ∙
+              (ap (λ (x : ℕ). search_in (map nv_of f.packages) x (handled b.handled) (map names_seen b.names.items) b.modules.entries
+              (map seen_at b.symbols.items)) w.entered ∙
+              (ap (λ x. search_in (map nv_of f.packages) f.entered (handled x) (map names_seen b.names.items) b.modules.entries
+              (map seen_at b.symbols.items)) w.handled ∙
+              (ap (λ x. search_in (map nv_of f.packages) f.entered (handled f.handled) (map names_seen x.items) b.modules.entries
+              (map seen_at b.symbols.items)) w.names ∙
+              ap (λ (x : Modules). search_in (map nv_of f.packages) f.entered (handled f.handled) (map names_seen f.names.items) x
+              (map seen_at b.symbols.items)) w.modules)))

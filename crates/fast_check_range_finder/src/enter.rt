@@ -1,0 +1,186 @@
+//! A package that is entered.
+
+ghost use Rattle.std.specs.Prelude.{◌∷◌, [], None, map, OnOk, IfErr};
+ghost use Rattle.fast_check_packages.specs.Package.{nv_of};
+ghost use Rattle.fast_check_packages.specs.MembersIn.{members_in};
+ghost use Rattle.fast_check_graph.specs.declared.graph.ModuleGraph.{ModuleGraph as ModuleGraphSeen};
+ghost use Rattle.fast_check_graph.specs.declared.root_symbol.RootSymbol.{RootSymbol as RootSymbolSeen};
+ghost use Rattle.fast_check_cache.specs.Cache.{item_of};
+ghost use Rattle.fast_check_cache.specs.CachedPackages.{used_item};
+ghost use Rattle.fast_check_entries.specs.findings.Yields.{kept};
+ghost use Rattle.fast_check_entries.specs.Entries.{entrance_seen, DiagnosesRefused};
+ghost use Rattle.fast_check_entries.specs.Kept.{AreKept};
+ghost use Rattle.fast_check_worklists.specs.Demands.{of_package, to_package};
+ghost use Rattle.fast_check_sources.specs.Sources.{known, with_used};
+ghost use Rattle.fast_check_range_finder.specs.Finder.{IsSound, Goes};
+ghost use Rattle.fast_check_range_finder.specs.Lent.{used_of};
+ghost use Rattle.fast_check_range_finder.specs.Rules.{entry_want, entered_wants, entry_wants, entrance_at, world};
+ghost use Rattle.fast_check_range_finder.specs.Yields.{entered_yields, entry_yields, gives};
+
+use crate::finder::Finder;
+use fast_check_cache::{FastCheckCache, FastCheckCacheItem, look_up};
+use fast_check_entries::{MemberEntries, entry_faults, entry_points};
+use fast_check_findings::Entrance;
+use fast_check_graph::ModuleGraph;
+use fast_check_name_demands::NameDemand;
+use fast_check_packages::{BuildFault, JsrUrlProvider, PackageNv};
+use fast_check_sources::Sources;
+use fast_check_worklists::copy_of;
+use std::alloc::{AllocError, Global};
+use std::collections::BTreeSet;
+use std::rc::Rc;
+use url::Url;
+
+/// What is known of modules and packages, and the seed of the keys of the cache.
+#[derive(Clone, Copy)]
+pub struct FinderInput<'a> {
+    pub sources: Sources<'a>,
+    pub seed: &'a str,
+}
+
+impl<'a> Finder<'a> {
+    /// Asks for packages.
+    fn ask_packages(&mut self, packages: &BTreeSet<PackageNv>) -> Result<(), AllocError>
+        ensures { OnOk result ((g : ModuleGraphSeen) (r : RootSymbolSeen) → IsSound g r self.old
+            → Goes g r (map to_package (map nv_of packages.now.keys)) [] self.old self.new) }
+    {
+        for on in packages {
+            self.ask_package(on)?;
+        }
+        Ok(())
+    }
+
+    /// Asks for all names of entry points.
+    fn ask_entries(
+        &mut self,
+        alloc: Global,
+        nv: &PackageNv,
+        entry_points: &BTreeSet<Url>,
+    ) -> Result<(), AllocError>
+        ensures { OnOk result ((g : ModuleGraphSeen) (r : RootSymbolSeen) → IsSound g r self.old
+            → Goes g r (map (entry_want (nv_of nv.now)) entry_points.now.keys) [] self.old self.new) }
+    {
+        for url in entry_points {
+            self.ask_names(alloc, nv, url, NameDemand::All)?;
+        }
+        Ok(())
+    }
+
+    /// Asks for what an item depends on that is used, in place of what would be found.
+    fn enter_kept(
+        &mut self,
+        nv: &PackageNv,
+        entry_points: Rc<BTreeSet<Url>>,
+        item: FastCheckCacheItem,
+    ) -> Result<(), AllocError>
+        ensures { OnOk result ((g : ModuleGraphSeen) (r : RootSymbolSeen) → IsSound g r self.old
+            → Goes g r (map to_package (item_of item).0) (kept (nv_of nv.now) entry_points.value.keys (item_of item) ∷ []) self.old self.new) }
+    {
+        self.ask_packages(&item.dependencies)?;
+        let package = copy_of(nv)?;
+        let entrance = Entrance::Kept { entry_points, item };
+        self.entrances.push((package, entrance))?;
+        Ok(())
+    }
+
+    /// Asks for all names of each entry point, unless something is wrong with one.
+    fn enter_at(
+        &mut self,
+        alloc: Global,
+        graph: &ModuleGraph,
+        nv: &PackageNv,
+        entry_points: Rc<BTreeSet<Url>>,
+    ) -> Result<(), AllocError>
+        ensures { OnOk result ((g : ModuleGraphSeen) (r : RootSymbolSeen) → IsSound g r self.old
+            → Goes g r (entered_wants graph.now (nv_of nv.now) entry_points.value.keys None)
+            (entered_yields graph.now (nv_of nv.now) entry_points.value.keys None) self.old self.new) }
+    {
+        let faults = entry_faults(alloc, graph, &entry_points)?;
+        if faults.is_empty() {
+            self.ask_entries(alloc, nv, &entry_points)?;
+        }
+        let package = copy_of(nv)?;
+        let entrance = Entrance::Entered {
+            entry_points,
+            faults,
+        };
+        self.entrances.push((package, entrance))?;
+        Ok(())
+    }
+
+    /// Asks the cache for a package with these entry points, and enters it.
+    fn enter_known(
+        &mut self,
+        alloc: Global,
+        input: FinderInput<'a>,
+        cache: Option<&dyn FastCheckCache>,
+        nv: &PackageNv,
+        entry_points: Rc<BTreeSet<Url>>,
+    ) -> Result<(), AllocError>
+        ensures { let i = input.entry in
+            let used = used_of cache.entry (λ c. used_item (hash_of c.now i.seed.now) (stored c.now) i.sources.graph.now) in
+            let nv = nv_of nv.now in let urls = entry_points.value.keys in
+            OnOk result ((g : ModuleGraphSeen) (r : RootSymbolSeen) → IsSound g r self.old
+            → Goes g r (entered_wants i.sources.graph.now nv urls (used nv urls)) (entered_yields i.sources.graph.now nv urls (used nv urls))
+            self.old self.new) }
+    {
+        let graph = input.sources.graph;
+        match look_up(cache, input.seed, graph, nv, &entry_points)? {
+            None => self.enter_at(alloc, graph, nv, entry_points),
+            Some(item) => self.enter_kept(nv, entry_points, item),
+        }
+    }
+
+    /// Enters a package, if its entry points are known.
+    fn enter_some(
+        &mut self,
+        alloc: Global,
+        input: FinderInput<'a>,
+        cache: Option<&dyn FastCheckCache>,
+        nv: &PackageNv,
+        entry_points: Option<Rc<BTreeSet<Url>>>,
+    ) -> Result<(), AllocError>
+        ensures { let i = input.entry in
+            let used = used_of cache.entry (λ c. used_item (hash_of c.now i.seed.now) (stored c.now) i.sources.graph.now) in
+            let nv = nv_of nv.now in let entrance = entrance_seen entry_points in
+            OnOk result ((g : ModuleGraphSeen) (r : RootSymbolSeen) → IsSound g r self.old
+            → Goes g r (entry_wants i.sources.graph.now used nv entrance) (entry_yields i.sources.graph.now used nv entrance) self.old self.new) }
+    {
+        match entry_points {
+            None => Ok(()),
+            Some(entry_points) => self.enter_known(alloc, input, cache, nv, entry_points),
+        }
+    }
+
+    /// Enters a package: asks for its entry points, or for what its item in the cache depends on, where that is used. It is refused for the first
+    /// export text that does not join, before the cache is asked. The entry points of members are kept from one package to the next.
+    pub fn enter(
+        &mut self,
+        alloc: Global,
+        input: FinderInput<'a>,
+        provider: &dyn JsrUrlProvider,
+        cache: Option<&dyn FastCheckCache>,
+        nv: &PackageNv,
+        members: &mut MemberEntries,
+    ) -> Result<(), BuildFault>
+        ensures entered { let i = input.entry in
+            let used = used_of cache.entry (λ c. used_item (hash_of c.now i.seed.now) (stored c.now) i.sources.graph.now) in
+            let k = with_used used (known i.sources (url_of provider.now) (nv_at provider.now)) in
+            let d = of_package (nv_of nv.now) in
+            OnOk result (AreKept k.workspace_members members.old → IsSound k.graph k.root_symbol self.old
+            → Goes k.graph k.root_symbol (world k d) (gives k d) self.old self.new) }
+        ensures kept { let ours = members_in input.entry.sources.workspace_members.now in
+            OnOk result (AreKept ours members.old → AreKept ours members.new) }
+        ensures refused { IfErr result (DiagnosesRefused (nv_of nv.now)
+            (entrance_at (known input.entry.sources (url_of provider.now) (nv_at provider.now)) (nv_of nv.now))) }
+    {
+        let Sources {
+            graph,
+            workspace_members,
+            ..
+        } = input.sources;
+        let entry_points = entry_points(alloc, graph, workspace_members, provider, nv, members)?;
+        self.enter_some(alloc, input, cache, nv, entry_points)?;
+        Ok(())
+    }
+}
