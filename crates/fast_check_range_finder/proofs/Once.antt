@@ -9,9 +9,11 @@ use Rattle.std.proofs.lemmas.List.{take-append-le}
 use Rattle.std.proofs.lemmas.List.Elements.{Contains-push_cases, Contains-push}
 use Rattle.fast_check_packages.specs.Package.{Nv}
 use Rattle.fast_check_demands.proofs.Elements.{no_element, first, later, cases, in_any}
-use Rattle.fast_check_worklists.specs.Demands.{same_nv, Want, to_package, to_module, to_symbol}
+use Rattle.fast_check_worklists.specs.Demands.{same_nv, Want, to_package, to_module, to_symbol, Demand}
+use Rattle.fast_check_range_finder.specs.Account.{Account, IsYield}
 use Rattle.fast_check_range_finder.specs.Search.{Search, AsksPackage, Asks, AsksAll}
 use Rattle.fast_check_range_finder.specs.Packages.{AreApart, AreOnce}
+use Rattle.fast_check_range_finder.specs.Turn.{AreSame}
 use Rattle.fast_check_range_finder.proofs.Collected.{none_some, some_is, none_split, apart_none}
 use Rattle.fast_check_range_finder.proofs.Kept.{nv_itself}
 
@@ -131,3 +133,11 @@ once_all (w ∷ wants) a b n entrances h o = once_all wants h.0 b n entrances h.
     one (to_package p) asks = once_asked p a h.0 n entrances asks o
     one (to_module p t d) asks = subst (λ (ps : List Nv). AreOnce ps n entrances) (sym asks.5.packages) o
     one (to_symbol p t s) asks = subst (λ (ps : List Nv). AreOnce ps n entrances) (sym asks.packages) o
+
+-- what is found, in any order
+pub same_yield : {Y : Type 0} (gives : Demand → List Y) (account : Account) (these those : List Y) → AreSame these those →
+    IsYield gives account those → IsYield gives account these
+same_yield gives account these those same yields = record {
+  sound = λ y c. yields.sound y (same.sound y c);
+  complete = λ d y c g. same.complete y (yields.complete d y c g);
+}

@@ -12,6 +12,20 @@ use Rattle.fast_check_range_finder.proofs.packages.add_modules.Goals as goal
 pub loop-place-init : goal.loop-place-init
 loop-place-init c = ([], c.into_iter-place-iterator.ensures.into_iter_gives.0, adds_none c.args.found.now.entries)
 
+pub loop-place-preserved-in_ok-add_module : goal.loop-place-preserved-in_ok-add_module
+loop-place-preserved-in_ok-add_module c =
+    let x : Place × FollowedModule = (c.in-Some.place, c.in-Some.module) in
+    let front = c.loop-place.invariant.0 in
+    let rest : Modules = c.next.new.self in (
+      front ++ x ∷ [],
+      append_assoc front (x ∷ []) rest
+          ∙ (ap (λ (ys : Modules). front ++ ys)
+          (sym (rest_more (λ p. p) c.loop-place.place-iterator rest c.next.result x c.in-Some.is c.next.ensures.steps))
+          ∙ c.loop-place.invariant.1),
+      adds_more followed_yields front x c.args.found.now.entries c.loop-place.found.entries c.add_module.new.found.entries
+          c.loop-place.invariant.2 c.in_ok-add_module.ensures,
+    )
+
 pub loop-place-preserved : goal.loop-place-preserved
 loop-place-preserved c =
     let x : Place × FollowedModule = (c.in-Some.place, c.in-Some.module) in
