@@ -37,15 +37,15 @@ has_more old new key u nv =
     ∙ any_push (is_package nv) old.keys key
 
 -- those at some places, and at one more
-pub named_more : (packages : List Nv) (nv : Nv) (places : List ℕ) (i : ℕ) {place : ℕ} (start old new : Bool) → i < length places →
-    place ≡ get_or places i place → old ≡ (start || list_any (same_nv nv) (named_at packages (take i places))) →
+pub named_more : (packages : List Nv) (nv : Nv) (places : List ℕ) (i place : ℕ) (start old new : Bool) → i < length places →
+    get_or places i 0 ≡ place → old ≡ (start || list_any (same_nv nv) (named_at packages (take i places))) →
     new ≡ (old || list_any (same_nv nv) (option_to_list (slice_get packages place))) →
     new ≡ (start || list_any (same_nv nv) (named_at packages (take (i + 1) places)))
-named_more packages nv places i {place} start old new below is before after =
+named_more packages nv places i place start old new below is before after =
     let front = named_at packages (take i places) in
     let last = option_to_list (slice_get packages place) in
     let whole : named_at packages (take (i + 1) places) ≡ front ++ last =
-    ap (named_at packages) (take_more places i place below ∙ ap (λ k. take i places ++ k ∷ []) (sym is))
+    ap (named_at packages) (take_more places i 0 below ∙ ap (λ k. take i places ++ k ∷ []) is)
     ∙ (flat_map-append (λ k. option_to_list (slice_get packages k)) (take i places) (place ∷ []) ∙ ap (λ ns. front ++ ns) (append-nil last)) in
     after
     ∙ (ap (λ b. b || list_any (same_nv nv) last) before

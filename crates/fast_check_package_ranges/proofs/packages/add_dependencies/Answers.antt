@@ -1,4 +1,4 @@
-use Rattle.std.proofs.Common.{◌≡◌, ◌||◌, map, List, ℕ, subst, rules}
+use Rattle.std.proofs.Common.{◌≡◌, ◌||◌, map, List, ℕ, subst, refl}
 use Rattle.std.specs.List.{list_any}
 use Rattle.std.proofs.lemmas.List.{take_all}
 use Rattle.fast_check_packages.specs.Package.{nv_of}
@@ -9,9 +9,9 @@ use Rattle.fast_check_package_ranges.proofs.packages.add_dependencies.Goals as g
 
 pub loop-place-preserved : goal.loop-place-preserved
 loop-place-preserved c = λ nv.
-    named_more (map nv_of c.args.packages.now) nv c.args.places.now c.loop-place.place-index {place = c.place-item.result}
+    named_more (map nv_of c.args.packages.now) nv c.args.places.now c.loop-place.place-index _
     (list_any (is_package nv) c.args.dependencies.now.keys) (list_any (is_package nv) c.loop-place.dependencies.keys)
-    (list_any (is_package nv) c.add_dependency.new.dependencies.keys) c.loop-place-test.true (search rules) (c.loop-place.invariant nv)
+    (list_any (is_package nv) c.add_dependency.new.dependencies.keys) c.loop-place-test.true refl (c.loop-place.invariant nv)
     (c.in_ok-add_dependency.ensures nv)
 
 pub returns : goal.returns
