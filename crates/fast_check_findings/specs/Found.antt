@@ -68,8 +68,8 @@ untyped_yields nv url = faulty_module nv (serialize url) untyped_module
 abbrev pub package_yields : List Nv → Nv → FoundPackage → List Yield
 package_yields packages nv p =
     entrance_yields nv p.entrance
-    ++ (flat_map (dependency_yields packages nv) p.dependencies.keys
-    ++ (flat_map (λ e. module_yields nv e.1) p.modules.entries
+    ++ (flat_map (dependency_yields packages nv) p.dependencies.items
+    ++ (flat_map (module_yields nv) p.modules.items
     ++ flat_map (untyped_yields nv) p.untyped.items))
 
 -- what is found of packages, each at its place

@@ -6,7 +6,7 @@ use fast_check_cache::FastCheckCacheItem;
 use fast_check_demands::{SourceRange, SymbolFault};
 use fast_check_graph::AnyModuleInfo;
 use std::alloc::Global;
-use std::collections::{BTreeMap, BTreeSet};
+use std::collections::BTreeSet;
 use std::rc::Rc;
 use url::Url;
 
@@ -70,9 +70,9 @@ pub struct FoundPackage<'a> {
     /// None where it was not entered, or its exports are not known.
     pub entrance: Option<Entrance>,
     /// The packages that it depends on, by their places among those that are found.
-    pub dependencies: BTreeSet<usize>,
-    /// The modules that were followed for it, by the numbers that these have.
-    pub modules: BTreeMap<usize, FoundModule<'a>>,
+    pub dependencies: Vec<usize>,
+    /// The modules that were followed for it.
+    pub modules: Vec<FoundModule<'a>>,
     /// The names by which modules were asked for whose types are not known.
     pub untyped: Vec<Url>,
 }
@@ -81,14 +81,14 @@ impl<'a> FoundPackage<'a> {
     /// Nothing. It takes no memory.
     pub fn new(alloc: Global) -> FoundPackage<'a>
         ensures entrance { result.entrance ≡ None }
-        ensures dependencies { result.dependencies.keys ≡ [] }
-        ensures modules { result.modules.entries ≡ [] }
+        ensures dependencies { result.dependencies.items ≡ [] }
+        ensures modules { result.modules.items ≡ [] }
         ensures untyped { result.untyped.items ≡ [] }
     {
         FoundPackage {
             entrance: None,
-            dependencies: BTreeSet::new(alloc),
-            modules: BTreeMap::new(alloc),
+            dependencies: Vec::new(alloc),
+            modules: Vec::new(alloc),
             untyped: Vec::new(alloc),
         }
     }

@@ -77,11 +77,11 @@ module _ (packages : List Nv) (nv : Nv) where
 
   own_package : (p : FoundPackage) → AllByRecursion Own (package_yields packages nv p)
   own_package p = all_append Own (entrance_yields nv p.entrance) _ (own_entrance p.entrance)
-      (all_append Own (flat_map (dependency_yields packages nv) p.dependencies.keys) _
+      (all_append Own (flat_map (dependency_yields packages nv) p.dependencies.items) _
       (all_flat Own (dependency_yields packages nv)
-      (λ place. all_map Own (dependency nv) (λ d. refl) (option_to_list (slice_get packages place))) p.dependencies.keys)
-      (all_append Own (flat_map (λ e. module_yields nv e.1) p.modules.entries) _
-      (all_flat Own (λ e. module_yields nv e.1) (λ e. own_module e.1) p.modules.entries)
+      (λ place. all_map Own (dependency nv) (λ d. refl) (option_to_list (slice_get packages place))) p.dependencies.items)
+      (all_append Own (flat_map (module_yields nv) p.modules.items) _
+      (all_flat Own (module_yields nv) own_module p.modules.items)
       (all_flat Own (untyped_yields nv) (λ u. (refl, (refl, tt))) p.untyped.items)))
 
   pub of_package : (q : Nv) (p : FoundPackage) → about q (package_yields packages nv p) ≡ cond (same_nv q nv) (package_yields packages nv p) []

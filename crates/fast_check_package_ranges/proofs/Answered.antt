@@ -56,7 +56,7 @@ module _ (packages : List Nv) (nv : Nv) (p : FoundPackage) where
       is_filled start.cache_items.items ≡ false → answer.entrypoints.keys ≡ start.entrypoints.keys →
       answer.cache_items.items ≡ start.cache_items.items →
       ((d : Nv) → list_any (is_package d) answer.dependencies.keys ≡
-      (list_any (is_package d) start.dependencies.keys || list_any (same_nv d) (named_at packages p.dependencies.keys))) →
+      (list_any (is_package d) start.dependencies.keys || list_any (same_nv d) (named_at packages p.dependencies.items))) →
       AreAnswered Y answer.module_ranges.entries → IsPackageAnswer Y answer
   by_parts start answer a n points items depends modules = subst (λ (is : List (List Parts × ItemView)). IsAnswerBy is Y answer)
       (sym (all_items packages nv p ∙ ap (λ b. cond b ((urls_at p.entrance, item_at p.entrance) ∷ []) []) (sym (filled_item start a) ∙ n)))
@@ -64,9 +64,9 @@ module _ (packages : List Nv) (nv : Nv) (p : FoundPackage) where
         entry_points = λ t. ap (λ xs. list_any (bytes_eq t) (map serialize xs)) (points ∙ a.entry_points_are)
             ∙ ap (list_any (bytes_eq t)) (sym (all_points packages nv p));
         dependencies = λ d. any_map (same_nv d) nv_of answer.dependencies.keys ∙ (depends d
-            ∙ (ap (λ b. b || list_any (same_nv d) (named_at packages p.dependencies.keys))
+            ∙ (ap (λ b. b || list_any (same_nv d) (named_at packages p.dependencies.items))
             (sym (any_map (same_nv d) nv_of start.dependencies.keys) ∙ ap (list_any (same_nv d)) a.dependencies_are)
-            ∙ (sym (list_any-append (same_nv d) (item_at p.entrance).0 (named_at packages p.dependencies.keys))
+            ∙ (sym (list_any-append (same_nv d) (item_at p.entrance).0 (named_at packages p.dependencies.items))
             ∙ ap (list_any (same_nv d)) (sym (all_dependencies packages nv p)))));
         modules = modules;
         uncached = items ∙ not_filled start.cache_items.items n;

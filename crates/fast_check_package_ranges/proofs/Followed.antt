@@ -48,14 +48,14 @@ module _ {X : Type 0} (f : Yield → List X) (silent : IsSilent f) (packages : L
 
   -- nothing but of how the package was entered, and of what it depends on
   pub of_package : (p : FoundPackage) → flat_map f (package_yields packages nv p) ≡
-      flat_map f (entrance_yields nv p.entrance) ++ flat_map f (flat_map (dependency_yields packages nv) p.dependencies.keys)
+      flat_map f (entrance_yields nv p.entrance) ++ flat_map f (flat_map (dependency_yields packages nv) p.dependencies.items)
   of_package p =
       let e = entrance_yields nv p.entrance in
-      let d = flat_map (dependency_yields packages nv) p.dependencies.keys in
-      let m = flat_map (λ x. module_yields nv x.1) p.modules.entries in
+      let d = flat_map (dependency_yields packages nv) p.dependencies.items in
+      let m = flat_map (module_yields nv) p.modules.items in
       let u = flat_map (untyped_yields nv) p.untyped.items in
       let none : flat_map f (m ++ u) ≡ [] = none_given f (m ++ u) (all_append None_ m u
-      (all_flat None_ (λ x. module_yields nv x.1) (λ x. of_module x.1) p.modules.entries)
+      (all_flat None_ (module_yields nv) of_module p.modules.items)
       (all_flat None_ (untyped_yields nv) (λ url. (silent.recorded nv (serialize url), (silent.faulty nv (serialize url) _, tt))) p.untyped.items)) in
       flat_map-append f e (d ++ (m ++ u)) ∙ ap (λ x. flat_map f e ++ x)
       (flat_map-append f d (m ++ u) ∙ (ap (λ x. flat_map f d ++ x) none ∙ append-nil (flat_map f d)))
@@ -103,7 +103,7 @@ module _ (packages : List Nv) (nv : Nv) (p : FoundPackage) where
       } in
       of_package entry_points_of silent packages nv p
       ∙ (ap (λ x. flat_map entry_points_of (entrance_yields nv p.entrance) ++ x)
-      (of_dependencies entry_points_of silent packages nv (λ d. refl) p.dependencies.keys)
+      (of_dependencies entry_points_of silent packages nv (λ d. refl) p.dependencies.items)
       ∙ (append-nil _ ∙ points p.entrance))
 
   -- refused export texts
@@ -123,8 +123,8 @@ module _ (packages : List Nv) (nv : Nv) (p : FoundPackage) where
 
   pub no_refusals : flat_map refused_of (package_yields packages nv p) ≡ []
   no_refusals = of_package refused_of silent_refused packages nv p
-      ∙ (ap (λ x. x ++ flat_map refused_of (flat_map (dependency_yields packages nv) p.dependencies.keys)) (refusals p.entrance)
-      ∙ of_dependencies refused_of silent_refused packages nv (λ d. refl) p.dependencies.keys)
+      ∙ (ap (λ x. x ++ flat_map refused_of (flat_map (dependency_yields packages nv) p.dependencies.items)) (refusals p.entrance)
+      ∙ of_dependencies refused_of silent_refused packages nv (λ d. refl) p.dependencies.items)
 
   -- items that are used
   silent_items : IsSilent items_of
@@ -145,7 +145,7 @@ module _ (packages : List Nv) (nv : Nv) (p : FoundPackage) where
       cond (is_filled (item_at p.entrance).1) ((urls_at p.entrance, item_at p.entrance) ∷ []) []
   all_items = of_package items_of silent_items packages nv p
       ∙ (ap (λ x. flat_map items_of (entrance_yields nv p.entrance) ++ x)
-      (of_dependencies items_of silent_items packages nv (λ d. refl) p.dependencies.keys)
+      (of_dependencies items_of silent_items packages nv (λ d. refl) p.dependencies.items)
       ∙ (append-nil _ ∙ items p.entrance))
 
   -- dependencies
@@ -176,11 +176,11 @@ module _ (packages : List Nv) (nv : Nv) (p : FoundPackage) where
       one (d ∷ ds) = ap (λ x. d ∷ x) (one ds)
 
   pub all_dependencies : flat_map dependencies_of (package_yields packages nv p) ≡
-      (item_at p.entrance).0 ++ named_at packages p.dependencies.keys
+      (item_at p.entrance).0 ++ named_at packages p.dependencies.items
   all_dependencies = of_package dependencies_of silent_dependencies packages nv p
-      ∙ (ap (λ x. x ++ flat_map dependencies_of (flat_map (dependency_yields packages nv) p.dependencies.keys)) (depends p.entrance)
-      ∙ ap (λ x. (item_at p.entrance).0 ++ x) (named p.dependencies.keys))
+      ∙ (ap (λ x. x ++ flat_map dependencies_of (flat_map (dependency_yields packages nv) p.dependencies.items)) (depends p.entrance)
+      ∙ ap (λ x. (item_at p.entrance).0 ++ x) (named p.dependencies.items))
 
-  pub silent_of_modules : AllByRecursion (λ y. modules_of y ≡ []) (flat_map (dependency_yields packages nv) p.dependencies.keys)
+  pub silent_of_modules : AllByRecursion (λ y. modules_of y ≡ []) (flat_map (dependency_yields packages nv) p.dependencies.items)
   silent_of_modules = all_flat (λ y. modules_of y ≡ []) (dependency_yields packages nv)
-      (λ place. all_map (λ y. modules_of y ≡ []) (dependency nv) (λ d. refl) (option_to_list (slice_get packages place))) p.dependencies.keys
+      (λ place. all_map (λ y. modules_of y ≡ []) (dependency nv) (λ d. refl) (option_to_list (slice_get packages place))) p.dependencies.items

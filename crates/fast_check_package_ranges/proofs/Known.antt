@@ -45,15 +45,15 @@ depends packages nv (place ∷ places) =
     ∙ ap (λ b. nat_lt place (length packages) || b) (depends packages nv places))
 
 pub known : (packages : List Nv) (nv : Nv) (p : FoundPackage) → is_filled (package_yields packages nv p) ≡
-    (is_some p.entrance || (list_any (λ place. nat_lt place (length packages)) p.dependencies.keys ||
-    (is_filled p.modules.entries || is_filled p.untyped.items)))
+    (is_some p.entrance || (list_any (λ place. nat_lt place (length packages)) p.dependencies.items ||
+    (is_filled p.modules.items || is_filled p.untyped.items)))
 known packages nv p =
-    let d = flat_map (dependency_yields packages nv) p.dependencies.keys in
-    let m = flat_map (λ x. module_yields nv x.1) p.modules.entries in
+    let d = flat_map (dependency_yields packages nv) p.dependencies.items in
+    let m = flat_map (module_yields nv) p.modules.items in
     let u = flat_map (untyped_yields nv) p.untyped.items in
     filled_append (entrance_yields nv p.entrance) (d ++ (m ++ u))
     ∙ (ap (λ b. b || is_filled (d ++ (m ++ u))) (entered nv p.entrance) ∙ ap (λ b. is_some p.entrance || b)
-    (filled_append d (m ++ u) ∙ (ap (λ b. b || is_filled (m ++ u)) (depends packages nv p.dependencies.keys)
-    ∙ ap (λ b. list_any (λ place. nat_lt place (length packages)) p.dependencies.keys || b)
-    (filled_append m u ∙ (ap (λ b. b || is_filled u) (filled_flat (λ x. module_yields nv x.1) (λ x. refl) p.modules.entries)
-    ∙ ap (λ b. is_filled p.modules.entries || b) (filled_flat (untyped_yields nv) (λ x. refl) p.untyped.items))))))
+    (filled_append d (m ++ u) ∙ (ap (λ b. b || is_filled (m ++ u)) (depends packages nv p.dependencies.items)
+    ∙ ap (λ b. list_any (λ place. nat_lt place (length packages)) p.dependencies.items || b)
+    (filled_append m u ∙ (ap (λ b. b || is_filled u) (filled_flat (module_yields nv) (λ x. refl) p.modules.items)
+    ∙ ap (λ b. is_filled p.modules.items || b) (filled_flat (untyped_yields nv) (λ x. refl) p.untyped.items))))))

@@ -110,11 +110,11 @@ fn add_untyped(
 pub fn add_all_followed(
     alloc: Global,
     modules: &mut BTreeMap<Url, ModuleParts>,
-    followed: BTreeMap<usize, FoundModule<'_>>,
+    followed: Vec<FoundModule<'_>>,
 ) -> Result<(), AllocError>
-    ensures { OnOk result ((nv : Nv) → Joins (flat_map (λ e. module_yields nv e.1) followed.entry.entries) modules.old.entries modules.new.entries) }
+    ensures { OnOk result ((nv : Nv) → Joins (flat_map (module_yields nv) followed.entry.items) modules.old.entries modules.new.entries) }
 {
-    for (_, found) in followed {
+    for found in followed {
         add_followed(alloc, modules, found)?;
     }
     Ok(())

@@ -27,15 +27,15 @@ fn either(a: bool, b: bool) -> bool
 }
 
 /// Whether a place is among the first `count`.
-fn any_within(places: &BTreeSet<usize>, count: usize) -> bool
-    ensures { result ≡ list_any (λ place. nat_lt place count) places.now.keys }
+fn any_within(places: &[usize], count: usize) -> bool
+    ensures { result ≡ list_any (λ place. nat_lt place count) places.now }
 {
     places.iter().any(|place| *place < count)
 }
 
 /// Whether modules were found of a package.
 fn has_found(found: &FoundPackage<'_>) -> bool
-    ensures { result ≡ (is_filled found.now.modules.entries || is_filled found.now.untyped.items) }
+    ensures { result ≡ (is_filled found.now.modules.items || is_filled found.now.untyped.items) }
 {
     let has_followed = !found.modules.is_empty();
     let has_untyped = !found.untyped.is_empty();
@@ -46,7 +46,7 @@ fn has_found(found: &FoundPackage<'_>) -> bool
 pub fn is_known(packages: &[PackageNv], found: &FoundPackage<'_>) -> bool
     ensures { (nv : Nv) → result ≡ is_filled (package_yields (map nv_of packages.now) nv found.now) }
 {
-    let depends = any_within(&found.dependencies, packages.len());
+    let depends = any_within(found.dependencies.as_slice(), packages.len());
     let is_entered = found.entrance.is_some();
     either(is_entered, either(depends, has_found(found)))
 }
@@ -125,11 +125,11 @@ fn add_dependency(
 /// Adds the packages at these places.
 fn add_dependencies(
     packages: &[PackageNv],
-    places: &BTreeSet<usize>,
+    places: &[usize],
     dependencies: &mut BTreeSet<PackageNv>,
 ) -> Result<(), AllocError>
     ensures { OnOk result ((nv : Nv) → list_any (is_package nv) dependencies.new.keys
-        ≡ (list_any (is_package nv) dependencies.old.keys || list_any (same_nv nv) (named_at (map nv_of packages.now) places.now.keys))) }
+        ≡ (list_any (is_package nv) dependencies.old.keys || list_any (same_nv nv) (named_at (map nv_of packages.now) places.now))) }
 {
     for place in places {
         add_dependency(packages, *place, dependencies)?;
@@ -167,7 +167,7 @@ pub fn answer_of(
     if has_modules(answer.cache_items.as_slice()) {
         return Ok(answer);
     }
-    add_dependencies(packages, &dependencies, &mut answer.dependencies)?;
+    add_dependencies(packages, dependencies.as_slice(), &mut answer.dependencies)?;
     add_all_followed(alloc, &mut modules, followed)?;
     add_all_untyped(alloc, &mut modules, untyped)?;
     answer.module_ranges = all_module_ranges(alloc, modules)?;

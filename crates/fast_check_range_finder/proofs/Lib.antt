@@ -16,6 +16,9 @@ pub mod Reach
 pub mod Stored
 pub mod Homes
 pub mod Homed
+pub mod Joins
+pub mod Collected
+pub mod Once
 pub mod Steps
 pub mod Places
 pub mod SymbolsAsked

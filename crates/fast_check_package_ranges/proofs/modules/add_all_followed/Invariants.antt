@@ -5,4 +5,4 @@ use Rattle.fast_check_package_ranges.specs.Parts.{Joins}
 use Rattle.fast_check_package_ranges.proofs.modules.add_all_followed.Given as goal
 
 abbrev pub invariant-loop-found : goal.invariant-loop-found
-invariant-loop-found l = (nv : Nv) → Joins (flat_map (λ e. module_yields nv e.1) l.yielded) l.initial.modules.entries l.modules.entries
+invariant-loop-found l = (nv : Nv) → Joins (flat_map (module_yields nv) l.yielded) l.initial.modules.entries l.modules.entries

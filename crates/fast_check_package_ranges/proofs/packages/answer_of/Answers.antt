@@ -1,11 +1,12 @@
-use Rattle.std.proofs.Common.{◌∙◌, refl, sym, ap, subst, List, [], ◌++◌, map}
-use Rattle.std.specs.List.{flat_map}
+use Rattle.std.proofs.Common.{◌∙◌, refl, sym, ap, subst, List, [], ◌++◌, map, ℕ, ◌||◌}
+use Rattle.std.specs.List.{flat_map, list_any}
 use Rattle.url.specs.Parts.{Parts}
 use Rattle.fast_check_packages.specs.Package.{nv_of}
+use Rattle.fast_check_worklists.specs.Demands.{same_nv}
 use Rattle.fast_check_findings.specs.Found.{module_yields, entrance_yields, dependency_yields, untyped_yields, package_yields}
 use Rattle.fast_check_package_ranges.specs.declared.modules.ModuleParts.{ModuleParts}
 use Rattle.fast_check_package_ranges.specs.Answers.{is_filled}
-use Rattle.fast_check_package_ranges.specs.Parts.{AreModules}
+use Rattle.fast_check_package_ranges.specs.Parts.{is_package, named_at, AreModules}
 use Rattle.fast_check_package_ranges.proofs.Answered.{by_item, by_parts}
 use Rattle.fast_check_package_ranges.proofs.Followed.{silent_of_modules}
 use Rattle.fast_check_package_ranges.proofs.Joined.{joined_none, joins_then, joins_silent}
@@ -21,8 +22,8 @@ returns c = λ nv.
     let packages = map nv_of c.args.packages.now in
     let found = c.args.found in
     let e = entrance_yields nv found.entrance in
-    let d = flat_map (dependency_yields packages nv) found.dependencies.keys in
-    let m = flat_map (λ x. module_yields nv x.1) found.modules.entries in
+    let d = flat_map (dependency_yields packages nv) found.dependencies.items in
+    let m = flat_map (module_yields nv) found.modules.items in
     let u = flat_map (untyped_yields nv) found.untyped.items in
     let m0 = c.new-modules.result.entries in
     let m1 = c.entered_answer.new.modules.entries in
@@ -35,4 +36,8 @@ returns c = λ nv.
     [] (subst (λ (es : List (Parts × ModuleParts)). AreModules [] es) (sym c.new-modules.ensures.empty) joined_none) in
     by_parts packages nv found c.in_ok-answer.answer _ c.in_ok-answer.ensures.answer
     (sym (c.has_modules.ensures ∙ ap is_filled c.as_slice.ensures.value) ∙ c.if-has_modules.false)
-    refl refl c.in_ok-add_dependencies.ensures (c.in_ok-answer-2.ensures (package_yields packages nv found) modules)
+    refl refl
+    (λ d. c.in_ok-add_dependencies.ensures d
+    ∙ ap (λ (ks : List ℕ). list_any (is_package d) c.in_ok-answer.answer.dependencies.keys || list_any (same_nv d) (named_at packages ks))
+    c.as_slice-2.ensures.value)
+    (c.in_ok-answer-2.ensures (package_yields packages nv found) modules)
