@@ -24,8 +24,9 @@ use Rattle.fast_check_findings.specs.Yields.{Yield, dependency}
 use Rattle.fast_check_findings.specs.declared.found.Entrance.{Entrance}
 use Rattle.fast_check_findings.specs.declared.found.FoundModule.{FoundModule}
 use Rattle.fast_check_findings.specs.declared.found.FoundPackage.{FoundPackage}
-use Rattle.fast_check_range_finder.specs.Finder.{entered_yields}
-use Rattle.fast_check_range_finder.specs.Packages.{Found, Entered, entered_nv, AreApart, IsNew, IsNumbered, HasPlaces, Adds, IsEntered}
+use Rattle.fast_check_range_finder.specs.Finder.{entered_nv, entered_yields}
+use Rattle.fast_check_range_finder.specs.Once.{AreApart}
+use Rattle.fast_check_range_finder.specs.Packages.{Found, Entered, IsNew, IsNumbered, HasPlaces, Adds, IsEntered}
 use Rattle.fast_check_range_finder.specs.Turn.{AreSame}
 use Rattle.fast_check_range_finder.proofs.Joins.{joins_none, joins_first, joins_then, joins_left, joins_right, joins_push, joins_more}
 

@@ -32,14 +32,19 @@ use Rattle.fast_check_range_finder.specs.declared.demand.Place.{Place}
 use Rattle.fast_check_range_finder.specs.declared.demand.SymbolAt.{SymbolAt}
 use Rattle.fast_check_range_finder.specs.declared.finder.Finder.{Finder}
 use Rattle.fast_check_range_finder.specs.declared.finder.FollowedModule.{FollowedModule}
+use Rattle.fast_check_range_finder.specs.Once.{AreOnce}
 use Rattle.fast_check_range_finder.specs.Search.{Search, AsksAll}
 use Rattle.fast_check_range_finder.specs.Turn.{AreSame}
-use Rattle.fast_check_range_finder.specs.Finder.{Followed, Modules, place_nv, place_text, names_seen, seen_at, search_in, search_of, entered_yields, depends, followed_yields, noted_yields, yields_by, yields_in, traced_in, AreShown, AsksEach, IsModuleOf, IsSound, Goes}
+use Rattle.fast_check_range_finder.specs.Finder.{Followed, Modules, place_nv, place_text, names_seen, seen_at, search_in, search_of, entered_yields, entered_nv, depends, followed_yields, noted_yields, yields_by, yields_in, traced_in, AreShown, AsksEach, IsModuleOf, IsSound, Goes}
 use Rattle.fast_check_range_finder.proofs.Kept.{nv_itself, text_itself, text_is}
 use Rattle.fast_check_range_finder.proofs.Places.{nv_is}
 use Rattle.fast_check_range_finder.proofs.Steps.{same_itself, joins_left, joins_right}
 use Rattle.fast_check_range_finder.proofs.SymbolsAsked.{TellsPlaces, asked_of_module}
 use Rattle.fast_check_range_finder.proofs.Gained.{joins_set, set_cases, get_in, each_within}
+
+pub once_same : (ps qs : List Nv) (m n : ℕ) (xs ys : List Nv) → ps ≡ qs → m ≡ n → xs ≡ ys → AreOnce qs n ys → AreOnce ps m xs
+once_same ps qs m n xs ys e f h o = subst (λ (zs : List Nv). AreOnce ps m zs) (sym h)
+    (subst (λ (k : ℕ). AreOnce ps k ys) (sym f) (subst (λ (rs : List Nv). AreOnce rs n ys) (sym e) o))
 
 same_map : {X Y : Type 0} (f : X → Y) (xs ys : List X) → AreSame xs ys → AreSame (map f xs) (map f ys)
 same_map {X} {Y} f xs ys s = record {
@@ -119,7 +124,8 @@ module _ (g : ModuleGraph) (r : RootSymbol) (f b : Finder) (sound : IsSound g r 
       modules = λ x c. ⊎_elim (λ old. sound.modules x old) (λ new. subst (IsModuleOf g r) new still)
           (set_cases f.modules.entries place e m x here (subst (λ (ms : Modules). Contains ms x) w.modules c));
       symbols = λ x c. subst (λ (n : ℕ). x.place < n) (sym (ap length w.modules ∙ length-set_value_at f.modules.entries place m)) (places x c);
-      entered = let h = sound.entered in let p = ap length w.packages in let n = w.entered in omega (arith, h, p, n);
+      once = once_same (map nv_of b.packages) (map nv_of f.packages) b.entered f.entered (map entered_nv b.entrances.items)
+          (map entered_nv f.entrances.items) (ap (map nv_of) w.packages) w.entered (ap (map entered_nv) w.entrances) sound.once;
     }
 
     module _ (eq : Place → Place → Bool) (tells : TellsPlaces eq) (unique : IsDistinct eq (keys_of f.modules.entries)) where

@@ -11,13 +11,13 @@ use Rattle.fast_check_worklists.specs.Demands.{Text, same_nv, Want, to_package, 
 use Rattle.fast_check_worklists.specs.Demands.{of_symbol}
 use Rattle.fast_check_worklists.proofs.Maps.{none_in, first_in, rest_in, split_in}
 use Rattle.fast_check_sources.specs.Sources.{Known}
-use Rattle.fast_check_range_finder.specs.Account.{is_package}
+use Rattle.fast_check_range_finder.specs.Account.{package_of, is_package}
 use Rattle.fast_check_range_finder.specs.Search.{Search, IsPut, AsksPackage, AsksSymbol, WaitsFor, Asks, AsksAll}
 use Rattle.fast_check_range_finder.specs.Turn.{IsTurn, IsBegun, members, IsKept}
 use Rattle.fast_check_range_finder.specs.Rules.{world}
 use Rattle.fast_check_range_finder.proofs.Lists.{any_some, any_from, any_more}
 use Rattle.fast_check_range_finder.proofs.Kept.{nv_itself}
-use Rattle.fast_check_range_finder.proofs.Homes.{package_of, IsAtHome, at_home}
+use Rattle.fast_check_range_finder.proofs.Homes.{IsAtHome, at_home}
 
 abbrev pub HasPackage : Search → Nv → Type 0
 HasPackage s p = IsTrue (list_any (same_nv p) s.packages)

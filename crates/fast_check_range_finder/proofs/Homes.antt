@@ -23,15 +23,10 @@ use Rattle.fast_check_worklists.proofs.Maps.{first_in}
 use Rattle.fast_check_entries.specs.Entries.{Entrance, passed_over, refused, entered, all_faults}
 use Rattle.fast_check_sources.specs.Sources.{Known, module_at}
 use Rattle.fast_check_sources.specs.Wants.{file_at, behind, resolved, file_wants, left_wants}
+use Rattle.fast_check_range_finder.specs.Account.{package_of}
 use Rattle.fast_check_range_finder.specs.Rules.{own_text, module_of, names_wants, symbol_wants, entry_want, unless_faulty, entrance_at}
 use Rattle.fast_check_range_finder.specs.Rules.{entered_wants, entry_wants, world}
 use Rattle.fast_check_range_finder.proofs.Kept.{nv_itself}
-
--- the package for which is demanded
-abbrev pub package_of : Demand → Nv
-package_of (of_package p) = p
-package_of (of_module p t d) = p
-package_of (of_symbol p t s) = p
 
 -- by what is asked beside it
 abbrev pub IsAtHome : Nv → List Want → Want → Type 0

@@ -26,3 +26,8 @@ pub mod Gained
 pub mod Waits
 pub mod Followed
 pub mod Placed
+pub mod Loop
+pub mod Whole
+pub mod Owners
+pub mod PlaceKeys
+pub mod Within

@@ -12,7 +12,7 @@ use Rattle.fast_check_demands.proofs.Elements.{no_element, first, later, cases, 
 use Rattle.fast_check_worklists.specs.Demands.{same_nv, Want, to_package, to_module, to_symbol, Demand}
 use Rattle.fast_check_range_finder.specs.Account.{Account, IsYield}
 use Rattle.fast_check_range_finder.specs.Search.{Search, AsksPackage, Asks, AsksAll}
-use Rattle.fast_check_range_finder.specs.Packages.{AreApart, AreOnce}
+use Rattle.fast_check_range_finder.specs.Once.{AreApart, AreOnce}
 use Rattle.fast_check_range_finder.specs.Turn.{AreSame}
 use Rattle.fast_check_range_finder.proofs.Collected.{none_some, some_is, none_split, apart_none}
 use Rattle.fast_check_range_finder.proofs.Kept.{nv_itself}

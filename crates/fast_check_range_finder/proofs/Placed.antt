@@ -42,9 +42,10 @@ use Rattle.fast_check_range_finder.specs.declared.demand.SymbolAt.{SymbolAt}
 use Rattle.fast_check_range_finder.specs.declared.finder.Finder.{Finder}
 use Rattle.fast_check_range_finder.specs.Asked.{covers}
 use Rattle.fast_check_range_finder.specs.Search.{Search}
-use Rattle.fast_check_range_finder.specs.Finder.{Followed, Modules, place_nv, place_text, has_symbol, place_of, places, names_seen, seen_at, symbol_at, symbols_at, search_in, search_of, entered_yields, depends, followed_yields, noted_yields, yields_by, yields_in, traced_in, AreShown, IsModuleOf, IsSound, IsPlaced, Goes}
+use Rattle.fast_check_range_finder.specs.Finder.{Followed, Modules, place_nv, place_text, has_symbol, place_of, places, names_seen, seen_at, symbol_at, symbols_at, search_in, search_of, entered_yields, entered_nv, depends, followed_yields, noted_yields, yields_by, yields_in, traced_in, AreShown, IsModuleOf, IsSound, IsPlaced, Goes}
 use Rattle.fast_check_range_finder.proofs.Steps.{same_itself, joins_left, joins_right, joins_behind}
 use Rattle.fast_check_range_finder.proofs.Gained.{get_in}
+use Rattle.fast_check_range_finder.proofs.Followed.{once_same}
 
 -- what is found before holds already
 joins_there : {X : Type 0} (x : X) (xs : List X) → Contains xs x → Joins (x ∷ []) xs xs
@@ -138,7 +139,8 @@ module _ (g : ModuleGraph) (r : RootSymbol) (f b : Finder) (sound : IsSound g r 
       sound = record {
         modules = λ x c. sound.modules x (subst (λ (ms : Modules). Contains ms x) same c);
         symbols = λ x c. subst (λ (n : ℕ). x.place < n) (sym (ap length same)) (sound.symbols x (subst (λ (s : List SymbolAt). Contains s x) w.symbols c));
-        entered = let h = sound.entered in let p = ap length w.packages in let n = w.entered in omega (arith, h, p, n);
+        once = once_same (map nv_of b.packages) (map nv_of f.packages) b.entered f.entered (map entered_nv b.entrances.items)
+            (map entered_nv f.entrances.items) (ap (map nv_of) w.packages) w.entered (ap (map entered_nv) w.entrances) sound.once;
       };
     }
 
@@ -229,7 +231,8 @@ module _ (g : ModuleGraph) (r : RootSymbol) (f b : Finder) (sound : IsSound g r 
               (Contains-push_cases f.modules.entries m x (subst (λ (ms : Modules). Contains ms x) new.0 c));
           symbols = λ x c. let h = sound.symbols x (subst (λ (s : List SymbolAt). Contains s x) w.symbols c) in
               let l = ap length new.0 ∙ length-append f.modules.entries (m ∷ []) in omega (arith, h, l);
-          entered = let h = sound.entered in let p = ap length w.packages in let n = w.entered in omega (arith, h, p, n);
+          once = once_same (map nv_of b.packages) (map nv_of f.packages) b.entered f.entered (map entered_nv b.entrances.items)
+            (map entered_nv f.entrances.items) (ap (map nv_of) w.packages) w.entered (ap (map entered_nv) w.entrances) sound.once;
         };
       }
 

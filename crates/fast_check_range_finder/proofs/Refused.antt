@@ -57,11 +57,11 @@ module_joins p m =
 package_joins : (packages : List Nv) (p : Nv) (f : FoundPackage) → Each NotRefusedYield (package_yields packages p f)
 package_joins packages p f =
     each_append NotRefusedYield (entrance_yields p f.entrance) _ (entrance_joins p f.entrance)
-    (each_append NotRefusedYield (flat_map (dependency_yields packages p) f.dependencies.keys) _
-    (each_flat NotRefusedYield (dependency_yields packages p) f.dependencies.keys
+    (each_append NotRefusedYield (flat_map (dependency_yields packages p) f.dependencies.items) _
+    (each_flat NotRefusedYield (dependency_yields packages p) f.dependencies.items
     (λ place c. each_map NotRefusedYield (dependency p) (option_to_list (slice_get packages place)) (λ q i. tt)))
-    (each_append NotRefusedYield (flat_map (λ e. module_yields p e.1) f.modules.entries) (flat_map (untyped_yields p) f.untyped.items)
-    (each_flat NotRefusedYield (λ e. module_yields p e.1) f.modules.entries (λ e c. module_joins p e.1))
+    (each_append NotRefusedYield (flat_map (module_yields p) f.modules.items) (flat_map (untyped_yields p) f.untyped.items)
+    (each_flat NotRefusedYield (module_yields p) f.modules.items (λ m c. module_joins p m))
     (each_flat NotRefusedYield (untyped_yields p) f.untyped.items (λ url c. faulty_joins p (serialize url) untyped_module))))
 
 pub found_join : (found : List (PackageNv × FoundPackage)) → Each NotRefusedYield (found_yields found)

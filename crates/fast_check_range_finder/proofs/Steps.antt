@@ -1,10 +1,13 @@
 -- What is asked and found in steps, one behind another.
-use Rattle.std.proofs.Common.{◌≡◌, sym, refl, subst, List, [], ◌∷◌, ◌++◌, inl, inr, ⊎_elim}
-use Rattle.std.specs.List.{Contains}
+use Rattle.std.proofs.Common.{◌≡◌, ◌∙◌, sym, ap, refl, subst, List, [], ◌∷◌, ◌++◌, inl, inr, ⊎_elim}
+use Rattle.std.specs.List.{Contains, flat_map}
+use Rattle.std.proofs.lemmas.List.{append-nil}
+use Rattle.std.proofs.lemmas.List.Concat.{flat_map-append}
 use Rattle.std.proofs.lemmas.List.Elements.{Contains-append_left, Contains-append_right, Contains-append_cases}
+use Rattle.fast_check_packages.specs.Package.{Nv}
 use Rattle.fast_check_graph.specs.declared.graph.ModuleGraph.{ModuleGraph}
 use Rattle.fast_check_graph.specs.declared.root_symbol.RootSymbol.{RootSymbol}
-use Rattle.fast_check_demands.specs.Yields.{Joins}
+use Rattle.fast_check_demands.specs.Yields.{Adds, Joins}
 use Rattle.fast_check_findings.specs.Yields.{Yield}
 use Rattle.fast_check_worklists.specs.Demands.{Want}
 use Rattle.fast_check_worklists.proofs.Maps.{none_in}
@@ -12,6 +15,7 @@ use Rattle.fast_check_range_finder.specs.declared.finder.Finder.{Finder}
 use Rattle.fast_check_range_finder.specs.Search.{Search, AsksAll}
 use Rattle.fast_check_range_finder.specs.Turn.{AreSame}
 use Rattle.fast_check_range_finder.specs.Finder.{search_of, yields_in, IsSound, Goes}
+use Rattle.fast_check_range_finder.specs.Yields.{dependency_of, dependencies}
 
 pub asks_then : (ws vs : List Want) (a b c : Search) → AsksAll ws a b → AsksAll vs b c → AsksAll (ws ++ vs) a c
 asks_then [] vs a b c h k = subst (λ (x : Search). AsksAll vs x c) h k
@@ -28,6 +32,13 @@ module _ {X : Type 0} where
         (Contains-append_cases xs ys x c);
     complete = λ x c. ⊎_elim (λ l. Contains-append_left xs ys x (s.complete x l)) (λ r. Contains-append_right xs ys x (t.complete x r))
         (Contains-append_cases us vs x c);
+  }
+
+  -- what is added to none
+  pub same_added : (these xs : List X) → Adds these [] xs → AreSame xs these
+  same_added these xs a = record {
+    sound = λ x c. a.parts x (subst (λ (ys : List X). Contains ys x) a.is c);
+    complete = a.whole;
   }
 
   pub joins_none : (xs : List X) → Joins [] xs xs
@@ -95,3 +106,14 @@ module _ (g : ModuleGraph) (r : RootSymbol) where
     found = joins_then ys zs (yields_in a) (yields_in b) (yields_in c) s.found t.found;
     sound = t.sound;
   }
+
+  -- what each of some things asks for, and one thing more
+  pub goes_more : {X : Type 0} (h : X → List Want) (nv : Nv) (xs : List X) (x : X) (a b c : Finder) →
+      Goes g r (flat_map h xs) (dependencies nv (flat_map h xs)) a b → Goes g r (h x) (dependencies nv (h x)) b c →
+      Goes g r (flat_map h (xs ++ x ∷ [])) (dependencies nv (flat_map h (xs ++ x ∷ []))) a c
+  goes_more h nv xs x a b c s t = subst (λ (ws : List Want). Goes g r ws (dependencies nv ws) a c) (sym last)
+      (subst (λ (ys : List Yield). Goes g r (flat_map h xs ++ h x) ys a c) (sym (flat_map-append (dependency_of nv) (flat_map h xs) (h x)))
+      (goes_then (flat_map h xs) (h x) (dependencies nv (flat_map h xs)) (dependencies nv (h x)) a b c s t))
+    where
+      last : flat_map h (xs ++ x ∷ []) ≡ flat_map h xs ++ h x
+      last = flat_map-append h xs (x ∷ []) ∙ ap (λ (ws : List Want). flat_map h xs ++ ws) (append-nil (h x))

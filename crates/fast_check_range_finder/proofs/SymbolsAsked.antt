@@ -45,6 +45,18 @@ covers_essence d e = ap (λ (x : SymbolDemand). same (essence d) x || same (esse
 covers_itself : (d : SymbolDemand) → covers d d ≡ true
 covers_itself d = or_left (alike d d) (alike (referred d) d) (alike_itself d)
 
+-- one demand more
+pub each_more : (place : ℕ) (ds : List SymbolDemand) (d : SymbolDemand) (a b c : List SymbolDemand) (old mid new : List SymbolAt) →
+    AsksEach place ds a b old mid → AsksOne place d b c mid new → AsksEach place (ds ++ d ∷ []) a c old new
+each_more place [] d a b c old mid new w one = (
+  c,
+  new,
+  (one.0, subst (λ (xs : List SymbolDemand). AddsSymbol d one.0 xs c) w.0 one.1,
+      subst (λ (xs : List (ℕ × SymbolDemand)). map seen_at new ≡ cond one.0 (xs ++ (place, d) ∷ []) xs) w.1 one.2),
+  (refl, refl),
+)
+each_more place (x ∷ xs) d a b c old mid new w one = (w.0, w.1, w.2, each_more place xs d w.0 b c w.1 mid new w.3 one)
+
 -- keys that have one package and one text are the same
 abbrev pub TellsPlaces : (Place → Place → Bool) → Type 0
 TellsPlaces eq = (a b : Place) → eq a b ≡ (same_nv (nv_of a.package) (nv_of b.package) && bytes_eq (serialize a.specifier.now) (serialize b.specifier.now))

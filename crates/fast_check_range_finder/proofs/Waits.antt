@@ -14,6 +14,7 @@ use Rattle.url.specs.Parts.{Parts, serialize}
 use Rattle.fast_check_packages.specs.Package.{Nv, nv_of}
 use Rattle.fast_check_packages.specs.declared.package.PackageNv.{PackageNv}
 use Rattle.fast_check_lattice.specs.declared.lattice.imported_exports.ImportedExports.{ImportedExports}
+use Rattle.fast_check_lattice.specs.Traces.{handled}
 use Rattle.fast_check_lattice.specs.Imports.{NameDemand}
 use Rattle.fast_check_lattice.specs.Names.{Path, path_of, whole_below, has_whole}
 use Rattle.fast_check_demands.specs.symbol_demands.declared.demand.Extent.{Extent}
@@ -22,6 +23,7 @@ use Rattle.fast_check_packages.specs.contracts.package.PackageNvOrd.TheImpl as p
 use Rattle.fast_check_range_finder.specs.contracts.demand.DependencyOrd.TheImpl as dependency_order
 use Rattle.fast_check_worklists.proofs.Maps.{first_in, only_in}
 use Rattle.fast_check_range_finder.proofs.Kept.{text_itself}
+use Rattle.fast_check_range_finder.proofs.Once.{once_asked}
 use Rattle.fast_check_range_finder.proofs.Places.{nv_is, then_both}
 use Rattle.fast_check_graph.specs.declared.graph.ModuleGraph.{ModuleGraph}
 use Rattle.fast_check_graph.specs.declared.root_symbol.RootSymbol.{RootSymbol}
@@ -38,7 +40,7 @@ use Rattle.fast_check_range_finder.specs.declared.demand.Dependency.{Dependency}
 use Rattle.fast_check_range_finder.specs.declared.demand.NamesAt.{NamesAt}
 use Rattle.fast_check_range_finder.specs.declared.finder.Finder.{Finder}
 use Rattle.fast_check_range_finder.specs.Search.{Search, IsPut, AsksPackage, IsPackagePut, AddsNames, AsksNames}
-use Rattle.fast_check_range_finder.specs.Finder.{Modules, names_seen, depends, search_in, search_of, yields_in, IsSound, Goes}
+use Rattle.fast_check_range_finder.specs.Finder.{Modules, names_seen, seen_at, entered_nv, depends, search_in, search_of, yields_in, IsSound, Goes}
 use Rattle.fast_check_range_finder.proofs.Lists.{put_last, put_left, put_right}
 use Rattle.fast_check_range_finder.proofs.Compared.{key_kept, key_only, key_tied}
 use Rattle.fast_check_range_finder.proofs.Steps.{same_itself, joins_none}
@@ -72,34 +74,25 @@ module _ (entered : ℕ) (handled : List (Parts × ImportedExports)) (names : Li
           (sym (ap (map of_package) (drop_last entered old p within) ∙ map-append of_package (drop entered old) (p ∷ [])))
           (put_last (of_package p) (map of_package (drop entered old))))
 
-pub longer : (p : Nv) (old new : List Nv) → AddsPackage p old new → length old ≤ length new
-longer p old new is = ⊎_elim
-    (λ t. let same : new ≡ old = is ∙ ap (λ (b : Bool). cond b old (old ++ p ∷ [])) t in let e = ap length same in omega (arith, e))
-    (λ f. let more : new ≡ old ++ p ∷ [] = is ∙ ap (λ (b : Bool). cond b old (old ++ p ∷ [])) f in
-    let e = ap length more in let l = last p old in omega (arith, e, l))
-    (cases_Bool (list_any (same_nv p) old))
-  where
-    last : (p : Nv) (xs : List Nv) → length xs ≤ length (xs ++ p ∷ [])
-    last p [] = omega arith
-    last p (x ∷ xs) = let h = last p xs in omega (arith, h)
-
 module _ (g : ModuleGraph) (r : RootSymbol) (f : Finder) (packages : List PackageNv) (p : Nv) (sound : IsSound g r f)
     (adds : AddsPackage p (map nv_of f.packages) (map nv_of packages)) where
   abbrev after : Finder
   after = record f { packages = packages }
 
+  asked : AsksPackage p (search_of f) (search_of after)
+  asked = package_asked f.entered (handled f.handled) (map names_seen f.names.items) f.modules.entries (map seen_at f.symbols.items) p
+      (map nv_of f.packages) (map nv_of packages) sound.once.within adds
+
   pub package_goes : Goes g r (to_package p ∷ []) [] f after
   package_goes = record {
     asked = to_package p ∷ [];
     are = same_itself (to_package p ∷ []);
-    asks = (search_of after, package_asked f.entered _ _ f.modules.entries _ p (map nv_of f.packages) (map nv_of packages)
-        (let e = length-map f.packages nv_of in let h = sound.entered in omega (arith, e, h)) adds, refl);
+    asks = (search_of after, asked, refl);
     found = joins_none (yields_in f);
     sound = record {
       modules = sound.modules;
       symbols = sound.symbols;
-      entered = let h = sound.entered in let l = longer p (map nv_of f.packages) (map nv_of packages) adds in
-          let d = length-map f.packages nv_of in let e = length-map packages nv_of in omega (arith, h, l, d, e);
+      once = once_asked p (search_of f) (search_of after) f.entered (map entered_nv f.entrances.items) asked sound.once;
     };
   }
 

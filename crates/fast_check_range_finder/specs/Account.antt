@@ -15,6 +15,12 @@ pub use Rattle.fast_check_worklists.specs.Account.{IsStarred, HasDefault, IsWide
 abbrev pub Account : Type 0
 Account = List Demand
 
+-- the package for which something is demanded
+abbrev pub package_of : Demand → Nv
+package_of (of_package p) = p
+package_of (of_module p t d) = p
+package_of (of_symbol p t s) = p
+
 -- the demand is of this package
 abbrev pub is_package : Nv → Demand → Bool
 is_package p (of_package q) = same_nv p q
@@ -57,6 +63,10 @@ pub record IsAccount (world : World) (roots : List Nv) (account : Account) : Typ
   pub widened : (p q r : Nv) (t : Text) (a b c : NameDemand) → Contains account (of_module p t a) →
       Contains account (of_module q t b) →
       IsWidening p q a b r c → IsCovered account (of_module r t c)
+
+-- what is demanded is demanded for packages of the account
+abbrev pub HasHomes : Account → Type 0
+HasHomes account = (d : Demand) → Contains account d → IsTrue (list_any (is_package (package_of d)) account)
 
 -- what was found is what demands of the account give, no more and no less
 pub record IsYield {Y : Type 0} (gives : Demand → List Y) (account : Account) (found : List Y) : Type 0 where

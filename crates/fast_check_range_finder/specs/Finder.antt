@@ -33,8 +33,9 @@ use Rattle.fast_check_range_finder.specs.declared.demand.Dependency.{Dependency}
 use Rattle.fast_check_range_finder.specs.declared.finder.FollowedModule.{FollowedModule}
 use Rattle.fast_check_range_finder.specs.declared.finder.Finder.{Finder}
 use Rattle.fast_check_range_finder.specs.Asked.{covers, AddsSymbol}
+use Rattle.fast_check_range_finder.specs.Once.{AreOnce}
 use Rattle.fast_check_range_finder.specs.Search.{Search, AsksAll}
-use Rattle.fast_check_range_finder.specs.Turn.{AreSame, IsTurn}
+use Rattle.fast_check_range_finder.specs.Turn.{AreSame, IsBegun, IsTurn}
 use Rattle.fast_check_range_finder.specs.Rules.{world}
 use Rattle.fast_check_range_finder.specs.Yields.{gives}
 
@@ -92,6 +93,9 @@ search_of f = search_in (map nv_of f.packages) f.entered (handled f.handled) (ma
 abbrev pub entered_yields : PackageNv × Entrance → List Yield
 entered_yields e = entrance_yields (nv_of e.0) (Some e.1)
 
+abbrev pub entered_nv : PackageNv × Entrance → Nv
+entered_nv e = nv_of e.0
+
 abbrev pub depends : Dependency → Yield
 depends d = dependency (nv_of d.package) (nv_of d.on)
 
@@ -137,7 +141,11 @@ pub record IsModuleOf (g : ModuleGraph) (r : RootSymbol) (e : Followed) : Type 0
 pub record IsSound (g : ModuleGraph) (r : RootSymbol) (f : Finder) : Type 0 where
   pub modules : (e : Followed) → Contains f.modules.entries e → IsModuleOf g r e
   pub symbols : (x : SymbolAt) → Contains f.symbols.items x → x.place < length f.modules.entries
-  pub entered : f.entered ≤ length f.packages
+  pub once : AreOnce (map nv_of f.packages) f.entered (map entered_nv f.entrances.items)
+
+-- a package can be entered: it was not entered before
+abbrev pub CanEnter : Nv → Finder → Type 0
+CanEnter nv f = AreOnce (map nv_of f.packages) f.entered (map entered_nv f.entrances.items ++ nv ∷ [])
 
 -- a module that is followed has a place: its own, or a new last one, of which nothing was asked or found
 pub record IsPlaced (nv : Nv) (info : AnyModuleInfo) (place : ℕ) (old new : Modules) : Type 0 where
@@ -164,6 +172,12 @@ pub record Goes (g : ModuleGraph) (r : RootSymbol) (wants : List Want) (yields :
   pub asks : AsksAll asked (search_of a) (search_of b)
   pub found : Joins yields (yields_in a) (yields_in b)
   pub sound : IsSound g r b
+
+-- these packages are asked, and nothing else
+pub record Begins (g : ModuleGraph) (r : RootSymbol) (roots : List Nv) (f : Finder) : Type 0 where
+  pub begun : IsBegun roots (search_of f)
+  pub found : yields_in f ≡ []
+  pub sound : IsSound g r f
 
 -- a demand that waits is followed; what is kept stays right
 pub record Turns (k : Known) (a b : Finder) : Type 0 where

@@ -4,6 +4,7 @@ pub use Rattle.fast_check_entries.specs as entries
 pub mod Account
 pub mod Asked
 pub mod Finder
+pub mod Once
 pub mod Packages
 pub mod Search
 pub mod Turn

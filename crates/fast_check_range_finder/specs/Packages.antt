@@ -9,20 +9,14 @@ use Rattle.fast_check_findings.specs.Found.{found_yields}
 use Rattle.fast_check_findings.specs.Yields.{Yield}
 use Rattle.fast_check_findings.specs.declared.found.Entrance.{Entrance}
 use Rattle.fast_check_findings.specs.declared.found.FoundPackage.{FoundPackage}
-use Rattle.fast_check_range_finder.specs.Finder.{entered_yields}
+use Rattle.fast_check_range_finder.specs.Finder.{entered_yields, entered_nv}
+use Rattle.fast_check_range_finder.specs.Once.{AreApart}
 
 abbrev pub Found : Type 0
 Found = List (PackageNv × FoundPackage)
 
 abbrev pub Entered : Type 0
 Entered = PackageNv × Entrance
-
-abbrev pub entered_nv : Entered → Nv
-entered_nv e = nv_of e.0
-
--- each stands once
-abbrev pub AreApart : {X : Type 0} → List X → Type 0
-AreApart {X} xs = (front back : List X) (x : X) → xs ≡ front ++ x ∷ back → Contains front x → ⊥
 
 -- nothing was found of a package
 pub record IsNew (p : FoundPackage) : Type 0 where
@@ -53,10 +47,3 @@ pub record IsEntered (entrances : List Entered) (found : Found) : Type 0 where
   pub named : (e : PackageNv × FoundPackage) → Contains found e → Contains (map entered_nv entrances) (nv_of e.0)
   pub places : HasPlaces found
   pub yields : Joins (flat_map entered_yields entrances) [] (found_yields found)
-
--- each package was entered once, of the first that were asked for, each of which stands once
-pub record AreOnce (packages : List Nv) (entered : ℕ) (entrances : List Nv) : Type 0 where
-  pub within : entered ≤ length packages
-  pub among : (p : Nv) → Contains entrances p → Contains (take entered packages) p
-  pub packages_apart : AreApart packages
-  pub apart : AreApart entrances

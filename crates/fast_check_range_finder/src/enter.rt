@@ -12,7 +12,7 @@ ghost use Rattle.fast_check_entries.specs.Entries.{entrance_seen, DiagnosesRefus
 ghost use Rattle.fast_check_entries.specs.Kept.{AreKept};
 ghost use Rattle.fast_check_worklists.specs.Demands.{of_package, to_package};
 ghost use Rattle.fast_check_sources.specs.Sources.{known, with_used};
-ghost use Rattle.fast_check_range_finder.specs.Finder.{IsSound, Goes};
+ghost use Rattle.fast_check_range_finder.specs.Finder.{IsSound, CanEnter, Goes};
 ghost use Rattle.fast_check_range_finder.specs.Lent.{used_of};
 ghost use Rattle.fast_check_range_finder.specs.Rules.{entry_want, entered_wants, entry_wants, entrance_at, world};
 ghost use Rattle.fast_check_range_finder.specs.Yields.{entered_yields, entry_yields, gives};
@@ -73,7 +73,7 @@ impl<'a> Finder<'a> {
         entry_points: Rc<BTreeSet<Url>>,
         item: FastCheckCacheItem,
     ) -> Result<(), AllocError>
-        ensures { OnOk result ((g : ModuleGraphSeen) (r : RootSymbolSeen) → IsSound g r self.old
+        ensures { OnOk result ((g : ModuleGraphSeen) (r : RootSymbolSeen) → IsSound g r self.old → CanEnter (nv_of nv.now) self.old
             → Goes g r (map to_package (item_of item).0) (kept (nv_of nv.now) entry_points.value.keys (item_of item) ∷ []) self.old self.new) }
     {
         self.ask_packages(&item.dependencies)?;
@@ -91,7 +91,7 @@ impl<'a> Finder<'a> {
         nv: &PackageNv,
         entry_points: Rc<BTreeSet<Url>>,
     ) -> Result<(), AllocError>
-        ensures { OnOk result ((g : ModuleGraphSeen) (r : RootSymbolSeen) → IsSound g r self.old
+        ensures { OnOk result ((g : ModuleGraphSeen) (r : RootSymbolSeen) → IsSound g r self.old → CanEnter (nv_of nv.now) self.old
             → Goes g r (entered_wants graph.now (nv_of nv.now) entry_points.value.keys None)
             (entered_yields graph.now (nv_of nv.now) entry_points.value.keys None) self.old self.new) }
     {
@@ -119,9 +119,9 @@ impl<'a> Finder<'a> {
     ) -> Result<(), AllocError>
         ensures { let i = input.entry in
             let used = used_of cache.entry (λ c. used_item (hash_of c.now i.seed.now) (stored c.now) i.sources.graph.now) in
-            let nv = nv_of nv.now in let urls = entry_points.value.keys in
-            OnOk result ((g : ModuleGraphSeen) (r : RootSymbolSeen) → IsSound g r self.old
-            → Goes g r (entered_wants i.sources.graph.now nv urls (used nv urls)) (entered_yields i.sources.graph.now nv urls (used nv urls))
+            let urls = entry_points.value.keys in
+            OnOk result ((g : ModuleGraphSeen) (r : RootSymbolSeen) → IsSound g r self.old → CanEnter (nv_of nv.now) self.old
+            → Goes g r (entered_wants i.sources.graph.now (nv_of nv.now) urls (used (nv_of nv.now) urls)) (entered_yields i.sources.graph.now (nv_of nv.now) urls (used (nv_of nv.now) urls))
             self.old self.new) }
     {
         let graph = input.sources.graph;
@@ -142,9 +142,9 @@ impl<'a> Finder<'a> {
     ) -> Result<(), AllocError>
         ensures { let i = input.entry in
             let used = used_of cache.entry (λ c. used_item (hash_of c.now i.seed.now) (stored c.now) i.sources.graph.now) in
-            let nv = nv_of nv.now in let entrance = entrance_seen entry_points in
-            OnOk result ((g : ModuleGraphSeen) (r : RootSymbolSeen) → IsSound g r self.old
-            → Goes g r (entry_wants i.sources.graph.now used nv entrance) (entry_yields i.sources.graph.now used nv entrance) self.old self.new) }
+            let entrance = entrance_seen entry_points in
+            OnOk result ((g : ModuleGraphSeen) (r : RootSymbolSeen) → IsSound g r self.old → CanEnter (nv_of nv.now) self.old
+            → Goes g r (entry_wants i.sources.graph.now used (nv_of nv.now) entrance) (entry_yields i.sources.graph.now used (nv_of nv.now) entrance) self.old self.new) }
     {
         match entry_points {
             None => Ok(()),
@@ -168,7 +168,7 @@ impl<'a> Finder<'a> {
             let k = with_used used (known i.sources (url_of provider.now) (nv_at provider.now)) in
             let d = of_package (nv_of nv.now) in
             OnOk result (AreKept k.workspace_members members.old → IsSound k.graph k.root_symbol self.old
-            → Goes k.graph k.root_symbol (world k d) (gives k d) self.old self.new) }
+            → CanEnter (nv_of nv.now) self.old → Goes k.graph k.root_symbol (world k d) (gives k d) self.old self.new) }
         ensures kept { let ours = members_in input.entry.sources.workspace_members.now in
             OnOk result (AreKept ours members.old → AreKept ours members.new) }
         ensures refused { IfErr result (DiagnosesRefused (nv_of nv.now)

@@ -1,6 +1,6 @@
 //! The loop.
 
-ghost use Rattle.std.specs.Prelude.{◌≡◌, ◌<◌, [], length, map, OnOk, IfOk, IfErr};
+ghost use Rattle.std.specs.Prelude.{◌<◌, length, map, OnOk, IfOk, IfErr};
 ghost use Rattle.fast_check_packages.specs.Package.{nv_of};
 ghost use Rattle.fast_check_graph.specs.declared.graph.ModuleGraph.{ModuleGraph as ModuleGraphSeen};
 ghost use Rattle.fast_check_graph.specs.declared.root_symbol.RootSymbol.{RootSymbol as RootSymbolSeen};
@@ -9,12 +9,11 @@ ghost use Rattle.fast_check_cache.specs.CachedPackages.{used_item};
 ghost use Rattle.fast_check_findings.specs.Found.{found_yields};
 ghost use Rattle.fast_check_entries.specs.Kept.{AreKept};
 ghost use Rattle.fast_check_sources.specs.Sources.{known, with_used};
-ghost use Rattle.fast_check_range_finder.specs.Account.{Account, IsAccount, IsYield};
-ghost use Rattle.fast_check_range_finder.specs.Finder.{search_of, yields_in, IsSound, Turns, TurnsTo};
+ghost use Rattle.fast_check_range_finder.specs.Account.{Account, HasHomes, IsAccount, IsYield};
+ghost use Rattle.fast_check_range_finder.specs.Finder.{IsSound, Begins, Turns, TurnsTo};
 ghost use Rattle.fast_check_range_finder.specs.Lent.{used_of};
 ghost use Rattle.fast_check_range_finder.specs.Refusals.{IsRefusal, IsRefusedOf, JoinAll};
 ghost use Rattle.fast_check_range_finder.specs.Rules.{world};
-ghost use Rattle.fast_check_range_finder.specs.Turn.{IsBegun};
 ghost use Rattle.fast_check_range_finder.specs.Yields.{gives};
 
 use crate::enter::FinderInput;
@@ -29,9 +28,7 @@ use std::alloc::{AllocError, Global};
 
 /// A finder of which these packages are asked.
 fn begin<'a>(alloc: Global, roots: &[PackageNv]) -> Result<Finder<'a>, AllocError>
-    ensures begun { IfOk result (λ finder. IsBegun (map nv_of roots.now) (search_of finder)) }
-    ensures found { IfOk result (λ finder. yields_in finder ≡ []) }
-    ensures sound { IfOk result (λ finder. (g : ModuleGraphSeen) (r : RootSymbolSeen) → IsSound g r finder) }
+    ensures { IfOk result (λ finder. (g : ModuleGraphSeen) (r : RootSymbolSeen) → Begins g r (map nv_of roots.now) finder) }
 {
     let mut finder = Finder::new(alloc);
     for nv in roots {
@@ -123,7 +120,7 @@ pub fn find_all<'a>(
         let used = used_of cache.entry (λ c. used_item (hash_of c.now i.seed.now) (stored c.now) i.sources.graph.now) in
         let k = with_used used (known i.sources (url_of provider.now) (nv_at provider.now)) in
         IfOk result (λ found. (account : Account) × IsAccount (world k) (map nv_of roots.now) account
-        × IsYield (gives k) account (found_yields found.entries) × JoinAll k account) }
+        × IsYield (gives k) account (found_yields found.entries) × JoinAll k account × HasHomes account) }
     ensures refused { let i = input.entry in
         let used = used_of cache.entry (λ c. used_item (hash_of c.now i.seed.now) (stored c.now) i.sources.graph.now) in
         let k = with_used used (known i.sources (url_of provider.now) (nv_at provider.now)) in

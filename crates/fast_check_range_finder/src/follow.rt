@@ -32,7 +32,7 @@ use fast_check_traces::{
     ModuleWant, ModuleWants, PublicReExports, TracedModule, push_all_ranges, re_exports_of,
     roots_of, tables_of,
 };
-use fast_check_worklists::is_same_package;
+use fast_check_worklists::{copy_of, is_same_package};
 use std::alloc::{AllocError, Global};
 use url::Url;
 
@@ -265,7 +265,7 @@ impl<'a> Finder<'a> {
         let Some((place, followed)) = self.modules.get_index(at.place) else {
             return Ok(());
         };
-        let nv = place.package.clone()?;
+        let nv = copy_of(&place.package)?;
         let info = followed.found.info;
         let wants = self.follow_at(alloc, at)?;
         for want in wants.as_slice() {
@@ -319,7 +319,7 @@ impl<'a> Finder<'a> {
     {
         // Each module is found by its own name.
         sources.root_symbol.own_names_find();
-        let place = place_of(alloc, &mut self.modules, nv.clone()?, info)?;
+        let place = place_of(alloc, &mut self.modules, copy_of(&nv)?, info)?;
         let wants = self.follow_names_at(alloc, sources, place, names)?;
         for want in wants.as_slice() {
             self.ask_left(alloc, sources, provider, &nv, info, *want)?;

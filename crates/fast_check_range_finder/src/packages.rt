@@ -4,8 +4,9 @@ ghost use Rattle.std.specs.Prelude.{◌∷◌, ◌++◌, [], List, map, IfOk, On
 ghost use Rattle.std.specs.List.{flat_map, Contains};
 ghost use Rattle.fast_check_packages.specs.Package.{nv_of};
 ghost use Rattle.fast_check_findings.specs.Found.{module_yields, untyped_yields, found_yields};
-ghost use Rattle.fast_check_range_finder.specs.Finder.{depends, followed_yields, noted_yields, yields_in};
-ghost use Rattle.fast_check_range_finder.specs.Packages.{Entered, IsNumbered, Adds, AreApart, IsEntered, entered_nv};
+ghost use Rattle.fast_check_range_finder.specs.Finder.{entered_nv, depends, followed_yields, noted_yields, yields_in};
+ghost use Rattle.fast_check_range_finder.specs.Once.{AreApart};
+ghost use Rattle.fast_check_range_finder.specs.Packages.{Entered, IsNumbered, Adds, IsEntered};
 ghost use Rattle.fast_check_range_finder.specs.Turn.{AreSame};
 
 use crate::demand::{Dependency, Place};

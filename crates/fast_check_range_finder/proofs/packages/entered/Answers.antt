@@ -1,7 +1,8 @@
 use Rattle.std.proofs.Common.{◌∙◌}
 use Rattle.std.proofs.lemmas.Iterator.Adapters.{YieldsList-from_vec}
 use Rattle.std.proofs.lemmas.Iterator.Consumers.{YieldsList-so_far, YieldsList-turn}
-use Rattle.fast_check_range_finder.specs.Packages.{Entered, entered_nv}
+use Rattle.fast_check_range_finder.specs.Finder.{entered_nv}
+use Rattle.fast_check_range_finder.specs.Packages.{Entered}
 use Rattle.fast_check_range_finder.proofs.Collected.{entered_none, not_before}
 use Rattle.fast_check_range_finder.proofs.packages.entered.Goals as goal
 

@@ -1,5 +1,7 @@
 use Rattle.std.proofs.Common.{map}
-use Rattle.fast_check_range_finder.specs.Packages.{AreApart, IsEntered, entered_nv}
+use Rattle.fast_check_range_finder.specs.Finder.{entered_nv}
+use Rattle.fast_check_range_finder.specs.Once.{AreApart}
+use Rattle.fast_check_range_finder.specs.Packages.{IsEntered}
 use Rattle.fast_check_range_finder.proofs.packages.entered.Given as goal
 
 abbrev pub invariant-loop-nv : goal.invariant-loop-nv

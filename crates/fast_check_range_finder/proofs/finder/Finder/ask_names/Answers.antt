@@ -33,7 +33,7 @@ returns-in_ok-push c g r sound =
     (sym names)
     (names_wait (map nv_of f.packages) f.entered f.modules.entries (map seen_at f.symbols.items) p url d e (handled f.handled)
     (handled c.ask_names.new.modules) (map names_seen f.names.items) adds))
-    refl (record { modules = sound.modules; symbols = sound.symbols; entered = sound.entered })
+    refl (record { modules = sound.modules; symbols = sound.symbols; once = sound.once })
 
 pub returns-in_default : goal.returns-in_default
 returns-in_default c g r sound =
@@ -48,4 +48,4 @@ returns-in_default c g r sound =
     names_goes g r f sound p url c.args.names b
     (names_asked (map nv_of f.packages) f.entered f.modules.entries (map seen_at f.symbols.items) p url d (handled f.handled)
     (handled c.ask_names.new.modules) (map names_seen f.names.items) adds)
-    refl (record { modules = sound.modules; symbols = sound.symbols; entered = sound.entered })
+    refl (record { modules = sound.modules; symbols = sound.symbols; once = sound.once })

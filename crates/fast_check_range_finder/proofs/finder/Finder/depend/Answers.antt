@@ -25,5 +25,5 @@ returns c g r sound =
           (yields_by mid.entrances.items c.insert.new.self.keys mid.modules.entries mid.untyped.items) asked.found
           (joins_right ys _ _ (flat_map entered_yields mid.entrances.items)
           (joins_left ys (map depends mid.dependencies.keys) (map depends c.insert.new.self.keys) _ found));
-      sound = record { modules = asked.sound.modules; symbols = asked.sound.symbols; entered = asked.sound.entered };
+      sound = record { modules = asked.sound.modules; symbols = asked.sound.symbols; once = asked.sound.once };
     }

@@ -1,0 +1,51 @@
+-- What is asked of a file or a module, by the package that it belongs to.
+use Rattle.std.proofs.Common.{◌≡◌, sym, subst, Bool, true, false, cond, List, [], ◌∷◌, Option, Some, None}
+use Rattle.fast_check_packages.specs.Package.{Nv}
+use Rattle.fast_check_graph.specs.declared.graph.ModuleGraph.{ModuleGraph}
+use Rattle.fast_check_graph.specs.declared.root_symbol.RootSymbol.{RootSymbol}
+use Rattle.fast_check_demands.specs.Rules.{each_of}
+use Rattle.fast_check_findings.specs.Yields.{dependency}
+use Rattle.fast_check_worklists.specs.Demands.{Text, Wanted, same_nv, Want, to_package, to_module}
+use Rattle.fast_check_sources.specs.Wants.{file_at, behind}
+use Rattle.fast_check_range_finder.specs.declared.finder.Finder.{Finder}
+use Rattle.fast_check_range_finder.specs.Finder.{IsSound, Goes}
+use Rattle.fast_check_range_finder.specs.Yields.{dependencies}
+use Rattle.fast_check_range_finder.proofs.Steps.{goes_nowhere}
+
+module _ (g : ModuleGraph) (r : RootSymbol) (nv : Nv) where
+  -- what is asked, with the packages among it as dependencies
+  abbrev pub AsksFor : List Want → Finder → Finder → Type 0
+  AsksFor ws a b = Goes g r ws (dependencies nv ws) a b
+
+  -- what resolves to nothing asks for nothing
+  pub asks_none : {X : Type 0} (h : X → List Want) (o : Option X) (f : Finder) → IsSound g r f → o ≡ None → AsksFor (each_of h o) f f
+  asks_none {X} h o f sound e = subst (λ (x : Option X). AsksFor (each_of h x) f f) (sym e) (goes_nowhere g r f sound)
+
+  -- and what resolves to one asks for what that one asks for
+  pub asks_some : {X : Type 0} (h : X → List Want) (o : Option X) (x : X) (a b : Finder) → o ≡ Some x → AsksFor (h x) a b → AsksFor (each_of h o) a b
+  asks_some {X} h o x a b e goes = subst (λ (y : Option X). AsksFor (each_of h y) a b) (sym e) goes
+
+  module _ (t : Text) (w : Wanted) (o : Option Nv) where
+    pub file_none : (f : Finder) → IsSound g r f → o ≡ None → AsksFor (file_at nv t w o) f f
+    file_none f sound e = subst (λ (x : Option Nv). AsksFor (file_at nv t w x) f f) (sym e) (goes_nowhere g r f sound)
+
+    pub behind_none : (f : Finder) → IsSound g r f → o ≡ None → AsksFor (behind nv t w o) f f
+    behind_none f sound e = subst (λ (x : Option Nv). AsksFor (behind nv t w x) f f) (sym e) (goes_nowhere g r f sound)
+
+    module _ (p : Nv) (a b : Finder) (e : o ≡ Some p) where
+      pub file_same : same_nv nv p ≡ true → Goes g r (to_module p t w ∷ []) [] a b → AsksFor (file_at nv t w o) a b
+      file_same s goes = subst (λ (x : Option Nv). AsksFor (file_at nv t w x) a b) (sym e)
+          (subst (λ (x : Bool). AsksFor (cond x (to_module p t w ∷ []) (to_package p ∷ [])) a b) (sym s) goes)
+
+      pub file_other : same_nv nv p ≡ false → Goes g r (to_package p ∷ []) (dependency nv p ∷ []) a b → AsksFor (file_at nv t w o) a b
+      file_other s goes = subst (λ (x : Option Nv). AsksFor (file_at nv t w x) a b) (sym e)
+          (subst (λ (x : Bool). AsksFor (cond x (to_module p t w ∷ []) (to_package p ∷ [])) a b) (sym s) goes)
+
+      pub behind_same : same_nv nv p ≡ true → Goes g r (to_module p t w ∷ []) [] a b → AsksFor (behind nv t w o) a b
+      behind_same s goes = subst (λ (x : Option Nv). AsksFor (behind nv t w x) a b) (sym e)
+          (subst (λ (x : Bool). AsksFor (to_module p t w ∷ cond x [] (to_package p ∷ [])) a b) (sym s) goes)
+
+      pub behind_other : same_nv nv p ≡ false → Goes g r (to_module p t w ∷ to_package p ∷ []) (dependency nv p ∷ []) a b →
+          AsksFor (behind nv t w o) a b
+      behind_other s goes = subst (λ (x : Option Nv). AsksFor (behind nv t w x) a b) (sym e)
+          (subst (λ (x : Bool). AsksFor (to_module p t w ∷ cond x [] (to_package p ∷ [])) a b) (sym s) goes)

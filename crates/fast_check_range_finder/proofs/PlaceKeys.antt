@@ -1,0 +1,60 @@
+-- Places are told by package and text.
+use Rattle.std.proofs.Common.{◌≡◌, ◌∙◌, sym, ap, refl, ℕ, zero, suc, ◌+◌, ◌<◌, Bool, true, false, not, cond, ◌&&◌, List, [], ◌∷◌, ◌++◌, Option, Some, None}
+use Rattle.std.proofs.Common.{slice_get, position, length, is_some, arith}
+use Rattle.std.specs.Prelude.{nat_lt}
+use Rattle.std.specs.List.{position_or_len}
+use Rattle.std.specs.Map.{keys_of}
+use Rattle.std.proofs.lemmas.Bool.{false≢true, ltb-true}
+use Rattle.std.specs.Str.{bytes_eq}
+use Rattle.url.specs.Parts.{serialize}
+use Rattle.fast_check_packages.specs.Package.{nv_of}
+use Rattle.fast_check_packages.specs.PackageOrder.{nv_ties}
+use Rattle.fast_check_worklists.specs.Demands.{same_nv}
+use Rattle.fast_check_range_finder.specs.declared.demand.Place.{Place}
+use Rattle.fast_check_range_finder.specs.contracts.demand.PlacePartialEq.TheImpl as place_eq
+use Rattle.fast_check_range_finder.proofs.Places.{no_entry, some_entry}
+use Rattle.fast_check_range_finder.proofs.SymbolsAsked.{TellsPlaces}
+
+pub tells_places : TellsPlaces place_eq.eq-value.it
+tells_places a b = ap (λ (x : Bool). x && bytes_eq (serialize a.specifier.now) (serialize b.specifier.now)) (nv_ties a.package b.package)
+
+-- the entry that a search for a key finds
+
+onward : {X : Type 0} (xs : List X) (x : X) (n : ℕ) → slice_get (x ∷ xs) (1 + n) ≡ slice_get xs n
+onward xs x n = let e : 1 + n ≡ suc n = omega arith in ap (slice_get (x ∷ xs)) e
+
+module _ {K X : Type 0} (t : K → Bool) where
+  found_at : (es : List (K × X)) (i : ℕ) → position_or_len t (keys_of es) ≡ i → i < length es → (x : K × X) × (slice_get es i ≡ Some x) × (t x.0 ≡ true)
+  found_at [] i e h = absurd (omega (arith, h))
+  found_at (x ∷ xs) i e h = by (t x.0) refl e
+    where
+      by : (b : Bool) → t x.0 ≡ b → cond (not b) (1 + position_or_len t (keys_of xs)) 0 ≡ i →
+          (y : K × X) × (slice_get (x ∷ xs) i ≡ Some y) × (t y.0 ≡ true)
+      by true k is = (x, ap (slice_get (x ∷ xs)) (sym is), k)
+      by false k is =
+          let r = found_at xs (position_or_len t (keys_of xs)) refl (omega (arith, h, is)) in
+          (r.0, ap (slice_get (x ∷ xs)) (sym is) ∙ (onward xs x (position_or_len t (keys_of xs)) ∙ r.1), r.2)
+
+  pub found_place : (es : List (K × X)) (i : ℕ) → position t (keys_of es) ≡ Some i → (x : K × X) × (slice_get es i ≡ Some x) × (t x.0 ≡ true)
+  found_place es i e = by (nat_lt n (length (keys_of es))) refl e
+    where
+      n : ℕ
+      n = position_or_len t (keys_of es)
+
+      keys_length : (es : List (K × X)) → length (keys_of es) ≡ length es
+      keys_length [] = refl
+      keys_length (x ∷ xs) = ap suc (keys_length xs)
+
+      by : (b : Bool) → nat_lt n (length (keys_of es)) ≡ b → cond b (Some n) None ≡ Some i →
+          (x : K × X) × (slice_get es i ≡ Some x) × (t x.0 ≡ true)
+      by false k is = absurd (no_entry i is)
+      by true k is = let same : n ≡ i = some_entry n i is in let l = keys_length es in let lt = ltb-true n (length (keys_of es)) k in
+          found_at es i same (omega (arith, l, lt, same))
+
+pub get_last : {X : Type 0} (xs : List X) (x : X) → slice_get (xs ++ x ∷ []) (length xs) ≡ Some x
+get_last [] x = refl
+get_last (y ∷ ys) x = get_last ys x
+
+pub none_from : {X : Type 0} (o : Option X) → is_some o ≡ false → o ≡ None
+none_from None h = refl
+none_from (Some x) h = absurd (false≢true (sym h))

@@ -1,0 +1,36 @@
+use Rattle.std.proofs.Common.{◌≡◌, ◌∙◌, sym, ap, [], ◌∷◌, Option, Some, None, option_map}
+use Rattle.std.proofs.lemmas.Result.{on_ok_weaker}
+use Rattle.url.specs.Parts.{serialize}
+use Rattle.fast_check_packages.specs.Package.{Nv, nv_of}
+use Rattle.fast_check_findings.specs.Yields.{dependency}
+use Rattle.fast_check_name_demands.specs.Files.{names_of}
+use Rattle.fast_check_worklists.specs.Demands.{asked_by, to_package, to_module}
+use Rattle.fast_check_sources.specs.Sources.{known}
+use Rattle.fast_check_range_finder.proofs.Owners.{behind_none, behind_other}
+use Rattle.fast_check_range_finder.proofs.Steps.{goes_then}
+use Rattle.fast_check_range_finder.proofs.finder.Finder.ask_behind.Goals as goal
+
+pub returns-in-None : goal.returns-in-None
+returns-in-None g c sound =
+    let m = goal.JsrUrlProvider-dyn g c.args.provider.now in
+    let k = known c.args.sources (m.url_of c.args.provider.now.1) (m.nv_at c.args.provider.now.1) in
+    let t = serialize c.args.url.now in
+    behind_none k.graph k.root_symbol (nv_of c.args.nv.now) t (asked_by (names_of c.args.names)) (k.owner t) c.args.self.now sound
+    (sym c.in_ok-owner_of.ensures ∙ ap (option_map nv_of) c.in-None.is)
+
+pub returns-else-is_same_package : goal.returns-else-is_same_package
+returns-else-is_same_package g c =
+    let m = goal.JsrUrlProvider-dyn g c.args.provider.now in
+    let k = known c.args.sources (m.url_of c.args.provider.now.1) (m.nv_at c.args.provider.now.1) in
+    let t = serialize c.args.url.now in
+    let w = asked_by (names_of c.args.names) in
+    let nv = nv_of c.args.nv.now in
+    let p = nv_of c.in-Some.owner in
+    on_ok_weaker c.depend.result
+    (λ next sound.
+    let first = c.in_ok-ask_names.ensures k.graph k.root_symbol sound in
+    behind_other k.graph k.root_symbol nv t w (k.owner t) p c.args.self.now c.depend.new.self
+    (sym c.in_ok-owner_of.ensures ∙ ap (option_map nv_of) c.in-Some.is) (sym c.is_same_package.ensures ∙ c.if-is_same_package.false)
+    (goes_then k.graph k.root_symbol (to_module p t w ∷ []) (to_package p ∷ []) [] (dependency nv p ∷ []) c.args.self.now c.ask_names.new.self
+    c.depend.new.self first (next k.graph k.root_symbol first.sound)))
+    c.depend.ensures

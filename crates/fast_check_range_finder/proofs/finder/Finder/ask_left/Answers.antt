@@ -1,0 +1,24 @@
+use Rattle.std.proofs.Common.{◌≡◌, ◌∙◌, sym, ap, subst}
+use Rattle.std.specs.Option.{option_copied}
+use Rattle.url.specs.Parts.{Parts, serialize}
+use Rattle.fast_check_packages.specs.Package.{nv_of}
+use Rattle.fast_check_graph.specs.Graph.{resolved_to}
+use Rattle.fast_check_lattice.specs.Imports.{names_but_default}
+use Rattle.fast_check_traces.specs.declared.list.ModuleWant.{ModuleWant}
+use Rattle.fast_check_traces.specs.Wants.{want_of}
+use Rattle.fast_check_worklists.specs.Demands.{asked_by}
+use Rattle.fast_check_sources.specs.Sources.{known, traced_as}
+use Rattle.fast_check_sources.specs.Wants.{behind, resolved, left_wants}
+use Rattle.fast_check_range_finder.proofs.Owners.{AsksFor, asks_none}
+use Rattle.fast_check_range_finder.proofs.finder.Finder.ask_left.Goals as goal
+
+pub returns-in-None : goal.returns-in-None
+returns-in-None g c sound =
+    let m = goal.JsrUrlProvider-dyn g c.args.provider.now in
+    let k = known c.args.sources (m.url_of c.args.provider.now.1) (m.nv_at c.args.provider.now.1) in
+    let nv = nv_of c.args.nv.now in
+    subst (λ (w : ModuleWant). AsksFor k.graph k.root_symbol nv (left_wants k nv (traced_as k c.args.info.now) (want_of w)) c.args.self.now c.args.self.now)
+    (sym c.in-ReExported.is)
+    (asks_none k.graph k.root_symbol nv (λ (url : Parts). behind nv (serialize url) (asked_by names_but_default) (k.owner (serialize url)))
+    (resolved (traced_as k c.args.info.now) c.in-ReExported.text.now) c.args.self.now sound
+    (ap (resolved_to k.graph c.in-ReExported.text.now) (sym c.specifier.ensures) ∙ (sym c.resolve_dependency.ensures ∙ ap option_copied c.in-None.is)))

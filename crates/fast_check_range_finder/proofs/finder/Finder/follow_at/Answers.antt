@@ -1,0 +1,44 @@
+use Rattle.std.proofs.Common.{◌≡◌, ◌∙◌, sym, ap, refl, subst, Option, Some, List, ◌++◌, map}
+use Rattle.std.specs.Prelude.{slice_get}
+use Rattle.std.proofs.lemmas.Result.{IfOk-weaker}
+use Rattle.indexmap.specs.IndexMap.{with_value_at}
+use Rattle.fast_check_demands.specs.Demands.{Demand as SymbolDemand, demand_of}
+use Rattle.fast_check_demands.specs.Rules.{names}
+use Rattle.fast_check_demands.specs.Yields.{ranges, implementations, faults}
+use Rattle.fast_check_modules.specs.symbols.Tables.{Tables}
+use Rattle.fast_check_name_demands.specs.Files.{FileDemand, files}
+use Rattle.fast_check_traces.specs.Modules.{tables_in, own_tables}
+use Rattle.fast_check_worklists.specs.Demands.{to_symbol}
+use Rattle.fast_check_worklists.proofs.Maps.{some_is}
+use Rattle.fast_check_range_finder.specs.declared.finder.Finder.{Finder}
+use Rattle.fast_check_range_finder.specs.declared.finder.FollowedModule.{FollowedModule}
+use Rattle.fast_check_range_finder.specs.contracts.demand.PlacePartialEq.TheImpl as place_eq
+use Rattle.fast_check_range_finder.specs.Finder.{Followed, place_nv, traced_in, Goes}
+use Rattle.fast_check_range_finder.specs.Rules.{own_text}
+use Rattle.fast_check_range_finder.specs.Yields.{public_at, implementing_at, faults_at}
+use Rattle.fast_check_range_finder.proofs.PlaceKeys.{tells_places}
+use Rattle.fast_check_range_finder.proofs.Within.{get_value, symbol_within}
+use Rattle.fast_check_range_finder.proofs.finder.Finder.follow_at.Goals as goal
+
+pub returns : goal.returns
+returns c = IfOk-weaker c.files_of.result _ _
+    (λ out is g r e here sound.
+    let f = c.args.self.now in
+    let s = demand_of c.args.at.demand in
+    let x = c.in-Some.followed.now in
+    let m = c.follow_in.new.followed in
+    let b : Finder = record f { modules = with_value_at f.modules c.args.at.place m; symbols = c.follow_in.new.symbols } in
+    let same : e.1 ≡ x = some_is e.1 x (sym (get_value f.modules.entries c.args.at.place e here) ∙ sym c.in-Some.ensures.value) in
+    let here_x : slice_get f.modules.entries c.args.at.place ≡ Some (e.0, x) = here ∙ ap (λ (y : FollowedModule). Some (e.0, y)) same in
+    let asks = c.in_ok-follow_in.ensures.asks in
+    subst (λ (y : FollowedModule). let t = traced_in g r y.found.info.now in
+    (out ≡ files (own_tables t) s) × Goes g r (map (to_symbol (place_nv e) (own_text t)) (names (own_tables t) s))
+    (public_at (place_nv e) t (ranges (own_tables t) s) ++ (implementing_at (place_nv e) t (implementations (own_tables t) s)
+    ++ faults_at (place_nv e) t (faults (own_tables t) s))) f b) (sym same)
+    (is ∙ ap (λ (t : Tables). files t s) c.tables_of.ensures,
+    symbol_within g r f b sound c.args.at.place (e.0, x) here_x m
+    (record { modules = refl; packages = refl; entered = refl; handled = refl; names = refl; entrances = refl; dependencies = refl; untyped = refl })
+    place_eq.eq-value.it tells_places c.get_index_mut.ensures.unique (ap (λ i. i.now) c.in_ok-follow_in.ensures.info) s asks.0 asks.1 asks.2
+    c.in_ok-follow_in.ensures.ranges c.in_ok-follow_in.ensures.implementations c.in_ok-follow_in.ensures.faults c.in_ok-follow_in.ensures.index
+    c.in_ok-follow_in.ensures.shows_all))
+    c.files_of.ensures

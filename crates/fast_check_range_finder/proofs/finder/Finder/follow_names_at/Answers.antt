@@ -1,0 +1,34 @@
+use Rattle.std.proofs.Common.{◌≡◌, ◌∙◌, sym, ap, refl, subst, Option, Some, List, map}
+use Rattle.std.specs.Prelude.{slice_get}
+use Rattle.std.proofs.lemmas.Result.{IfOk-weaker}
+use Rattle.indexmap.specs.IndexMap.{with_value_at}
+use Rattle.fast_check_name_demands.specs.Files.{names_of}
+use Rattle.fast_check_traces.specs.Modules.{own_tables}
+use Rattle.fast_check_traces.specs.Roots.{roots}
+use Rattle.fast_check_traces.specs.Wants.{module_wants, re_export_ranges}
+use Rattle.fast_check_worklists.specs.Demands.{to_symbol}
+use Rattle.fast_check_worklists.proofs.Maps.{some_is}
+use Rattle.fast_check_range_finder.specs.declared.finder.Finder.{Finder}
+use Rattle.fast_check_range_finder.specs.declared.finder.FollowedModule.{FollowedModule}
+use Rattle.fast_check_range_finder.specs.contracts.demand.PlacePartialEq.TheImpl as place_eq
+use Rattle.fast_check_range_finder.specs.Finder.{Followed, place_nv, traced_in, Goes}
+use Rattle.fast_check_range_finder.specs.Rules.{own_text}
+use Rattle.fast_check_range_finder.specs.Yields.{public_at}
+use Rattle.fast_check_range_finder.proofs.PlaceKeys.{tells_places}
+use Rattle.fast_check_range_finder.proofs.Within.{get_value, value_in, names_within}
+use Rattle.fast_check_range_finder.proofs.finder.Finder.follow_names_at.Goals as goal
+
+pub follow_names_in-requires-clause-index : goal.follow_names_in-requires-clause-index
+follow_names_in-requires-clause-index c = ?
+
+pub returns : goal.returns
+returns c = IfOk-weaker c.follow_names_in.result _ _
+    (λ out is e here.
+    let f = c.args.self.now in
+    let g = c.args.sources.graph.now in
+    let r = c.args.sources.root_symbol.now in
+    let d = names_of c.args.names in
+    let x = c.in-Some.followed.now in
+    let m = c.follow_names_in.new.followed in
+    ?)
+    c.follow_names_in.ensures.wants
