@@ -28,6 +28,9 @@ pub mod Followed
 pub mod Placed
 pub mod Loop
 pub mod Whole
+pub mod Noted
+pub mod Entered
+pub mod Taken
 pub mod Owners
 pub mod PlaceKeys
 pub mod Within

@@ -1,31 +1,72 @@
 -- The loop from its begin to its end.
-use Rattle.std.proofs.Common.{◌≡◌, sym, subst, ℕ, ◌<◌, Bool, true, false, List, [], ◌∷◌, ◌++◌}
+use Rattle.std.proofs.Common.{◌≡◌, sym, refl, subst, ℕ, ◌<◌, Bool, true, false, List, [], ◌∷◌, ◌++◌, map, ⊎_elim}
 use Rattle.std.specs.List.{Contains}
 use Rattle.fast_check_packages.specs.Package.{Nv}
 use Rattle.fast_check_packages.specs.declared.package.PackageNv.{PackageNv}
 use Rattle.fast_check_findings.specs.declared.found.FoundPackage.{FoundPackage}
 use Rattle.fast_check_findings.specs.Found.{found_yields}
 use Rattle.fast_check_findings.specs.Yields.{Yield}
-use Rattle.fast_check_worklists.specs.Demands.{Demand}
+use Rattle.fast_check_graph.specs.declared.graph.ModuleGraph.{ModuleGraph}
+use Rattle.fast_check_graph.specs.declared.root_symbol.RootSymbol.{RootSymbol}
+use Rattle.fast_check_demands.proofs.Elements.{in_map, of_map}
+use Rattle.std.proofs.lemmas.Bool.{false≢true}
+use Rattle.fast_check_worklists.specs.Demands.{same_nv, Demand, of_package, of_module, of_symbol, to_package}
+use Rattle.fast_check_worklists.proofs.Maps.{first_in, none_in}
 use Rattle.fast_check_sources.specs.Sources.{Known}
 use Rattle.fast_check_range_finder.specs.declared.finder.Finder.{Finder}
-use Rattle.fast_check_range_finder.specs.Account.{Account, HasHomes, IsAccount, IsYield}
-use Rattle.fast_check_range_finder.specs.Finder.{search_of, yields_in, IsSound, Begins, Turns}
+use Rattle.fast_check_range_finder.specs.Account.{Account, is_package, Chained, HasHomes, IsAccount, IsYield}
+use Rattle.fast_check_range_finder.specs.Finder.{search_of, yields_in, IsSound, Goes, Begins, Turns}
+use Rattle.fast_check_range_finder.specs.Search.{Search, IsFresh}
 use Rattle.fast_check_range_finder.specs.Measure.{Universe, IsUniverse, left}
 use Rattle.fast_check_range_finder.specs.Refusals.{JoinAll}
 use Rattle.fast_check_range_finder.specs.Rules.{world}
-use Rattle.fast_check_range_finder.specs.Turn.{AreSame, IsOnTheWay}
+use Rattle.fast_check_range_finder.specs.Turn.{AreSame, members, IsKept, IsOnTheWay}
 use Rattle.fast_check_range_finder.specs.Yields.{gives}
 use Rattle.fast_check_range_finder.proofs.Homed.{IsHomed, homed_begun, homed_turned, homed_ended}
+use Rattle.fast_check_range_finder.proofs.Kept.{nv_itself}
+use Rattle.fast_check_range_finder.proofs.Lists.{any_some, any_from}
 use Rattle.fast_check_range_finder.proofs.Once.{same_yield}
+use Rattle.fast_check_range_finder.proofs.Places.{nv_is}
 use Rattle.fast_check_range_finder.proofs.Refused.{found_join, all_join}
 use Rattle.fast_check_range_finder.proofs.Turns.{begun, turned, falls, ended}
+
+-- each package that was asked for is chained
+module _ (k : Known) (roots : List Nv) (done : List Demand) (s : Search) (kept : IsKept (world k) roots done s) where
+  by_demand : (p : Nv) (d : Demand) → is_package p d ≡ true → Chained (world k) roots d → Chained (world k) roots (of_package p)
+  by_demand p (of_package q) h c = subst (λ (x : Nv). Chained (world k) roots (of_package x)) (sym (nv_is p q h)) c
+  by_demand p (of_module q t d) h c = absurd (false≢true h)
+  by_demand p (of_symbol q t d) h c = absurd (false≢true h)
+
+  pub packages_chained : (p : Nv) → Contains s.packages p → Chained (world k) roots (of_package p)
+  packages_chained p c =
+      let m = any_some (is_package p) (members done s) (kept.packages p (any_from (same_nv p) s.packages p c (nv_itself p))) in
+      by_demand p m.0 m.2 (kept.chained m.0 m.1)
 
 -- these demands were followed, and what is kept is right
 pub record IsOn (k : Known) (roots : List Nv) (done : List Demand) (f : Finder) : Type 0 where
   pub way : IsOnTheWay (world k) (gives k) roots done (search_of f) (yields_in f)
   pub homed : IsHomed done (search_of f)
   pub sound : IsSound k.graph k.root_symbol f
+
+empty_from : {X : Type 0} (xs : List X) → ((x : X) → Contains xs x → ⊥) → xs ≡ []
+empty_from [] h = refl
+empty_from (x ∷ xs) h = absurd (h x (first_in x xs))
+
+pub begins_from : (g : ModuleGraph) (r : RootSymbol) (roots : List Nv) (a b : Finder) → IsFresh (search_of a) → yields_in a ≡ [] →
+    Goes g r (map to_package roots) [] a b → Begins g r roots b
+begins_from g r roots a b fresh none goes = record {
+  begun = record {
+    first = search_of a;
+    fresh = fresh;
+    wants = goes.asked;
+    are = λ w c. let o = of_map to_package roots w (goes.are.sound w c) in (o.0, o.1, sym o.2);
+    all = λ p c. goes.are.complete (to_package p) (in_map to_package roots p c);
+    asks = goes.asks;
+  };
+  found = empty_from (yields_in b) (λ y c. ⊎_elim
+      (λ old. none_in y (subst (λ (ys : List Yield). Contains ys y) none old)) (λ new. none_in y new) (goes.found.sound y c));
+  sound = goes.sound;
+}
 
 module _ (k : Known) (roots : List Nv) where
   pub on_begun : (f : Finder) → Begins k.graph k.root_symbol roots f → IsOn k roots [] f

@@ -26,14 +26,17 @@ onward xs x n = let e : 1 + n ≡ suc n = omega arith in ap (slice_get (x ∷ xs
 module _ {K X : Type 0} (t : K → Bool) where
   found_at : (es : List (K × X)) (i : ℕ) → position_or_len t (keys_of es) ≡ i → i < length es → (x : K × X) × (slice_get es i ≡ Some x) × (t x.0 ≡ true)
   found_at [] i e h = absurd (omega (arith, h))
-  found_at (x ∷ xs) i e h = by (t x.0) refl e
+  found_at (x ∷ xs) i e h = by (t x.0) refl e (λ below. found_at xs (position_or_len t (keys_of xs)) refl below)
     where
-      by : (b : Bool) → t x.0 ≡ b → cond (not b) (1 + position_or_len t (keys_of xs)) 0 ≡ i →
+      n : ℕ
+      n = position_or_len t (keys_of xs)
+
+      by : (b : Bool) → t x.0 ≡ b → cond (not b) (1 + n) 0 ≡ i → (n < length xs → (y : K × X) × (slice_get xs n ≡ Some y) × (t y.0 ≡ true)) →
           (y : K × X) × (slice_get (x ∷ xs) i ≡ Some y) × (t y.0 ≡ true)
-      by true k is = (x, ap (slice_get (x ∷ xs)) (sym is), k)
-      by false k is =
-          let r = found_at xs (position_or_len t (keys_of xs)) refl (omega (arith, h, is)) in
-          (r.0, ap (slice_get (x ∷ xs)) (sym is) ∙ (onward xs x (position_or_len t (keys_of xs)) ∙ r.1), r.2)
+      by true k is rest = (x, ap (slice_get (x ∷ xs)) (sym is), k)
+      by false k is rest =
+          let r = rest (omega (arith, h, is)) in
+          (r.0, ap (slice_get (x ∷ xs)) (sym is) ∙ (onward xs x n ∙ r.1), r.2)
 
   pub found_place : (es : List (K × X)) (i : ℕ) → position t (keys_of es) ≡ Some i → (x : K × X) × (slice_get es i ≡ Some x) × (t x.0 ≡ true)
   found_place es i e = by (nat_lt n (length (keys_of es))) refl e

@@ -33,7 +33,7 @@ use Rattle.fast_check_findings.specs.Findings.{placed_yields}
 use Rattle.fast_check_findings.specs.Found.{own_text, source_in, module_yields}
 use Rattle.fast_check_findings.specs.Yields.{Yield, recorded, public, implementing}
 use Rattle.fast_check_worklists.specs.Demands.{Text, same_nv, Demand, of_package, Want}
-use Rattle.fast_check_worklists.proofs.Maps.{first_in, none_in, only_in}
+use Rattle.fast_check_worklists.proofs.Maps.{first_in, none_in, only_in, some_is}
 use Rattle.fast_check_sources.specs.Sources.{named_at}
 use Rattle.fast_check_range_finder.specs.declared.demand.Dependency.{Dependency}
 use Rattle.fast_check_range_finder.specs.declared.demand.NamesAt.{NamesAt}
@@ -92,6 +92,13 @@ module _ (g : ModuleGraph) (r : RootSymbol) (f b : Finder) (sound : IsSound g r 
   IsNew = (b.modules.entries ≡ f.modules.entries ++ m ∷ []) × (m.1.found.info.now ≡ info) × (m.1.asked ≡ []) ×
       (m.1.found.ranges.items ≡ []) × (m.1.found.implementations.items ≡ []) × (m.1.found.faults.items ≡ []) ×
       (m.1.index ≡ None) × (m.1.shows_all ≡ false)
+
+  -- what is kept is of this module
+  pub placed_info : m.1.found.info.now ≡ info
+  placed_info = ⊎_elim
+      (λ same. let own = sound.modules m (get_in f.modules.entries place m (subst (λ (ms : Modules). slice_get ms place ≡ Some m) same placed.here)) in
+      some_is m.1.found.info.now info (sym own.named ∙ (ap (named_at r) placed.text_is ∙ named)))
+      (λ new. new.1) placed.by
 
   module _ (w : IsSameBeside) where
     abbrev state : Modules → Search

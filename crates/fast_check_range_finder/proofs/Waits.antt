@@ -40,7 +40,7 @@ use Rattle.fast_check_range_finder.specs.declared.demand.Dependency.{Dependency}
 use Rattle.fast_check_range_finder.specs.declared.demand.NamesAt.{NamesAt}
 use Rattle.fast_check_range_finder.specs.declared.finder.Finder.{Finder}
 use Rattle.fast_check_range_finder.specs.Search.{Search, IsPut, AsksPackage, IsPackagePut, AddsNames, AsksNames}
-use Rattle.fast_check_range_finder.specs.Finder.{Modules, names_seen, seen_at, entered_nv, depends, search_in, search_of, yields_in, IsSound, Goes}
+use Rattle.fast_check_range_finder.specs.Finder.{Modules, names_seen, seen_at, entered_nv, depends, search_in, search_of, yields_in, IsSound, CanEnter, Goes}
 use Rattle.fast_check_range_finder.proofs.Lists.{put_last, put_left, put_right}
 use Rattle.fast_check_range_finder.proofs.Compared.{key_kept, key_only, key_tied}
 use Rattle.fast_check_range_finder.proofs.Steps.{same_itself, joins_none}
@@ -73,6 +73,14 @@ module _ (entered : ℕ) (handled : List (Parts × ImportedExports)) (names : Li
           (subst (λ (xs : List Demand). IsPut (of_package p) (map of_package (drop entered old)) xs)
           (sym (ap (map of_package) (drop_last entered old p within) ∙ map-append of_package (drop entered old) (p ∷ [])))
           (put_last (of_package p) (map of_package (drop entered old))))
+
+-- another package can be entered as before
+pub package_enters : (f : Finder) (packages : List PackageNv) (p : Nv) → AddsPackage p (map nv_of f.packages) (map nv_of packages) →
+    (nv : Nv) → CanEnter nv f → CanEnter nv (record f { packages = packages })
+package_enters f packages p adds nv can =
+    once_asked p (search_of f) (search_of (record f { packages = packages })) f.entered (map entered_nv f.entrances.items ++ nv ∷ [])
+    (package_asked f.entered (handled f.handled) (map names_seen f.names.items) f.modules.entries (map seen_at f.symbols.items) p
+    (map nv_of f.packages) (map nv_of packages) can.within adds) can
 
 module _ (g : ModuleGraph) (r : RootSymbol) (f : Finder) (packages : List PackageNv) (p : Nv) (sound : IsSound g r f)
     (adds : AddsPackage p (map nv_of f.packages) (map nv_of packages)) where

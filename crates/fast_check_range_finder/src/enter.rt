@@ -1,7 +1,7 @@
 //! A package that is entered.
 
 ghost use Rattle.std.specs.Prelude.{◌∷◌, [], None, map, OnOk, IfErr};
-ghost use Rattle.fast_check_packages.specs.Package.{nv_of};
+ghost use Rattle.fast_check_packages.specs.Package.{Nv as NvSeen, nv_of};
 ghost use Rattle.fast_check_packages.specs.MembersIn.{members_in};
 ghost use Rattle.fast_check_graph.specs.declared.graph.ModuleGraph.{ModuleGraph as ModuleGraphSeen};
 ghost use Rattle.fast_check_graph.specs.declared.root_symbol.RootSymbol.{RootSymbol as RootSymbolSeen};
@@ -14,13 +14,13 @@ ghost use Rattle.fast_check_worklists.specs.Demands.{of_package, to_package};
 ghost use Rattle.fast_check_sources.specs.Sources.{known, with_used};
 ghost use Rattle.fast_check_range_finder.specs.Finder.{IsSound, CanEnter, Goes};
 ghost use Rattle.fast_check_range_finder.specs.Lent.{used_of};
-ghost use Rattle.fast_check_range_finder.specs.Rules.{entry_want, entered_wants, entry_wants, entrance_at, world};
+ghost use Rattle.fast_check_range_finder.specs.Rules.{entry_want, unless_faulty, entered_wants, entry_wants, entrance_at, world};
 ghost use Rattle.fast_check_range_finder.specs.Yields.{entered_yields, entry_yields, gives};
 
 use crate::finder::Finder;
 use fast_check_cache::{FastCheckCache, FastCheckCacheItem, look_up};
 use fast_check_entries::{MemberEntries, entry_faults, entry_points};
-use fast_check_findings::Entrance;
+use fast_check_findings::{Entrance, EntryFault};
 use fast_check_graph::ModuleGraph;
 use fast_check_name_demands::NameDemand;
 use fast_check_packages::{BuildFault, JsrUrlProvider, PackageNv};
@@ -41,8 +41,9 @@ pub struct FinderInput<'a> {
 impl<'a> Finder<'a> {
     /// Asks for packages.
     fn ask_packages(&mut self, packages: &BTreeSet<PackageNv>) -> Result<(), AllocError>
-        ensures { OnOk result ((g : ModuleGraphSeen) (r : RootSymbolSeen) → IsSound g r self.old
+        ensures goes { OnOk result ((g : ModuleGraphSeen) (r : RootSymbolSeen) → IsSound g r self.old
             → Goes g r (map to_package (map nv_of packages.now.keys)) [] self.old self.new) }
+        ensures enters { OnOk result ((nv : NvSeen) → CanEnter nv self.old → CanEnter nv self.new) }
     {
         for on in packages {
             self.ask_package(on)?;
@@ -57,8 +58,9 @@ impl<'a> Finder<'a> {
         nv: &PackageNv,
         entry_points: &BTreeSet<Url>,
     ) -> Result<(), AllocError>
-        ensures { OnOk result ((g : ModuleGraphSeen) (r : RootSymbolSeen) → IsSound g r self.old
+        ensures goes { OnOk result ((g : ModuleGraphSeen) (r : RootSymbolSeen) → IsSound g r self.old
             → Goes g r (map (entry_want (nv_of nv.now)) entry_points.now.keys) [] self.old self.new) }
+        ensures enters { OnOk result ((nv : NvSeen) → CanEnter nv self.old → CanEnter nv self.new) }
     {
         for url in entry_points {
             self.ask_names(alloc, nv, url, NameDemand::All)?;
@@ -83,7 +85,25 @@ impl<'a> Finder<'a> {
         Ok(())
     }
 
-    /// Asks for all names of each entry point, unless something is wrong with one.
+    /// Asks for all names of entry points, unless something is wrong with one.
+    fn ask_unless_faulty(
+        &mut self,
+        alloc: Global,
+        nv: &PackageNv,
+        entry_points: &BTreeSet<Url>,
+        faults: &[(Url, EntryFault)],
+    ) -> Result<(), AllocError>
+        ensures goes { OnOk result ((g : ModuleGraphSeen) (r : RootSymbolSeen) → IsSound g r self.old
+            → Goes g r (unless_faulty faults.now (map (entry_want (nv_of nv.now)) entry_points.now.keys)) [] self.old self.new) }
+        ensures enters { OnOk result ((nv : NvSeen) → CanEnter nv self.old → CanEnter nv self.new) }
+    {
+        match faults.split_first() {
+            None => self.ask_entries(alloc, nv, entry_points),
+            Some(_) => Ok(()),
+        }
+    }
+
+    /// Notes the entry points of a package with what is wrong with them, and asks for all their names, unless something is wrong with one.
     fn enter_at(
         &mut self,
         alloc: Global,
@@ -96,9 +116,7 @@ impl<'a> Finder<'a> {
             (entered_yields graph.now (nv_of nv.now) entry_points.value.keys None) self.old self.new) }
     {
         let faults = entry_faults(alloc, graph, &entry_points)?;
-        if faults.is_empty() {
-            self.ask_entries(alloc, nv, &entry_points)?;
-        }
+        self.ask_unless_faulty(alloc, nv, &entry_points, faults.as_slice())?;
         let package = copy_of(nv)?;
         let entrance = Entrance::Entered {
             entry_points,

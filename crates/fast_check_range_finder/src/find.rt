@@ -1,6 +1,6 @@
 //! The loop.
 
-ghost use Rattle.std.specs.Prelude.{◌<◌, length, map, OnOk, IfOk, IfErr};
+ghost use Rattle.std.specs.Prelude.{◌≡◌, [], map, OnOk, IfOk, IfErr};
 ghost use Rattle.fast_check_packages.specs.Package.{nv_of};
 ghost use Rattle.fast_check_graph.specs.declared.graph.ModuleGraph.{ModuleGraph as ModuleGraphSeen};
 ghost use Rattle.fast_check_graph.specs.declared.root_symbol.RootSymbol.{RootSymbol as RootSymbolSeen};
@@ -10,7 +10,7 @@ ghost use Rattle.fast_check_findings.specs.Found.{found_yields};
 ghost use Rattle.fast_check_entries.specs.Kept.{AreKept};
 ghost use Rattle.fast_check_sources.specs.Sources.{known, with_used};
 ghost use Rattle.fast_check_range_finder.specs.Account.{Account, HasHomes, IsAccount, IsYield};
-ghost use Rattle.fast_check_range_finder.specs.Finder.{IsSound, Begins, Turns, TurnsTo};
+ghost use Rattle.fast_check_range_finder.specs.Finder.{IsSound, Begins, TurnsTo};
 ghost use Rattle.fast_check_range_finder.specs.Lent.{used_of};
 ghost use Rattle.fast_check_range_finder.specs.Refusals.{IsRefusal, IsRefusedOf, JoinAll};
 ghost use Rattle.fast_check_range_finder.specs.Rules.{world};
@@ -38,7 +38,7 @@ fn begin<'a>(alloc: Global, roots: &[PackageNv]) -> Result<Finder<'a>, AllocErro
 }
 
 impl<'a> Finder<'a> {
-    /// Enters the next package.
+    /// Enters the next package, if there is one.
     fn enter_next(
         &mut self,
         alloc: Global,
@@ -46,13 +46,14 @@ impl<'a> Finder<'a> {
         provider: &dyn JsrUrlProvider,
         cache: Option<&dyn FastCheckCache>,
         members: &mut MemberEntries,
-    ) -> Result<(), BuildFault>
-        requires { self.old.entered < length self.old.packages }
+    ) -> Result<bool, BuildFault>
+        requires sound { IsSound input.sources.graph.now input.sources.root_symbol.now self.old }
+        requires no_symbols { self.old.symbols.items ≡ [] }
+        requires no_names { self.old.names.items ≡ [] }
         ensures turned { let i = input.entry in
             let used = used_of cache.entry (λ c. used_item (hash_of c.now i.seed.now) (stored c.now) i.sources.graph.now) in
             let k = with_used used (known i.sources (url_of provider.now) (nv_at provider.now)) in
-            OnOk result (AreKept k.workspace_members members.old → IsSound k.graph k.root_symbol self.old
-            → Turns k self.old self.new) }
+            IfOk result (λ more. AreKept k.workspace_members members.old → TurnsTo k more self.old self.new) }
         ensures kept { let ours = members_in input.entry.sources.workspace_members.now in
             OnOk result (AreKept ours members.old → AreKept ours members.new) }
         ensures refused { let i = input.entry in
@@ -60,9 +61,13 @@ impl<'a> Finder<'a> {
             let k = with_used used (known i.sources (url_of provider.now) (nv_at provider.now)) in
             IfErr result (IsRefusedOf k (map nv_of self.old.packages)) }
     {
+        if self.entered >= self.packages.len() {
+            return Ok(false);
+        }
         let nv = copy_of(self.packages.at(self.entered))?;
         self.entered += 1;
-        self.enter(alloc, input, provider, cache, &nv, members)
+        self.enter(alloc, input, provider, cache, &nv, members)?;
+        Ok(true)
     }
 
     /// Follows a demand, if any waits: those of symbols before names, and names before packages.
@@ -94,11 +99,7 @@ impl<'a> Finder<'a> {
             self.follow_names(alloc, input.sources, provider, at)?;
             return Ok(true);
         }
-        if self.entered >= self.packages.len() {
-            return Ok(false);
-        }
-        self.enter_next(alloc, input, provider, cache, members)?;
-        Ok(true)
+        self.enter_next(alloc, input, provider, cache, members)
     }
 }
 

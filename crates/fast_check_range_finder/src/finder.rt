@@ -2,14 +2,14 @@
 
 ghost use Rattle.std.specs.Prelude.{◌≡◌, [], ◌∷◌, None, false, IfOk, OnOk};
 ghost use Rattle.url.specs.Parts.{serialize};
-ghost use Rattle.fast_check_packages.specs.Package.{nv_of};
+ghost use Rattle.fast_check_packages.specs.Package.{Nv as NvSeen, nv_of};
 ghost use Rattle.fast_check_demands.specs.Demands.{demand_of};
 ghost use Rattle.fast_check_name_demands.specs.Files.{names_of};
 ghost use Rattle.fast_check_findings.specs.Yields.{dependency};
 ghost use Rattle.fast_check_worklists.specs.Demands.{asked_by, to_package, to_module};
 ghost use Rattle.fast_check_graph.specs.declared.graph.ModuleGraph.{ModuleGraph as ModuleGraphSeen};
 ghost use Rattle.fast_check_graph.specs.declared.root_symbol.RootSymbol.{RootSymbol as RootSymbolSeen};
-ghost use Rattle.fast_check_range_finder.specs.Finder.{search_of, yields_in, AsksOne, AsksEach, IsPlaced, IsSound, Goes};
+ghost use Rattle.fast_check_range_finder.specs.Finder.{search_of, yields_in, AsksOne, AsksEach, IsPlaced, IsSound, CanEnter, Goes};
 ghost use Rattle.fast_check_range_finder.specs.Search.{IsFresh};
 
 use crate::asked::AskedSymbols;
@@ -150,8 +150,9 @@ impl<'a> Finder<'a> {
 
     /// Asks for a package. It waits if it is new.
     pub fn ask_package(&mut self, nv: &PackageNv) -> Result<(), AllocError>
-        ensures { OnOk result ((g : ModuleGraphSeen) (r : RootSymbolSeen) → IsSound g r self.old
+        ensures goes { OnOk result ((g : ModuleGraphSeen) (r : RootSymbolSeen) → IsSound g r self.old
             → Goes g r (to_package (nv_of nv.now) ∷ []) [] self.old self.new) }
+        ensures enters { OnOk result ((nv : NvSeen) → CanEnter nv self.old → CanEnter nv self.new) }
     {
         self.packages.add(nv)
     }
@@ -164,8 +165,9 @@ impl<'a> Finder<'a> {
         specifier: &Url,
         names: NameDemand<'a>,
     ) -> Result<(), AllocError>
-        ensures { OnOk result ((g : ModuleGraphSeen) (r : RootSymbolSeen) → IsSound g r self.old → Goes g r (to_module (nv_of owner.now) (serialize specifier.now) (asked_by (names_of names.entry)) ∷ []) []
+        ensures goes { OnOk result ((g : ModuleGraphSeen) (r : RootSymbolSeen) → IsSound g r self.old → Goes g r (to_module (nv_of owner.now) (serialize specifier.now) (asked_by (names_of names.entry)) ∷ []) []
             self.old self.new) }
+        ensures enters { OnOk result ((nv : NvSeen) → CanEnter nv self.old → CanEnter nv self.new) }
     {
         if let Some(names) = ask_names(alloc, &mut self.handled, specifier, names)? {
             self.names.push(NamesAt {

@@ -3,6 +3,7 @@
 ghost use Rattle.std.specs.Prelude.{◌≡◌, ◌++◌, ◌<◌, List, Some, length, map, slice_get, IfOk, IfSome, OnOk};
 ghost use Rattle.url.specs.Parts.{serialize};
 ghost use Rattle.fast_check_packages.specs.Package.{nv_of};
+ghost use Rattle.fast_check_graph.specs.Root.{specifier_of};
 ghost use Rattle.fast_check_graph.specs.declared.graph.ModuleGraph.{ModuleGraph as ModuleGraphSeen};
 ghost use Rattle.fast_check_graph.specs.declared.root_symbol.RootSymbol.{RootSymbol as RootSymbolSeen};
 ghost use Rattle.fast_check_demands.specs.Demands.{Demand as SymbolSeen, demand_of};
@@ -13,8 +14,8 @@ ghost use Rattle.fast_check_traces.specs.Modules.{tables_in, own_tables};
 ghost use Rattle.fast_check_traces.specs.Origins.{IsIndexOf};
 ghost use Rattle.fast_check_traces.specs.Roots.{roots};
 ghost use Rattle.fast_check_traces.specs.Wants.{module_wants, want_of, shown_ranges, re_export_ranges};
-ghost use Rattle.fast_check_worklists.specs.Demands.{Text, asked_by, of_symbol, to_symbol};
-ghost use Rattle.fast_check_sources.specs.Sources.{known, info_at, traced_as};
+ghost use Rattle.fast_check_worklists.specs.Demands.{asked_by, of_symbol, to_symbol};
+ghost use Rattle.fast_check_sources.specs.Sources.{known, named_at, traced_as};
 ghost use Rattle.fast_check_sources.specs.Wants.{file_at, behind, file_wants, left_wants};
 ghost use Rattle.fast_check_range_finder.specs.Finder.{Followed, place_nv, place_text, names_seen, traced_in, AsksEach, AreShown, Shows, IsSound, Goes};
 ghost use Rattle.fast_check_range_finder.specs.Rules.{own_text, world, names_wants};
@@ -311,14 +312,12 @@ impl<'a> Finder<'a> {
         nv: PackageNv,
         names: NameDemand<'a>,
     ) -> Result<(), AllocError>
-        requires { IsSound sources.graph.now sources.root_symbol.now self.old }
+        requires sound { IsSound sources.graph.now sources.root_symbol.now self.old }
+        requires own { named_at sources.root_symbol.now (serialize (specifier_of info.now)) ≡ Some info.now }
         ensures { let k = known sources.entry (url_of provider.now) (nv_at provider.now) in
-            OnOk result ((t : Text) → info_at k.graph k.root_symbol t ≡ Some info.now
-            → let m = traced_as k info.now in let d = names_of names.entry in
+            OnOk result (let m = traced_as k info.now in let d = names_of names.entry in
             Goes k.graph k.root_symbol (names_wants k (nv_of nv) d m) (names_yields k (nv_of nv) d m) self.old self.new) }
     {
-        // Each module is found by its own name.
-        sources.root_symbol.own_names_find();
         let place = place_of(alloc, &mut self.modules, copy_of(&nv)?, info)?;
         let wants = self.follow_names_at(alloc, sources, place, names)?;
         for want in wants.as_slice() {
@@ -345,7 +344,11 @@ impl<'a> Finder<'a> {
             names,
         } = at;
         match info_of(sources.graph, sources.root_symbol, &specifier) {
-            Some(info) => self.follow_module(alloc, sources, provider, info, package, names),
+            Some(info) => {
+                // Each module is found by its own name.
+                sources.root_symbol.own_names_find();
+                self.follow_module(alloc, sources, provider, info, package, names)
+            }
             None => {
                 if is_untyped(sources.graph, &specifier) {
                     self.untyped.push((package, specifier))?;

@@ -28,7 +28,7 @@ returns-else-is_same_package g c =
     let p = nv_of c.in-Some.owner in
     on_ok_weaker c.depend.result
     (λ next sound.
-    let first = c.in_ok-ask_names.ensures k.graph k.root_symbol sound in
+    let first = c.in_ok-ask_names-in-Some.ensures.goes k.graph k.root_symbol sound in
     behind_other k.graph k.root_symbol nv t w (k.owner t) p c.args.self.now c.depend.new.self
     (sym c.in_ok-owner_of.ensures ∙ ap (option_map nv_of) c.in-Some.is) (sym c.is_same_package.ensures ∙ c.if-is_same_package.false)
     (goes_then k.graph k.root_symbol (to_module p t w ∷ []) (to_package p ∷ []) [] (dependency nv p ∷ []) c.args.self.now c.ask_names.new.self

@@ -1,9 +1,9 @@
 use Rattle.std.proofs.Common.{◌≡◌, ◌++◌, List, [], map}
-use Rattle.fast_check_packages.specs.Package.{nv_of}
+use Rattle.fast_check_packages.specs.Package.{Nv, nv_of}
 use Rattle.fast_check_graph.specs.declared.graph.ModuleGraph.{ModuleGraph}
 use Rattle.fast_check_graph.specs.declared.root_symbol.RootSymbol.{RootSymbol}
 use Rattle.fast_check_worklists.specs.Demands.{Want}
-use Rattle.fast_check_range_finder.specs.Finder.{IsSound, Goes}
+use Rattle.fast_check_range_finder.specs.Finder.{IsSound, CanEnter, Goes}
 use Rattle.fast_check_range_finder.specs.Rules.{entry_want}
 use Rattle.fast_check_range_finder.proofs.finder.Finder.ask_entries.Given as goal
 
@@ -12,4 +12,5 @@ invariant-loop-url l = record {
   asked : List Want;
   are : asked ++ map (entry_want (nv_of l.nv)) l.url-iterator ≡ map (entry_want (nv_of l.nv)) l.entry_points.keys;
   goes : (g : ModuleGraph) (r : RootSymbol) → IsSound g r l.fn.self → Goes g r asked [] l.fn.self l.self;
+  enters : (nv : Nv) → CanEnter nv l.fn.self → CanEnter nv l.self;
 }

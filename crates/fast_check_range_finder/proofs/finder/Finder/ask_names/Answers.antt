@@ -13,8 +13,8 @@ use Rattle.fast_check_range_finder.specs.Finder.{names_seen, seen_at, search_in,
 use Rattle.fast_check_range_finder.proofs.Waits.{names_pushed, names_asked, names_wait, names_goes}
 use Rattle.fast_check_range_finder.proofs.finder.Finder.ask_names.Goals as goal
 
-pub returns-in_ok-push : goal.returns-in_ok-push
-returns-in_ok-push c g r sound =
+pub returns-in_ok-push-clause-goes : goal.returns-in_ok-push-clause-goes
+returns-in_ok-push-clause-goes c g r sound =
     let f = c.args.self.now in
     let p = nv_of c.args.owner.now in
     let url = c.args.specifier.now in
@@ -35,8 +35,8 @@ returns-in_ok-push c g r sound =
     (handled c.ask_names.new.modules) (map names_seen f.names.items) adds))
     refl (record { modules = sound.modules; symbols = sound.symbols; once = sound.once })
 
-pub returns-in_default : goal.returns-in_default
-returns-in_default c g r sound =
+pub returns-in_default-clause-goes : goal.returns-in_default-clause-goes
+returns-in_default-clause-goes c g r sound =
     let f = c.args.self.now in
     let p = nv_of c.args.owner.now in
     let url = c.args.specifier.now in

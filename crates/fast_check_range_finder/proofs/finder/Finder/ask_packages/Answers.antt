@@ -1,4 +1,5 @@
-use Rattle.std.proofs.Common.{◌≡◌, ◌∙◌, sym, ap, refl, subst, [], ◌∷◌, ◌++◌, map, List}
+use Rattle.std.proofs.Common.{◌≡◌, ◌∙◌, sym, ap, refl, [], ◌∷◌, ◌++◌, map, List, rules}
+use Rattle.std.proofs.lemmas.List.{append_assoc}
 use Rattle.fast_check_packages.specs.Package.{nv_of}
 use Rattle.fast_check_packages.specs.declared.package.PackageNv.{PackageNv}
 use Rattle.fast_check_worklists.specs.Demands.{to_package}
@@ -6,11 +7,24 @@ use Rattle.fast_check_range_finder.proofs.Steps.{goes_nowhere, goes_then}
 use Rattle.fast_check_range_finder.proofs.finder.Finder.ask_packages.Goals as goal
 
 pub loop-on-init : goal.loop-on-init
-loop-on-init c = record {
-  asked = [];
-  are = ap (λ (ks : List PackageNv). map to_package (map nv_of ks)) c.into_iter-on-iterator.ensures.into_iter_gives;
-  goes = λ g r sound. goes_nowhere g r c.args.self.now sound;
-}
+loop-on-init c =
+    let keys : c.into_iter-on-iterator.result ≡ c.args.packages.now.keys = search rules in
+    record {
+      asked = [];
+      are = ap (λ (ks : List PackageNv). map to_package (map nv_of ks)) keys;
+      goes = λ g r sound. goes_nowhere g r c.args.self.now sound;
+      enters = λ nv can. can;
+    }
 
 pub loop-on-preserved : goal.loop-on-preserved
-loop-on-preserved c = let h = c.in-Some.ensures in let e = c.in-Some.is in let i = c.loop-on.invariant in ?
+loop-on-preserved c =
+    let i = c.loop-on.invariant in
+    let p = to_package (nv_of c.in-Some.on.now) ∷ [] in
+    record {
+      asked = i.asked ++ p;
+      are = append_assoc i.asked p (map to_package (map nv_of c.next.new.self)) ∙
+          (ap (λ (ks : List PackageNv). i.asked ++ map to_package (map nv_of ks)) (sym c.in-Some.ensures.steps) ∙ i.are);
+      goes = λ g r sound. let s = i.goes g r sound in
+          goes_then g r i.asked p [] [] c.args.self.now c.loop-on.self c.ask_package.new.self s (c.in_ok-ask_package.ensures.goes g r s.sound);
+      enters = λ nv can. c.in_ok-ask_package.ensures.enters nv (i.enters nv can);
+    }

@@ -11,7 +11,7 @@ use Rattle.fast_check_range_finder.proofs.finder.Finder.depend.Goals as goal
 
 pub returns : goal.returns
 returns c g r sound =
-    let asked = c.in_ok-ask_package.ensures g r sound in
+    let asked = c.in_ok-ask_package.ensures.goes g r sound in
     let mid = c.ask_package.new.self in
     let new : Dependency = record { «package» = c.in_ok-copy_of.field-0; on = c.args.on } in
     let found = subst (λ (p : Nv). Joins (dependency p (nv_of c.args.on) ∷ []) (map depends mid.dependencies.keys) (map depends c.insert.new.self.keys))

@@ -14,12 +14,15 @@ use Rattle.fast_check_range_finder.specs.contracts.demand.PlacePartialEq.TheImpl
 use Rattle.fast_check_range_finder.specs.Finder.{Followed, place_nv, traced_in, Goes}
 use Rattle.fast_check_range_finder.specs.Rules.{own_text}
 use Rattle.fast_check_range_finder.specs.Yields.{public_at}
+use Rattle.fast_check_range_finder.proofs.Gained.{get_in}
 use Rattle.fast_check_range_finder.proofs.PlaceKeys.{tells_places}
 use Rattle.fast_check_range_finder.proofs.Within.{get_value, value_in, names_within}
 use Rattle.fast_check_range_finder.proofs.finder.Finder.follow_names_at.Goals as goal
 
 pub follow_names_in-requires-clause-index : goal.follow_names_in-requires-clause-index
-follow_names_in-requires-clause-index c = ?
+follow_names_in-requires-clause-index c =
+    let v = value_in c.args.self.now.modules.entries c.args.place c.in-Some.followed.now (sym c.in-Some.ensures.value) in
+    (c.requires.sound.modules (v.0, c.in-Some.followed.now) (get_in c.args.self.now.modules.entries c.args.place (v.0, c.in-Some.followed.now) v.1)).index
 
 pub returns : goal.returns
 returns c = IfOk-weaker c.follow_names_in.result _ _
@@ -30,5 +33,8 @@ returns c = IfOk-weaker c.follow_names_in.result _ _
     let d = names_of c.args.names in
     let x = c.in-Some.followed.now in
     let m = c.follow_names_in.new.followed in
+    let b : Finder = record f { modules = with_value_at f.modules c.args.place m; symbols = c.follow_names_in.new.symbols } in
+    let same : e.1 ≡ x = some_is e.1 x (sym (get_value f.modules.entries c.args.place e here) ∙ sym c.in-Some.ensures.value) in
+    let here_x : slice_get f.modules.entries c.args.place ≡ Some (e.0, x) = here ∙ ap (λ (y : FollowedModule). Some (e.0, y)) same in
     ?)
     c.follow_names_in.ensures.wants

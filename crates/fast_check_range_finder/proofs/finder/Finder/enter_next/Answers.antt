@@ -1,0 +1,60 @@
+use Rattle.std.proofs.Common.{◌≡◌, ◌∙◌, ◌+◌, ◌<◌, sym, ap, refl, subst, [], ◌∷◌, ◌++◌, Some, List, map, length, drop, arith}
+use Rattle.std.specs.Prelude.{slice_get}
+use Rattle.std.specs.List.{flat_map}
+use Rattle.std.proofs.lemmas.List.{length-map, get_or-map, drop_all}
+use Rattle.std.proofs.lemmas.Option.{slice_get_read}
+use Rattle.fast_check_packages.specs.Package.{Nv, nv_of}
+use Rattle.fast_check_packages.specs.declared.package.PackageNv.{PackageNv}
+use Rattle.fast_check_cache.specs.CachedPackages.{used_item}
+use Rattle.fast_check_entries.proofs.Passed.{passed_on}
+use Rattle.fast_check_lattice.specs.Traces.{handled}
+use Rattle.fast_check_worklists.specs.Demands.{Demand, of_package}
+use Rattle.fast_check_sources.specs.Sources.{known, with_used}
+use Rattle.fast_check_range_finder.specs.declared.demand.NamesAt.{NamesAt}
+use Rattle.fast_check_range_finder.specs.declared.demand.SymbolAt.{SymbolAt}
+use Rattle.fast_check_range_finder.specs.declared.finder.Finder.{Finder}
+use Rattle.fast_check_range_finder.specs.Finder.{names_seen, seen_at, entered_nv, places, symbols_at}
+use Rattle.fast_check_range_finder.specs.Lent.{used_of}
+use Rattle.fast_check_range_finder.specs.Refusals.{IsRefusedOf}
+use Rattle.fast_check_range_finder.proofs.Once.{once_passed, once_entered}
+use Rattle.fast_check_range_finder.proofs.Refused.{refused_of}
+use Rattle.fast_check_range_finder.proofs.Taken.{package_taken, turns_by}
+use Rattle.fast_check_range_finder.proofs.finder.Finder.enter_next.Goals as goal
+
+pub returns-in_err-enter-clause-refused : goal.returns-in_err-enter-clause-refused
+returns-in_err-enter-clause-refused g c =
+    let m = goal.JsrUrlProvider-dyn g c.args.provider.now in
+    let used = used_of c.args.cache (λ x. let n = goal.FastCheckCache-dyn g x.now in
+    used_item (n.hash_of x.now.1 c.args.input.seed.now) (n.stored x.now.1) c.args.input.sources.graph.now) in
+    let k = with_used used (known c.args.input.sources (m.url_of c.args.provider.now.1) (m.nv_at c.args.provider.now.1)) in
+    let f = c.in_err-enter.field-0.0 in
+    passed_on c.from_residual-in_err-enter.result f (IsRefusedOf k (map nv_of c.args.self.now.packages)) c.from_residual-in_err-enter.ensures.1
+    (refused_of k c.args.self.now.packages c.args.self.now.entered c.at.result.now (nv_of c.in_ok-nv.nv)
+    (omega (arith, c.if-self-self-len.false, c.len.ensures)) c.at.ensures c.in_ok-nv.ensures f c.in_err-enter.ensures.refused)
+
+pub returns-clause-turned : goal.returns-clause-turned
+returns-clause-turned g c mine =
+    let m = goal.JsrUrlProvider-dyn g c.args.provider.now in
+    let used = used_of c.args.cache (λ x. let n = goal.FastCheckCache-dyn g x.now in
+    used_item (n.hash_of x.now.1 c.args.input.seed.now) (n.stored x.now.1) c.args.input.sources.graph.now) in
+    let k = with_used used (known c.args.input.sources (m.url_of c.args.provider.now.1) (m.nv_at c.args.provider.now.1)) in
+    let f = c.args.self.now in
+    let n = f.entered in
+    let ps = map nv_of f.packages in
+    let nv = nv_of c.in_ok-nv.nv in
+    let mid : Finder = record f { entered = n + 1 } in
+    let below : n < length f.packages = omega (arith, c.if-self-self-len.false, c.len.ensures) in
+    let within : n < length ps = omega (arith, below, length-map f.packages nv_of) in
+    let here : slice_get ps n ≡ Some nv =
+    slice_get_read ps (length ps) n nv refl within
+    (sym (get_or-map nv_of f.packages n c.at.result.now nv below ∙ (ap nv_of (sym c.at.ensures) ∙ sym c.in_ok-nv.ensures))) in
+    let once = c.requires.sound.once in
+    turns_by k (of_package nv) f mid c.enter.new.self
+    (package_taken ps n (handled f.handled) f.modules.entries (map names_seen f.names.items) (map seen_at f.symbols.items) nv here) refl
+    (c.in_ok-enter.ensures.entered mine
+    (record {
+      modules = c.requires.sound.modules;
+      symbols = c.requires.sound.symbols;
+      once = once_passed ps n (map entered_nv f.entrances.items) once within;
+    })
+    (once_entered ps n (map entered_nv f.entrances.items) once nv here))

@@ -1,0 +1,77 @@
+use Rattle.std.proofs.Common.{◌≡◌, ◌∙◌, ◌+◌, sym, ap, refl, subst, [], ◌∷◌, ◌++◌, map, take, List}
+use Rattle.std.specs.List.{flat_map}
+use Rattle.std.proofs.lemmas.List.{take_more, take_all, map-append}
+use Rattle.std.proofs.lemmas.Option.{slice_get_within}
+use Rattle.url.specs.Parts.{serialize}
+use Rattle.fast_check_packages.specs.Package.{Nv, nv_of}
+use Rattle.fast_check_graph.specs.Root.{specifier_of}
+use Rattle.fast_check_name_demands.specs.Files.{names_of}
+use Rattle.fast_check_findings.specs.Yields.{recorded}
+use Rattle.fast_check_traces.specs.Wants.{Want as WantSeen, want_of}
+use Rattle.fast_check_traces.specs.declared.list.ModuleWant.{ModuleWant}
+use Rattle.fast_check_sources.specs.Sources.{known, traced_as}
+use Rattle.fast_check_sources.specs.Wants.{left_wants}
+use Rattle.fast_check_range_finder.specs.declared.finder.Finder.{Finder}
+use Rattle.fast_check_range_finder.specs.Finder.{Goes}
+use Rattle.fast_check_range_finder.proofs.Owners.{AsksFor}
+use Rattle.fast_check_range_finder.proofs.Placed.{placed_info, placed_goes}
+use Rattle.fast_check_range_finder.proofs.Steps.{goes_nowhere, goes_more}
+use Rattle.fast_check_range_finder.proofs.Whole.{names_all}
+use Rattle.fast_check_range_finder.proofs.finder.Finder.follow_module.Goals as goal
+
+pub follow_names_at-requires-clause-within : goal.follow_names_at-requires-clause-within
+follow_names_at-requires-clause-within g c =
+    slice_get_within c.place_of.new.modules.entries c.in_ok-place.place c.in_ok-place.ensures.followed c.in_ok-place.ensures.here
+
+pub follow_names_at-requires-clause-sound : goal.follow_names_at-requires-clause-sound
+follow_names_at-requires-clause-sound g c =
+    let f = c.args.self.now in
+    let b : Finder = record f { modules = c.place_of.new.modules } in
+    (placed_goes c.args.sources.graph.now c.args.sources.root_symbol.now f b c.requires.sound (nv_of c.in_ok-copy_of.field-0) c.args.info.now c.requires.own
+    c.in_ok-place.place c.in_ok-place.ensures
+    (record { packages = refl; entered = refl; handled = refl; names = refl; symbols = refl; entrances = refl; dependencies = refl; untyped = refl })).sound
+
+pub loop-want-init : goal.loop-want-init
+loop-want-init g c sound =
+    let m = goal.JsrUrlProvider-dyn g c.args.provider.now in
+    let k = known c.args.sources (m.url_of c.args.provider.now.1) (m.nv_at c.args.provider.now.1) in
+    goes_nowhere k.graph k.root_symbol c.follow_names_at.new.self sound
+
+pub loop-want-preserved : goal.loop-want-preserved
+loop-want-preserved g c sound =
+    let m = goal.JsrUrlProvider-dyn g c.args.provider.now in
+    let k = known c.args.sources (m.url_of c.args.provider.now.1) (m.nv_at c.args.provider.now.1) in
+    let nv = nv_of c.args.nv in
+    let h = left_wants k nv (traced_as k c.args.info.now) in
+    let xs = c.as_slice-want-items.result.now in
+    let i = c.loop-want.want-index in
+    let x = c.want-item.result in
+    let s = c.loop-want.invariant sound in
+    let more : map want_of (take (i + 1) xs) ≡ map want_of (take i xs) ++ want_of x ∷ [] =
+    ap (map want_of) (take_more xs i x c.loop-want-test.true ∙ ap (λ (y : ModuleWant). take i xs ++ y ∷ []) (sym c.want-item.is)) ∙
+    map-append want_of (take i xs) (x ∷ []) in
+    subst (λ (ds : List WantSeen). AsksFor k.graph k.root_symbol nv (flat_map h ds) c.follow_names_at.new.self c.ask_left.new.self) (sym more)
+    (goes_more k.graph k.root_symbol h nv (map want_of (take i xs)) (want_of x) c.follow_names_at.new.self c.loop-want.self
+    c.ask_left.new.self s (c.in_ok-ask_left.ensures s.sound))
+
+pub returns : goal.returns
+returns g c =
+    let m = goal.JsrUrlProvider-dyn g c.args.provider.now in
+    let k = known c.args.sources (m.url_of c.args.provider.now.1) (m.nv_at c.args.provider.now.1) in
+    let f = c.args.self.now in
+    let b : Finder = record f { modules = c.place_of.new.modules } in
+    let nv = nv_of c.args.nv in
+    let info = c.args.info.now in
+    let h = left_wants k nv (traced_as k info) in
+    let xs = c.as_slice-want-items.result.now in
+    let p = c.in_ok-place.ensures in
+    let first = placed_goes k.graph k.root_symbol f b c.requires.sound (nv_of c.in_ok-copy_of.field-0) info c.requires.own c.in_ok-place.place p
+    (record { packages = refl; entered = refl; handled = refl; names = refl; symbols = refl; entrances = refl; dependencies = refl; untyped = refl }) in
+    let here = c.in_ok-wants.ensures p.followed p.here in
+    names_all k b c.follow_names_at.new.self c.loop-want.self f p.followed (names_of c.args.names) nv info (map want_of xs)
+    (p.nv_is ∙ c.in_ok-copy_of.ensures)
+    (placed_info k.graph k.root_symbol f b c.requires.sound (nv_of c.in_ok-copy_of.field-0) info c.requires.own c.in_ok-place.place p)
+    (c.as_slice-want-items.ensures ∙ here.0)
+    (subst (λ (q : Nv). Goes k.graph k.root_symbol [] (recorded q (serialize (specifier_of info)) ∷ []) f b) c.in_ok-copy_of.ensures first) here.1
+    (subst (λ (ds : List ModuleWant). AsksFor k.graph k.root_symbol nv (flat_map h (map want_of ds)) c.follow_names_at.new.self c.loop-want.self)
+    (take_all c.loop-want.want-index xs c.loop-want-test.false) (c.loop-want.invariant here.1.sound))
