@@ -15,7 +15,7 @@ use Rattle.fast_check_worklists.proofs.Maps.{first_in, none_in}
 use Rattle.fast_check_sources.specs.Sources.{Known}
 use Rattle.fast_check_range_finder.specs.declared.finder.Finder.{Finder}
 use Rattle.fast_check_range_finder.specs.Account.{Account, is_package, Chained, HasHomes, IsAccount, IsYield}
-use Rattle.fast_check_range_finder.specs.Finder.{search_of, yields_in, IsSound, Goes, Begins, Turns}
+use Rattle.fast_check_range_finder.specs.Finder.{search_of, yields_in, IsSound, Goes, Begins, Turns, Rests}
 use Rattle.fast_check_range_finder.specs.Search.{Search, IsFresh}
 use Rattle.fast_check_range_finder.specs.Measure.{Universe, IsUniverse, left}
 use Rattle.fast_check_range_finder.specs.Refusals.{JoinAll}
@@ -89,12 +89,15 @@ module _ (k : Known) (roots : List Nv) where
   on_falls u is done a b on t =
       falls (world k) (gives k) roots done (search_of a) (search_of b) (yields_in a) (yields_in b) on.way t.turn u is
 
-  pub on_ended : (done : List Demand) (f : Finder) → IsOn k roots done f → (search_of f).waiting ≡ [] → (found : List (PackageNv × FoundPackage)) →
+  pub on_ended : (done : List Demand) (a f : Finder) → IsOn k roots done a → Rests k a f → (found : List (PackageNv × FoundPackage)) →
       AreSame (found_yields found) (yields_in f) →
       (account : Account) × IsAccount (world k) roots account × IsYield (gives k) account (found_yields found) × JoinAll k account ×
       HasHomes account
-  on_ended done f on none found same =
-      let e = ended (world k) (gives k) roots done (search_of f) (yields_in f) none on.way in
+  on_ended done a f on rests found same =
+      let way = subst (λ (ys : List Yield). IsOnTheWay (world k) (gives k) roots done (search_of f) ys) (sym rests.found)
+      (subst (λ (s : Search). IsOnTheWay (world k) (gives k) roots done s (yields_in a)) (sym rests.search) on.way) in
+      let homed = subst (IsHomed done) (sym rests.search) on.homed in
+      let e = ended (world k) (gives k) roots done (search_of f) (yields_in f) rests.none way in
       let yields = same_yield (gives k) done (found_yields found) (yields_in f) same e.1 in
       (done, e.0, yields, all_join k done (found_yields found) (found_join found) yields,
-      homed_ended k roots done (search_of f) on.way.kept on.homed none)
+      homed_ended k roots done (search_of f) way.kept homed rests.none)

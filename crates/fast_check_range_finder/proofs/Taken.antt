@@ -1,5 +1,5 @@
 -- A demand that waits is taken.
-use Rattle.std.proofs.Common.{◌≡◌, ◌∙◌, sym, ap, refl, subst, ℕ, ◌+◌, ◌<◌, ◌≤◌, zero, suc, List, [], ◌∷◌, ◌++◌, Option, Some, map, length, drop, slice_get, arith}
+use Rattle.std.proofs.Common.{◌≡◌, ◌∙◌, sym, ap, refl, subst, ℕ, ◌+◌, ◌<◌, ◌≤◌, zero, suc, Bool, true, false, List, [], ◌∷◌, ◌++◌, Option, Some, map, length, drop, slice_get, arith}
 use Rattle.std.specs.Prelude.{option_to_list}
 use Rattle.std.specs.List.{flat_map, Contains}
 use Rattle.std.specs.Map.{keys_of}
@@ -14,8 +14,9 @@ use Rattle.fast_check_findings.specs.Yields.{Yield}
 use Rattle.fast_check_worklists.specs.Demands.{Demand, of_package, of_symbol}
 use Rattle.fast_check_sources.specs.Sources.{Known}
 use Rattle.fast_check_range_finder.specs.declared.finder.Finder.{Finder}
-use Rattle.fast_check_range_finder.specs.Search.{IsPut, IsTaken}
-use Rattle.fast_check_range_finder.specs.Finder.{Followed, Modules, place_nv, place_text, place_of, places, symbol_at, symbols_at, search_in, search_of, yields_in, Goes, Turns}
+use Rattle.fast_check_range_finder.specs.Search.{Search, IsPut, IsTaken}
+use Rattle.fast_check_range_finder.specs.Turn.{IsTurn}
+use Rattle.fast_check_range_finder.specs.Finder.{Followed, Modules, place_nv, place_text, place_of, places, symbol_at, symbols_at, search_in, search_of, yields_in, Goes, Turns, TurnsTo}
 use Rattle.fast_check_range_finder.specs.Rules.{world}
 use Rattle.fast_check_range_finder.specs.Yields.{gives}
 use Rattle.fast_check_range_finder.proofs.Lists.{put_last, put_left, put_right}
@@ -33,10 +34,13 @@ put_first x xs = put_left_of x xs
     put_left_of x xs = put_left x [] (x ∷ []) xs (put_last x [])
 
 -- the one at a place leads the rest
-drop_at : {X : Type 0} (n : ℕ) (xs : List X) (x : X) → slice_get xs n ≡ Some x → drop n xs ≡ x ∷ drop (n + 1) xs
+drop_at : {X : Type 0} (n : ℕ) (xs : List X) (x : X) → slice_get xs n ≡ Some x → drop n xs ≡ x ∷ drop (suc n) xs
 drop_at n [] x h = absurd (no_entry x h)
 drop_at zero (y ∷ ys) x h = ap (λ z. z ∷ ys) (some_entry y x h)
 drop_at (suc n) (y ∷ ys) x h = drop_at n ys x h
+
+drop_next : {X : Type 0} (n : ℕ) (xs : List X) (x : X) → slice_get xs n ≡ Some x → drop n xs ≡ x ∷ drop (n + 1) xs
+drop_next n xs x h = let e : suc n ≡ n + 1 = omega arith in drop_at n xs x h ∙ ap (λ m. x ∷ drop m xs) e
 
 module _ (packages : List Nv) (entered : ℕ) (handled : List (Parts × ImportedExports)) (ms : Modules) where
   pub symbol_taken : (names : List Demand) (all rest : List (ℕ × SymbolDemand)) (place : ℕ) (d : SymbolDemand) (e : Followed) →
@@ -79,8 +83,29 @@ module _ (packages : List Nv) (entered : ℕ) (handled : List (Parts × Imported
     symbols = λ nv t s. refl;
     waits = put_left (of_package p) (map of_package (drop (entered + 1) packages)) (map of_package (drop entered packages)) _
         (subst (λ (xs : List Nv). IsPut (of_package p) (map of_package (drop (entered + 1) packages)) (map of_package xs))
-        (sym (drop_at entered packages p here)) (put_first (of_package p) (map of_package (drop (entered + 1) packages))));
+        (sym (drop_next entered packages p here)) (put_first (of_package p) (map of_package (drop (entered + 1) packages))));
   }
+
+-- the entry at a place
+pub get_some : {X : Type 0} (xs : List X) (i : ℕ) → i < length xs → (x : X) × (slice_get xs i ≡ Some x)
+get_some [] i h = absurd (omega (arith, h))
+get_some (y ∷ ys) zero h = (y, refl)
+get_some (y ∷ ys) (suc i) h = get_some ys i (omega (arith, h))
+
+-- the same turn, from where as much was asked and found
+pub turns_from : (k : Known) (a mid b : Finder) → search_of mid ≡ search_of a → yields_in mid ≡ yields_in a → (more : Bool) → TurnsTo k more mid b →
+    TurnsTo k more a b
+turns_from k a mid b same found true t = record {
+  turn = subst (λ (s : Search). IsTurn (world k) (gives k) s (search_of b) (yields_in a) (yields_in b)) same
+      (subst (λ (ys : List Yield). IsTurn (world k) (gives k) (search_of mid) (search_of b) ys (yields_in b)) found t.turn);
+  sound = t.sound;
+}
+turns_from k a mid b same found false t = record {
+  search = t.search ∙ same;
+  found = t.found ∙ found;
+  none = t.none;
+  sound = t.sound;
+}
 
 -- and followed
 pub turns_by : (k : Known) (d : Demand) (a mid b : Finder) → IsTaken d (search_of a) (search_of mid) → yields_in mid ≡ yields_in a →

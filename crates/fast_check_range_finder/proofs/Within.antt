@@ -1,6 +1,7 @@
 -- What is asked and found within a module that is followed further.
 use Rattle.std.proofs.Common.{◌≡◌, ◌∙◌, sym, ap, refl, subst, ℕ, zero, suc, Bool, true, List, [], ◌∷◌, ◌++◌, Option, Some, None, map, slice_get}
-use Rattle.std.specs.Prelude.{IfSome}
+use Rattle.std.specs.Prelude.{IfSome, IfOk, OnOk}
+use Rattle.std.proofs.Common.{Result, Ok, Err}
 use Rattle.std.specs.List.{Contains, IsDistinct}
 use Rattle.std.specs.Map.{keys_of, values_of}
 use Rattle.std.proofs.lemmas.List.Elements.{Contains-append_left}
@@ -40,6 +41,12 @@ use Rattle.fast_check_range_finder.proofs.Steps.{same_itself}
 use Rattle.fast_check_range_finder.proofs.SymbolsAsked.{TellsPlaces}
 use Rattle.fast_check_range_finder.proofs.Gained.{get_in, parts, parts_of, parts_joins, ranges_join}
 use Rattle.fast_check_range_finder.proofs.Followed.{IsFurther, further_goes}
+
+-- what holds of the value of a call that went well, by what holds where it goes well
+pub with_ok : {T E A B C : Type 0} (r : Result T E) {P Q : T → Type 0} → IfOk r P → OnOk r A → OnOk r B → OnOk r C →
+    ((x : T) → P x → A → B → C → Q x) → IfOk r Q
+with_ok (Ok x) p a b c f = f x p a b c
+with_ok (Err e) p a b c f = tt
 
 -- the value at a place
 pub get_value : {K X : Type 0} (es : List (K × X)) (i : ℕ) (e : K × X) → slice_get es i ≡ Some e → slice_get (values_of es) i ≡ Some e.1

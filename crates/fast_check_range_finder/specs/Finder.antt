@@ -184,7 +184,14 @@ pub record Turns (k : Known) (a b : Finder) : Type 0 where
   pub turn : IsTurn (world k) (gives k) (search_of a) (search_of b) (yields_in a) (yields_in b)
   pub sound : IsSound k.graph k.root_symbol b
 
--- or nothing waits
+-- as much is asked and found as before, and nothing waits
+pub record Rests (k : Known) (a b : Finder) : Type 0 where
+  pub search : search_of b ≡ search_of a
+  pub found : yields_in b ≡ yields_in a
+  pub none : (search_of b).waiting ≡ []
+  pub sound : IsSound k.graph k.root_symbol b
+
+-- a turn, or a rest
 abbrev pub TurnsTo : Known → Bool → Finder → Finder → Type 0
 TurnsTo k true a b = Turns k a b
-TurnsTo k false a b = (b ≡ a) × ((search_of a).waiting ≡ [])
+TurnsTo k false a b = Rests k a b

@@ -70,8 +70,8 @@ impl<'a> Finder<'a> {
         Ok(true)
     }
 
-    /// Follows a demand, if any waits: those of symbols before names, and names before packages.
-    fn turn(
+    /// Follows names of a module, if any wait, and else enters the next package.
+    fn turn_names(
         &mut self,
         alloc: Global,
         input: FinderInput<'a>,
@@ -79,7 +79,8 @@ impl<'a> Finder<'a> {
         cache: Option<&dyn FastCheckCache>,
         members: &mut MemberEntries,
     ) -> Result<bool, BuildFault>
-        requires { IsSound input.sources.graph.now input.sources.root_symbol.now self.old }
+        requires sound { IsSound input.sources.graph.now input.sources.root_symbol.now self.old }
+        requires no_symbols { self.old.symbols.items ≡ [] }
         ensures turned { let i = input.entry in
             let used = used_of cache.entry (λ c. used_item (hash_of c.now i.seed.now) (stored c.now) i.sources.graph.now) in
             let k = with_used used (known i.sources (url_of provider.now) (nv_at provider.now)) in
@@ -91,15 +92,43 @@ impl<'a> Finder<'a> {
             let k = with_used used (known i.sources (url_of provider.now) (nv_at provider.now)) in
             IfErr result (IsRefusedOf k (map nv_of self.old.packages)) }
     {
-        if let Some(at) = self.symbols.pop() {
-            self.follow_symbol(alloc, input.sources, provider, at)?;
-            return Ok(true);
+        match self.names.pop() {
+            Some(at) => {
+                self.follow_names(alloc, input.sources, provider, at)?;
+                Ok(true)
+            }
+            None => self.enter_next(alloc, input, provider, cache, members),
         }
-        if let Some(at) = self.names.pop() {
-            self.follow_names(alloc, input.sources, provider, at)?;
-            return Ok(true);
+    }
+
+    /// Follows a demand, if any waits: those of symbols before names, and names before packages.
+    fn turn(
+        &mut self,
+        alloc: Global,
+        input: FinderInput<'a>,
+        provider: &dyn JsrUrlProvider,
+        cache: Option<&dyn FastCheckCache>,
+        members: &mut MemberEntries,
+    ) -> Result<bool, BuildFault>
+        requires sound { IsSound input.sources.graph.now input.sources.root_symbol.now self.old }
+        ensures turned { let i = input.entry in
+            let used = used_of cache.entry (λ c. used_item (hash_of c.now i.seed.now) (stored c.now) i.sources.graph.now) in
+            let k = with_used used (known i.sources (url_of provider.now) (nv_at provider.now)) in
+            IfOk result (λ more. AreKept k.workspace_members members.old → TurnsTo k more self.old self.new) }
+        ensures kept { let ours = members_in input.entry.sources.workspace_members.now in
+            OnOk result (AreKept ours members.old → AreKept ours members.new) }
+        ensures refused { let i = input.entry in
+            let used = used_of cache.entry (λ c. used_item (hash_of c.now i.seed.now) (stored c.now) i.sources.graph.now) in
+            let k = with_used used (known i.sources (url_of provider.now) (nv_at provider.now)) in
+            IfErr result (IsRefusedOf k (map nv_of self.old.packages)) }
+    {
+        match self.symbols.pop() {
+            Some(at) => {
+                self.follow_symbol(alloc, input.sources, provider, at)?;
+                Ok(true)
+            }
+            None => self.turn_names(alloc, input, provider, cache, members),
         }
-        self.enter_next(alloc, input, provider, cache, members)
     }
 }
 

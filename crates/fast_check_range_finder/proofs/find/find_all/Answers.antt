@@ -1,10 +1,10 @@
-use Rattle.std.proofs.Common.{map, [], true, false, subst}
+use Rattle.std.proofs.Common.{map, [], ◌∷◌, ◌++◌}
 use Rattle.fast_check_packages.specs.Package.{nv_of}
 use Rattle.fast_check_packages.specs.MembersIn.{members_in}
 use Rattle.fast_check_cache.specs.CachedPackages.{used_item}
 use Rattle.fast_check_entries.proofs.Passed.{passed_on}
 use Rattle.fast_check_sources.specs.Sources.{known, with_used}
-use Rattle.fast_check_range_finder.specs.Finder.{search_of, TurnsTo}
+use Rattle.fast_check_range_finder.specs.Finder.{search_of, Turns, Rests}
 use Rattle.fast_check_range_finder.specs.Lent.{used_of}
 use Rattle.fast_check_range_finder.specs.Reach.{lent_dependencies, reach}
 use Rattle.fast_check_range_finder.specs.Refusals.{IsRefusal}
@@ -37,13 +37,34 @@ turns-smaller g c =
     (λ x. (goal.FastCheckCache-dyn g x.now).stored x.now.1) c.args.input.sources.graph.now in
     let i = c.turns.invariant in
     let rs = map nv_of c.args.roots.now in
-    on_falls k rs (reach k ds rs) (universe k ds rs has) i.done c.turns.finder c.turn.new.self i.on ?
+    on_falls k rs (reach k ds rs) (universe k ds rs has) i.done c.turns.finder c.turn.new.self i.on
+    (rw c.if-branch.true at c.in_ok-turn.ensures.turned i.members)
 
 pub turns-preserved : goal.turns-preserved
-turns-preserved g c = ?
+turns-preserved g c =
+    let m = goal.JsrUrlProvider-dyn g c.args.provider.now in
+    let used = used_of c.args.cache (λ x. let n = goal.FastCheckCache-dyn g x.now in
+    used_item (n.hash_of x.now.1 c.args.input.seed.now) (n.stored x.now.1) c.args.input.sources.graph.now) in
+    let k = with_used used (known c.args.input.sources (m.url_of c.args.provider.now.1) (m.nv_at c.args.provider.now.1)) in
+    let i = c.turns.invariant in
+    let rs = map nv_of c.args.roots.now in
+    let t : Turns k c.turns.finder c.turn.new.self = (rw c.if-branch.true at c.in_ok-turn.ensures.turned i.members) in
+    record {
+      done = i.done ++ t.turn.demand ∷ [];
+      on = on_turned k rs i.done c.turns.finder c.turn.new.self i.on t;
+      members = c.in_ok-turn.ensures.kept i.members;
+    }
 
 pub returns-clause-found : goal.returns-clause-found
-returns-clause-found g c = ?
+returns-clause-found g c =
+    let m = goal.JsrUrlProvider-dyn g c.args.provider.now in
+    let used = used_of c.args.cache (λ x. let n = goal.FastCheckCache-dyn g x.now in
+    used_item (n.hash_of x.now.1 c.args.input.seed.now) (n.stored x.now.1) c.args.input.sources.graph.now) in
+    let k = with_used used (known c.args.input.sources (m.url_of c.args.provider.now.1) (m.nv_at c.args.provider.now.1)) in
+    let i = c.turns.invariant in
+    let rs = map nv_of c.args.roots.now in
+    let t : Rests k c.turns.finder c.turn.new.self = (rw c.if-branch.false at c.in_ok-turn.ensures.turned i.members) in
+    on_ended k rs i.done c.turns.finder c.turn.new.self i.on t c.in_ok-into_found.field-0.entries (c.in_ok-into_found.ensures t.sound.once.apart)
 
 pub returns-in_err-turn-clause-refused : goal.returns-in_err-turn-clause-refused
 returns-in_err-turn-clause-refused g c =

@@ -1,4 +1,4 @@
-use Rattle.std.proofs.Common.{◌≡◌, ◌∙◌, sym, ap, refl, subst, [], ◌∷◌, List, map}
+use Rattle.std.proofs.Common.{◌≡◌, ◌∙◌, sym, ap, refl, subst, [], ◌∷◌, ◌++◌, List, map}
 use Rattle.std.proofs.lemmas.List.{append-nil}
 use Rattle.fast_check_packages.specs.Package.{Nv, nv_of}
 use Rattle.fast_check_cache.specs.Cache.{item_of}
@@ -24,5 +24,5 @@ returns c g r sound can =
     p (Kept c.args.entry_points c.args.item)
     (subst (λ (n : Nv). CanEnter n mid) (sym c.in_ok-package.ensures) (c.in_ok-ask_packages.ensures.enters nv can)) c.in_ok-push.ensures.items refl in
     subst (λ (vs : List Want). Goes g r vs (kept nv c.args.entry_points.value.keys (item_of c.args.item) ∷ []) c.args.self.now b) (append-nil ws)
-    (subst (λ (n : Nv). Goes g r _ (kept n c.args.entry_points.value.keys (item_of c.args.item) ∷ []) c.args.self.now b) c.in_ok-package.ensures
+    (subst (λ (n : Nv). Goes g r (ws ++ []) (kept n c.args.entry_points.value.keys (item_of c.args.item) ∷ []) c.args.self.now b) c.in_ok-package.ensures
     (goes_then g r ws [] [] (kept (nv_of p) c.args.entry_points.value.keys (item_of c.args.item) ∷ []) c.args.self.now mid b first last))

@@ -30,7 +30,7 @@ returns-in_err-enter-clause-refused g c =
     let f = c.in_err-enter.field-0.0 in
     passed_on c.from_residual-in_err-enter.result f (IsRefusedOf k (map nv_of c.args.self.now.packages)) c.from_residual-in_err-enter.ensures.1
     (refused_of k c.args.self.now.packages c.args.self.now.entered c.at.result.now (nv_of c.in_ok-nv.nv)
-    (omega (arith, c.if-self-self-len.false, c.len.ensures)) c.at.ensures c.in_ok-nv.ensures f c.in_err-enter.ensures.refused)
+    (omega (arith, c.if-self-len.false, c.len.ensures)) c.at.ensures c.in_ok-nv.ensures f c.in_err-enter.ensures.refused)
 
 pub returns-clause-turned : goal.returns-clause-turned
 returns-clause-turned g c mine =
@@ -43,7 +43,7 @@ returns-clause-turned g c mine =
     let ps = map nv_of f.packages in
     let nv = nv_of c.in_ok-nv.nv in
     let mid : Finder = record f { entered = n + 1 } in
-    let below : n < length f.packages = omega (arith, c.if-self-self-len.false, c.len.ensures) in
+    let below : n < length f.packages = omega (arith, c.if-self-len.false, c.len.ensures) in
     let within : n < length ps = omega (arith, below, length-map f.packages nv_of) in
     let here : slice_get ps n ≡ Some nv =
     slice_get_read ps (length ps) n nv refl within

@@ -1,6 +1,5 @@
 use Rattle.std.proofs.Common.{◌≡◌, ◌∙◌, sym, ap, refl, subst, Option, Some, List, map}
 use Rattle.std.specs.Prelude.{slice_get}
-use Rattle.std.proofs.lemmas.Result.{IfOk-weaker}
 use Rattle.indexmap.specs.IndexMap.{with_value_at}
 use Rattle.fast_check_name_demands.specs.Files.{names_of}
 use Rattle.fast_check_traces.specs.Modules.{own_tables}
@@ -16,7 +15,7 @@ use Rattle.fast_check_range_finder.specs.Rules.{own_text}
 use Rattle.fast_check_range_finder.specs.Yields.{public_at}
 use Rattle.fast_check_range_finder.proofs.Gained.{get_in}
 use Rattle.fast_check_range_finder.proofs.PlaceKeys.{tells_places}
-use Rattle.fast_check_range_finder.proofs.Within.{get_value, value_in, names_within}
+use Rattle.fast_check_range_finder.proofs.Within.{with_ok, get_value, value_in, names_within}
 use Rattle.fast_check_range_finder.proofs.finder.Finder.follow_names_at.Goals as goal
 
 pub follow_names_in-requires-clause-index : goal.follow_names_in-requires-clause-index
@@ -25,8 +24,9 @@ follow_names_in-requires-clause-index c =
     (c.requires.sound.modules (v.0, c.in-Some.followed.now) (get_in c.args.self.now.modules.entries c.args.place (v.0, c.in-Some.followed.now) v.1)).index
 
 pub returns : goal.returns
-returns c = IfOk-weaker c.follow_names_in.result _ _
-    (λ out is e here.
+returns c = with_ok c.follow_names_in.result c.follow_names_in.ensures.wants c.follow_names_in.ensures.asks c.follow_names_in.ensures.shows
+    c.follow_names_in.ensures.index_of
+    (λ out is asks shows index e here.
     let f = c.args.self.now in
     let g = c.args.sources.graph.now in
     let r = c.args.sources.root_symbol.now in
@@ -36,5 +36,12 @@ returns c = IfOk-weaker c.follow_names_in.result _ _
     let b : Finder = record f { modules = with_value_at f.modules c.args.place m; symbols = c.follow_names_in.new.symbols } in
     let same : e.1 ≡ x = some_is e.1 x (sym (get_value f.modules.entries c.args.place e here) ∙ sym c.in-Some.ensures.value) in
     let here_x : slice_get f.modules.entries c.args.place ≡ Some (e.0, x) = here ∙ ap (λ (y : FollowedModule). Some (e.0, y)) same in
-    ?)
-    c.follow_names_in.ensures.wants
+    let own = c.requires.sound.modules (e.0, x) (get_in f.modules.entries c.args.place (e.0, x) here_x) in
+    let shown = shows own.shown in
+    subst (λ (y : FollowedModule). let t = traced_in g r y.found.info.now in
+    (out ≡ module_wants t d) × Goes g r (map (to_symbol (place_nv e) (own_text t)) (roots (own_tables t) d))
+    (public_at (place_nv e) t (re_export_ranges t d)) f b) (sym same)
+    (is,
+    names_within g r f b c.requires.sound c.args.place (e.0, x) here_x m
+    (record { modules = refl; packages = refl; entered = refl; handled = refl; names = refl; entrances = refl; dependencies = refl; untyped = refl })
+    place_eq.eq-value.it tells_places c.get_index_mut.ensures.unique (ap (λ i. i.now) shown.info) d asks shown index))
