@@ -22,7 +22,7 @@ use Rattle.fast_check_graph.specs.declared.root_symbol.AnyModuleInfo.TheVariants
 use Rattle.fast_check_graph.specs.declared.root_symbol.RootSymbol.{RootSymbol}
 use Rattle.fast_check_graph.specs.Root.{found_module}
 use Rattle.fast_check_cache.specs.declared.package_ranges.PackagePublicRanges.{PackagePublicRanges}
-use Rattle.fast_check_search.proofs.Each.{Contains_first, Contains_later}
+use Rattle.fast_check_worklists.proofs.Maps.{first_in, rest_in}
 use Rattle.fast_check_package_ranges.specs.Parts.{is_text, is_package}
 use Rattle.fast_check_package_ranges.specs.Answers.{lookup_text, lookup_package, module_answer}
 use Rattle.fast_check_package_ranges.proofs.Maps.{lookup_key, text_one, text_total, package_one, package_total}
@@ -55,8 +55,8 @@ found_ranges m ordered e h =
 -- what holds of the trees of each module holds of all trees
 all_trees : (root : RootSymbol) (ms : List PublicModule) → ((m : PublicModule) → Contains ms m → OwnsModule root m) → OwnsAll root ms
 all_trees root [] h = tt
-all_trees root (m ∷ ms) h = both (with_tree m (found_module root m.0)) (tree_modules root ms) (h m (Contains_first m ms))
-    (all_trees root ms (λ x c. h x (Contains_later m ms x c)))
+all_trees root (m ∷ ms) h = both (with_tree m (found_module root m.0)) (tree_modules root ms) (h m (first_in m ms))
+    (all_trees root ms (λ x c. h x (rest_in m x ms c)))
   where
     both : (xs ys : List TreeModule) → AllByRecursion OwnsPublic xs → AllByRecursion OwnsPublic ys → AllByRecursion OwnsPublic (xs ++ ys)
     both [] ys h k = k
@@ -91,7 +91,7 @@ module _ (k : Known) (roots : List Nv) (ranges : BTreeMap PackageNv PackagePubli
       ((p : PackageNv × PackagePublicRanges) → Contains ps p → IsOwned k.root_symbol p.1) →
       AreOwned k.root_symbol ps
   owned_packages [] h = tt
-  owned_packages (p ∷ ps) h = (h p (Contains_first p ps), owned_packages ps (λ x c. h x (Contains_later p ps x c)))
+  owned_packages (p ∷ ps) h = (h p (first_in p ps), owned_packages ps (λ x c. h x (rest_in p x ps c)))
 
   pub all_owned : AreOwned k.root_symbol ranges.entries
   all_owned = owned_packages ranges.entries

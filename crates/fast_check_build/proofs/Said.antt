@@ -5,12 +5,12 @@ use Rattle.std.specs.BTreeMap.{BTreeMap}
 use Rattle.fast_check_packages.specs.Package.{Nv}
 use Rattle.fast_check_packages.specs.declared.package.PackageNv.{PackageNv}
 use Rattle.fast_check_cache.specs.declared.package_ranges.PackagePublicRanges.{PackagePublicRanges}
-use Rattle.fast_check_worklists.specs.Account.{Account, IsAccount, IsYield}
 use Rattle.fast_check_package_ranges.specs.findings.Found.{found_yields}
 use Rattle.fast_check_package_ranges.specs.findings.declared.found.FoundPackage.{FoundPackage}
 use Rattle.fast_check_package_ranges.specs.Answers.{AreAnswers}
 use Rattle.fast_check_range_finder.specs.wants.Sources.{Used, none_used, with_used, Known}
 use Rattle.fast_check_range_finder.specs.Lent.{used_of}
+use Rattle.fast_check_range_finder.specs.Account.{Account, IsAccount, IsYield}
 use Rattle.fast_check_range_finder.specs.Rules.{world}
 use Rattle.fast_check_range_finder.specs.Yields.{gives}
 use Rattle.fast_check_range_finder.specs.Refusals.{JoinAll}

@@ -10,10 +10,10 @@ ghost use Rattle.fast_check_range_finder.specs.Refusals.{IsRefusal};
 ghost use Rattle.fast_check_build.specs.Found.{known_of, IsFound};
 
 use fast_check_cache::{FastCheckCache, PackagePublicRanges};
-use fast_check_range_finder::{FinderInput, Sources, find_all};
 use fast_check_graph::{ModuleGraph, RootSymbol};
 use fast_check_package_ranges::package_ranges;
 use fast_check_packages::{BuildFault, IndexedMembers, JsrUrlProvider, PackageNv, WorkspaceMember};
+use fast_check_range_finder::{FinderInput, Sources, find_all};
 use std::alloc::Global;
 use std::collections::{BTreeMap, VecDeque};
 

@@ -10,11 +10,11 @@ ghost use Rattle.fast_check_build.specs.Lent.{OldNew};
 
 use crate::finder::{find_public_ranges, find_seeded};
 use fast_check_cache::FastCheckCache;
-use fast_check_range_finder::{FinderInput, Sources};
 use fast_check_graph::{ModuleGraph, RootSymbol};
 use fast_check_package_answers::transform::TransformOptions;
 use fast_check_package_answers::{BuildInput, ModuleAnswer, answer_all, answer_and_set_all};
 use fast_check_packages::{BuildFault, IndexedMembers, JsrUrlProvider, PackageNv};
+use fast_check_range_finder::{FinderInput, Sources};
 use std::alloc::Global;
 use std::collections::VecDeque;
 

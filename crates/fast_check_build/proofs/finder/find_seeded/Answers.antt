@@ -1,4 +1,5 @@
-use Rattle.std.proofs.Common.{◌∙◌, subst, List, map}
+use Rattle.std.proofs.Common.{◌∙◌, sym, subst, List, map}
+use Rattle.std.proofs.lemmas.Result.{err_from_is_err_and}
 use Rattle.fast_check_packages.specs.Package.{nv_of}
 use Rattle.fast_check_packages.specs.declared.package.PackageNv.{PackageNv}
 use Rattle.fast_check_packages.specs.MembersIn.{members_in}
@@ -6,7 +7,6 @@ use Rattle.fast_check_cache.specs.CachedPackages.{used_item}
 use Rattle.fast_check_range_finder.specs.Lent.{used_of}
 use Rattle.fast_check_range_finder.specs.wants.Sources.{with_used}
 use Rattle.fast_check_range_finder.specs.Refusals.{IsRefusal}
-use Rattle.fast_check_entries.proofs.Passed.{passed_on}
 use Rattle.fast_check_build.specs.Found.{known_of, IsFound}
 use Rattle.fast_check_build.proofs.Said.{found_public}
 use Rattle.fast_check_build.proofs.finder.find_seeded.Goals as goal
@@ -35,7 +35,7 @@ returns-in_err-found-clause-refused g c =
     (known_of c.args.input.sources.graph.now c.args.input.sources.root_symbol.now (members_in c.args.input.sources.workspace_members.now)
     (m.url_of c.args.jsr_url_provider.now.1)
     (m.nv_at c.args.jsr_url_provider.now.1)) in
-    let f = c.in_err-found.field-0.0 in
-    passed_on c.from_residual.result f (IsRefusal k (map nv_of c.args.pending_nvs.items)) c.from_residual.ensures.1
-    (subst (λ (ps : List PackageNv). IsRefusal k (map nv_of ps) f) (c.as_slice.ensures.value ∙ c.into_vec-roots.ensures.items)
-    c.in_err-found.ensures.refused)
+    let e = err_from_is_err_and c.from_residual.result c.from_residual.ensures.1 in
+    rw e.1 (subst (IsRefusal k (map nv_of c.args.pending_nvs.items)) (sym e.2)
+    (subst (λ (ps : List PackageNv). IsRefusal k (map nv_of ps) c.in_err-found.field-0.0) (c.as_slice.ensures.value ∙ c.into_vec-roots.ensures.items)
+    c.in_err-found.ensures.refused))
