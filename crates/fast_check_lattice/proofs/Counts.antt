@@ -9,7 +9,16 @@ use Rattle.fast_check_lattice.specs.declared.lattice.node.Below.TheVariants.{All
 use Rattle.fast_check_lattice.specs.Order.{Name}
 use Rattle.fast_check_lattice.specs.Graph.{Path, Part, Touched, Covered, is_touched, NameSet, Graph, reach, rooted, IsTree}
 use Rattle.fast_check_lattice.specs.Names.{has_subset, AreSubsets}
-use Rattle.fast_check_lattice.specs.Shown.{leads, onto}
+
+-- the names lead from the root to node k, the last name first
+abbrev leads : Graph → Path → ℕ → Type 0
+leads g [] k = k ≡ 0
+leads g (n ∷ r) k = (p : ℕ) × leads g r p × (g p n ≡ Some (Subset (record { 0 = k })))
+
+-- the names of the first path, the last one first, before the second
+abbrev onto : Path → Path → Path
+onto [] q = q
+onto (n ∷ r) q = onto r (n ∷ q)
 
 onto_onto : (r q p : Path) → onto (onto r q) p ≡ onto q (r ++ p)
 onto_onto [] q p = refl

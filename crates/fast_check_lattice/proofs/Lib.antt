@@ -24,8 +24,6 @@ pub mod Pruned
 pub mod Listed
 pub mod Alike
 pub mod Compacted
-pub mod Listers
-pub mod Ends
 pub mod Writes
 pub mod Forms
 pub mod Added

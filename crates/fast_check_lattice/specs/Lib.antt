@@ -9,8 +9,6 @@ pub mod Pruned
 pub mod Names
 pub mod Gains
 pub mod Imports
-pub mod Ends
-pub mod Shown
 pub mod Paths
 pub mod Shapes
 pub mod Equality
