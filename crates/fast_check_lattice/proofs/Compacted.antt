@@ -97,7 +97,7 @@ module _ (g : Graph) (size : ℕ) (live : ℕ → Bool) (to : ℕ → ℕ) (w : 
         let later : 0 < k.0 = ⊎_elim (λ (h : 0 < k.0). h)
         (λ (h : k.0 ≤ 0). let z : k.0 ≡ 0 = omega (arith, h) in absurd (omega (arith, some, ap to z, k.3, is.first))) (cases_lt 0 k.0) in
         let p = is.parent k.0 later k.1 k.2 in
-        ((to p.0.0, p.0.1), is.keeps p.0.0 p.0.1 p.2 p.1 ∙ (ap (moved to) p.3 ∙ ap (λ i. Some (Subset (record { 0 = i }))) k.3));
+        ∣ ((to p.0.0, p.0.1), is.keeps p.0.0 p.0.1 p.2 p.1 ∙ (ap (moved to) p.3 ∙ ap (λ i. Some (Subset (record { 0 = i }))) k.3)) ∣₁;
   }
 
   -- a subset at a live node

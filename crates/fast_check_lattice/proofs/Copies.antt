@@ -13,7 +13,7 @@ use Rattle.fast_check_lattice.specs.Names.{nothing, IsSame}
 use Rattle.fast_check_lattice.proofs.Walks.{is_after}
 use Rattle.fast_check_lattice.proofs.Sorted.{node_once}
 use Rattle.fast_check_lattice.proofs.Lists.{items_at, found_read}
-use Rattle.fast_check_lattice.proofs.Puts.{none_is}
+use Rattle.fast_check_lattice.specs.EqualityProof.{none_is}
 
 -- a node that is not there lists nothing
 pub past_nothing : (nodes : List Node) (at : ℕ) → length nodes ≤ at → IsSame (below_node (entry nodes) at) nothing

@@ -17,7 +17,7 @@ use Rattle.fast_check_lattice.specs.Names.{whole_below, IsAdded, IsJoin, IsNameS
 use Rattle.fast_check_lattice.specs.Gains.{IsJoint}
 use Rattle.fast_check_lattice.proofs.Walks.{name_shows, grown, descends, or_false}
 use Rattle.fast_check_lattice.proofs.Places.{some_entry, found_first, once_before}
-use Rattle.fast_check_lattice.proofs.Puts.{all_is, none_is}
+use Rattle.fast_check_lattice.specs.EqualityProof.{all_is, none_is}
 use Rattle.fast_check_lattice.proofs.Copies.{subset_reach}
 
 pub itself : (n : Name) → bytes_eq n n ≡ true

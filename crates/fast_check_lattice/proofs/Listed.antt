@@ -15,7 +15,7 @@ use Rattle.std.specs.Result.{IfOk}
 use Rattle.fast_check_lattice.specs.Graph.{Graph, NameSet, reach, below_node, entry}
 use Rattle.fast_check_lattice.specs.Names.{Name, nothing, paths_below, paths_at, listed_at, IsListed, IsSame}
 use Rattle.fast_check_lattice.proofs.Walks.{name_shows}
-use Rattle.fast_check_lattice.proofs.Puts.{none_is}
+use Rattle.fast_check_lattice.specs.EqualityProof.{none_is}
 use Rattle.fast_check_lattice.proofs.Sorted.{node_once}
 use Rattle.fast_check_lattice.proofs.Lists.{items_at}
 

@@ -14,7 +14,7 @@ use Rattle.fast_check_lattice.specs.Pruned.{under, place_at, is_filled, has_name
 use Rattle.fast_check_lattice.specs.Pruned.{AreBeside, IsPruned}
 use Rattle.fast_check_lattice.proofs.Walks.{name_shows}
 use Rattle.fast_check_lattice.proofs.Places.{found_none}
-use Rattle.fast_check_lattice.proofs.Puts.{none_is, all_is}
+use Rattle.fast_check_lattice.specs.EqualityProof.{none_is, all_is}
 use Rattle.fast_check_lattice.proofs.Extends.{itself}
 use Rattle.fast_check_lattice.proofs.Numbers.{first_absent, once_behind}
 use Rattle.fast_check_lattice.proofs.Copies.{some_touched, subset_reach}

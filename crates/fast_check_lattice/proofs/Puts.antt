@@ -12,16 +12,9 @@ use Rattle.fast_check_lattice.specs.Order.{Name, Entry}
 use Rattle.fast_check_lattice.specs.Graph.{Path, Part, Touched, NameSet, Graph, listings, listed, entry, reach, rooted, subset_of, IsTree}
 use Rattle.fast_check_lattice.specs.Graph.{IsWritten, IsGraft, IsPut}
 use Rattle.fast_check_lattice.specs.Names.{named, everything, IsJoin}
+use Rattle.fast_check_lattice.specs.EqualityProof.{none_is, all_is}
 use Rattle.fast_check_lattice.proofs.Walks.{grown}
 use Rattle.fast_check_lattice.proofs.Grafts.{tree_grafted, grafted}
-
-pub all_is : (w : Graph) (part : Part) (q : Path) → reach w (Some All) part q ≡ true
-all_is w part [] = refl
-all_is w part (n ∷ q) = refl
-
-pub none_is : (g : Graph) (part : Part) (q : Path) → reach g None part q ≡ false
-none_is g part [] = refl
-none_is g part (n ∷ q) = refl
 
 -- graphs that list the same reach the same
 pub reach_same : (g w : Graph) → ((k : ℕ) (n : Name) → w k n ≡ g k n) → (o : Option Below) (part : Part) (q : Path) →

@@ -8,7 +8,7 @@ use Rattle.fast_check_lattice.specs.Names.{Name, Part, Touched, Covered, NameSet
 use Rattle.fast_check_lattice.specs.Names.{IsClosed, IsNameSet, IsSame, HasMore, IsDifference, IsRestBelow, IsDifferenceBelow, paths_below}
 use Rattle.fast_check_lattice.specs.declared.lattice.named_subset.Exports.{Exports}
 use Rattle.fast_check_lattice.proofs.Sets.{of_source_along, of_itself, of_nothing, of_subset, of_each}
-use Rattle.fast_check_lattice.proofs.Puts.{none_is, all_is}
+use Rattle.fast_check_lattice.specs.EqualityProof.{none_is, all_is}
 use Rattle.fast_check_lattice.specs.Names.{at_name}
 use Rattle.fast_check_lattice.proofs.Copies.{subset_reach}
 

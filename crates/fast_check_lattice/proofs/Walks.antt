@@ -2,13 +2,15 @@
 use Rattle.std.proofs.Common.{◌≡◌, ◌∙◌, sym, ap, refl, subst, ⊎_elim, inl, inr, ◌⊎◌, ℕ, ◌<◌, ◌≤◌, Bool, true, false, ◌&&◌, ◌||◌, cond, eqb}
 use Rattle.std.proofs.Common.{[], ◌∷◌, Option, Some, None, arith}
 use Rattle.std.specs.Str.{bytes_eq}
+use Rattle.std.proofs.Props.{props}
+use Rattle.std.proofs.Math.Logic.{∥∥₁_elim}
 use Rattle.std.proofs.lemmas.Bool.{false≢true, cases_Bool, eq-eqb, ne_eqb}
 use Rattle.std.proofs.lemmas.Bool.Decides.{eqb_tells}
 use Rattle.std.proofs.lemmas.Slice.Eq.{bytes_eq-Decides}
 use Rattle.fast_check_lattice.specs.declared.lattice.node.NodeNo.{NodeNo}
 use Rattle.fast_check_lattice.specs.declared.lattice.node.Below.{Below}
 use Rattle.fast_check_lattice.specs.declared.lattice.node.Below.TheVariants.{All, Subset}
-use Rattle.fast_check_lattice.specs.Graph.{Path, Part, is_touched, NameSet, Graph, ends, reach, IsTree, IsForest, IsAfter, passes, through}
+use Rattle.fast_check_lattice.specs.Graph.{Path, Part, is_touched, NameSet, Graph, ends, reach, HasParent, IsTree, IsForest, IsAfter, passes, through}
 use Rattle.fast_check_lattice.specs.Order.{Name}
 
 pub or_false : (b : Bool) → b ≡ (b || false)
@@ -24,6 +26,20 @@ name_shows n m = ⊎_elim
     (λ t. inl (t, (bytes_eq-Decides n m).0 t))
     (λ f. inr (f, λ e. false≢true (sym f ∙ (bytes_eq-Decides n m).1 e)))
     (cases_Bool (bytes_eq n m))
+
+-- the one name under which a node is listed
+pub parent_of : (g : Graph) (size : ℕ) → IsTree g size → (j : ℕ) → 0 < j → j < size → HasParent g j
+parent_of g size tree j low high = ∥∥₁_elim (tree.parent j low high) one (λ p. p)
+  where
+    is : (p : ℕ × Name) → IsProp (g p.0 p.1 ≡ Some (Subset (record { 0 = j })))
+    is p = hlevel props
+
+    one : IsProp (HasParent g j)
+    one a b =
+        let same = tree.once a.0.0 a.0.1 b.0.0 b.0.1 (record { 0 = j }) a.1 b.1 in
+        let e : a.0 ≡ b.0 = λ i. (same.0 i, same.1 i) in
+        let P : ℕ × Name → Type 0 = λ p. (d : g p.0 p.1 ≡ Some (Subset (record { 0 = j }))) → a ≡ (p, d) in
+        subst P e (λ d i. (a.0, is a.0 a.1 d i)) b.1
 
 pub passes_false : (o : Option Below) (f : ℕ → Bool) → ((j : NodeNo) → o ≡ Some (Subset j) → f j.0 ≡ false) → passes o f ≡ false
 passes_false None f h = refl

@@ -1,9 +1,7 @@
 pub mod Order
-pub mod OrderProof
 pub mod Line
 pub mod Graph
 pub mod Pairs
-pub mod Tree
 pub mod Numbers
 pub mod Pruned
 pub mod Names
@@ -13,5 +11,4 @@ pub mod Paths
 pub mod Shapes
 pub mod Equality
 pub mod EqualityProof
-pub mod EqualityLaws
 pub mod Traces
