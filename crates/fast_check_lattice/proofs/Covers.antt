@@ -14,22 +14,13 @@ use Rattle.fast_check_lattice.specs.Names.{whole_below, everything, IsAdded}
 use Rattle.fast_check_lattice.specs.Numbers.{stays, number, number_or_zero, rank, moved_entries, AreBehind, IsWithout, AreRanks, AreMovedDown}
 use Rattle.fast_check_lattice.proofs.Lists.{mapped_at}
 use Rattle.std.proofs.lemmas.Map.Made.{lookup-map_values}
-use Rattle.fast_check_lattice.proofs.Walks.{grown, parent_of}
+use Rattle.fast_check_lattice.proofs.Walks.{grown, parent_of, all_no_subset, subset_is, no_is}
 use Rattle.fast_check_lattice.proofs.Grafts.{at_or_not}
 use Rattle.fast_check_lattice.proofs.Puts.{put_all}
 use Rattle.fast_check_lattice.proofs.Extends.{itself}
 use Rattle.fast_check_lattice.proofs.Copies.{past_none}
 use Rattle.fast_check_lattice.proofs.Compacted.{IsCompacted, tree_compacted, rooted_compacted}
 use Rattle.fast_check_lattice.proofs.Numbers.{rank_rises, rank_onto}
-
-all_no : (j : NodeNo) → Some All ≡ Some (Subset j) → ⊥
-all_no j e = cc
-
-subset_is : (i j : NodeNo) → Some (Subset i) ≡ Some (Subset j) → i ≡ j
-subset_is i j e = cc
-
-no_is : (i j : NodeNo) → i.0 ≡ j.0 → i ≡ j
-no_is i j e k = record { 0 = e k }
 
 -- the nodes that stay have other numbers: those from 0 on, each once, and a node a lower one than those that it lists
 pub record IsRenamed (g : Graph) (size : ℕ) (f : ℕ → Bool) (to : ℕ → ℕ) (count : ℕ) : Type 0 where
@@ -48,7 +39,7 @@ module _ (g h : Graph) (size at : ℕ) (name : Name) (no : NodeNo) (f : ℕ → 
   pub was : (k : ℕ) (n : Name) (j : NodeNo) → h k n ≡ Some (Subset j) → g k n ≡ Some (Subset j)
   was k n j e = ⊎_elim
       (λ (s : (k ≡ at) × (name ≡ n) × ((eqb k at && bytes_eq name n) ≡ true)).
-      absurd (all_no j (sym (written k n ∙ ap (λ b. cond b (Some All) (g k n)) s.2) ∙ e)))
+      absurd (all_no_subset j (sym (written k n ∙ ap (λ b. cond b (Some All) (g k n)) s.2) ∙ e)))
       (λ s. sym (written k n ∙ ap (λ b. cond b (Some All) (g k n)) s) ∙ e)
       (at_or_not k at name n)
 
@@ -70,7 +61,7 @@ module _ (g h : Graph) (size at : ℕ) (name : Name) (no : NodeNo) (f : ℕ → 
   not_gone k n j e same =
       let old : g k n ≡ Some (Subset no) = was k n j e ∙ ap (λ (x : NodeNo). Some (Subset x)) (no_is j no same) in
       let o = tree.once k n at name no old link in
-      all_no j (sym covered ∙ (subst (λ (i : ℕ). h i name ≡ Some (Subset j)) o.0 (subst (λ (m : Name). h k m ≡ Some (Subset j)) o.1 e)))
+      all_no_subset j (sym covered ∙ (subst (λ (i : ℕ). h i name ≡ Some (Subset j)) o.0 (subst (λ (m : Name). h k m ≡ Some (Subset j)) o.1 e)))
 
   -- what refers to a node that stays, stays
   pub parent_stays : (k : ℕ) (n : Name) (j : NodeNo) → g k n ≡ Some (Subset j) → f j.0 ≡ true → f k ≡ true

@@ -7,22 +7,10 @@ use Rattle.std.proofs.lemmas.Bool.Decides.{eqb_tells}
 use Rattle.fast_check_lattice.specs.declared.lattice.node.NodeNo.{NodeNo}
 use Rattle.fast_check_lattice.specs.declared.lattice.node.Below.{Below}
 use Rattle.fast_check_lattice.specs.declared.lattice.node.Below.TheVariants.{All, Subset}
-use Rattle.fast_check_lattice.specs.Graph.{Path, Part, Graph, ends, reach, rooted, subset_of, HasParent, IsTree, moved}
+use Rattle.fast_check_lattice.specs.Graph.{Path, Part, Graph, reach, rooted, subset_of, HasParent, IsTree, moved}
 use Rattle.fast_check_lattice.specs.Order.{Name}
-use Rattle.fast_check_lattice.proofs.Walks.{name_shows, parent_of}
+use Rattle.fast_check_lattice.proofs.Walks.{name_shows, parent_of, all_no_subset, none_no_subset, subset_is, no_is}
 use Rattle.fast_check_lattice.proofs.Compacted.{moved_back}
-
-no_is : (i j : NodeNo) → i.0 ≡ j.0 → i ≡ j
-no_is i j e k = record { 0 = e k }
-
-pub all_no_subset : (j : NodeNo) → Some All ≡ Some (Subset j) → ⊥
-all_no_subset j e = cc
-
-pub none_no_subset : (j : NodeNo) → None ≡ Some (Subset j) → ⊥
-none_no_subset j e = cc
-
-pub subset_is : (i j : NodeNo) → Some (Subset i) ≡ Some (Subset j) → i ≡ j
-subset_is i j e = cc
 
 -- under the name, or elsewhere
 pub at_or_not : (k at : ℕ) (name n : Name) → ((k ≡ at) × (name ≡ n) × ((eqb k at && bytes_eq name n) ≡ true)) ⊎

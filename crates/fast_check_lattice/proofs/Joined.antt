@@ -19,8 +19,7 @@ use Rattle.fast_check_lattice.proofs.Apart.{IsReferred, apart, count_upto}
 use Rattle.fast_check_lattice.proofs.Lists.{entry_front, entry_behind}
 use Rattle.fast_check_lattice.proofs.Made.{with_same, pair_front}
 use Rattle.fast_check_lattice.specs.EqualityProof.{none_is}
-use Rattle.fast_check_lattice.proofs.Grafts.{none_no_subset}
-use Rattle.fast_check_lattice.proofs.Walks.{or_false, or_itself, is_after, forest_after}
+use Rattle.fast_check_lattice.proofs.Walks.{or_false, or_itself, is_after, forest_after, none_no_subset}
 
 -- of a queue of count pairs the first i are joined; a and b are no nodes of g and of h
 pub record AreJoined (g h : Graph) (a b : ℕ) (start : Pair) (at : ℕ → Pair) (count i : ℕ) (w : Graph) : Type 0 where

@@ -1,5 +1,5 @@
 -- The nodes of one path: they are a tree, and its paths are those of the path whole.
-use Rattle.std.proofs.Common.{◌≡◌, ◌∙◌, sym, ap, refl, ⊎_elim, ℕ, zero, suc, ◌+◌, ◌-◌, ◌<◌, ◌≤◌, Bool, true, false, ◌&&◌, cond, eqb}
+use Rattle.std.proofs.Common.{◌≡◌, ◌∙◌, sym, ap, refl, ⊎_elim, ℕ, suc, ◌+◌, ◌-◌, ◌<◌, ◌≤◌, true, false, ◌&&◌, cond, eqb}
 use Rattle.std.proofs.Common.{List, [], ◌∷◌, ◌++◌, Some, None, arith, length, get_or, String}
 use Rattle.std.specs.declared.alloc.Global.{Global}
 use Rattle.std.specs.Str.{bytes_eq}
@@ -10,14 +10,12 @@ use Rattle.fast_check_lattice.specs.declared.lattice.node.Below.TheVariants.{All
 use Rattle.fast_check_lattice.specs.declared.lattice.node.Node.{Node}
 use Rattle.fast_check_lattice.specs.declared.lattice.node.NodeNo.{NodeNo}
 use Rattle.fast_check_lattice.specs.Order.{Name, found}
-use Rattle.fast_check_lattice.specs.Graph.{Graph, Path, Part, entry, reach, below_node, rooted, IsTree}
-use Rattle.fast_check_lattice.specs.Line.{link_at, IsLine}
+use Rattle.fast_check_lattice.specs.Graph.{Graph, Path, Part, entry, reach, below_node, rooted, IsTree, link_at, IsLine}
 use Rattle.fast_check_lattice.specs.Names.{whole_below, whole_path, everything, path_of, subset_of, NameSet, IsSame}
 use Rattle.fast_check_lattice.proofs.Lists.{entry_front, entry_behind}
 use Rattle.fast_check_lattice.proofs.Extends.{itself}
-use Rattle.fast_check_lattice.proofs.Grafts.{all_no_subset, none_no_subset, subset_is}
 use Rattle.fast_check_lattice.specs.EqualityProof.{none_is, all_is}
-use Rattle.fast_check_lattice.proofs.Walks.{name_shows}
+use Rattle.fast_check_lattice.proofs.Walks.{name_shows, all_no_subset, none_no_subset, subset_is}
 
 module _ (g : Graph) (p : Path) (is : IsLine p (length p) g) (past : (k : ℕ) (n : Name) → length p ≤ k → g k n ≡ None) where
   last_link : (k : ℕ) → k + 1 ≡ length p → link_at (length p) k ≡ All

@@ -1,7 +1,6 @@
 -- Lists of names, and the nodes that hold them.
 use Rattle.std.proofs.Common.{◌≡◌, ◌∙◌, sym, ap, refl, subst, ⊎_elim, ℕ, zero, suc, ◌+◌, ◌<◌, ◌≤◌, true, false, ◌&&◌, cond, eqb, List, []}
-use Rattle.std.proofs.Common.{◌∷◌, ◌++◌, Option, Some, arith, map, take, drop, append_assoc, length, get_or, set, string_bytes}
-use Rattle.std.proofs.Common.{None, drop}
+use Rattle.std.proofs.Common.{◌∷◌, ◌++◌, Option, Some, arith, map, take, drop, append_assoc, length, get_or, set, string_bytes, drop}
 use Rattle.std.specs.Str.{bytes_eq}
 use Rattle.std.proofs.lemmas.Bool.Decides.{eqb_tells}
 use Rattle.std.proofs.lemmas.List.{map-set, map-append, get_or-map, get_or-set_same, get_or-set_other, get_or_append_left}

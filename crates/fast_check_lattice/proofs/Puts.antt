@@ -105,3 +105,8 @@ not_none (Some x) h e = let f : is_some (Some x) ≡ false = ap is_some e in fal
 pub if_ok_from : {T E : Type 0} {P Q : T → Type 0} (r : Result T E) → ((x : T) → P x → Q x) → IfOk r P → IfOk r Q
 if_ok_from (Ok x) f p = f x p
 if_ok_from (Err e) f p = tt
+
+-- a fact that holds whatever came out
+pub on_err : {T E : Type 0} {P : Type 0} (r : Result T E) → P → OnErr r P
+on_err (Ok x) p = tt
+on_err (Err e) p = p

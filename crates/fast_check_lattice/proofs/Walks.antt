@@ -21,6 +21,21 @@ pub or_itself : (b : Bool) → b ≡ (b || b)
 or_itself true = refl
 or_itself false = refl
 
+pub none_some : {X : Type 0} (x : X) → None ≡ Some x → ⊥
+none_some x e = cc
+
+pub none_no_subset : (j : NodeNo) → None ≡ Some (Subset j) → ⊥
+none_no_subset j e = cc
+
+pub all_no_subset : (j : NodeNo) → Some All ≡ Some (Subset j) → ⊥
+all_no_subset j e = cc
+
+pub subset_is : (i j : NodeNo) → Some (Subset i) ≡ Some (Subset j) → i ≡ j
+subset_is i j e = cc
+
+pub no_is : (i j : NodeNo) → i.0 ≡ j.0 → i ≡ j
+no_is i j e k = record { 0 = e k }
+
 pub name_shows : (n m : Name) → ((bytes_eq n m ≡ true) × (n ≡ m)) ⊎ ((bytes_eq n m ≡ false) × (n ≡ m → ⊥))
 name_shows n m = ⊎_elim
     (λ t. inl (t, (bytes_eq-Decides n m).0 t))
@@ -138,9 +153,6 @@ module _ (g : Graph) (size : ℕ) (tree : IsTree g size) (at : ℕ) (n : Name) (
     (f h : NameSet)
     (f_ends : (part : Part) → f part [] ≡ is_touched part)
     (h_is : (part : Part) (x : Name) (q : Path) → h part (x ∷ q) ≡ (bytes_eq n x && f part q)) where
-  no_is : (j : NodeNo) → j.0 ≡ next.0 → j ≡ next
-  no_is j e i = record { 0 = e i }
-
   past : (j : ℕ) → at < j → (j ≡ next.0 → ⊥) → (part : Part) (q : Path) → through g next.0 f j part q ≡ false
   past j a d part [] = refl
   past j a d part (m ∷ q) =
@@ -148,7 +160,7 @@ module _ (g : Graph) (size : ℕ) (tree : IsTree g size) (at : ℕ) (n : Name) (
       ∙ passes_false (g j m) (λ i. through g next.0 f i part q) (λ i e.
       let l = tree.later j m i e in
       past i.0 (omega (arith, l.0, a))
-      (λ same. let o = tree.once j m at n next (subst (λ (x : NodeNo). g j m ≡ Some (Subset x)) (no_is i same) e) link in omega
+      (λ same. let o = tree.once j m at n next (subst (λ (x : NodeNo). g j m ≡ Some (Subset x)) (no_is i next same) e) link in omega
       (arith, o.0, a)) part q)
 
   ended : (part : Part) (q : Path) → (reach g (Some (Subset next)) part q || through g next.0 f next.0 part q) ≡
@@ -189,7 +201,7 @@ module _ (g : Graph) (size : ℕ) (tree : IsTree g size) (at : ℕ) (n : Name) (
       ap (λ b. reach g (g k m) part q || b) (passes_false (g k m) (λ j. through g next.0 f j part q) (λ i e.
       let l = tree.later k m i e in
       past i.0 (omega (arith, l.0, s.1))
-      (λ same. t.1 (sym (tree.once k m at n next (subst (λ (x : NodeNo). g k m ≡ Some (Subset x)) (no_is i same) e) link).1)) part q)
+      (λ same. t.1 (sym (tree.once k m at n next (subst (λ (x : NodeNo). g k m ≡ Some (Subset x)) (no_is i next same) e) link).1)) part q)
       ∙ (ap (λ b. b && f part q) (sym t.0) ∙ sym (h_is part m q))))
       (name_shows n m)
       ∙ ap (λ b. reach g (g k m) part q || cond b (h part (m ∷ q)) (passes (g k m) (λ j. through g at h j part q))) (sym s.0))
@@ -203,4 +215,4 @@ module _ (g : Graph) (size : ℕ) (tree : IsTree g size) (at : ℕ) (n : Name) (
   descends k d m part [] = aside k d m part [] (λ o. refl)
   descends k d m part (x ∷ q) = aside k d m part (x ∷ q) (λ o. further (g k m) part x q (λ j e.
       descends j.0
-      (λ same. o (tree.once k m at n next (subst (λ (y : NodeNo). g k m ≡ Some (Subset y)) (no_is j same) e) link).0) x part q))
+      (λ same. o (tree.once k m at n next (subst (λ (y : NodeNo). g k m ≡ Some (Subset y)) (no_is j next same) e) link).0) x part q))

@@ -1,6 +1,6 @@
 -- Nodes that list names, as a graph.
 use Rattle.std.specs.Prelude.{ℕ, ◌≡◌, ◌<◌, ◌≤◌, ◌+◌, ◌==◌, Bool, true, false, ◌&&◌, ◌||◌, List, [], ◌∷◌}
-use Rattle.std.specs.Prelude.{map, Option, Some, None, get_or, cond, Vec, vec_len, vec_capacity, option_map}
+use Rattle.std.specs.Prelude.{map, Option, Some, None, get_or, cond, Vec, vec_len, vec_capacity, option_map, length}
 use Rattle.std.specs.declared.alloc.Global.{Global}
 use Rattle.std.specs.Str.{bytes_eq}
 use Rattle.fast_check_lattice.specs.Order.{Name, Entry, found}
@@ -135,3 +135,12 @@ passes (Some (Subset j)) f = f j.0
 abbrev pub through : Graph → ℕ → NameSet → ℕ → NameSet
 through g at f k part [] = false
 through g at f k part (n ∷ q) = cond (k == at) (f part (n ∷ q)) (passes (g k n) (λ j. through g at f j part q))
+
+-- what stands under the name of a place of a path: the next node, and all under the last
+abbrev pub link_at : ℕ → ℕ → Below
+link_at count k = cond (k + 1 == count) All (Subset (record { 0 = k + 1 }))
+
+-- each of the first nodes lists one name of the path
+abbrev pub IsLine : Path → ℕ → Graph → Type 0
+IsLine p count g = (k : ℕ) (n : Name) → k < count →
+    g k n ≡ cond (bytes_eq (get_or p k []) n) (Some (link_at (length p) k)) None

@@ -1,14 +1,10 @@
 pub mod Order
-pub mod Line
 pub mod Graph
 pub mod Pairs
 pub mod Numbers
 pub mod Pruned
 pub mod Names
-pub mod Gains
 pub mod Imports
-pub mod Paths
-pub mod Shapes
 pub mod Equality
 pub mod EqualityProof
 pub mod Traces

@@ -5,7 +5,7 @@ ghost use Rattle.std.specs.Str.{bytes_eq};
 ghost use Rattle.fast_check_lattice.specs.Order.{Name, found};
 ghost use Rattle.fast_check_lattice.specs.Graph.{entry};
 ghost use Rattle.fast_check_lattice.specs.Names.{path_of};
-ghost use Rattle.fast_check_lattice.specs.Line.{IsLine, link_at};
+ghost use Rattle.fast_check_lattice.specs.Graph.{IsLine, link_at};
 
 use crate::lattice::node::{Below, Node, NodeNo};
 use crate::lattice::nodes::node_of;

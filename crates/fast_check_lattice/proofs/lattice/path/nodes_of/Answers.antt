@@ -1,10 +1,8 @@
-use Rattle.std.proofs.Common.{rules, arith, ◌≡◌, ◌∙◌, ◌<◌, ap, sym, cond, length, get_or, string_bytes, Some, None, String, [], subst}
-use Rattle.std.proofs.Common.{ℕ}
+use Rattle.std.proofs.Common.{rules, arith, ◌≡◌, ◌∙◌, ◌<◌, ap, sym, cond, length, get_or, string_bytes, Some, None, String, [], subst, ℕ}
 use Rattle.std.specs.declared.alloc.Global.{Global}
 use Rattle.std.specs.Str.{bytes_eq}
 use Rattle.std.proofs.lemmas.List.{length-map, get_or-map}
-use Rattle.fast_check_lattice.specs.Graph.{entry}
-use Rattle.fast_check_lattice.specs.Line.{link_at, IsLine}
+use Rattle.fast_check_lattice.specs.Graph.{entry, link_at, IsLine}
 use Rattle.fast_check_lattice.specs.Order.{Name}
 use Rattle.fast_check_lattice.specs.Names.{path_of}
 use Rattle.fast_check_lattice.proofs.Lines.{line_more}

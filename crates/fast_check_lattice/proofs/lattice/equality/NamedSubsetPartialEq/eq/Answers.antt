@@ -1,4 +1,4 @@
-use Rattle.std.proofs.Common.{◌≡◌, ◌∙◌, ◌&&◌, sym, ap, false}
+use Rattle.std.proofs.Common.{◌∙◌, ◌&&◌, sym, ap}
 use Rattle.fast_check_lattice.specs.Equality.{is_within}
 use Rattle.fast_check_lattice.specs.EqualityProof.{same_decides}
 use Rattle.fast_check_lattice.proofs.Alike.{within_value}

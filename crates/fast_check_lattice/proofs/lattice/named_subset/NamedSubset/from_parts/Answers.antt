@@ -1,8 +1,7 @@
 use Rattle.std.proofs.Common.{◌≡◌, ◌∙◌, sym, subst, length, string_bytes, String, ℕ, arith}
 use Rattle.std.specs.declared.alloc.Global.{Global}
 use Rattle.std.proofs.lemmas.List.{length-map}
-use Rattle.fast_check_lattice.specs.Graph.{entry, IsTree}
-use Rattle.fast_check_lattice.specs.Line.{IsLine}
+use Rattle.fast_check_lattice.specs.Graph.{entry, IsTree, IsLine}
 use Rattle.fast_check_lattice.specs.Names.{path_of}
 use Rattle.fast_check_lattice.proofs.Copies.{past_none}
 use Rattle.fast_check_lattice.proofs.Lines.{tree_line, line_whole}
