@@ -1,5 +1,5 @@
 -- What contracts see of a cache: a map from keys to items, a seed and a function that hashes.
-use Rattle.std.specs.Prelude.{ℕ, List, map, ◌==◌, Option, Some, if◌then◌else◌}
+use Rattle.std.specs.Prelude.{ℕ, List, map, ◌==◌, Option, Some, if◌then◌else◌, codes}
 use Rattle.url.specs.Parts.{Parts}
 use Rattle.fast_check_syntax.specs.declared.tree.Tree.{Tree}
 use Rattle.fast_check_comments.specs.declared.comments.Comments.{Comments}
@@ -28,6 +28,10 @@ source_hash_of (Diagnostic d) = d.source_hash
 
 abbrev pub item_of : FastCheckCacheItem → ItemView
 item_of i = (map nv_of i.dependencies.keys, map (λ e. (e.0, module_of e.1)) i.modules.items)
+
+-- the seed of a cache that has none of its own: the text that names the rules
+abbrev pub default_seed : List ℕ
+default_seed = codes "0.111.1-single-return"
 
 -- the map with an item at a key
 unfoldable pub with_item : ℕ → ItemView → (ℕ → Option ItemView) → ℕ → Option ItemView

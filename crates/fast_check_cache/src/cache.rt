@@ -1,8 +1,8 @@
 //! A cache as a caller lends it: its keys and the trait `FastCheckCache`.
-ghost use Rattle.std.specs.Prelude.{◌≡◌, ℕ, List, map, Option, option_map, codes, IfOk, OnOk, OnErr};
+ghost use Rattle.std.specs.Prelude.{◌≡◌, ℕ, List, map, Option, option_map, IfOk, OnOk, OnErr};
 ghost use Rattle.url.specs.Parts.{serialize};
 ghost use Rattle.fast_check_packages.specs.Package.{Nv, nv_of};
-ghost use Rattle.fast_check_cache.specs.Cache.{ItemView, item_of, with_item};
+ghost use Rattle.fast_check_cache.specs.Cache.{ItemView, default_seed, item_of, with_item};
 
 use crate::item::FastCheckCacheItem;
 use fast_check_packages::PackageNv;
@@ -50,13 +50,20 @@ impl FastCheckCacheKey {
 /// The seed of the rules: a text that changes with them. `hash_seed` of a cache that has no seed of its own answers it.
 pub const HASH_SEED: &str = "0.111.1-single-return";
 
+/// `HASH_SEED`, by a call whose contract says its text.
+pub fn default_hash_seed() -> &'static str
+    ensures { result.now ≡ default_seed }
+{
+    HASH_SEED
+}
+
 /// A cache that a caller lends: a map from keys to items, a seed, and a function that hashes.
 pub trait FastCheckCache {
     /// The items by their keys.
     ghost stored: { Self → ℕ → Option ItemView };
 
     /// The seed: that of the rules, unless an `impl` says another.
-    ghost seed_text: { Self → List ℕ } = { λ _. codes "0.111.1-single-return" };
+    ghost seed_text: { Self → List ℕ } = { λ _. default_seed };
 
     /// The hash of a seed, a package and the texts of its entry points, in order and each once.
     ghost hash_of: { Self → List ℕ → Nv → List (List ℕ) → ℕ };

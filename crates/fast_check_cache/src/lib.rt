@@ -6,7 +6,7 @@ mod cached;
 mod item;
 mod package_ranges;
 
-pub use cache::{FastCheckCache, FastCheckCacheKey, HASH_SEED};
+pub use cache::{FastCheckCache, FastCheckCacheKey, HASH_SEED, default_hash_seed};
 pub use cached::{key_of, look_up, source_hash};
 pub use item::{
     FastCheckCacheItem, FastCheckCacheModuleItem, FastCheckCacheModuleItemDiagnostic,

@@ -12,12 +12,10 @@ use Rattle.fast_check_lattice.specs.Names.{IsJoin, IsJoined, HasMore, IsDifferen
 use Rattle.fast_check_lattice.specs.Imports.{default_name, all_but_default, all_names, imported, answered, IsLeastForm, IsAnswer, NameDemand}
 use Rattle.fast_check_lattice.specs.Imports.{names_but_default, each_name, subset_at, whole_at, demands, is_star, IsWidened, IsAdded}
 use Rattle.fast_check_lattice.proofs.Sets.{same_subset, same_whole}
-use Rattle.fast_check_lattice.specs.Shapes.{own_set}
+use Rattle.fast_check_lattice.proofs.Shapes.{own_set}
 use Rattle.fast_check_lattice.proofs.Forms.{more_than_star, more_than_all, star_below_all, set_below_all, set_below_star, least_all}
 use Rattle.fast_check_lattice.proofs.Forms.{new_above, join_nothing, join_above, join_default, join_whole_default}
-
-none_some : {X : Type 0} (x : X) → None ≡ Some x → ⊥
-none_some x e = cc
+use Rattle.fast_check_lattice.proofs.Walks.{none_some}
 
 some_is : (x y : ImportedExports) → Some x ≡ Some y → x ≡ y
 some_is x y e = cc

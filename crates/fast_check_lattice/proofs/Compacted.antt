@@ -6,6 +6,7 @@ use Rattle.fast_check_lattice.specs.declared.lattice.node.Below.{Below}
 use Rattle.fast_check_lattice.specs.declared.lattice.node.Below.TheVariants.{All, Subset}
 use Rattle.fast_check_lattice.specs.Order.{Name}
 use Rattle.fast_check_lattice.specs.Graph.{Graph, moved, Part, Path, ends, reach, rooted, IsTree}
+use Rattle.fast_check_lattice.proofs.Walks.{none_no_subset, all_no_subset, subset_is, no_is}
 
 -- w has the live nodes of g, under the numbers that `to` gives them
 pub record IsCompacted (g : Graph) (size : ℕ) (live : ℕ → Bool) (to : ℕ → ℕ) (w : Graph) (count : ℕ) : Type 0 where
@@ -27,23 +28,11 @@ pub record IsCompacted (g : Graph) (size : ℕ) (live : ℕ → Bool) (to : ℕ 
   pub keeps : (k : ℕ) (n : Name) → k < size → live k ≡ true → w (to k) n ≡ moved to (g k n)
   pub past : (m : ℕ) (n : Name) → count ≤ m → w m n ≡ None
 
-none_no : (j : NodeNo) → None ≡ Some (Subset j) → ⊥
-none_no j e = cc
-
-all_no : (j : NodeNo) → Some All ≡ Some (Subset j) → ⊥
-all_no j e = cc
-
-subset_is : (i j : NodeNo) → Some (Subset i) ≡ Some (Subset j) → i ≡ j
-subset_is i j e = cc
-
-no_is : (i j : NodeNo) → i.0 ≡ j.0 → i ≡ j
-no_is i j e k = record { 0 = e k }
-
 -- what stands under another number, stood under one
 pub moved_back : (to : ℕ → ℕ) (o : Option Below) (j : NodeNo) → moved to o ≡ Some (Subset j) → (l : NodeNo) × (o ≡ Some (Subset l)) ×
     (j.0 ≡ to l.0)
-moved_back to None j e = absurd (none_no j e)
-moved_back to (Some All) j e = absurd (all_no j e)
+moved_back to None j e = absurd (none_no_subset j e)
+moved_back to (Some All) j e = absurd (all_no_subset j e)
 moved_back to (Some (Subset l)) j e = (l, refl, ap (λ (x : NodeNo). x.0) (sym (subset_is (record { 0 = to l.0 }) j e)))
 
 module _ (g : Graph) (size : ℕ) (live : ℕ → Bool) (to : ℕ → ℕ) (w : Graph) (count : ℕ) (is : IsCompacted g size live to w count) where
@@ -74,7 +63,7 @@ module _ (g : Graph) (size : ℕ) (live : ℕ → Bool) (to : ℕ → ℕ) (w : 
             is.children k.0 n b.0 k.2 b.1;
         next_is = b.2;
       })
-      (λ (h : count ≤ m). absurd (none_no j (sym (is.past m n h) ∙ e)))
+      (λ (h : count ≤ m). absurd (none_no_subset j (sym (is.past m n h) ∙ e)))
       (cases_lt m count)
 
   pub tree_compacted : IsTree w count
@@ -97,7 +86,7 @@ module _ (g : Graph) (size : ℕ) (live : ℕ → Bool) (to : ℕ → ℕ) (w : 
         let later : 0 < k.0 = ⊎_elim (λ (h : 0 < k.0). h)
         (λ (h : k.0 ≤ 0). let z : k.0 ≡ 0 = omega (arith, h) in absurd (omega (arith, some, ap to z, k.3, is.first))) (cases_lt 0 k.0) in
         let p = is.parent k.0 later k.1 k.2 in
-        ((to p.0.0, p.0.1), is.keeps p.0.0 p.0.1 p.2 p.1 ∙ (ap (moved to) p.3 ∙ ap (λ i. Some (Subset (record { 0 = i }))) k.3));
+        ∣ ((to p.0.0, p.0.1), is.keeps p.0.0 p.0.1 p.2 p.1 ∙ (ap (moved to) p.3 ∙ ap (λ i. Some (Subset (record { 0 = i }))) k.3)) ∣₁;
   }
 
   -- a subset at a live node

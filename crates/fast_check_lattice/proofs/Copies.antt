@@ -1,8 +1,7 @@
 -- What is built from the nodes of sets.
-use Rattle.std.proofs.Common.{◌≡◌, ◌∙◌, sym, ap, refl, subst, ⊎_elim, ℕ, ◌<◌, ◌≤◌, true, List, [], ◌∷◌, Option, Some, None}
-use Rattle.std.proofs.Common.{arith, length, get_or, take, string_bytes}
-use Rattle.std.proofs.lemmas.List.{take_all, get_or_past, length-map}
-use Rattle.std.proofs.lemmas.Bool.{cases_lt}
+use Rattle.std.proofs.Common.{◌≡◌, ◌∙◌, sym, ap, refl, subst, ℕ, ◌<◌, ◌≤◌, true, List, [], ◌∷◌, Option, Some, None}
+use Rattle.std.proofs.Common.{arith, length, get_or, string_bytes}
+use Rattle.std.proofs.lemmas.List.{get_or_past, length-map}
 use Rattle.fast_check_lattice.specs.declared.lattice.node.Node.{Node}
 use Rattle.fast_check_lattice.specs.declared.lattice.node.NodeNo.{NodeNo}
 use Rattle.fast_check_lattice.specs.declared.lattice.node.Below.{Below}
@@ -13,7 +12,7 @@ use Rattle.fast_check_lattice.specs.Names.{nothing, IsSame}
 use Rattle.fast_check_lattice.proofs.Walks.{is_after}
 use Rattle.fast_check_lattice.proofs.Sorted.{node_once}
 use Rattle.fast_check_lattice.proofs.Lists.{items_at, found_read}
-use Rattle.fast_check_lattice.proofs.Puts.{none_is}
+use Rattle.fast_check_lattice.specs.EqualityProof.{none_is}
 
 -- a node that is not there lists nothing
 pub past_nothing : (nodes : List Node) (at : ℕ) → length nodes ≤ at → IsSame (below_node (entry nodes) at) nothing
@@ -34,12 +33,6 @@ pub later_at : (nodes : List Node) (size : ℕ) → IsTree (entry nodes) size �
     IsAfter at size o
 later_at nodes size tree at n o e = let P : Option Below → Type 0 =
     IsAfter at size in subst P e (is_after (entry nodes) size tree at at n (omega arith))
-
--- at the end of the names of a node
-pub found_end : (nodes : List Node) (at : ℕ) (node : Node) (i : ℕ) (n : Name) → at < length nodes → node ≡ get_or nodes at node →
-    length node.names.items ≤ i →
-    found (take i node.names.items) n ≡ entry nodes at n
-found_end nodes at node i n within is h = ap (λ es. found es n) (take_all i node.names.items h ∙ items_at nodes at node within is)
 
 pub subset_reach : (g : Graph) (j : NodeNo) → IsSame (subset_of (below_node g j.0)) (reach g (Some (Subset j)))
 subset_reach g j part [] = refl
@@ -71,14 +64,3 @@ root_some nodes root within is some =
 pub past_none : (nodes : List Node) (at : ℕ) → length nodes ≤ at → (n : Name) → entry nodes at n ≡ None
 past_none nodes at h n =
     ap (λ es. found es n) (get_or_past (listings nodes) at [] (omega (arith, h, length-map nodes (λ (x : Node). x.names.items))))
-
--- what was looked up
-pub looked : (nodes others : List Node) (at : ℕ) (n m : Name) (b z : Below) → others ≡ nodes → m ≡ n → Some b ≡ entry others at m → b ≡ z →
-    entry nodes at n ≡ Some z
-looked nodes others at n m b z en em found is =
-    ap (λ ns. entry ns at n) (sym en) ∙ (ap (λ (x : Name). entry others at x) (sym em) ∙ (sym found ∙ ap (λ (x : Below). Some x) is))
-
-pub node_there : (nodes : List Node) (k : ℕ) (n : Name) (b : Below) → entry nodes k n ≡ Some b → k < length nodes
-node_there nodes k n b e =
-    ⊎_elim (λ (h : k < length nodes). h) (λ (h : length nodes ≤ k). absurd (let x : None ≡ Some b = sym (past_none nodes k h n) ∙ e in cc))
-    (cases_lt k (length nodes))

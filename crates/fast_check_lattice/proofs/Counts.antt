@@ -9,7 +9,17 @@ use Rattle.fast_check_lattice.specs.declared.lattice.node.Below.TheVariants.{All
 use Rattle.fast_check_lattice.specs.Order.{Name}
 use Rattle.fast_check_lattice.specs.Graph.{Path, Part, Touched, Covered, is_touched, NameSet, Graph, reach, rooted, IsTree}
 use Rattle.fast_check_lattice.specs.Names.{has_subset, AreSubsets}
-use Rattle.fast_check_lattice.specs.Shown.{leads, onto}
+use Rattle.fast_check_lattice.proofs.Walks.{parent_of}
+
+-- the names lead from the root to node k, the last name first
+abbrev leads : Graph → Path → ℕ → Type 0
+leads g [] k = k ≡ 0
+leads g (n ∷ r) k = (p : ℕ) × leads g r p × (g p n ≡ Some (Subset (record { 0 = k })))
+
+-- the names of the first path, the last one first, before the second
+abbrev onto : Path → Path → Path
+onto [] q = q
+onto (n ∷ r) q = onto r (n ∷ q)
 
 onto_onto : (r q p : Path) → onto (onto r q) p ≡ onto q (r ++ p)
 onto_onto [] q p = refl
@@ -52,7 +62,7 @@ module _ (g : Graph) (size : ℕ) (tree : IsTree g size) where
   label zero k h w = absurd (omega (arith, h))
   label (suc fuel) zero h w = ([], refl)
   label (suc fuel) (suc k) h w =
-      let p = tree.parent (suc k) (omega arith) w in
+      let p = parent_of g size tree (suc k) (omega arith) w in
       let l = tree.later p.0.0 p.0.1 (record { 0 = suc k }) p.1 in
       let up = label fuel p.0.0 (omega (arith, l.0, h)) (omega (arith, l.0, w)) in
       (p.0.1 ∷ up.0, (p.0.0, up.1, p.1))
@@ -76,10 +86,6 @@ module _ (g : Graph) (size : ℕ) (tree : IsTree g size) where
     leads_there : leads g names node
     is : p ≡ onto names []
     deep : 0 < node
-
-  and_first : (x y : Bool) → (x && y) ≡ true → x ≡ true
-  and_first true y h = refl
-  and_first false y h = h
 
   and_not : (x y : Bool) → y ≡ true → (x && not y) ≡ true → ⊥
   and_not true y e h = let f : not y ≡ false = ap not e in false≢true (sym f ∙ h)

@@ -1,6 +1,6 @@
 -- All is written over a subset, whose node is taken out with all below it.
 use Rattle.std.proofs.Common.{◌≡◌, ◌∙◌, sym, ap, refl, subst, ⊎_elim, ℕ, ◌+◌, ◌<◌, ◌≤◌, ◌++◌, Bool, true, false, ◌&&◌, cond, eqb}
-use Rattle.std.proofs.Common.{[], ◌∷◌, List, Option, Some, None, arith, get_or, length, map}
+use Rattle.std.proofs.Common.{[], ◌∷◌, List, Option, Some, None, arith, get_or, length, map, string_bytes}
 use Rattle.std.specs.Str.{bytes_eq}
 use Rattle.std.proofs.lemmas.Bool.{false≢true, eq-eqb, cases_Bool, cases_lt, cases_order}
 use Rattle.std.proofs.lemmas.List.{length_push, get_or_append_left, get_or_at}
@@ -9,26 +9,18 @@ use Rattle.fast_check_lattice.specs.declared.lattice.node.NodeNo.{NodeNo}
 use Rattle.fast_check_lattice.specs.declared.lattice.node.Below.TheVariants.{All, Subset}
 use Rattle.fast_check_lattice.specs.declared.lattice.node.Node.{Node}
 use Rattle.fast_check_lattice.specs.Order.{Name, found}
-use Rattle.fast_check_lattice.specs.Graph.{Graph, IsTree, IsWritten, listings, entry, moved, moved_below, shift}
+use Rattle.fast_check_lattice.specs.Graph.{Graph, IsTree, IsWritten, listings, entry, moved, moved_below}
 use Rattle.fast_check_lattice.specs.Names.{whole_below, everything, IsAdded}
 use Rattle.fast_check_lattice.specs.Numbers.{stays, number, number_or_zero, rank, moved_entries, AreBehind, IsWithout, AreRanks, AreMovedDown}
-use Rattle.fast_check_lattice.proofs.Lists.{mapped_at, mapped_found}
-use Rattle.fast_check_lattice.proofs.Walks.{grown}
+use Rattle.fast_check_lattice.proofs.Lists.{mapped_at}
+use Rattle.std.proofs.lemmas.Map.Made.{lookup-map_values}
+use Rattle.fast_check_lattice.proofs.Walks.{grown, parent_of, all_no_subset, subset_is, no_is}
 use Rattle.fast_check_lattice.proofs.Grafts.{at_or_not}
 use Rattle.fast_check_lattice.proofs.Puts.{put_all}
 use Rattle.fast_check_lattice.proofs.Extends.{itself}
 use Rattle.fast_check_lattice.proofs.Copies.{past_none}
 use Rattle.fast_check_lattice.proofs.Compacted.{IsCompacted, tree_compacted, rooted_compacted}
 use Rattle.fast_check_lattice.proofs.Numbers.{rank_rises, rank_onto}
-
-all_no : (j : NodeNo) → Some All ≡ Some (Subset j) → ⊥
-all_no j e = cc
-
-subset_is : (i j : NodeNo) → Some (Subset i) ≡ Some (Subset j) → i ≡ j
-subset_is i j e = cc
-
-no_is : (i j : NodeNo) → i.0 ≡ j.0 → i ≡ j
-no_is i j e k = record { 0 = e k }
 
 -- the nodes that stay have other numbers: those from 0 on, each once, and a node a lower one than those that it lists
 pub record IsRenamed (g : Graph) (size : ℕ) (f : ℕ → Bool) (to : ℕ → ℕ) (count : ℕ) : Type 0 where
@@ -47,7 +39,7 @@ module _ (g h : Graph) (size at : ℕ) (name : Name) (no : NodeNo) (f : ℕ → 
   pub was : (k : ℕ) (n : Name) (j : NodeNo) → h k n ≡ Some (Subset j) → g k n ≡ Some (Subset j)
   was k n j e = ⊎_elim
       (λ (s : (k ≡ at) × (name ≡ n) × ((eqb k at && bytes_eq name n) ≡ true)).
-      absurd (all_no j (sym (written k n ∙ ap (λ b. cond b (Some All) (g k n)) s.2) ∙ e)))
+      absurd (all_no_subset j (sym (written k n ∙ ap (λ b. cond b (Some All) (g k n)) s.2) ∙ e)))
       (λ s. sym (written k n ∙ ap (λ b. cond b (Some All) (g k n)) s) ∙ e)
       (at_or_not k at name n)
 
@@ -69,7 +61,7 @@ module _ (g h : Graph) (size at : ℕ) (name : Name) (no : NodeNo) (f : ℕ → 
   not_gone k n j e same =
       let old : g k n ≡ Some (Subset no) = was k n j e ∙ ap (λ (x : NodeNo). Some (Subset x)) (no_is j no same) in
       let o = tree.once k n at name no old link in
-      all_no j (sym covered ∙ (subst (λ (i : ℕ). h i name ≡ Some (Subset j)) o.0 (subst (λ (m : Name). h k m ≡ Some (Subset j)) o.1 e)))
+      all_no_subset j (sym covered ∙ (subst (λ (i : ℕ). h i name ≡ Some (Subset j)) o.0 (subst (λ (m : Name). h k m ≡ Some (Subset j)) o.1 e)))
 
   -- what refers to a node that stays, stays
   pub parent_stays : (k : ℕ) (n : Name) (j : NodeNo) → g k n ≡ Some (Subset j) → f j.0 ≡ true → f k ≡ true
@@ -94,7 +86,7 @@ module _ (g h : Graph) (size at : ℕ) (name : Name) (no : NodeNo) (f : ℕ → 
       root = without.before 0 (omega (arith, ends.0));
       children = λ k n j t e. without.up k n j (was k n j e) t (not_gone k n j e);
       parent = λ j some high t.
-          let p = tree.parent j some high in
+          let p = parent_of g size tree j some high in
           let l = tree.later p.0.0 p.0.1 (record { 0 = j }) p.1 in (
             p.0,
             parent_stays p.0.0 p.0.1 (record { 0 = j }) p.1 t,
@@ -149,7 +141,7 @@ module _ (nodes written moving all : List Node) (size count len at : ℕ) (name 
       (ap (λ es. found es n) (down k (omega (arith, l, same)) t) ∙
       (ap (λ ls. found (get_or ls k []) n) renumbered ∙
       (ap (λ es. found es n) (mapped_at (moved_below (number numbers)) (listings written) k) ∙
-      mapped_found (moved_below (number numbers)) (moved (number numbers)) refl (λ b. refl) (get_or (listings written) k []) n)))
+      lookup-map_values (moved_below (number numbers)) (λ s. bytes_eq (string_bytes s) n) (get_or (listings written) k []))))
 
   past : (k : ℕ) (n : Name) → rank (stays numbers) size ≤ k → entry all k n ≡ None
   past k n l = past_none all k (omega (arith, l, count_is, long)) n
@@ -179,13 +171,13 @@ behind_more first place numbers long are = (
 -- a tree under the numbers behind others
 pub behind_shifted : (tree shifted : List Node) (first count : ℕ) (numbers : List (Option ℕ)) → IsTree (entry tree) count →
     AreBehind first count numbers → listings shifted ≡ map (moved_entries (number numbers)) (listings tree) → (k : ℕ) (n : Name) →
-    entry shifted k n ≡ shift first (entry tree k n)
+    entry shifted k n ≡ moved (λ m. first + m) (entry tree k n)
 behind_shifted tree shifted first count numbers is are same k n =
     ap (λ ls. found (get_or ls k []) n) same ∙ (ap (λ es. found es n) (mapped_at (moved_below (number numbers)) (listings tree) k) ∙
-    (mapped_found (moved_below (number numbers)) (moved (number numbers)) refl (λ b. refl) (get_or (listings tree) k []) n ∙
+    (lookup-map_values (moved_below (number numbers)) (λ s. bytes_eq (string_bytes s) n) (get_or (listings tree) k []) ∙
     each (entry tree k n) refl))
   where
-    each : (o : Option Below) → entry tree k n ≡ o → moved (number numbers) o ≡ shift first o
+    each : (o : Option Below) → entry tree k n ≡ o → moved (number numbers) o ≡ moved (λ m. first + m) o
     each None e = refl
     each (Some All) e = refl
     each (Some (Subset j)) e = ap (λ o. Some (Subset (record { 0 = number_or_zero o }))) (are j.0 (is.later k n j e).1)

@@ -10,14 +10,12 @@ use Rattle.fast_check_lattice.specs.declared.lattice.node.Node.{Node}
 use Rattle.fast_check_lattice.specs.declared.lattice.node.NodeNo.{NodeNo}
 use Rattle.fast_check_lattice.specs.declared.lattice.node.Below.TheVariants.{All, Subset}
 use Rattle.fast_check_lattice.specs.Order.{Name, Entry, found, name_at, IsOnce}
-use Rattle.fast_check_lattice.specs.Graph.{Graph, Part, Path, NameSet, reach, below_node, rooted, subset_of, IsTree}
-use Rattle.fast_check_lattice.specs.Graph.{HasRoom, IsPut}
+use Rattle.fast_check_lattice.specs.Graph.{Graph, Part, Path, NameSet, reach, below_node, rooted, subset_of, IsTree, HasRoom, IsPut}
 use Rattle.fast_check_lattice.specs.declared.lattice.node.Below.{Below}
-use Rattle.fast_check_lattice.specs.Names.{whole_below, IsAdded, IsJoin, IsNameSet, IsLeastDifference, IsSame, nothing}
-use Rattle.fast_check_lattice.specs.Gains.{IsJoint}
+use Rattle.fast_check_lattice.specs.Names.{whole_below, IsAdded, IsJoin, IsNameSet, IsLeastDifference, IsSame, nothing, IsJoint}
 use Rattle.fast_check_lattice.proofs.Walks.{name_shows, grown, descends, or_false}
 use Rattle.fast_check_lattice.proofs.Places.{some_entry, found_first, once_before}
-use Rattle.fast_check_lattice.proofs.Puts.{all_is, none_is}
+use Rattle.fast_check_lattice.specs.EqualityProof.{all_is, none_is}
 use Rattle.fast_check_lattice.proofs.Copies.{subset_reach}
 
 pub itself : (n : Name) → bytes_eq n n ≡ true

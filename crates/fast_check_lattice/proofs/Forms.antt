@@ -1,6 +1,6 @@
 -- The three forms of what is demanded of a module, and what `add` does to them.
 use Rattle.std.proofs.Common.{◌≡◌, ◌∙◌, sym, ap, refl, subst, ⊎_elim, Bool, true, false, ◌&&◌, ◌||◌, not, cond, ℕ, ◌≤◌, ◌<◌, length, List}
-use Rattle.std.proofs.Common.{[], ◌∷◌, ◌++◌, Some, None, string_bytes, arith, length-append}
+use Rattle.std.proofs.Common.{[], ◌∷◌, ◌++◌, Some, None, string_bytes, arith, length-append, get_or}
 use Rattle.std.specs.Str.{bytes_eq}
 use Rattle.std.proofs.lemmas.Bool.{false≢true, cases_Bool, or_left, or_right}
 use Rattle.std.proofs.lemmas.Slice.Eq.{bytes_eq-Decides}
@@ -12,8 +12,8 @@ use Rattle.fast_check_lattice.specs.Names.{HasMore}
 use Rattle.fast_check_lattice.specs.Imports.{default_name, all_but_default, all_names, imported}
 use Rattle.fast_check_lattice.specs.Order.{Entry, found}
 use Rattle.fast_check_lattice.specs.Graph.{entry, listings, reach}
-use Rattle.std.proofs.Common.{get_or}
-use Rattle.fast_check_lattice.specs.Shapes.{nothing_below, all_below}
+use Rattle.fast_check_lattice.proofs.Shapes.{nothing_below, all_below}
+use Rattle.fast_check_lattice.proofs.Walks.{or_false}
 
 -- No set of names has all names but `default`: a name longer than each of its names is missing.
 
@@ -110,16 +110,12 @@ new_above (Subset s) = set_below_all s
 
 -- joins
 
-or_false' : (b : Bool) → b ≡ (b || false)
-or_false' true = refl
-or_false' false = refl
-
 or_below : (a b : Bool) → (a ≡ true → b ≡ true) → b ≡ (a || b)
 or_below true b h = h refl
 or_below false b h = refl
 
 pub join_nothing : (f : NameSet) → IsJoin f nothing f
-join_nothing f part p = or_false' (f part p)
+join_nothing f part p = or_false (f part p)
 
 -- the answer has all of the old set
 pub join_above : (f g : NameSet) → IsBelow f g → IsJoin f g g

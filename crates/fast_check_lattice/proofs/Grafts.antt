@@ -7,21 +7,10 @@ use Rattle.std.proofs.lemmas.Bool.Decides.{eqb_tells}
 use Rattle.fast_check_lattice.specs.declared.lattice.node.NodeNo.{NodeNo}
 use Rattle.fast_check_lattice.specs.declared.lattice.node.Below.{Below}
 use Rattle.fast_check_lattice.specs.declared.lattice.node.Below.TheVariants.{All, Subset}
-use Rattle.fast_check_lattice.specs.Graph.{Path, Part, Graph, ends, reach, rooted, subset_of, IsTree, shift}
+use Rattle.fast_check_lattice.specs.Graph.{Path, Part, Graph, reach, rooted, subset_of, HasParent, IsTree, moved}
 use Rattle.fast_check_lattice.specs.Order.{Name}
-use Rattle.fast_check_lattice.proofs.Walks.{name_shows}
-
-no_is : (i j : NodeNo) → i.0 ≡ j.0 → i ≡ j
-no_is i j e k = record { 0 = e k }
-
-all_no_subset : (j : NodeNo) → Some All ≡ Some (Subset j) → ⊥
-all_no_subset j e = cc
-
-pub none_no_subset : (j : NodeNo) → None ≡ Some (Subset j) → ⊥
-none_no_subset j e = cc
-
-subset_is : (i j : NodeNo) → Some (Subset i) ≡ Some (Subset j) → i ≡ j
-subset_is i j e = cc
+use Rattle.fast_check_lattice.proofs.Walks.{name_shows, parent_of, all_no_subset, none_no_subset, subset_is, no_is}
+use Rattle.fast_check_lattice.proofs.Compacted.{moved_back}
 
 -- under the name, or elsewhere
 pub at_or_not : (k at : ℕ) (name n : Name) → ((k ≡ at) × (name ≡ n) × ((eqb k at && bytes_eq name n) ≡ true)) ⊎
@@ -56,26 +45,15 @@ module _ (g w : Graph) (size at : ℕ) (name : Name) (tree : IsTree g size)
   tree_all = record {
     later = λ k n j e. tree.later k n j (was k n j e);
     once = λ k n l m j e f. tree.once k n l m j (was k n j e) (was l m j f);
-    parent = λ j a b. let p = tree.parent j a b in (p.0, stays p.0.0 p.0.1 (record { 0 = j }) p.1);
+    parent = λ j a b. let p = parent_of g size tree j a b in ∣ (p.0, stays p.0.0 p.0.1 (record { 0 = j }) p.1) ∣₁;
   }
-
-pub shift_back : (d : ℕ) (o : Option Below) (j : NodeNo) → shift d o ≡ Some (Subset j) → (l : NodeNo) × (o ≡ Some (Subset l)) ×
-    (j.0 ≡ d + l.0)
-shift_back d None j e = absurd (none_no_subset j e)
-shift_back d (Some All) j e = absurd (all_no_subset j e)
-shift_back d (Some (Subset l)) j e = (l, refl, ap (λ (x : NodeNo). x.0) (sym (subset_is (record { 0 = d + l.0 }) j e)))
-
-pub shift_ends : (d : ℕ) (o : Option Below) (part : Part) → ends (shift d o) part ≡ ends o part
-shift_ends d None part = refl
-shift_ends d (Some All) part = refl
-shift_ends d (Some (Subset j)) part = refl
 
 -- Another tree stands behind, and is put under a name that had nothing.
 module _ (g s w : Graph) (size count at : ℕ) (name : Name) (tree : IsTree g size) (sub : IsTree s count) (some : 0 < count)
     (within : at < size)
     (free : g at name ≡ None)
     (low : (k : ℕ) (n : Name) → k < size → w k n ≡ cond (eqb k at && bytes_eq name n) (Some (Subset (record { 0 = size }))) (g k n))
-    (high : (k : ℕ) (n : Name) → w (size + k) n ≡ shift size (s k n)) where
+    (high : (k : ℕ) (n : Name) → w (size + k) n ≡ moved (λ m. size + m) (s k n)) where
   record IsOld (k : ℕ) (n : Name) (j : NodeNo) : Type 0 where
     here : k < size
     was : g k n ≡ Some (Subset j)
@@ -105,7 +83,7 @@ module _ (g s w : Graph) (size count at : ℕ) (name : Name) (tree : IsTree g si
       (at_or_not k at name n))
       (λ (above : size ≤ k).
       let is : k ≡ size + (k - size) = omega arith in
-      let b = shift_back size (s (k - size) n) j (sym (high (k - size) n) ∙ (ap (λ i. w i n) (sym is) ∙ e)) in
+      let b = moved_back (λ m. size + m) (s (k - size) n) j (sym (high (k - size) n) ∙ (ap (λ i. w i n) (sym is) ∙ e)) in
       inr (inr (record { at_sub = k - size; node = is; to_sub = b.0; was = b.1; to = b.2 })))
       (cases_lt k size)
 
@@ -148,9 +126,9 @@ module _ (g s w : Graph) (size count at : ℕ) (name : Name) (tree : IsTree g si
       same_name = ⊎_elim (λ (d : (bytes_eq name name ≡ true) × (name ≡ name)). d.0)
           (λ (d : (bytes_eq name name ≡ false) × (name ≡ name → ⊥)). absurd (d.1 refl)) (name_shows name name)
 
-  parent_of : (j : ℕ) → 0 < j → j < size + count → (p : ℕ × Name) × (w p.0 p.1 ≡ Some (Subset (record { 0 = j })))
-  parent_of j a b = ⊎_elim
-      (λ (low_j : j < size). let p = tree.parent j a low_j in
+  parent_there : (j : ℕ) → 0 < j → j < size + count → HasParent w j
+  parent_there j a b = ⊎_elim
+      (λ (low_j : j < size). let p = parent_of g size tree j a low_j in
       let l = tree.later p.0.0 p.0.1 (record { 0 = j }) p.1 in
       (p.0, old_parent p.0.0 p.0.1 (record { 0 = j }) (omega (arith, l.0, l.1)) p.1))
       (λ (high_j : size ≤ j). ⊎_elim
@@ -158,10 +136,10 @@ module _ (g s w : Graph) (size count at : ℕ) (name : Name) (tree : IsTree g si
       (λ (e : (eqb j size ≡ false) × (j ≡ size → ⊥)).
       let more : 0 < j - size = ⊎_elim (λ (z : j < size + 1). absurd (e.1 (omega arith))) (λ (z : size + 1 ≤ j). omega arith)
       (cases_lt j (size + 1)) in
-      let p = sub.parent (j - size) more (omega arith) in (
+      let p = parent_of s count sub (j - size) more (omega arith) in (
         (size + p.0.0, p.0.1),
         high p.0.0 p.0.1 ∙
-            (ap (λ o. shift size o) p.1 ∙ ap (λ i. Some (Subset (record { 0 = i })))
+            (ap (moved (λ m. size + m)) p.1 ∙ ap (λ i. Some (Subset (record { 0 = i })))
             (let back : size + (j - size) ≡ j = omega arith in back)),
       ))
       (eqb_tells j size))
@@ -171,12 +149,14 @@ module _ (g s w : Graph) (size count at : ℕ) (name : Name) (tree : IsTree g si
   tree_grafted = record {
     later = λ k n j e. later_by k n j (refers k n j e);
     once = λ k n l m j e f. once_by k n l m j (refers k n j e) (refers l m j f);
-    parent = parent_of;
+    parent = λ j a b. ∣ parent_there j a b ∣₁;
   }
 
   -- the paths below the other tree are as they were
-  shifted : (o : Option Below) (part : Part) (q : Path) → reach w (shift size o) part q ≡ reach s o part q
-  shifted o part [] = shift_ends size o part
+  shifted : (o : Option Below) (part : Part) (q : Path) → reach w (moved (λ m. size + m) o) part q ≡ reach s o part q
+  shifted None part [] = refl
+  shifted (Some All) part [] = refl
+  shifted (Some (Subset j)) part [] = refl
   shifted None part (n ∷ q) = refl
   shifted (Some All) part (n ∷ q) = refl
   shifted (Some (Subset j)) part (n ∷ q) = ap (λ o. reach w o part q) (high j.0 n) ∙ shifted (s j.0 n) part q

@@ -18,9 +18,8 @@ use Rattle.fast_check_lattice.specs.Pairs.{pair_at, both, with_pairs, IsMade}
 use Rattle.fast_check_lattice.proofs.Apart.{IsReferred, apart, count_upto}
 use Rattle.fast_check_lattice.proofs.Lists.{entry_front, entry_behind}
 use Rattle.fast_check_lattice.proofs.Made.{with_same, pair_front}
-use Rattle.fast_check_lattice.proofs.Puts.{none_is}
-use Rattle.fast_check_lattice.proofs.Grafts.{none_no_subset}
-use Rattle.fast_check_lattice.proofs.Walks.{or_false, or_itself, is_after, forest_after}
+use Rattle.fast_check_lattice.specs.EqualityProof.{none_is}
+use Rattle.fast_check_lattice.proofs.Walks.{or_false, or_itself, is_after, forest_after, none_no_subset}
 
 -- of a queue of count pairs the first i are joined; a and b are no nodes of g and of h
 pub record AreJoined (g h : Graph) (a b : ℕ) (start : Pair) (at : ℕ → Pair) (count i : ℕ) (w : Graph) : Type 0 where
@@ -260,7 +259,7 @@ module _ (g h w : Graph) (a b i count : ℕ) (start : Pair) (at : ℕ → Pair) 
     tree_joined = record {
       later = λ k n j e. are.later k n j (in_nodes k n j e) e;
       once = λ k n l m j e d. are.once k n l m j (in_nodes k n j e) (in_nodes l m j d) e d;
-      parent = λ j z l. let p = are.parent j z l in (p.0, p.2);
+      parent = λ j z l. let p = are.parent j z l in ∣ (p.0, p.2) ∣₁;
     }
 
     -- what goes on at a pair

@@ -13,7 +13,6 @@ pub mod Made
 pub mod Joined
 pub mod Sets
 pub mod Rest
-pub mod Joins
 pub mod Adds
 pub mod Extends
 pub mod Numbers
@@ -24,11 +23,10 @@ pub mod Pruned
 pub mod Listed
 pub mod Alike
 pub mod Compacted
-pub mod Listers
-pub mod Ends
-pub mod Writes
 pub mod Forms
 pub mod Added
 pub mod Roots
 pub mod Reaches
 pub mod Traced
+pub mod Shapes
+pub mod Paths

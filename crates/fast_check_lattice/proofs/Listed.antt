@@ -1,7 +1,6 @@
 -- The names of a set as a list.
 use Rattle.std.proofs.Common.{◌≡◌, ◌≢◌, ◌∙◌, sym, ap, refl, subst, ⊎_elim, ℕ, zero, suc, ◌+◌, ◌<◌, ◌≤◌, Bool, true, false, cond, List, []}
-use Rattle.std.proofs.Common.{◌∷◌, ◌++◌, map, Option, Some, None, Result, Ok, Err, String, string_bytes, arith, length, get_or, take}
-use Rattle.std.proofs.Common.{AllPairs}
+use Rattle.std.proofs.Common.{◌∷◌, ◌++◌, map, Option, Some, None, String, string_bytes, arith, length, get_or, take, AllPairs}
 use Rattle.std.specs.Str.{bytes_eq}
 use Rattle.std.specs.declared.alloc.Global.{Global}
 use Rattle.std.proofs.lemmas.List.{take_more, take_all, get_or-map, length-map}
@@ -11,11 +10,10 @@ use Rattle.fast_check_lattice.specs.Order.{Entry, found, name_at, IsOnce, ArePla
 use Rattle.fast_check_lattice.specs.declared.lattice.node.Below.{Below}
 use Rattle.fast_check_lattice.proofs.Places.{found_first, found_none, once_before, read_name, some_entry}
 use Rattle.std.proofs.lemmas.Bool.{cases_order}
-use Rattle.std.specs.Result.{IfOk}
 use Rattle.fast_check_lattice.specs.Graph.{Graph, NameSet, reach, below_node, entry}
 use Rattle.fast_check_lattice.specs.Names.{Name, nothing, paths_below, paths_at, listed_at, IsListed, IsSame}
 use Rattle.fast_check_lattice.proofs.Walks.{name_shows}
-use Rattle.fast_check_lattice.proofs.Puts.{none_is}
+use Rattle.fast_check_lattice.specs.EqualityProof.{none_is}
 use Rattle.fast_check_lattice.proofs.Sorted.{node_once}
 use Rattle.fast_check_lattice.proofs.Lists.{items_at}
 
@@ -131,10 +129,6 @@ listed_all nodes root ks i os within is places h listed =
       once = subst (λ (ns : List Name). AllPairs (λ n m. n ≢ m) ns) (sym (names_same (entry nodes) es ks os all))
           (apart (entry nodes) es ks os (node_once root) places all);
     }
-
-pub if_ok_from : {T E : Type 0} {P Q : T → Type 0} (r : Result T E) → ((x : T) → P x → Q x) → IfOk r P → IfOk r Q
-if_ok_from (Ok x) f p = f x p
-if_ok_from (Err e) f p = tt
 
 pub listed_none : (f : NameSet) → IsSame f nothing → (os : List Out) → os ≡ [] → IsListed f os
 listed_none f e os none = let P : List Out → Type 0 = IsListed f in subst P (sym none) (record {

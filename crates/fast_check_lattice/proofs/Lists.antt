@@ -1,17 +1,16 @@
 -- Lists of names, and the nodes that hold them.
 use Rattle.std.proofs.Common.{◌≡◌, ◌∙◌, sym, ap, refl, subst, ⊎_elim, ℕ, zero, suc, ◌+◌, ◌<◌, ◌≤◌, true, false, ◌&&◌, cond, eqb, List, []}
-use Rattle.std.proofs.Common.{◌∷◌, ◌++◌, Option, Some, arith, map, take, drop, append_assoc, length, get_or, set, string_bytes}
-use Rattle.std.proofs.Common.{None, drop}
+use Rattle.std.proofs.Common.{◌∷◌, ◌++◌, Option, Some, arith, map, take, drop, append_assoc, length, get_or, set, string_bytes, drop}
 use Rattle.std.specs.Str.{bytes_eq}
 use Rattle.std.proofs.lemmas.Bool.Decides.{eqb_tells}
 use Rattle.std.proofs.lemmas.List.{map-set, map-append, get_or-map, get_or-set_same, get_or-set_other, get_or_append_left}
 use Rattle.std.proofs.lemmas.List.{get_or-append-add, length-map, length-take-le, drop_more, take_more, get_or_at, set_at, map_push}
 use Rattle.fast_check_lattice.proofs.Sorted.{node_once}
-use Rattle.fast_check_lattice.proofs.Places.{found_first, read_name, once_before, once_along}
+use Rattle.fast_check_lattice.proofs.Places.{found_first, read_name, once_before}
 use Rattle.fast_check_lattice.specs.declared.lattice.node.Node.{Node}
 use Rattle.fast_check_lattice.specs.declared.lattice.node.Below.{Below}
 use Rattle.fast_check_lattice.specs.declared.lattice.node.Below.TheVariants.{Subset}
-use Rattle.fast_check_lattice.specs.Graph.{listings, entry, shift, IsWritten, IsGraft}
+use Rattle.fast_check_lattice.specs.Graph.{listings, entry, moved, IsWritten, IsGraft}
 use Rattle.fast_check_lattice.specs.Order.{Name, Entry, found, IsOnce}
 
 pub items_at : (nodes : List Node) (at : ℕ) (x : Node) → at < length nodes → x ≡ get_or nodes at x →
@@ -65,21 +64,10 @@ module _ (f : Below → Below) where
   mapped_names [] = refl
   mapped_names (e ∷ es) = ap (λ (ns : List Name). string_bytes e.0 ∷ ns) (mapped_names es)
 
-  pub mapped_once : (es : List Entry) → IsOnce es → IsOnce (mapped es)
-  mapped_once es once = once_along (mapped es) es (mapped_names es) once
-
   pub mapped_at : (ls : List (List Entry)) (k : ℕ) → get_or (map mapped ls) k [] ≡ mapped (get_or ls k [])
   mapped_at [] k = refl
   mapped_at (es ∷ ls) zero = refl
   mapped_at (es ∷ ls) (suc k) = mapped_at ls k
-
-  pub mapped_found : (F : Option Below → Option Below) → F None ≡ None → ((b : Below) → F (Some b) ≡ Some (f b)) →
-      (es : List Entry) (n : Name) →
-      found (mapped es) n ≡ F (found es n)
-  mapped_found F none some [] n = sym none
-  mapped_found F none some (e ∷ es) n =
-      elim (bytes_eq (string_bytes e.0) n) as (λ b. cond b (Some (f e.1)) (found (mapped es) n) ≡
-      F (cond b (Some e.1) (found es n))) [ true ↦ sym (some e.1) | false ↦ mapped_found F none some es n ]
 
 -- what each place of a list in its order lists, is found
 pub found_read : (es : List Entry) → IsOnce es → (i : ℕ) (d : Entry) → i < length es → d ≡ get_or es i d →
@@ -88,6 +76,12 @@ found_read es once i d within is =
     let at = sym (read_name es i d within is) in
     found_first es (string_bytes d.0) i d within at (once_before es once (string_bytes d.0) i within at) ∙
     ap (λ (e : Entry). Some e.1) (sym is)
+
+-- the same of the names of a node
+pub listed_read : (nodes : List Node) (at : ℕ) (es : List Entry) → es ≡ get_or (listings nodes) at [] → IsOnce es → (i : ℕ) (d : Entry) →
+    i < length es → d ≡ get_or es i d → entry nodes at (string_bytes d.0) ≡ Some d.1
+listed_read nodes at es names once i d within is =
+    ap (λ xs. found xs (string_bytes d.0)) (sym names) ∙ found_read es once i d within is
 
 pub entry_front : (nodes more : List Node) (k : ℕ) (n : Name) → k < length nodes → entry (nodes ++ more) k n ≡ entry nodes k n
 entry_front nodes more k n h =
@@ -104,7 +98,7 @@ entry_behind nodes more k n =
 -- a name comes to the nodes for the root of a tree, whose nodes stand behind
 pub grafts : (nodes named tree shifted joined : List Node) (size at : ℕ) (name : Name) → size ≡ length nodes → length named ≡ length nodes →
     IsWritten (entry nodes) at name (Some (Subset (record { 0 = size }))) (entry named) →
-    ((k : ℕ) (n : Name) → entry shifted k n ≡ shift size (entry tree k n)) → joined ≡ named ++ shifted →
+    ((k : ℕ) (n : Name) → entry shifted k n ≡ moved (λ m. size + m) (entry tree k n)) → joined ≡ named ++ shifted →
     IsGraft (entry nodes) size at name (entry tree) (entry joined)
 grafts nodes named tree shifted joined size at name size_is long now by_shift is = record {
   low = λ k n h. ap (λ ns. entry ns k n) is ∙ (entry_front named shifted k n (omega (arith, h, size_is, long)) ∙ now k n);

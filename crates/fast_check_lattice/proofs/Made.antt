@@ -17,12 +17,8 @@ use Rattle.fast_check_lattice.proofs.Apart.{subset_is}
 use Rattle.fast_check_lattice.proofs.Built.{new_name, one_more}
 use Rattle.fast_check_lattice.proofs.Extends.{no_place}
 use Rattle.fast_check_lattice.proofs.Places.{names_push, once_push, found_push}
-use Rattle.fast_check_lattice.proofs.Grafts.{none_no_subset}
 use Rattle.fast_check_lattice.proofs.Roots.{none_once}
-use Rattle.fast_check_lattice.proofs.Walks.{name_shows}
-
-all_no_subset : (j : NodeNo) → Some All ≡ Some (Subset j) → ⊥
-all_no_subset j e = cc
+use Rattle.fast_check_lattice.proofs.Walks.{name_shows, all_no_subset, none_no_subset}
 
 pub with_none : (at : ℕ → Pair) (o : Option Below) → None ≡ with_pairs at o → o ≡ None
 with_none at None e = refl

@@ -15,7 +15,7 @@ use Rattle.fast_check_lattice.specs.Order.{Name, Entry, found, IsOnce, IsAbsentB
 use Rattle.fast_check_lattice.specs.Graph.{Graph, IsTree, listings}
 use Rattle.fast_check_lattice.specs.Numbers.{stays, number, number_or_zero, rank, is_node, lists_node, IsWithout, AreGone, AreRanks}
 use Rattle.fast_check_lattice.specs.Numbers.{AreMovedDown}
-use Rattle.fast_check_lattice.proofs.Walks.{name_shows}
+use Rattle.fast_check_lattice.proofs.Walks.{name_shows, none_some}
 use Rattle.fast_check_lattice.proofs.Places.{found_none}
 use Rattle.fast_check_lattice.proofs.Extends.{itself}
 
@@ -82,12 +82,6 @@ lists_more [] e k = refl
 lists_more (d ∷ es) e k =
     ap (λ b. is_node d.1 k || b) (lists_more es e k) ∙ turned (is_node d.1 k) (is_node e.1 k) (lists_node es k)
 
-pub lists_taken : (es : List Entry) (i : ℕ) (e : Entry) → i < length es → e ≡ get_or es i e → (k : ℕ) →
-    lists_node (take (i + 1) es) k ≡ (is_node e.1 k || lists_node (take i es) k)
-lists_taken es i e within is k =
-    ap (λ (xs : List Entry). lists_node xs k) (take_more es i e within ∙ ap (λ (x : Entry). take i es ++ x ∷ []) (sym is)) ∙
-    lists_more (take i es) e k
-
 one_by_one : (a b : Bool) (o : Option ℕ) → cond (a || b) None o ≡ cond a None (cond b None o)
 one_by_one true b o = refl
 one_by_one false b o = refl
@@ -106,15 +100,12 @@ pub gone_all : (es : List Entry) (i : ℕ) (old new : List (Option ℕ)) → len
     AreGone (lists_node es) old new
 gone_all es i old new h is = subst (λ (xs : List Entry). AreGone (lists_node xs) old new) (take_all i es h) is
 
-none_no : (b : Below) → None ≡ Some b → ⊥
-none_no b e = cc
-
 some_is : (b d : Below) → Some b ≡ Some d → b ≡ d
 some_is b d e = cc
 
 -- what is found is listed
 pub listed_node : (es : List Entry) (n : Name) (j : NodeNo) → found es n ≡ Some (Subset j) → lists_node es j.0 ≡ true
-listed_node [] n j e = absurd (none_no (Subset j) e)
+listed_node [] n j e = absurd (none_some (Subset j) e)
 listed_node (d ∷ es) n j e = ⊎_elim
     (λ (t : bytes_eq (string_bytes d.0) n ≡ true).
     let is : d.1 ≡ Subset j = some_is d.1 (Subset j) (ap (λ b. cond b (Some d.1) (found es n)) (sym t) ∙ e) in
@@ -139,7 +130,7 @@ pub found_behind : (d : Entry) (es : List Entry) → IsOnce (d ∷ es) → (n : 
 found_behind d es once n b e = ⊎_elim
     (λ (t : (bytes_eq (string_bytes d.0) n ≡ true) × (string_bytes d.0 ≡ n)).
     let none : found es n ≡ None = ap (λ (m : Name). found es m) (sym t.1) ∙ found_none es (string_bytes d.0) (first_absent d es once) in
-    absurd (none_no b (sym none ∙ e)))
+    absurd (none_some b (sym none ∙ e)))
     (λ (t : (bytes_eq (string_bytes d.0) n ≡ false) × (string_bytes d.0 ≡ n → ⊥)).
     ap (λ c. cond c (Some d.1) (found es n)) t.0 ∙ e)
     (name_shows (string_bytes d.0) n)

@@ -1,6 +1,7 @@
 -- What is left of a set, node by node, and that it is the difference.
 use Rattle.std.proofs.Common.{◌≡◌, ◌∙◌, sym, ap, refl, subst, ⊎_elim, ℕ, zero, suc, ◌+◌, ◌<◌, ◌≤◌, Bool, true, false, cond, List, [], ◌∷◌}
-use Rattle.std.proofs.Common.{Option, Some, None, arith, length, get_or, set, map, string_bytes}
+use Rattle.std.proofs.Common.{Option, Some, None, arith, length, get_or, set, string_bytes}
+use Rattle.std.specs.List.{filter}
 use Rattle.std.specs.Str.{bytes_eq}
 use Rattle.std.proofs.lemmas.Bool.{false≢true, cases_Bool, cases_lt, cases_eq}
 use Rattle.std.proofs.lemmas.List.{get_or-set_same, get_or-set_other}
@@ -10,11 +11,10 @@ use Rattle.fast_check_lattice.specs.declared.lattice.node.Below.TheVariants.{All
 use Rattle.fast_check_lattice.specs.Order.{Name, Entry, found, IsOnce}
 use Rattle.fast_check_lattice.specs.Graph.{Touched, Graph, listed, reach, below_node, subset_of, IsTree, IsForest}
 use Rattle.fast_check_lattice.specs.Names.{nothing, everything, IsSame, IsDifference, IsRestBelow}
-use Rattle.fast_check_lattice.specs.Pruned.{under, place_at, is_filled, has_names, lacks, lacks_at, marks_at, marked, kept_at, left_of}
-use Rattle.fast_check_lattice.specs.Pruned.{AreBeside, IsPruned}
+use Rattle.fast_check_lattice.specs.Pruned.{under, place_at, is_filled, has_names, lacks, lacks_at, kept_at, left_of, AreBeside, IsPruned}
 use Rattle.fast_check_lattice.proofs.Walks.{name_shows}
 use Rattle.fast_check_lattice.proofs.Places.{found_none}
-use Rattle.fast_check_lattice.proofs.Puts.{none_is, all_is}
+use Rattle.fast_check_lattice.specs.EqualityProof.{none_is, all_is}
 use Rattle.fast_check_lattice.proofs.Extends.{itself}
 use Rattle.fast_check_lattice.proofs.Numbers.{first_absent, once_behind}
 use Rattle.fast_check_lattice.proofs.Copies.{some_touched, subset_reach}
@@ -64,19 +64,19 @@ both true o = refl
 both false o = refl
 
 -- a name that goes or stays, before others
-first_marked : (m : Bool) (e : Entry) (es : List Entry) (n : Name) →
+first_kept : (m : Bool) (e : Entry) (es : List Entry) (n : Name) →
     found (cond m (e ∷ es) es) n ≡ cond (bytes_eq (string_bytes e.0) n) (cond m (Some e.1) (found es n)) (found es n)
-first_marked true e es n = refl
-first_marked false e es n = both (bytes_eq (string_bytes e.0) n) (found es n)
+first_kept true e es n = refl
+first_kept false e es n = both (bytes_eq (string_bytes e.0) n) (found es n)
 
 -- what a list has under a name, of which those stay that something lacks
-pub found_marked : (filled : ℕ → Bool) (held : Name → Option Below) (es : List Entry) → IsOnce es → (n : Name) →
-    found (marked (map (lacks_at filled held) es) es) n ≡ left_of filled (held n) (found es n)
-found_marked filled held [] once n = refl
-found_marked filled held (e ∷ es) once n =
-    let rest = marked (map (lacks_at filled held) es) es in
-    let is : found rest n ≡ left_of filled (held n) (found es n) = found_marked filled held es (once_behind e es once) n in
-    first_marked (lacks_at filled held e) e rest n ∙ ⊎_elim
+pub found_kept : (filled : ℕ → Bool) (held : Name → Option Below) (es : List Entry) → IsOnce es → (n : Name) →
+    found (filter (lacks_at filled held) es) n ≡ left_of filled (held n) (found es n)
+found_kept filled held [] once n = refl
+found_kept filled held (e ∷ es) once n =
+    let rest = filter (lacks_at filled held) es in
+    let is : found rest n ≡ left_of filled (held n) (found es n) = found_kept filled held es (once_behind e es once) n in
+    first_kept (lacks_at filled held e) e rest n ∙ ⊎_elim
     (λ (t : (bytes_eq (string_bytes e.0) n ≡ true) × (string_bytes e.0 ≡ n)).
     let none : found es n ≡ None = ap (λ (m : Name). found es m) (sym t.1) ∙ found_none es (string_bytes e.0) (first_absent e es once) in
     ap (λ b. cond b (cond (lacks_at filled held e) (Some e.1) (found rest n)) (found rest n)) t.0 ∙
@@ -96,38 +96,45 @@ pub record IsPruning (g : Graph) (places : List (Option Below)) (h : Graph) (fro
 -- the node before
 module _ (g : Graph) (places : List (Option Below)) (h : Graph) (size from at : ℕ) (ls new : List (List Entry)) (tree : IsTree h size)
     (is : IsPruning g places h from ls)
-    (next : at + 1 ≡ from) (within : at < length ls) (once : IsOnce (get_or ls at [])) (marks : List Bool)
-    (marks_are : marks ≡ marks_at g places ls at) (new_is : new ≡ kept_at marks at ls) where
-  here : (k : ℕ) → k ≡ at → get_or new k [] ≡ marked marks (get_or ls at [])
-  here k e = ap (λ (xs : List (List Entry)). get_or xs k []) new_is ∙
-      (ap (λ (m : ℕ). get_or (set ls at (marked marks (get_or ls at []))) m []) e ∙
-      get_or-set_same ls at (marked marks (get_or ls at [])) [] within)
+    (next : at + 1 ≡ from) (within : at < length ls) (once : IsOnce (get_or ls at []))
+    (new_is : new ≡ kept_at (under g (place_at places at)) at ls) where
+  abbrev bare : List (List Entry)
+  bare = set ls at []
+
+  here : (k : ℕ) → k ≡ at → get_or new k [] ≡ filter (lacks_at (has_names bare) (under g (place_at places at))) (get_or ls at [])
+  here k e =
+      let es = filter (lacks_at (has_names bare) (under g (place_at places at))) (get_or ls at []) in
+      ap (λ (xs : List (List Entry)). get_or xs k []) new_is ∙
+      (ap (λ (m : ℕ). get_or (set ls at es) m []) e ∙ get_or-set_same ls at es [] within)
 
   other : (k : ℕ) → (k ≡ at → ⊥) → get_or new k [] ≡ get_or ls k []
-  other k d = ap (λ (xs : List (List Entry)). get_or xs k []) new_is ∙ get_or-set_other ls at k (marked marks (get_or ls at [])) [] d
+  other k d = ap (λ (xs : List (List Entry)). get_or xs k []) new_is ∙
+      get_or-set_other ls at k (filter (lacks_at (has_names bare) (under g (place_at places at))) (get_or ls at [])) [] d
 
   -- what is left of a node from the one on that is pruned hangs on later ones alone
-  as_before : (k : ℕ) (n : Name) → at ≤ k →
-      left_of (has_names new) (under g (place_at places k) n) (h k n) ≡ left_of (has_names ls) (under g (place_at places k) n) (h k n)
-  as_before k n l = left_same (has_names ls) (has_names new) (under g (place_at places k) n) (h k n)
-      (λ j e. ap is_filled (other j.0 (λ s. let b = tree.later k n j e in omega (arith, s, b.0, l))))
+  as_before : (ks : List (List Entry)) → ((k : ℕ) → (k ≡ at → ⊥) → get_or ks k [] ≡ get_or ls k []) → (k : ℕ) (n : Name) → at ≤ k →
+      left_of (has_names ks) (under g (place_at places k) n) (h k n) ≡ left_of (has_names ls) (under g (place_at places k) n) (h k n)
+  as_before ks same k n l = left_same (has_names ls) (has_names ks) (under g (place_at places k) n) (h k n)
+      (λ j e. ap is_filled (same j.0 (λ s. let b = tree.later k n j e in omega (arith, s, b.0, l))))
 
-  pruned_here : (k : ℕ) (n : Name) → k ≡ at → listed new k n ≡ left_of (has_names new) (under g (place_at places k) n) (h k n)
-  pruned_here k n e =
-      ap (λ (es : List Entry). found es n) (here k e ∙ ap (λ (ms : List Bool). marked ms (get_or ls at [])) marks_are) ∙
-      (found_marked (has_names ls) (under g (place_at places at)) (get_or ls at []) once n ∙
-      (ap (left_of (has_names ls) (under g (place_at places at) n)) (is.before at n (omega (arith, next))) ∙
-      (ap (λ (m : ℕ). left_of (has_names ls) (under g (place_at places m) n) (h m n)) (sym e) ∙ sym (as_before k n (omega (arith, e))))))
+  pruned_here : (n : Name) → listed new at n ≡ left_of (has_names new) (under g (place_at places at) n) (h at n)
+  pruned_here n =
+      let upto : at ≤ at = omega arith in
+      ap (λ (es : List Entry). found es n) (here at refl) ∙
+      (found_kept (has_names bare) (under g (place_at places at)) (get_or ls at []) once n ∙
+      (ap (left_of (has_names bare) (under g (place_at places at) n)) (is.before at n (omega (arith, next))) ∙
+      (as_before bare (λ k d. get_or-set_other ls at k [] [] d) at n upto ∙ sym (as_before new other at n upto))))
 
   pub one_pruned : IsPruning g places h at new
   one_pruned = record {
     before = λ k n l. ap (λ (es : List Entry). found es n) (other k (λ e. omega (arith, e, l))) ∙ is.before k n (omega (arith, l, next));
     done = λ k n l. ⊎_elim
-        (λ (e : k ≡ at). pruned_here k n e)
+        (λ (e : k ≡ at). subst (λ (m : ℕ). listed new m n ≡ left_of (has_names new) (under g (place_at places m) n) (h m n)) (sym e)
+        (pruned_here n))
         (λ (d : k ≡ at → ⊥).
         ap (λ (es : List Entry). found es n) (other k d) ∙
         (is.done k n (⊎_elim (λ (s : at < k). omega (arith, s, next)) (λ (s : k ≤ at). absurd (d (omega (arith, s, l)))) (cases_lt at k)) ∙
-        sym (as_before k n l)))
+        sym (as_before new other k n l)))
         (cases_eq k at);
   }
 

@@ -12,16 +12,9 @@ use Rattle.fast_check_lattice.specs.Order.{Name, Entry}
 use Rattle.fast_check_lattice.specs.Graph.{Path, Part, Touched, NameSet, Graph, listings, listed, entry, reach, rooted, subset_of, IsTree}
 use Rattle.fast_check_lattice.specs.Graph.{IsWritten, IsGraft, IsPut}
 use Rattle.fast_check_lattice.specs.Names.{named, everything, IsJoin}
+use Rattle.fast_check_lattice.specs.EqualityProof.{none_is, all_is}
 use Rattle.fast_check_lattice.proofs.Walks.{grown}
 use Rattle.fast_check_lattice.proofs.Grafts.{tree_grafted, grafted}
-
-pub all_is : (w : Graph) (part : Part) (q : Path) → reach w (Some All) part q ≡ true
-all_is w part [] = refl
-all_is w part (n ∷ q) = refl
-
-pub none_is : (g : Graph) (part : Part) (q : Path) → reach g None part q ≡ false
-none_is g part [] = refl
-none_is g part (n ∷ q) = refl
 
 -- graphs that list the same reach the same
 pub reach_same : (g w : Graph) → ((k : ℕ) (n : Name) → w k n ≡ g k n) → (o : Option Below) (part : Part) (q : Path) →
@@ -112,3 +105,8 @@ not_none (Some x) h e = let f : is_some (Some x) ≡ false = ap is_some e in fal
 pub if_ok_from : {T E : Type 0} {P Q : T → Type 0} (r : Result T E) → ((x : T) → P x → Q x) → IfOk r P → IfOk r Q
 if_ok_from (Ok x) f p = f x p
 if_ok_from (Err e) f p = tt
+
+-- a fact that holds whatever came out
+pub on_err : {T E : Type 0} {P : Type 0} (r : Result T E) → P → OnErr r P
+on_err (Ok x) p = tt
+on_err (Err e) p = p

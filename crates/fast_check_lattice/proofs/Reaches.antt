@@ -5,7 +5,7 @@ use Rattle.fast_check_lattice.specs.declared.lattice.node.Below.{Below}
 use Rattle.fast_check_lattice.specs.declared.lattice.node.Below.TheVariants.{All, Subset}
 use Rattle.fast_check_lattice.specs.Graph.{Path, Part, Graph, ends, reach}
 use Rattle.fast_check_lattice.specs.Order.{Name}
-use Rattle.fast_check_lattice.proofs.Puts.{none_is, all_is}
+use Rattle.fast_check_lattice.specs.EqualityProof.{none_is, all_is}
 
 -- below a subset the path goes on at its node
 pub past_name : (g : Graph) (o p : Option Below) (node : NodeNo) (n : Name) (r q : Path) → o ≡ Some (Subset node) → q ≡ n ∷ r → p ≡ g node.0 n →

@@ -8,9 +8,10 @@ use Rattle.fast_check_lattice.specs.Names.{Name, Part, Touched, Covered, NameSet
 use Rattle.fast_check_lattice.specs.Names.{IsClosed, IsNameSet, IsSame, HasMore, IsDifference, IsRestBelow, IsDifferenceBelow, paths_below}
 use Rattle.fast_check_lattice.specs.declared.lattice.named_subset.Exports.{Exports}
 use Rattle.fast_check_lattice.proofs.Sets.{of_source_along, of_itself, of_nothing, of_subset, of_each}
-use Rattle.fast_check_lattice.proofs.Puts.{none_is, all_is}
+use Rattle.fast_check_lattice.specs.EqualityProof.{none_is, all_is}
 use Rattle.fast_check_lattice.specs.Names.{at_name}
 use Rattle.fast_check_lattice.proofs.Copies.{subset_reach}
+use Rattle.fast_check_lattice.proofs.Walks.{none_some}
 
 -- along equal sets
 pub rest_along : (o n a p m b : NameSet) → IsSame o p → IsSame n m → IsSame a b → IsRestBelow o n a → IsRestBelow p m b
@@ -168,9 +169,6 @@ below_rest g h o n d nil is m has = rest_along (subset_of (below_node g o.0)) (s
     (reach g (Some (Subset o))) (reach h (Some (Subset n))) (subset_of d)
     (subset_reach g o) (subset_reach h n) (λ part p. refl)
     (rest_some (below_node g o.0) (below_node h n.0) d refl (λ part. refl) nil is m has)
-
-none_some : {X : Type 0} (x : X) → None ≡ Some x → ⊥
-none_some x e = cc
 
 some_same : (x y : Exports) → Some x ≡ Some y → x ≡ y
 some_same x y e = cc

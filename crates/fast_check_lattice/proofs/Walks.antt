@@ -2,13 +2,15 @@
 use Rattle.std.proofs.Common.{◌≡◌, ◌∙◌, sym, ap, refl, subst, ⊎_elim, inl, inr, ◌⊎◌, ℕ, ◌<◌, ◌≤◌, Bool, true, false, ◌&&◌, ◌||◌, cond, eqb}
 use Rattle.std.proofs.Common.{[], ◌∷◌, Option, Some, None, arith}
 use Rattle.std.specs.Str.{bytes_eq}
+use Rattle.std.proofs.Props.{props}
+use Rattle.std.proofs.Math.Logic.{∥∥₁_elim}
 use Rattle.std.proofs.lemmas.Bool.{false≢true, cases_Bool, eq-eqb, ne_eqb}
 use Rattle.std.proofs.lemmas.Bool.Decides.{eqb_tells}
 use Rattle.std.proofs.lemmas.Slice.Eq.{bytes_eq-Decides}
 use Rattle.fast_check_lattice.specs.declared.lattice.node.NodeNo.{NodeNo}
 use Rattle.fast_check_lattice.specs.declared.lattice.node.Below.{Below}
 use Rattle.fast_check_lattice.specs.declared.lattice.node.Below.TheVariants.{All, Subset}
-use Rattle.fast_check_lattice.specs.Graph.{Path, Part, is_touched, NameSet, Graph, ends, reach, IsTree, IsForest, IsAfter, passes, through}
+use Rattle.fast_check_lattice.specs.Graph.{Path, Part, is_touched, NameSet, Graph, ends, reach, HasParent, IsTree, IsForest, IsAfter, passes, through}
 use Rattle.fast_check_lattice.specs.Order.{Name}
 
 pub or_false : (b : Bool) → b ≡ (b || false)
@@ -19,11 +21,40 @@ pub or_itself : (b : Bool) → b ≡ (b || b)
 or_itself true = refl
 or_itself false = refl
 
+pub none_some : {X : Type 0} (x : X) → None ≡ Some x → ⊥
+none_some x e = cc
+
+pub none_no_subset : (j : NodeNo) → None ≡ Some (Subset j) → ⊥
+none_no_subset j e = cc
+
+pub all_no_subset : (j : NodeNo) → Some All ≡ Some (Subset j) → ⊥
+all_no_subset j e = cc
+
+pub subset_is : (i j : NodeNo) → Some (Subset i) ≡ Some (Subset j) → i ≡ j
+subset_is i j e = cc
+
+pub no_is : (i j : NodeNo) → i.0 ≡ j.0 → i ≡ j
+no_is i j e k = record { 0 = e k }
+
 pub name_shows : (n m : Name) → ((bytes_eq n m ≡ true) × (n ≡ m)) ⊎ ((bytes_eq n m ≡ false) × (n ≡ m → ⊥))
 name_shows n m = ⊎_elim
     (λ t. inl (t, (bytes_eq-Decides n m).0 t))
     (λ f. inr (f, λ e. false≢true (sym f ∙ (bytes_eq-Decides n m).1 e)))
     (cases_Bool (bytes_eq n m))
+
+-- the one name under which a node is listed
+pub parent_of : (g : Graph) (size : ℕ) → IsTree g size → (j : ℕ) → 0 < j → j < size → HasParent g j
+parent_of g size tree j low high = ∥∥₁_elim (tree.parent j low high) one (λ p. p)
+  where
+    is : (p : ℕ × Name) → IsProp (g p.0 p.1 ≡ Some (Subset (record { 0 = j })))
+    is p = hlevel props
+
+    one : IsProp (HasParent g j)
+    one a b =
+        let same = tree.once a.0.0 a.0.1 b.0.0 b.0.1 (record { 0 = j }) a.1 b.1 in
+        let e : a.0 ≡ b.0 = λ i. (same.0 i, same.1 i) in
+        let P : ℕ × Name → Type 0 = λ p. (d : g p.0 p.1 ≡ Some (Subset (record { 0 = j }))) → a ≡ (p, d) in
+        subst P e (λ d i. (a.0, is a.0 a.1 d i)) b.1
 
 pub passes_false : (o : Option Below) (f : ℕ → Bool) → ((j : NodeNo) → o ≡ Some (Subset j) → f j.0 ≡ false) → passes o f ≡ false
 passes_false None f h = refl
@@ -122,9 +153,6 @@ module _ (g : Graph) (size : ℕ) (tree : IsTree g size) (at : ℕ) (n : Name) (
     (f h : NameSet)
     (f_ends : (part : Part) → f part [] ≡ is_touched part)
     (h_is : (part : Part) (x : Name) (q : Path) → h part (x ∷ q) ≡ (bytes_eq n x && f part q)) where
-  no_is : (j : NodeNo) → j.0 ≡ next.0 → j ≡ next
-  no_is j e i = record { 0 = e i }
-
   past : (j : ℕ) → at < j → (j ≡ next.0 → ⊥) → (part : Part) (q : Path) → through g next.0 f j part q ≡ false
   past j a d part [] = refl
   past j a d part (m ∷ q) =
@@ -132,7 +160,7 @@ module _ (g : Graph) (size : ℕ) (tree : IsTree g size) (at : ℕ) (n : Name) (
       ∙ passes_false (g j m) (λ i. through g next.0 f i part q) (λ i e.
       let l = tree.later j m i e in
       past i.0 (omega (arith, l.0, a))
-      (λ same. let o = tree.once j m at n next (subst (λ (x : NodeNo). g j m ≡ Some (Subset x)) (no_is i same) e) link in omega
+      (λ same. let o = tree.once j m at n next (subst (λ (x : NodeNo). g j m ≡ Some (Subset x)) (no_is i next same) e) link in omega
       (arith, o.0, a)) part q)
 
   ended : (part : Part) (q : Path) → (reach g (Some (Subset next)) part q || through g next.0 f next.0 part q) ≡
@@ -173,7 +201,7 @@ module _ (g : Graph) (size : ℕ) (tree : IsTree g size) (at : ℕ) (n : Name) (
       ap (λ b. reach g (g k m) part q || b) (passes_false (g k m) (λ j. through g next.0 f j part q) (λ i e.
       let l = tree.later k m i e in
       past i.0 (omega (arith, l.0, s.1))
-      (λ same. t.1 (sym (tree.once k m at n next (subst (λ (x : NodeNo). g k m ≡ Some (Subset x)) (no_is i same) e) link).1)) part q)
+      (λ same. t.1 (sym (tree.once k m at n next (subst (λ (x : NodeNo). g k m ≡ Some (Subset x)) (no_is i next same) e) link).1)) part q)
       ∙ (ap (λ b. b && f part q) (sym t.0) ∙ sym (h_is part m q))))
       (name_shows n m)
       ∙ ap (λ b. reach g (g k m) part q || cond b (h part (m ∷ q)) (passes (g k m) (λ j. through g at h j part q))) (sym s.0))
@@ -187,4 +215,4 @@ module _ (g : Graph) (size : ℕ) (tree : IsTree g size) (at : ℕ) (n : Name) (
   descends k d m part [] = aside k d m part [] (λ o. refl)
   descends k d m part (x ∷ q) = aside k d m part (x ∷ q) (λ o. further (g k m) part x q (λ j e.
       descends j.0
-      (λ same. o (tree.once k m at n next (subst (λ (y : NodeNo). g k m ≡ Some (Subset y)) (no_is j same) e) link).0) x part q))
+      (λ same. o (tree.once k m at n next (subst (λ (y : NodeNo). g k m ≡ Some (Subset y)) (no_is j next same) e) link).0) x part q))

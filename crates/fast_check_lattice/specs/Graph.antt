@@ -1,7 +1,6 @@
 -- Nodes that list names, as a graph.
 use Rattle.std.specs.Prelude.{ℕ, ◌≡◌, ◌<◌, ◌≤◌, ◌+◌, ◌==◌, Bool, true, false, ◌&&◌, ◌||◌, List, [], ◌∷◌}
-use Rattle.std.specs.Prelude.{map, Option, Some, None, get_or, cond, Vec, vec_len}
-use Rattle.std.specs.Prelude.{vec_capacity}
+use Rattle.std.specs.Prelude.{map, Option, Some, None, get_or, cond, Vec, vec_len, vec_capacity, option_map, length}
 use Rattle.std.specs.declared.alloc.Global.{Global}
 use Rattle.std.specs.Str.{bytes_eq}
 use Rattle.fast_check_lattice.specs.Order.{Name, Entry, found}
@@ -72,13 +71,17 @@ abbrev pub subset_of : NameSet → NameSet
 subset_of f part [] = is_touched part
 subset_of f part (n ∷ q) = f part (n ∷ q)
 
+-- node j is listed
+abbrev pub HasParent : Graph → ℕ → Type 0
+HasParent g j = (p : ℕ × Name) × (g p.0 p.1 ≡ Some (Subset (record { 0 = j })))
+
 -- the nodes below number size are a tree: a node refers to later ones alone, and each but the first is referred to
 -- exactly once
 pub record IsTree (g : Graph) (size : ℕ) : Type 0 where
   pub later : (k : ℕ) (n : Name) (j : NodeNo) → g k n ≡ Some (Subset j) → (k < j.0) × (j.0 < size)
   pub once : (k : ℕ) (n : Name) (l : ℕ) (m : Name) (j : NodeNo) → g k n ≡ Some (Subset j) → g l m ≡ Some (Subset j) →
       (k ≡ l) × (n ≡ m)
-  pub parent : (j : ℕ) → 0 < j → j < size → (p : ℕ × Name) × (g p.0 p.1 ≡ Some (Subset (record { 0 = j })))
+  pub parent : (j : ℕ) → 0 < j → j < size → ∥ HasParent g j ∥₁
 
 -- trees, beside which nodes may stand that nobody refers to: a node refers to later ones alone, and each is referred
 -- to at most once
@@ -87,23 +90,13 @@ pub record IsForest (g : Graph) (size : ℕ) : Type 0 where
   pub once : (k : ℕ) (n : Name) (l : ℕ) (m : Name) (j : NodeNo) → g k n ≡ Some (Subset j) → g l m ≡ Some (Subset j) →
       (k ≡ l) × (n ≡ m)
 
--- the numbers of a tree that stands behind others
-abbrev pub shift_below : ℕ → Below → Below
-shift_below d All = All
-shift_below d (Subset j) = Subset (record { 0 = d + j.0 })
-
-abbrev pub shift : ℕ → Option Below → Option Below
-shift d None = None
-shift d (Some b) = Some (shift_below d b)
-
 -- under other numbers
 abbrev pub moved_below : (ℕ → ℕ) → Below → Below
 moved_below to All = All
 moved_below to (Subset j) = Subset (record { 0 = to j.0 })
 
 abbrev pub moved : (ℕ → ℕ) → Option Below → Option Below
-moved to None = None
-moved to (Some b) = Some (moved_below to b)
+moved to = option_map (moved_below to)
 
 -- under the name, node at lists z, and all else is as it was
 abbrev pub IsWritten : Graph → ℕ → Name → Option Below → Graph → Type 0
@@ -113,7 +106,7 @@ IsWritten g at name z w = (k : ℕ) (n : Name) → w k n ≡ cond (k == at && by
 pub record IsGraft (g : Graph) (size at : ℕ) (name : Name) (s w : Graph) : Type 0 where
   pub low : (k : ℕ) (n : Name) → k < size → w k n ≡ cond (k == at && bytes_eq name n)
       (Some (Subset (record { 0 = size }))) (g k n)
-  pub high : (k : ℕ) (n : Name) → w (size + k) n ≡ shift size (s k n)
+  pub high : (k : ℕ) (n : Name) → w (size + k) n ≡ moved (λ m. size + m) (s k n)
 
 -- room for the elements of a vector and more: in it, or in one that is empty
 abbrev pub HasRoom : {X : Type 0} → Vec X Global → ℕ → Option (Vec X Global) → Type 0
@@ -142,3 +135,12 @@ passes (Some (Subset j)) f = f j.0
 abbrev pub through : Graph → ℕ → NameSet → ℕ → NameSet
 through g at f k part [] = false
 through g at f k part (n ∷ q) = cond (k == at) (f part (n ∷ q)) (passes (g k n) (λ j. through g at f j part q))
+
+-- what stands under the name of a place of a path: the next node, and all under the last
+abbrev pub link_at : ℕ → ℕ → Below
+link_at count k = cond (k + 1 == count) All (Subset (record { 0 = k + 1 }))
+
+-- each of the first nodes lists one name of the path
+abbrev pub IsLine : Path → ℕ → Graph → Type 0
+IsLine p count g = (k : ℕ) (n : Name) → k < count →
+    g k n ≡ cond (bytes_eq (get_or p k []) n) (Some (link_at (length p) k)) None

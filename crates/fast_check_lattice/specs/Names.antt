@@ -1,6 +1,6 @@
 -- Name sets: which paths of names a value touches, and which it covers.
 use Rattle.std.specs.Prelude.{ℕ, ◌≡◌, ◌≢◌, AllPairs, ◌↔◌, Bool, true, false, ◌&&◌, ◌||◌, not, List, [], ◌∷◌, ◌++◌, map}
-use Rattle.std.specs.Prelude.{Option, Some, None, IsTrue, String, string_bytes, length, ◌+◌}
+use Rattle.std.specs.Prelude.{Option, Some, None, IsTrue, String, string_bytes, length, ◌+◌, ◌<◌}
 use Rattle.std.specs.Str.{bytes_eq}
 use Rattle.std.specs.Map.{lookup}
 use Rattle.std.specs.List.{Contains}
@@ -10,7 +10,7 @@ use Rattle.fast_check_lattice.specs.declared.lattice.named_subset.Exports.TheVar
 use Rattle.fast_check_lattice.specs.declared.lattice.named_subset.NamedSubset.{NamedSubset}
 pub use Rattle.fast_check_lattice.specs.Order.{Name}
 pub use Rattle.fast_check_lattice.specs.Graph.{Path, Part, Touched, Covered, is_touched, NameSet, subset_of}
-use Rattle.fast_check_lattice.specs.Graph.{Graph, entry, rooted, reach, through}
+use Rattle.fast_check_lattice.specs.Graph.{Graph, entry, rooted, reach, through, below_node}
 
 -- the path that a list of texts spells
 abbrev pub path_of : List (String Global) → Path
@@ -173,3 +173,9 @@ listed_at names n = lookup (λ k. bytes_eq n (string_bytes k)) names
 pub record IsListed (set : NameSet) (names : List (String Global × Exports)) : Type 0 where
   pub each : (n : Name) → IsSame (λ part q. set part (n ∷ q)) (paths_at (listed_at names n))
   pub once : AllPairs (λ n m. n ≢ m) (map (λ e. string_bytes e.0) names)
+
+-- what node other of h lists comes to node at of g where node r.0 gains what node r.1 lists
+pub record IsJoint (g : Graph) (size at : ℕ) (h : Graph) (other : ℕ) (r : ℕ × ℕ) : Type 0 where
+  pub within : r.0 < size
+  pub enough : (w : Graph) → IsAdded g r.0 (subset_of (below_node h r.1)) w →
+      IsAdded g at (subset_of (below_node h other)) w

@@ -1,7 +1,7 @@
 -- Inner: no contract of a public call cites what stands here.
 -- What is left of a set whose names go where another set has all that stands below them.
-use Rattle.std.specs.Prelude.{ℕ, ◌≡◌, Bool, true, false, List, [], ◌∷◌, map, Option, Some, None, get_or, set, cond}
-use Rattle.std.specs.Prelude.{string_bytes}
+use Rattle.std.specs.Prelude.{ℕ, ◌≡◌, Bool, true, false, List, [], ◌∷◌, Option, Some, None, get_or, set, cond, string_bytes}
+use Rattle.std.specs.List.{filter}
 use Rattle.fast_check_lattice.specs.declared.lattice.node.NodeNo.{NodeNo}
 use Rattle.fast_check_lattice.specs.declared.lattice.node.Below.{Below}
 use Rattle.fast_check_lattice.specs.declared.lattice.node.Below.TheVariants.{All, Subset}
@@ -54,19 +54,9 @@ lacks filled (Some (Subset o)) (Subset j) = filled j.0
 abbrev pub lacks_at : (ℕ → Bool) → (Name → Option Below) → Entry → Bool
 lacks_at filled held e = lacks filled (held (string_bytes e.0)) e.1
 
--- for each name of a node, whether what g has at its place lacks something of what stands there
-abbrev pub marks_at : Graph → List (Option Below) → List (List Entry) → ℕ → List Bool
-marks_at g places ls k = map (lacks_at (has_names ls) (under g (place_at places k))) (get_or ls k [])
-
--- those of a list that are marked
-abbrev pub marked : List Bool → List Entry → List Entry
-marked [] es = []
-marked (m ∷ ms) [] = []
-marked (m ∷ ms) (e ∷ es) = cond m (e ∷ marked ms es) (marked ms es)
-
--- one node keeps those of its names that are marked
-abbrev pub kept_at : List Bool → ℕ → List (List Entry) → List (List Entry)
-kept_at marks k ls = set ls k (marked marks (get_or ls k []))
+-- one node keeps those of its names of which what is held lacks something; it lists no node itself
+abbrev pub kept_at : (Name → Option Below) → ℕ → List (List Entry) → List (List Entry)
+kept_at held k ls = set ls k (filter (lacks_at (has_names (set ls k [])) held) (get_or ls k []))
 
 -- what is left under a name
 abbrev pub left_of : (ℕ → Bool) → Option Below → Option Below → Option Below

@@ -2,14 +2,12 @@
 
 mod calls;
 mod covers;
-mod demanded;
 mod differences;
 mod equality;
 mod exports;
 mod extends;
 mod imported_exports;
 mod joins;
-mod listers;
 mod named_subset;
 mod node;
 mod nodes;
@@ -18,7 +16,6 @@ mod order;
 mod path;
 mod reaches;
 
-pub use crate::lattice::demanded::PathEnd;
 pub use crate::lattice::imported_exports::ImportedExports;
 pub use crate::lattice::named_subset::{Exports, NamedSubset};
 pub use fast_check_symbols::FileDepName;

@@ -4,5 +4,5 @@
 pub mod lattice;
 mod module_maps;
 
-pub use crate::lattice::{Exports, FileDepName, ImportedExports, NamedSubset, PathEnd};
+pub use crate::lattice::{Exports, FileDepName, ImportedExports, NamedSubset};
 pub use crate::module_maps::{HandledExports, PendingTrace, PendingTraces};

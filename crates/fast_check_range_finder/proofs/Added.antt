@@ -11,8 +11,8 @@ use Rattle.fast_check_lattice.specs.declared.lattice.named_subset.NamedSubset.{N
 use Rattle.fast_check_lattice.specs.declared.lattice.imported_exports.ImportedExports.{ImportedExports}
 use Rattle.fast_check_lattice.specs.declared.lattice.imported_exports.ImportedExports.TheVariants.{Star, StarWithDefault, Subset}
 use Rattle.fast_check_lattice.specs.Names.{Path, Part, Touched, Covered, NameSet, paths, has_subset, has_whole, whole_path, IsBelow}
-use Rattle.fast_check_lattice.specs.Paths.{paths_opened_nil}
-use Rattle.fast_check_lattice.specs.Shapes.{own_set}
+use Rattle.fast_check_lattice.proofs.Paths.{paths_opened_nil}
+use Rattle.fast_check_lattice.proofs.Shapes.{own_set}
 use Rattle.fast_check_lattice.specs.Imports.{default_name, all_but_default, imported, NameDemand, names_but_default, each_name, subset_at, whole_at}
 use Rattle.fast_check_lattice.specs.Imports.{IsAnswer, IsDefaultAlone, IsRest, is_star}
 use Rattle.fast_check_lattice.specs.Traces.{is_module, HandlesAt}

@@ -21,7 +21,7 @@ pub mod diagnostics {
 
 /// Sets of demanded names, and the modules that were followed or wait.
 pub mod lattice {
-    pub use fast_check_lattice::{Exports, FileDepName, ImportedExports, NamedSubset, PathEnd};
+    pub use fast_check_lattice::{Exports, FileDepName, ImportedExports, NamedSubset};
     pub use fast_check_worklists::{HandledExports, PendingTrace, PendingTraces};
 }
 

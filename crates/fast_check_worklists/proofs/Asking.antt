@@ -20,12 +20,6 @@ pub record IsWide (old new : ImportedExports) (demand : NameDemand) : Type 0 whe
 whole_default : asked_by (whole_at (default_name ∷ [])) (whole_at (default_name ∷ [])) ≡ true
 whole_default = refl
 
--- something is asked
-pub asked_some : (x : ImportedExports) → (d : NameDemand) × (asked x d ≡ true)
-asked_some Star = (names_but_default, refl)
-asked_some StarWithDefault = (each_name, refl)
-asked_some (Subset s) = (subset_at [], refl)
-
 -- but for the empty path, what is asked is what is demanded
 abbrev IsPlain : NameDemand → Type 0
 IsPlain (subset_at []) = ⊥

@@ -6,8 +6,8 @@ use Rattle.fast_check_lattice.specs.declared.lattice.named_subset.NamedSubset.{N
 use Rattle.fast_check_lattice.specs.declared.lattice.named_subset.Exports.TheVariants.{Subset as SubsetBelow}
 use Rattle.fast_check_lattice.specs.declared.lattice.imported_exports.ImportedExports.TheVariants.{Subset}
 use Rattle.fast_check_lattice.specs.Names.{Name, Path, Part, Touched, Covered, NameSet, nothing, named, whole, subset_of, paths, paths_below}
-use Rattle.fast_check_lattice.specs.Names.{IsSame, IsJoin, is_touched}
-use Rattle.fast_check_lattice.specs.Paths.{below_subset_is}
+use Rattle.fast_check_lattice.specs.Names.{IsSame, IsJoin}
+use Rattle.fast_check_lattice.proofs.Paths.{below_subset_is}
 use Rattle.fast_check_lattice.specs.Imports.{NameDemand, names_but_default, each_name, subset_at, whole_at}
 use Rattle.fast_check_lattice.proofs.Sets.{same_subset, same_whole}
 use Rattle.fast_check_worklists.specs.Demands.{touched_path, set_demands, asked, asked_by}
@@ -20,11 +20,6 @@ and_true false = refl
 and_none : (b c : Bool) → c ≡ false → b && c ≡ false
 and_none true c e = e
 and_none false c e = refl
-
--- without names, the set below is empty
-below_none : IsSame (subset_of nothing) (touched_below [])
-below_none part [] = and_true (is_touched part)
-below_none part (m ∷ q) = sym (and_none (is_touched part) false refl)
 
 -- a name before what is below it
 below_named : (n : Name) (p : Path) (s : NamedSubset) (f : NameSet) → IsSame f (touched_below p) → IsSame (paths s) (named n f) →

@@ -7,8 +7,8 @@ use Rattle.fast_check_lattice.specs.declared.lattice.named_subset.NamedSubset.{N
 use Rattle.fast_check_lattice.specs.declared.lattice.imported_exports.ImportedExports.{ImportedExports}
 use Rattle.fast_check_lattice.specs.declared.lattice.imported_exports.ImportedExports.TheVariants.{Star, StarWithDefault, Subset}
 use Rattle.fast_check_lattice.specs.Names.{Path, Part, Touched, Covered, NameSet, paths, has_whole, IsBelow, HasMore}
-use Rattle.fast_check_lattice.specs.Paths.{paths_opened_nil}
-use Rattle.fast_check_lattice.specs.Shapes.{own_set}
+use Rattle.fast_check_lattice.proofs.Paths.{paths_opened_nil}
+use Rattle.fast_check_lattice.proofs.Shapes.{own_set}
 use Rattle.fast_check_lattice.specs.Imports.{default_name, imported, NameDemand, subset_at, whole_at}
 use Rattle.fast_check_lattice.proofs.Forms.{not_all, star_below_all, new_above}
 use Rattle.fast_check_worklists.specs.Demands.{asked}

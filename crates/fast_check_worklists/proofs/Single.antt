@@ -7,7 +7,7 @@ use Rattle.fast_check_lattice.specs.declared.lattice.imported_exports.ImportedEx
 use Rattle.fast_check_lattice.specs.declared.lattice.imported_exports.ImportedExports.TheVariants.{Star, StarWithDefault, Subset}
 use Rattle.fast_check_lattice.specs.Names.{Name, Path, Part, Touched, Covered, NameSet, paths, whole_below, whole_path, has_whole, IsBelow}
 use Rattle.fast_check_lattice.specs.Names.{IsClosed, IsNameSet}
-use Rattle.fast_check_lattice.specs.Shapes.{own_set}
+use Rattle.fast_check_lattice.proofs.Shapes.{own_set}
 use Rattle.fast_check_lattice.specs.Imports.{default_name, all_but_default, all_names, imported, NameDemand, names_but_default, each_name}
 use Rattle.fast_check_lattice.specs.Imports.{subset_at, whole_at}
 use Rattle.fast_check_lattice.proofs.Forms.{star_below_all}

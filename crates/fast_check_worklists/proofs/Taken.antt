@@ -7,10 +7,9 @@ use Rattle.std.proofs.lemmas.Slice.Eq.{bytes_eq-Decides}
 use Rattle.url.specs.Parts.{Parts, serialize}
 use Rattle.fast_check_lattice.specs.declared.lattice.imported_exports.ImportedExports.{ImportedExports}
 use Rattle.fast_check_lattice.specs.declared.lattice.imported_exports.ImportedExports.TheVariants.{Star, StarWithDefault, Subset}
-use Rattle.fast_check_lattice.specs.Names.{Part, Path, Touched, IsSame, IsBelow, HasMore}
-use Rattle.fast_check_lattice.specs.Imports.{default_name, all_names, imported, answered, NameDemand, IsCopy, IsAdded}
+use Rattle.fast_check_lattice.specs.Names.{Part, Path, IsSame, IsBelow, HasMore}
+use Rattle.fast_check_lattice.specs.Imports.{imported, answered, NameDemand, IsCopy, IsAdded}
 use Rattle.fast_check_lattice.specs.Traces.{is_module, Handles, HandlesAt}
-use Rattle.fast_check_lattice.proofs.Forms.{not_all, star_below_all}
 use Rattle.fast_check_worklists.specs.Demands.{Text, asked}
 use Rattle.fast_check_worklists.proofs.Asking.{IsWide, asked_new, asked_either, copy_asked}
 use Rattle.fast_check_worklists.proofs.Maps.{look_same, look_other, look_last, look_before, some_is}
@@ -37,12 +36,6 @@ pub record IsTaken (t : Text) (x : ImportedExports) (answer : Option ImportedExp
   pub progress : (y : ImportedExports) → answer ≡ Some y → (h : ImportedExports) → old t ≡ Some h → HasMore (imported y) (imported h)
   pub none_old : answer ≡ None → (h : ImportedExports) × (old t ≡ Some h)
   pub all_none : old t ≡ Some StarWithDefault → answer ≡ None
-
--- only the form of all names has all names
-pub only_all : (x : ImportedExports) → IsBelow all_names (imported x) → x ≡ StarWithDefault
-only_all Star h = absurd (false≢true (h Touched (default_name ∷ []) refl))
-only_all StarWithDefault h = refl
-only_all (Subset s) h = absurd (not_all s (λ part p t. h part p (star_below_all part p t)))
 
 copy_same : (a b : ImportedExports) → IsCopy a b → IsSame (imported b) (imported a)
 copy_same Star Star c = λ part p. refl

@@ -2,6 +2,5 @@ pub mod Demands
 pub mod Account
 pub mod Exports
 pub mod State
-pub mod Turn
 pub mod Measure
 pub mod Places

@@ -1,13 +1,28 @@
 //! The packages that were asked for.
-ghost use Rattle.std.specs.Prelude.{◌≡◌, ◌<◌, [], length, map, slice_index_or, OnOk, OnErr};
+ghost use Rattle.std.specs.Prelude.{◌≡◌, ◌<◌, [], length, map, slice_index_or, IfOk, OnOk, OnErr};
 ghost use Rattle.fast_check_packages.specs.Package.{nv_of};
+ghost use Rattle.fast_check_worklists.specs.Demands.{same_nv};
 ghost use Rattle.fast_check_worklists.specs.State.{AddsPackage};
 
-use crate::worklist::copy_of;
 use fast_check_packages::PackageNv;
 use std::alloc::{AllocError, Global};
+use std::cmp::Ordering;
 use std::collections::BTreeSet;
 use std::marker::Model;
+
+/// Whether two packages have the same name and version.
+pub fn is_same_package(a: &PackageNv, b: &PackageNv) -> bool
+    ensures { result ≡ same_nv (nv_of a.now) (nv_of b.now) }
+{
+    a.cmp(b).is_eq()
+}
+
+/// A copy of a package.
+pub fn copy_of(nv: &PackageNv) -> Result<PackageNv, AllocError>
+    ensures { IfOk result (λ copy. nv_of copy ≡ nv_of nv.now) }
+{
+    nv.clone()
+}
 
 /// The packages that were asked for, each once, in the order in which they came.
 #[derive(Drop)]

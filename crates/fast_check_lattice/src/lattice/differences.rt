@@ -2,13 +2,12 @@
 //! goes forwards, and notes for each node what the old set has at its place; the second goes back from the last node, and takes out each
 //! name below which nothing is new.
 
-ghost use Rattle.std.specs.Prelude.{◌≡◌, ◌<◌, ℕ, OnOk, IfOk, IsTrue, true, false, cond, length, get_or, [], vec_len};
+ghost use Rattle.std.specs.Prelude.{◌≡◌, ◌<◌, ℕ, OnOk, IfOk, cond, length, vec_len};
 ghost use Rattle.fast_check_lattice.specs.declared.lattice.node.NodeNo.{NodeNo};
 ghost use Rattle.fast_check_lattice.specs.Graph.{entry, listings, below_node, IsTree};
 ghost use Rattle.fast_check_lattice.specs.Names.{paths, IsDifference};
 ghost use Rattle.fast_check_lattice.specs.Numbers.{is_node};
-ghost use Rattle.fast_check_lattice.specs.Pruned.{under, place_at, has_names, lacks, marks_at, marked, kept_at, AreNoted, AreOthersSame};
-ghost use Rattle.fast_check_lattice.specs.Pruned.{AreBeside, IsPruned};
+ghost use Rattle.fast_check_lattice.specs.Pruned.{under, place_at, has_names, lacks, kept_at, AreNoted, AreOthersSame, AreBeside, IsPruned};
 
 use crate::lattice::joins::copy_node;
 use crate::lattice::named_subset::NamedSubset;
@@ -105,70 +104,23 @@ fn is_lacking(nodes: &[Node], held: Option<Below>, below: Below) -> bool
     }
 }
 
-/// Marks those names of node `at` of which the old set lacks something.
-fn mark_names(
-    marks: &mut Vec<bool>,
-    old: &[Node],
-    places: &[Option<Below>],
-    nodes: &[Node],
-    at: usize,
-) -> Result<(), AllocError>
-    ensures { OnOk result (marks.new.items ≡ marks_at (entry old.now) places.now (listings nodes.now) at) }
-{
-    marks.clear();
-    let place = noted(places, at);
-    for (name, below) in names_of(nodes, at) {
-        let held = held_under(old, place, name.as_str());
-        marks.push(is_lacking(nodes, held, *below))?;
-    }
-    Ok(())
-}
-
-/// Whether all are marked.
-fn are_marked(marks: &[bool]) -> bool
-    ensures { IsTrue result → (k : ℕ) → k < length marks.now → get_or marks.now k false ≡ true }
-{
-    for mark in marks {
-        if !*mark {
-            return false;
-        }
-    }
-    true
-}
-
-/// Keeps those of some names that are marked, in their order.
-fn keep_marked(names: &mut Vec<(String, Below)>, marks: &[bool])
-    requires { length marks.now ≡ vec_len names.old }
-    ensures { names.new.items ≡ marked marks.now names.old.items }
-{
-    let mut next = 0;
-    for i in 0..names.len() {
-        if !marks[i] {
-            continue;
-        }
-        names.swap(next, i);
-        next += 1;
-    }
-    names.truncate(next);
-}
-
-/// Keeps those names of node `at` that are marked. Where all are, its order stays.
-fn keep_at(
+/// Keeps those names of node `at` of which the old set lacks something, in their order.
+fn prune_node(
     nodes: &mut Vec<Node>,
     alloc: Global,
+    old: &[Node],
+    place: Option<Below>,
     at: usize,
-    marks: &[bool],
 ) -> Result<(), AllocError>
-    requires within { at < vec_len nodes.old }
-    requires len { length marks.now ≡ length (get_or (listings nodes.old.items) at []) }
+    requires { at < vec_len nodes.old }
     ensures len { vec_len nodes.new ≡ vec_len nodes.old }
-    ensures kept { OnOk result (listings nodes.new.items ≡ kept_at marks.now at (listings nodes.old.items)) }
+    ensures kept { OnOk result (listings nodes.new.items ≡ kept_at (under (entry old.now) place) at (listings nodes.old.items)) }
 {
-    if are_marked(marks) {
-        return Ok(());
-    }
     let mut names = mem::replace(&mut nodes[at], bare_node(alloc)).names;
-    keep_marked(&mut names, marks);
+    let others = nodes.as_slice();
+    names.retain(|listed| {
+        is_lacking(others, held_under(old, place, listed.0.as_str()), listed.1)
+    });
     nodes[at] = node_of(alloc, names)?;
     Ok(())
 }
@@ -186,12 +138,10 @@ fn prune(
     ensures len { vec_len nodes.new ≡ vec_len nodes.old }
     ensures pruned { OnOk result (IsPruned (entry old.now) places.now (entry nodes.old.items) (listings nodes.new.items)) }
 {
-    let mut marks = Vec::new(alloc);
     let mut left = nodes.len();
     'nodes: while left > 0 {
         left -= 1;
-        mark_names(&mut marks, old, places, nodes.as_slice(), left)?;
-        keep_at(nodes, alloc, left, marks.as_slice())?;
+        prune_node(nodes, alloc, old, noted(places, left), left)?;
     }
     Ok(())
 }

@@ -1,14 +1,14 @@
 //! Equality of what is demanded: that of sets of paths.
 
-ghost use Rattle.std.specs.Prelude.{◌≡◌, ◌↔◌, Some, IsTrue, length, is_some};
-ghost use Rattle.fast_check_lattice.specs.Names.{Name, paths, paths_below, IsSame};
+ghost use Rattle.std.specs.Prelude.{◌≡◌, ◌↔◌, Some, IsTrue, length};
+ghost use Rattle.fast_check_lattice.specs.Names.{paths, paths_below, IsSame, IsBelow};
 ghost use Rattle.fast_check_lattice.specs.Graph.{entry, reach, below_node, IsTree, IsAfter};
 ghost use Rattle.fast_check_lattice.specs.Equality.{same_exports, same_names};
-ghost use Rattle.fast_check_lattice.specs.EqualityLaws.{exports_laws, names_laws, exports_equiv, names_equiv};
+ghost use Rattle.fast_check_lattice.specs.EqualityProof.{exports_laws, names_laws, exports_equiv, names_equiv};
 
 use crate::lattice::named_subset::{Exports, NamedSubset};
 use crate::lattice::node::{Below, Node};
-use crate::lattice::nodes::find_at;
+use crate::lattice::nodes::{find_at, names_of};
 
 impl PartialEq for Exports {
     ghost eq = { same_exports };
@@ -20,7 +20,12 @@ impl PartialEq for Exports {
         ensures value { result ≡ same_exports self.now other.now }
         ensures same { IsTrue result ↔ IsSame (paths_below self.now) (paths_below other.now) }
     {
-        are_same_below(self, other)
+        match (self, other) {
+            (Exports::All, Exports::All) => true,
+            (Exports::Subset(a), Exports::Subset(b)) => a == b,
+            (Exports::All, Exports::Subset(_)) => false,
+            (Exports::Subset(_), Exports::All) => false,
+        }
     }
 }
 
@@ -38,7 +43,9 @@ impl PartialEq for NamedSubset {
         ensures value { result ≡ same_names self.now other.now }
         ensures same { IsTrue result ↔ IsSame (paths self.now) (paths other.now) }
     {
-        is_same(self.nodes.as_slice(), 0, other.nodes.as_slice(), 0)
+        let nodes = self.nodes.as_slice();
+        let others = other.nodes.as_slice();
+        is_within(nodes, 0, others, 0) && is_within(others, 0, nodes, 0)
     }
 }
 
@@ -46,66 +53,31 @@ impl Eq for NamedSubset {
     ghost laws = { names_equiv };
 }
 
-/// Whether two values demand the same below a name.
-fn are_same_below(a: &Exports, b: &Exports) -> bool
-    ensures { IsTrue result ↔ IsSame (paths_below a.now) (paths_below b.now) }
+/// Whether what stands under a name has all that stands under it in another set.
+#[cycle(within)]
+fn is_within_below(nodes: &[Node], at: usize, below: Below, others: &[Node], other: Below) -> bool
+    requires tree { IsTree (entry nodes.now) (length nodes.now) }
+    requires later { IsAfter at (length nodes.now) (Some below) }
+    ensures { IsTrue result ↔ IsBelow (reach (entry nodes.now) (Some below)) (reach (entry others.now) (Some other)) }
 {
-    match (a, b) {
-        (Exports::All, Exports::All) => true,
-        (Exports::Subset(a), Exports::Subset(b)) => {
-            is_same(a.nodes.as_slice(), 0, b.nodes.as_slice(), 0)
-        }
-        (Exports::All, Exports::Subset(_)) => false,
-        (Exports::Subset(_), Exports::All) => false,
-    }
-}
-
-/// Whether both demand the same below a name.
-#[cycle(same)]
-fn is_same_below(a_nodes: &[Node], at: usize, a: Below, b_nodes: &[Node], b: Below) -> bool
-    requires tree { IsTree (entry a_nodes.now) (length a_nodes.now) }
-    requires later { IsAfter at (length a_nodes.now) (Some a) }
-    ensures { IsTrue result ↔ IsSame (reach (entry a_nodes.now) (Some a)) (reach (entry b_nodes.now) (Some b)) }
-{
-    match (a, b) {
-        (Below::All, Below::All) => true,
-        (Below::Subset(a), Below::Subset(b)) => is_same(a_nodes, a.0, b_nodes, b.0),
+    match (below, other) {
+        (_, Below::All) => true,
         (Below::All, Below::Subset(_)) => false,
-        (Below::Subset(_), Below::All) => false,
+        (Below::Subset(no), Below::Subset(other)) => is_within(nodes, no.0, others, other.0),
     }
 }
 
-/// Whether two nodes have the same names, and below each the same.
-#[cycle(same)]
-fn is_same(a_nodes: &[Node], a: usize, b_nodes: &[Node], b: usize) -> bool
-    requires { IsTree (entry a_nodes.now) (length a_nodes.now) }
-    ensures { IsTrue result ↔ IsSame (below_node (entry a_nodes.now) a) (below_node (entry b_nodes.now) b) }
+/// Whether each name of a node is one of a node of another set, with all that stands below it.
+#[cycle(within)]
+fn is_within(nodes: &[Node], at: usize, others: &[Node], other: usize) -> bool
+    requires { IsTree (entry nodes.now) (length nodes.now) }
+    ensures { IsTrue result ↔ IsBelow (below_node (entry nodes.now) at) (below_node (entry others.now) other) }
 {
-    let Some(node) = a_nodes.get(a) else {
-        return has_names(a_nodes, a, b_nodes, b);
-    };
-    for (name, below) in node.names.as_slice() {
-        match find_at(b_nodes, b, name.as_str()) {
-            None => return false,
-            Some(other) => {
-                if !is_same_below(a_nodes, a, *below, b_nodes, other) {
-                    return false;
-                }
-            }
-        }
-    }
-    has_names(a_nodes, a, b_nodes, b)
-}
-
-/// Whether each name of one node is one of the other.
-fn has_names(others: &[Node], at: usize, nodes: &[Node], node: usize) -> bool
-    ensures { IsTrue result ↔ ((n : Name) → IsTrue (is_some (entry nodes.now node n)) → IsTrue (is_some (entry others.now at n))) }
-{
-    let Some(node) = nodes.get(node) else {
-        return true;
-    };
-    for (name, _) in node.names.as_slice() {
-        if find_at(others, at, name.as_str()).is_none() {
+    for (name, below) in names_of(nodes, at) {
+        let Some(held) = find_at(others, other, name.as_str()) else {
+            return false;
+        };
+        if !is_within_below(nodes, at, *below, others, held) {
             return false;
         }
     }

@@ -2,7 +2,7 @@
 
 ghost use Rattle.std.specs.Prelude.{◌≡◌, ◌∷◌, [], length, get_or, IfSome};
 ghost use Rattle.fast_check_lattice.specs.Graph.{entry, listings, IsTree};
-ghost use Rattle.fast_check_lattice.specs.Gains.{IsJoint};
+ghost use Rattle.fast_check_lattice.specs.Names.{IsJoint};
 
 use crate::lattice::node::{Below, Node};
 use crate::lattice::nodes::{find_at, names_of};

@@ -2,7 +2,7 @@
 
 ghost use Rattle.std.specs.Prelude.{vec_len};
 ghost use Rattle.fast_check_lattice.specs.Graph.{entry, IsTree};
-ghost use Rattle.fast_check_lattice.specs.Tree.{IsTree-prop};
+ghost use Rattle.std.proofs.Props.{props};
 
 use crate::lattice::node::Node;
 
@@ -17,5 +17,5 @@ pub enum Exports {
 #[derive(Drop)]
 pub struct NamedSubset {
     pub(crate) nodes: Vec<Node>,
-    ghost tree: { IsTree (entry nodes.items) (vec_len nodes) } by { IsTree-prop (entry nodes.items) (vec_len nodes) },
+    ghost tree: { IsTree (entry nodes.items) (vec_len nodes) } by { Prim.hlevel props },
 }

@@ -1,7 +1,7 @@
 //! A node lists its names, and under each all, or the number of another node.
 
 ghost use Rattle.fast_check_lattice.specs.Order.{names_in, IsSorted};
-ghost use Rattle.fast_check_lattice.specs.OrderProof.{IsSorted-prop};
+ghost use Rattle.std.proofs.Props.{props};
 
 /// The number of a node in its vector.
 #[derive(Clone, Copy)]
@@ -19,5 +19,5 @@ pub enum Below {
 pub struct Node {
     pub names: Vec<(String, Below)>,
     pub sorted: Vec<u32>,
-    ghost order: { IsSorted (names_in names.items) sorted.items } by { IsSorted-prop (names_in names.items) sorted.items },
+    ghost order: { IsSorted (names_in names.items) sorted.items } by { Prim.hlevel props },
 }

@@ -1,11 +1,11 @@
 //! The nodes of one path: each lists one name, and under it the next.
 
-ghost use Rattle.std.specs.Prelude.{◌≡◌, ◌<◌, ℕ, Some, None, IfOk, cond, length, string_bytes, vec_len};
+ghost use Rattle.std.specs.Prelude.{◌≡◌, ◌<◌, Some, None, IfOk, cond, length, string_bytes, vec_len};
 ghost use Rattle.std.specs.Str.{bytes_eq};
 ghost use Rattle.fast_check_lattice.specs.Order.{Name, found};
 ghost use Rattle.fast_check_lattice.specs.Graph.{entry};
 ghost use Rattle.fast_check_lattice.specs.Names.{path_of};
-ghost use Rattle.fast_check_lattice.specs.Line.{line, link_at};
+ghost use Rattle.fast_check_lattice.specs.Graph.{IsLine, link_at};
 
 use crate::lattice::node::{Below, Node, NodeNo};
 use crate::lattice::nodes::node_of;
@@ -34,7 +34,7 @@ fn below_place(count: usize, place: usize) -> Below
 /// The nodes of a path that is demanded whole.
 pub(crate) fn nodes_of(alloc: Global, parts: &[String]) -> Result<Vec<Node>, AllocError>
     ensures len { IfOk result (λ nodes. vec_len nodes ≡ length parts.now) }
-    ensures line { IfOk result (λ nodes. (k : ℕ) (n : Name) → entry nodes.items k n ≡ line (path_of parts.now) k n) }
+    ensures line { IfOk result (λ nodes. IsLine (path_of parts.now) (length parts.now) (entry nodes.items)) }
 {
     let mut nodes = Vec::with_capacity(alloc, parts.len())?;
     for place in 0..parts.len() {

@@ -6,10 +6,11 @@ use Rattle.fast_check_lattice.specs.declared.lattice.node.NodeNo.{NodeNo}
 use Rattle.fast_check_lattice.specs.declared.lattice.node.Below.TheVariants.{All}
 use Rattle.fast_check_lattice.specs.Graph.{entry, rooted, subset_of, IsTree, IsWritten, IsGraft}
 use Rattle.fast_check_lattice.specs.Names.{paths}
-use Rattle.fast_check_lattice.proofs.Grafts.{tree_all, none_no_subset}
+use Rattle.fast_check_lattice.proofs.Grafts.{tree_all}
 use Rattle.fast_check_lattice.proofs.Puts.{put_all, put_tree, put_keeps, tree_along, rooted_same, subset_along, on_ok_from}
 use Rattle.fast_check_lattice.proofs.Puts.{on_err_from, on_ok_both, either_way}
 use Rattle.fast_check_lattice.proofs.lattice.calls.put_below.Goals as goal
+use Rattle.fast_check_lattice.proofs.Walks.{none_no_subset}
 
 pub returns-in-All-clause-put : goal.returns-in-All-clause-put
 returns-in-All-clause-put c = rw c.in-All.is

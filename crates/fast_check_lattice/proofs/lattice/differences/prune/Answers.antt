@@ -6,8 +6,8 @@ use Rattle.fast_check_lattice.proofs.Lists.{once_at}
 use Rattle.fast_check_lattice.proofs.Pruned.{one_pruned}
 use Rattle.fast_check_lattice.proofs.lattice.differences.prune.Goals as goal
 
-pub keep_at-requires-clause-within : goal.keep_at-requires-clause-within
-keep_at-requires-clause-within c = omega (arith, c.nodes.invariant.upto, c.nodes-test.true)
+pub prune_node-requires : goal.prune_node-requires
+prune_node-requires c = omega (arith, c.nodes.invariant.upto, c.nodes-test.true)
 
 pub nodes-preserved : goal.nodes-preserved
 nodes-preserved c =
@@ -15,12 +15,10 @@ nodes-preserved c =
     let at = c.nodes.left - 1 in
     let long = length-map nodes.items (λ (x : Node). x.names.items) in
     record {
-      len = c.keep_at.ensures.len ∙ c.nodes.invariant.len;
-      upto = omega (arith, c.keep_at.ensures.len, c.nodes.invariant.upto);
+      len = c.prune_node.ensures.len ∙ c.nodes.invariant.len;
+      upto = omega (arith, c.prune_node.ensures.len, c.nodes.invariant.upto);
       pruning = one_pruned (entry c.args.old.now) c.args.places.now (entry c.args.nodes.now.items) c.args.nodes.now.len
-          c.nodes.left at (listings nodes.items) (listings c.keep_at.new.nodes.items) c.requires.tree c.nodes.invariant.pruning
+          c.nodes.left at (listings nodes.items) (listings c.prune_node.new.nodes.items) c.requires.tree c.nodes.invariant.pruning
           (omega (arith, c.nodes-test.true)) (omega (arith, c.nodes-test.true, c.nodes.invariant.upto, nodes.ok.0, long))
-          (once_at nodes.items at) c.mark_names.new.marks.items
-          (rw c.as_slice.ensures.value at c.in_ok-mark_names.ensures)
-          (rw c.as_slice-in-nodes.ensures.value at c.in_ok-keep_at.ensures.kept);
+          (once_at nodes.items at) (rw c.noted.ensures at c.in_ok-prune_node.ensures.kept);
     }

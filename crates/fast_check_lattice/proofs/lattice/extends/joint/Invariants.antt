@@ -1,6 +1,6 @@
 use Rattle.std.proofs.Common.{length}
 use Rattle.fast_check_lattice.specs.Graph.{entry}
-use Rattle.fast_check_lattice.specs.Gains.{IsJoint}
+use Rattle.fast_check_lattice.specs.Names.{IsJoint}
 use Rattle.fast_check_lattice.proofs.lattice.extends.joint.Given as goal
 
 abbrev pub invariant-loop : goal.invariant-loop

@@ -1,7 +1,8 @@
 use Rattle.std.proofs.Common.{sym, Some}
 use Rattle.fast_check_lattice.specs.Graph.{entry, reach, below_node, subset_of}
 use Rattle.fast_check_lattice.specs.Names.{paths}
-use Rattle.fast_check_lattice.proofs.Puts.{all_is, subset_along}
+use Rattle.fast_check_lattice.proofs.Puts.{subset_along}
+use Rattle.fast_check_lattice.specs.EqualityProof.{all_is}
 use Rattle.fast_check_lattice.proofs.Built.{same_trans}
 use Rattle.fast_check_lattice.proofs.Copies.{subset_reach}
 use Rattle.fast_check_lattice.proofs.lattice.joins.copy_below.Goals as goal

@@ -7,7 +7,7 @@ use Rattle.indexmap.proofs.CallerLemmas.{insert_entry-new}
 use Rattle.fast_check_packages.specs.declared.package.PackageNv.{PackageNv}
 use Rattle.fast_check_lattice.specs.declared.lattice.imported_exports.ImportedExports.{ImportedExports}
 use Rattle.fast_check_lattice.specs.Traces.{is_module}
-use Rattle.fast_check_lattice.proofs.Writes.{on_err}
+use Rattle.fast_check_lattice.proofs.Puts.{on_err}
 use Rattle.fast_check_lattice.proofs.Traced.{waits_new, waits_held}
 use Rattle.fast_check_lattice.proofs.module_maps.PendingTraces.add_copies.Goals as goal
 

@@ -1,10 +1,15 @@
-use Rattle.std.specs.Cmp.{both_ways}
-use Rattle.fast_check_lattice.specs.Equality.{same_exports}
+use Rattle.fast_check_lattice.specs.declared.lattice.named_subset.Exports.TheVariants.{All, Subset}
 use Rattle.fast_check_lattice.specs.EqualityProof.{same_below_decides}
 use Rattle.fast_check_lattice.proofs.lattice.equality.ExportsPartialEq.eq.Goals as goal
 
-pub returns-clause-value : goal.returns-clause-value
-returns-clause-value c =
-    both_ways c.are_same_below.result (same_exports c.args.self.now c.args.other.now)
-    (λ t. (same_below_decides c.args.self.now c.args.other.now).1 (c.are_same_below.ensures.0 t))
-    (λ t. c.are_same_below.ensures.1 ((same_below_decides c.args.self.now c.args.other.now).0 t))
+pub returns-in-All-Subset-clause-same : goal.returns-in-All-Subset-clause-same
+returns-in-All-Subset-clause-same c =
+    rw (c.in-All-Subset.is-0, c.in-All-Subset.is-1) (same_below_decides All (Subset c.in-All-Subset.field-0-1))
+
+pub returns-in-Subset-Subset-clause-same : goal.returns-in-Subset-Subset-clause-same
+returns-in-Subset-Subset-clause-same c = rw (c.in-Subset-Subset.is-0, c.in-Subset-Subset.is-1, c.eq.ensures)
+    (same_below_decides (Subset c.in-Subset-Subset.a) (Subset c.in-Subset-Subset.b))
+
+pub returns-in-Subset-All-clause-same : goal.returns-in-Subset-All-clause-same
+returns-in-Subset-All-clause-same c =
+    rw (c.in-Subset-All.is-0, c.in-Subset-All.is-1) (same_below_decides (Subset c.in-Subset-All.field-0-0) All)

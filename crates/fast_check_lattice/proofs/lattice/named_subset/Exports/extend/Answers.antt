@@ -1,8 +1,7 @@
 use Rattle.std.proofs.Common.{refl, subst}
 use Rattle.fast_check_lattice.specs.declared.lattice.named_subset.NamedSubset.{NamedSubset}
 use Rattle.fast_check_lattice.specs.Names.{paths, paths_below, everything, IsJoined, IsDifference}
-use Rattle.fast_check_lattice.proofs.Adds.{joined}
-use Rattle.fast_check_lattice.proofs.Joins.{join_below_subsets}
+use Rattle.fast_check_lattice.proofs.Adds.{joined, join_below_subsets}
 use Rattle.fast_check_lattice.proofs.Rest.{of_rest, of_rest_some, rest_all_before, rest_whole, rest_none, rest_some}
 use Rattle.fast_check_lattice.proofs.lattice.named_subset.Exports.extend.Goals as goal
 

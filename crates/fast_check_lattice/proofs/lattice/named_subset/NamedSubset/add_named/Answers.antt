@@ -1,7 +1,6 @@
-use Rattle.std.proofs.Common.{string_bytes}
+use Rattle.std.proofs.Common.{refl, string_bytes}
 use Rattle.fast_check_lattice.specs.Names.{paths, paths_below, named}
-use Rattle.fast_check_lattice.proofs.Joins.{join_both}
-use Rattle.fast_check_lattice.proofs.Adds.{joined, same_self}
+use Rattle.fast_check_lattice.proofs.Adds.{join_both, joined}
 use Rattle.fast_check_lattice.proofs.lattice.named_subset.NamedSubset.add_named.Goals as goal
 
 pub returns-clause-joined : goal.returns-clause-joined
@@ -10,4 +9,4 @@ returns-clause-joined c =
     let f = named (string_bytes c.args.export) (paths_below c.args.exports) in
     let m = paths c.in_ok-more.more in
     let t = paths c.extend.new.self in
-    joined s f t (join_both s m s f t t (same_self s) c.in_ok-more.ensures (same_self t) c.in_ok-extend.ensures.joined.join)
+    joined s f t (join_both s m s f t t (λ part p. refl) c.in_ok-more.ensures (λ part p. refl) c.in_ok-extend.ensures.joined.join)

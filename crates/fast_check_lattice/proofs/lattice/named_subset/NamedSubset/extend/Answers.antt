@@ -1,5 +1,5 @@
 use Rattle.fast_check_lattice.specs.Names.{paths}
-use Rattle.fast_check_lattice.specs.Shapes.{own_set}
+use Rattle.fast_check_lattice.proofs.Shapes.{own_set}
 use Rattle.fast_check_lattice.proofs.Adds.{joined}
 use Rattle.fast_check_lattice.proofs.Extends.{joined_by_rest, joined_with_nothing}
 use Rattle.fast_check_lattice.proofs.lattice.named_subset.NamedSubset.extend.Goals as goal

@@ -1,4 +1,3 @@
--- Inner: no contract of a public call cites what stands here.
 -- The equations of `paths`, for callers.
 use Rattle.std.specs.Prelude.{◌≡◌, false, [], refl}
 use Rattle.fast_check_lattice.specs.declared.lattice.named_subset.Exports.TheVariants.{Subset}

@@ -1,4 +1,3 @@
--- Inner: no contract of a public call cites what stands here.
 -- The paths of a set are a name set.
 use Rattle.std.proofs.Common.{◌≡◌, sym, refl, true, false, [], ◌∷◌, ◌++◌, Option, Some, None}
 use Rattle.std.proofs.lemmas.Bool.{false≢true}
