@@ -10,7 +10,7 @@ use Rattle.fast_check_package_ranges.specs.findings.declared.found.FoundPackage.
 use Rattle.fast_check_package_ranges.specs.Answers.{AreAnswers}
 use Rattle.fast_check_range_finder.specs.wants.Sources.{Used, none_used, with_used, Known}
 use Rattle.fast_check_range_finder.specs.Lent.{used_of}
-use Rattle.fast_check_range_finder.specs.Account.{Account, IsAccount, IsYield}
+use Rattle.fast_check_range_finder.specs.Account.{Account, HasHomes, IsAccount, IsYield}
 use Rattle.fast_check_range_finder.specs.Rules.{world}
 use Rattle.fast_check_range_finder.specs.Yields.{gives}
 use Rattle.fast_check_range_finder.specs.Refusals.{JoinAll}
@@ -19,7 +19,8 @@ use Rattle.fast_check_build.specs.Found.{IsFound}
 use Rattle.fast_check_build.proofs.OwnRanges.{own_answers}
 
 pub found_public : (k : Known) (roots : List Nv) (found : List (PackageNv × FoundPackage)) (answers : BTreeMap PackageNv PackagePublicRanges) →
-    ((account : Account) × IsAccount (world k) roots account × IsYield (gives k) account (found_yields found) × JoinAll k account) →
+    ((account : Account) × IsAccount (world k) roots account × IsYield (gives k) account (found_yields found) × JoinAll k account ×
+    HasHomes account) →
     AreAnswers (found_yields found) answers → AreFoundByOwnNames k.root_symbol → IsFound k roots answers
 found_public k roots found answers a says named = record {
   account = a.0;
