@@ -1,8 +1,8 @@
 """More worlds of `fast_check_finder_cases`: searches through the symbols of one module, names of a module that another one imports, and of what is
 written twice the one that counts. What comes is what all demands give, by the rules of `package_rules`.
 
-A search of `searches.txt` is a module by its symbols, in the lines that `demands.py` reads, and what is asked of them. Here a symbol `ask` refers to all
-that is asked, and the entry point of the package exports it.
+A search of `searches.txt` is a module by its symbols, a line for each thing that stands in the tables, and what is asked of them. Here a symbol `ask` refers
+to all that is asked, and the entry point of the package exports it.
 """
 import json
 import os
