@@ -1,5 +1,5 @@
 -- Keys of demands compare alike where they stand for one thing.
-use Rattle.std.proofs.Common.{◌≡◌, ◌∙◌, sym, ap, refl, subst, ℕ, Bool, true, false, ◌==◌, ◌&&◌, ◌||◌, List, [], ◌∷◌, map, string_bytes, String}
+use Rattle.std.proofs.Common.{◌≡◌, ◌∙◌, sym, ap, refl, subst, ℕ, Bool, true, false, ◌==◌, ◌&&◌, ◌||◌, List, [], ◌∷◌, map, length, string_bytes, String}
 use Rattle.std.proofs.Common.{◌⊎◌, inl, inr, ⊎_elim, rules}
 use Rattle.std.specs.declared.alloc.Global.{Global}
 use Rattle.std.specs.declared.cmp.Ordering.{Ordering}
@@ -12,7 +12,8 @@ use Rattle.std.specs.Ordering.{is_eq, nat_cmp, ordering_then}
 use Rattle.std.specs.String.{string_cmp}
 use Rattle.std.specs.Str.{bytes_eq}
 use Rattle.std.specs.Cmp.Lexicographic.{slice_cmp}
-use Rattle.std.proofs.lemmas.Bool.{cases_Bool, false≢true, or_left}
+use Rattle.std.proofs.lemmas.Bool.{cases_Bool, false≢true, or_left, eq-eqb}
+use Rattle.std.proofs.lemmas.List.{length-map}
 use Rattle.std.proofs.lemmas.Map.Text.{is_eq-slice_cmp}
 use Rattle.fast_check_demands.specs.symbol_demands.contracts.demand.NamespaceOrd.TheImpl as namespace_order
 use Rattle.fast_check_demands.specs.symbol_demands.contracts.demand.ExtentOrd.TheImpl as extent_order
@@ -28,7 +29,10 @@ use Rattle.fast_check_range_finder.specs.contracts.asked.AskedSymbolOrd.TheImpl 
 use Rattle.fast_check_range_finder.specs.declared.asked.AskedAs.{AskedAs}
 use Rattle.fast_check_range_finder.specs.declared.asked.AskedAs.TheVariants.{Reference, Child, Path as ByPath}
 use Rattle.fast_check_range_finder.specs.declared.asked.AskedSymbol.{AskedSymbol}
+use Rattle.fast_check_range_finder.specs.declared.asked.NamePath.{NamePath}
 use Rattle.fast_check_range_finder.specs.Asked.{demand_at, covers, IsOneMore}
+use Rattle.fast_check_range_finder.specs.NameOrder.{names_cmp}
+use Rattle.fast_check_range_finder.proofs.Same.{same_paths}
 
 then_equal : (a b : Ordering) → is_eq (ordering_then a b) ≡ (is_eq a && is_eq b)
 then_equal Less b = refl
@@ -62,6 +66,22 @@ paths_compare (x ∷ xs) (y ∷ ys) =
     and_same _ (bytes_eq (string_bytes x) (string_bytes y)) _ (same_path (map string_bytes xs) (map string_bytes ys))
     (is_eq-slice_cmp (string_bytes x) (string_bytes y)) (paths_compare xs ys)
 
+absorbed : (a b : Bool) → (b ≡ true → a ≡ true) → (a && b) ≡ b
+absorbed true b h = refl
+absorbed false true h = absurd (false≢true (h refl))
+absorbed false false h = refl
+
+names_compare : (k l : NamePath) → is_eq (names_cmp k l) ≡ same_path (map string_bytes k.names.now) (map string_bytes l.names.now)
+names_compare k l =
+    let p = map string_bytes k.names.now in
+    let q = map string_bytes l.names.now in
+    let m = length k.names.now in
+    let n = length l.names.now in
+    then_equal (nat_cmp m n) (slice_cmp string_cmp k.names.now l.names.now) ∙
+    (and_same _ (m == n) _ (same_path p q) (numbers_compare m n) (paths_compare k.names.now l.names.now) ∙
+    absorbed (m == n) (same_path p q) (λ t. eq-eqb m n (sym (length-map k.names.now string_bytes) ∙
+    (ap length (same_paths p q t) ∙ length-map l.names.now string_bytes))))
+
 once : (p q : Bool) → (p && q) ≡ (p && (q && p))
 once true true = refl
 once true false = refl
@@ -87,12 +107,12 @@ each_compare s t (ByPath k x r) (Reference m) = then_equal (nat_cmp s t) _ ∙ a
 each_compare s t (ByPath k x r) (Child m) = then_equal (nat_cmp s t) _ ∙ and_same _ (s == t) _ false (numbers_compare s t) refl
 each_compare s t (ByPath k x r) (ByPath l y u) =
     let c = ordering_then (extent_order.cmp-value.it x y) (nat_cmp r.0 u.0) in
-    let p = map string_bytes k.now in
-    let q = map string_bytes l.now in
-    then_equal (nat_cmp s t) (ordering_then (slice_cmp string_cmp k.now l.now) c) ∙
+    let p = map string_bytes k.names.now in
+    let q = map string_bytes l.names.now in
+    then_equal (nat_cmp s t) (ordering_then (names_cmp k l) c) ∙
     and_same _ (s == t) _ ((same_path p q && same_extent x y) && (r.0 == u.0)) (numbers_compare s t)
-    (then_equal (slice_cmp string_cmp k.now l.now) c ∙
-    (and_same _ (same_path p q) _ (same_extent x y && (r.0 == u.0)) (paths_compare k.now l.now)
+    (then_equal (names_cmp k l) c ∙
+    (and_same _ (same_path p q) _ (same_extent x y && (r.0 == u.0)) (names_compare k l)
     (then_equal (extent_order.cmp-value.it x y) (nat_cmp r.0 u.0) ∙
     and_same _ (same_extent x y) _ (r.0 == u.0) (extents_compare x y) (numbers_compare r.0 u.0)) ∙
     parted (same_path p q) (same_extent x y) (r.0 == u.0)))

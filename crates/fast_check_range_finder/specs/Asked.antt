@@ -15,7 +15,7 @@ use Rattle.fast_check_range_finder.specs.declared.asked.AskedSymbol.{AskedSymbol
 abbrev pub asked_at : AskedAs → Asked
 asked_at (kinds.Reference n) = by_reference n
 asked_at (kinds.Child n) = as_child n
-asked_at (kinds.Path names x referrer) = by_path (path_of names.now) x
+asked_at (kinds.Path names x referrer) = by_path (path_of names.names.now) x
 
 abbrev pub asker_at : AskedAs → SymbolId → SymbolId
 asker_at (kinds.Reference n) symbol = symbol

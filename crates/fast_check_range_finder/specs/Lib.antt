@@ -3,6 +3,7 @@ pub use Rattle.fast_check_sources.specs as wants
 pub use Rattle.fast_check_entries.specs as entries
 pub mod Account
 pub mod Asked
+pub mod NameOrder
 pub mod Finder
 pub mod Once
 pub mod Packages

@@ -1,22 +1,58 @@
 //! The demands of a module's symbols that were asked for.
 
-ghost use Rattle.std.specs.Prelude.{◌≡◌, [], IfOk, OnErr};
+ghost use Rattle.std.specs.Prelude.{◌≡◌, [], Some, IfOk, OnErr};
+ghost use Rattle.std.proofs.Common.{refl};
 ghost use Rattle.std.specs.List.{list_any};
 ghost use Rattle.fast_check_demands.specs.Demands.{demand_of};
 ghost use Rattle.fast_check_demands.specs.Account.{essence, referred};
 ghost use Rattle.fast_check_range_finder.specs.Asked.{demand_at, covers, AddsSymbol};
+ghost use Rattle.fast_check_range_finder.specs.NameOrder.{names_cmp, names_total, names_ties, names_po};
 
 use fast_check_demands::{Ask, Extent, Namespace, SymbolDemand, SymbolId};
 use std::alloc::{AllocError, Global};
+use std::cmp::Ordering;
 use std::collections::BTreeSet;
 use std::marker::Model;
+
+/// The names of a path. Paths are in the order of their lengths first, so that the rests of one path are told apart without a look at the names.
+#[derive(Clone, Copy, PartialEq, Eq)]
+pub struct NamePath<'a> {
+    pub names: &'a [String],
+}
+
+impl PartialOrd for NamePath<'_> {
+    ghost partial_cmp = { λ a b. Some (names_cmp a b) };
+
+    ghost laws = { names_po };
+
+    fn partial_cmp(&self, other: &Self) -> Option<Ordering> {
+        Some(self.cmp(other))
+    }
+}
+
+impl Ord for NamePath<'_> {
+    ghost cmp = { names_cmp };
+
+    ghost total = { names_total };
+
+    ghost matches_partial_cmp = { λ a b. refl };
+
+    ghost matches_eq = { names_ties };
+
+    fn cmp(&self, other: &Self) -> Ordering {
+        match self.names.len().cmp(&other.names.len()) {
+            Ordering::Equal => self.names.cmp(other.names),
+            unequal => unequal,
+        }
+    }
+}
 
 /// How a symbol is asked for. By whom plays a part for a path alone.
 #[derive(Clone, Copy, PartialEq, Eq, PartialOrd, Ord)]
 pub enum AskedAs<'a> {
     Reference(Namespace),
     Child(Namespace),
-    Path(&'a [String], Extent, SymbolId),
+    Path(NamePath<'a>, Extent, SymbolId),
 }
 
 /// What tells a demand of a symbol from others.
@@ -33,7 +69,7 @@ fn key_of<'a>(demand: SymbolDemand<'a>) -> AskedSymbol<'a>
     let asked = match demand.ask {
         Ask::Reference(namespace) => AskedAs::Reference(namespace),
         Ask::Child(namespace) => AskedAs::Child(namespace),
-        Ask::Path(names, extent) => AskedAs::Path(names, extent, demand.referrer),
+        Ask::Path(names, extent) => AskedAs::Path(NamePath { names }, extent, demand.referrer),
     };
     AskedSymbol {
         symbol: demand.symbol,

@@ -10,7 +10,7 @@ mod follow;
 mod names;
 mod packages;
 
-pub use asked::{AskedAs, AskedSymbol, AskedSymbols};
+pub use asked::{AskedAs, AskedSymbol, AskedSymbols, NamePath};
 pub use demand::{Dependency, NamesAt, Place, SymbolAt};
 pub use fast_check_packages::{BuildFault, PackageNv, WorkspaceMember};
 pub use fast_check_sources::Sources;
