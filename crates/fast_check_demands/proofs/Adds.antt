@@ -1,7 +1,7 @@
 -- What a list adds to another as a set: in parts, or not at all where it is there.
-use Rattle.std.proofs.Common.{◌≡◌, ◌∙◌, sym, ap, subst, ⊎_elim, List, [], ◌++◌, append-nil, append_assoc}
+use Rattle.std.proofs.Common.{◌≡◌, sym, subst, List, [], ◌++◌, append-nil}
 use Rattle.std.specs.List.{Contains}
-use Rattle.std.proofs.lemmas.List.Elements.{Contains-append_left, Contains-append_right, Contains-append_cases}
+use Rattle.std.proofs.lemmas.List.Elements.{Contains-append_right}
 use Rattle.fast_check_demands.specs.Yields.{Adds}
 use Rattle.fast_check_demands.proofs.Elements.{no_element}
 
@@ -22,26 +22,6 @@ module _ {X : Type 0} where
     is = sym (append-nil old);
     parts = λ x c. absurd (no_element x c);
     whole = there;
-  }
-
-  -- what was there is there
-  pub adds_kept : (these old new : List X) → Adds these old new → (x : X) → Contains old x → Contains new x
-  adds_kept these old new a x c = subst (λ (xs : List X). Contains xs x) (sym a.is) (Contains-append_left old a.more x c)
-
-  -- these, and then those
-  pub adds_both : (these those first second third : List X) → Adds these first second → Adds those second third →
-      Adds (these ++ those) first third
-  adds_both these those first second third a b = record {
-    more = a.more ++ b.more;
-    is = b.is ∙ (ap (λ xs. xs ++ b.more) a.is ∙ append_assoc first a.more b.more);
-    parts = λ x c. ⊎_elim
-        (λ early. Contains-append_left these those x (a.parts x early))
-        (λ late. Contains-append_right these those x (b.parts x late))
-        (Contains-append_cases a.more b.more x c);
-    whole = λ x c. ⊎_elim
-        (λ early. adds_kept those second third b x (a.whole x early))
-        (λ late. b.whole x late)
-        (Contains-append_cases these those x c);
   }
 
   -- one list for another that is equal

@@ -1,5 +1,4 @@
 pub use Rattle.fast_check_symbol_demands.proofs.EachAt
-pub mod Touched
 pub mod Adds
 pub mod Elements
 pub mod Each

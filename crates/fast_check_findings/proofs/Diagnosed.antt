@@ -1,5 +1,5 @@
 -- The diagnostics of a module tell what is to be told.
-use Rattle.std.proofs.Common.{◌≡◌, ◌∙◌, refl, sym, ap, subst, Bool, true, false, cond, ◌||◌, List, [], ◌∷◌, ◌++◌, map, Option, Some, None, arith}
+use Rattle.std.proofs.Common.{◌≡◌, ◌∙◌, refl, sym, ap, subst, Bool, true, false, cond, ◌||◌, List, [], ◌∷◌, ◌++◌, map, Some, None, arith}
 use Rattle.std.specs.List.{list_any, AllByRecursion, Contains, IsDistinct}
 use Rattle.std.specs.declared.alloc.Global.{Global}
 use Rattle.std.specs.declared.rc.RcStr.{RcStr}
@@ -110,15 +110,6 @@ pub diagnosed : (t : Text) (fs : List ModuleFault) (u : Bool) (es : List (ToldFa
 diagnosed t fs u es ds v a once e = by_parts t fs ds u es (others fs) refl v a once e
 
 -- that the types are not known, behind what else is told
-
-pub not_pushed : (u : Bool) (xs : List (Option ModuleFault)) → u ≡ false → xs ≡ told_with u xs
-not_pushed u [] h = sym (ap (λ b. cond b (Some untyped_module ∷ []) []) h)
-not_pushed u (x ∷ xs) h = refl
-
-pub not_alone : (u : Bool) (t : Text) (ds : List FastCheckDiagnostic) → is_filled ds ≡ true →
-    map (fault_told t) ds ≡ told_with u (map (fault_told t) ds)
-not_alone u t [] h = absurd (false≢true h)
-not_alone u t (d ∷ ds) h = refl
 
 pub pushed : (u : Bool) (t : Text) (ds : List FastCheckDiagnostic) (d : FastCheckDiagnostic) → u ≡ true → is_filled ds ≡ false →
     fault_told t d ≡ Some untyped_module → map (fault_told t) (ds ++ d ∷ []) ≡ told_with u (map (fault_told t) ds)

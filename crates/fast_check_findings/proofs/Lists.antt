@@ -1,5 +1,5 @@
 -- Tests of lists.
-use Rattle.std.proofs.Common.{◌≡◌, ◌∙◌, refl, sym, ap, Bool, true, false, ◌&&◌, ◌||◌, List, [], ◌∷◌, ◌++◌, map, Option, Some, None}
+use Rattle.std.proofs.Common.{◌≡◌, ◌∙◌, refl, sym, ap, Bool, false, ◌||◌, List, [], ◌∷◌, ◌++◌, map, Option, Some, None}
 use Rattle.std.specs.List.{list_any, flat_map}
 use Rattle.std.specs.Option.{is_some}
 use Rattle.std.proofs.lemmas.Bool.{false≢true}
@@ -23,20 +23,8 @@ pub any_false : {X : Type 0} (xs : List X) → list_any (λ (x : X). false) xs �
 any_false [] = refl
 any_false (x ∷ xs) = any_false xs
 
-pub any_none : {X : Type 0} (test : X → Bool) → ((x : X) → test x ≡ false) → (xs : List X) → list_any test xs ≡ false
-any_none test h xs = any_alike test (λ x. false) h xs ∙ any_false xs
-
-pub any_and : {X : Type 0} (b : Bool) (test : X → Bool) (xs : List X) → list_any (λ x. b && test x) xs ≡ (b && list_any test xs)
-any_and true test xs = refl
-any_and false test xs = any_false xs
-
 pub any_push : {X : Type 0} (test : X → Bool) (xs : List X) (x : X) → list_any test (xs ++ x ∷ []) ≡ (list_any test xs || test x)
 any_push test xs x = list_any-append test xs (x ∷ []) ∙ ap (λ b. list_any test xs || b) (or_none (test x))
-
-pub or_weaker : (a b c : Bool) → (a ≡ true → b ≡ true) → (a || c) ≡ true → (b || c) ≡ true
-or_weaker true b c h e = ap (λ d. d || c) (h refl)
-or_weaker false true c h e = refl
-or_weaker false false c h e = e
 
 pub none_found : {X : Type 0} (o : Option X) → is_some o ≡ false → o ≡ None
 none_found None h = refl

@@ -44,9 +44,6 @@ pub filled_flat : {X Y : Type 0} (f : X → List Y) → ((x : X) → is_filled (
 filled_flat f h [] = refl
 filled_flat f h (x ∷ xs) = filled_append (f x) (flat_map f xs) ∙ ap (λ b. b || is_filled (flat_map f xs)) (h x)
 
-pub filled_left : {X : Type 0} (xs ys : List X) → is_filled xs ≡ true → is_filled (xs ++ ys) ≡ true
-filled_left xs ys h = filled_append xs ys ∙ ap (λ b. b || is_filled ys) h
-
 pub filled_right : {X : Type 0} (xs ys : List X) → is_filled ys ≡ true → is_filled (xs ++ ys) ≡ true
 filled_right [] ys h = h
 filled_right (x ∷ xs) ys h = refl

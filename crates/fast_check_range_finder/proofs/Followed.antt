@@ -1,7 +1,6 @@
 -- A module is followed further: what is asked of its symbols, and what is found of it.
-use Rattle.std.proofs.Common.{◌≡◌, ◌∙◌, sym, ap, refl, subst, ℕ, zero, suc, ◌<◌, Bool, true, ◌&&◌, List, [], ◌∷◌, ◌++◌, Option, Some, None, map}
-use Rattle.std.proofs.Common.{slice_get, length, ⊎_elim, inl, inr, ◌⊎◌, arith}
-use Rattle.std.specs.Prelude.{IfSome}
+use Rattle.std.proofs.Common.{◌≡◌, ◌∙◌, sym, ap, refl, subst, ℕ, zero, suc, ◌<◌, Bool, true, ◌&&◌, List, [], ◌∷◌, Some, None, map}
+use Rattle.std.proofs.Common.{slice_get, length, ⊎_elim, ◌⊎◌, arith}
 use Rattle.std.specs.List.{flat_map, Contains, IsDistinct}
 use Rattle.std.specs.Map.{keys_of}
 use Rattle.std.specs.Str.{bytes_eq}
@@ -10,11 +9,8 @@ use Rattle.std.proofs.lemmas.Bool.{and_parts, and_from}
 use Rattle.url.specs.Parts.{Parts, serialize}
 use Rattle.indexmap.specs.IndexMap.{set_value_at}
 use Rattle.indexmap.specs.Layout.{length-set_value_at}
-use Rattle.fast_check_syntax.specs.declared.source.SourceRange.{SourceRange}
 use Rattle.fast_check_packages.specs.Package.{Nv, nv_of}
-use Rattle.fast_check_graph.specs.Root.{specifier_of}
 use Rattle.fast_check_graph.specs.declared.graph.ModuleGraph.{ModuleGraph}
-use Rattle.fast_check_graph.specs.declared.root_symbol.AnyModuleInfo.{AnyModuleInfo}
 use Rattle.fast_check_graph.specs.declared.root_symbol.RootSymbol.{RootSymbol}
 use Rattle.fast_check_packages.specs.declared.package.PackageNv.{PackageNv}
 use Rattle.fast_check_lattice.specs.declared.lattice.imported_exports.ImportedExports.{ImportedExports}
@@ -23,9 +19,8 @@ use Rattle.fast_check_findings.specs.declared.found.Entrance.{Entrance}
 use Rattle.fast_check_demands.specs.Demands.{Demand as SymbolDemand}
 use Rattle.fast_check_demands.specs.Yields.{Joins}
 use Rattle.fast_check_demands.proofs.Elements.{in_map, of_map}
-use Rattle.fast_check_traces.specs.Origins.{IsIndexOf}
-use Rattle.fast_check_findings.specs.Yields.{Yield, recorded}
-use Rattle.fast_check_worklists.specs.Demands.{Text, same_nv, Want, to_symbol}
+use Rattle.fast_check_findings.specs.Yields.{Yield}
+use Rattle.fast_check_worklists.specs.Demands.{Text, same_nv, to_symbol}
 use Rattle.fast_check_range_finder.specs.declared.demand.Dependency.{Dependency}
 use Rattle.fast_check_range_finder.specs.declared.demand.NamesAt.{NamesAt}
 use Rattle.fast_check_range_finder.specs.declared.demand.Place.{Place}
@@ -35,12 +30,12 @@ use Rattle.fast_check_range_finder.specs.declared.finder.FollowedModule.{Followe
 use Rattle.fast_check_range_finder.specs.Once.{AreOnce}
 use Rattle.fast_check_range_finder.specs.Search.{Search, AsksAll}
 use Rattle.fast_check_range_finder.specs.Turn.{AreSame}
-use Rattle.fast_check_range_finder.specs.Finder.{Followed, Modules, place_nv, place_text, names_seen, seen_at, search_in, search_of, entered_yields, entered_nv, depends, followed_yields, noted_yields, yields_by, yields_in, traced_in, AreShown, AsksEach, IsModuleOf, IsSound, Goes}
+use Rattle.fast_check_range_finder.specs.Finder.{Followed, Modules, place_nv, place_text, names_seen, seen_at, search_in, search_of, entered_yields, entered_nv, depends, followed_yields, noted_yields, yields_by, yields_in, AsksEach, IsModuleOf, IsSound, Goes}
 use Rattle.fast_check_range_finder.proofs.Kept.{nv_itself, text_itself, text_is}
 use Rattle.fast_check_range_finder.proofs.Places.{nv_is}
-use Rattle.fast_check_range_finder.proofs.Steps.{same_itself, joins_left, joins_right}
+use Rattle.fast_check_range_finder.proofs.Joins.{joins_left, joins_right}
 use Rattle.fast_check_range_finder.proofs.SymbolsAsked.{TellsPlaces, asked_of_module}
-use Rattle.fast_check_range_finder.proofs.Gained.{joins_set, set_cases, get_in, each_within}
+use Rattle.fast_check_range_finder.proofs.Gained.{joins_set, set_cases, each_within}
 
 pub once_same : (ps qs : List Nv) (m n : ℕ) (xs ys : List Nv) → ps ≡ qs → m ≡ n → xs ≡ ys → AreOnce qs n ys → AreOnce ps m xs
 once_same ps qs m n xs ys e f h o = subst (λ (zs : List Nv). AreOnce ps m zs) (sym h)

@@ -1,44 +1,38 @@
 -- What was found grows, where a module is followed further; and what is kept of modules stays right.
-use Rattle.std.proofs.Common.{◌≡◌, ◌∙◌, sym, ap, refl, subst, ℕ, zero, suc, ◌<◌, Bool, true, List, [], ◌∷◌, ◌++◌, Option, Some, None, map}
-use Rattle.std.proofs.Common.{slice_get, option_to_list, length, ⊎_elim, inl, inr, ◌⊎◌, cond, false}
-use Rattle.std.specs.Prelude.{IfSome}
+use Rattle.std.proofs.Common.{◌≡◌, ◌∙◌, sym, ap, refl, subst, ℕ, zero, suc, ◌<◌, Bool, true, List, [], ◌∷◌, ◌++◌, Some, map}
+use Rattle.std.proofs.Common.{slice_get, ⊎_elim, inl, inr, ◌⊎◌, cond, false}
 use Rattle.std.specs.List.{flat_map, Contains}
 use Rattle.std.proofs.lemmas.List.{map-append}
 use Rattle.std.proofs.lemmas.List.Concat.{flat_map-append}
-use Rattle.std.proofs.lemmas.List.Elements.{Contains-append_left, Contains-push_cases}
-use Rattle.url.specs.Parts.{serialize}
+use Rattle.std.proofs.lemmas.List.Elements.{Contains-push_cases}
 use Rattle.indexmap.specs.IndexMap.{set_value_at}
 use Rattle.fast_check_syntax.specs.declared.source.SourceRange.{SourceRange}
-use Rattle.fast_check_packages.specs.Package.{Nv, nv_of}
+use Rattle.fast_check_packages.specs.Package.{Nv}
 use Rattle.fast_check_graph.specs.Root.{specifier_of}
 use Rattle.fast_check_graph.specs.declared.graph.ModuleGraph.{ModuleGraph}
 use Rattle.fast_check_graph.specs.declared.root_symbol.AnyModuleInfo.{AnyModuleInfo}
 use Rattle.fast_check_graph.specs.declared.root_symbol.AnyModuleInfo.TheVariants.{Esm, Json}
 use Rattle.fast_check_graph.specs.declared.root_symbol.RootSymbol.{RootSymbol}
 use Rattle.fast_check_symbols.specs.declared.symbol.Symbol.{Symbol}
-use Rattle.fast_check_demands.specs.Demands.{Demand as SymbolDemand, demand_of}
+use Rattle.fast_check_demands.specs.Demands.{Demand as SymbolDemand}
 use Rattle.fast_check_demands.specs.Yields.{Joins, Fault, fault_seen}
 use Rattle.fast_check_demands.specs.declared.fault.SymbolFault.{SymbolFault}
 use Rattle.fast_check_demands.proofs.Elements.{in_map, of_map}
 use Rattle.fast_check_traces.specs.declared.modules.TracedModule.{TracedModule}
-use Rattle.fast_check_traces.specs.Modules.{tables_in, own_tables}
-use Rattle.fast_check_traces.specs.Origins.{IsIndexOf}
-use Rattle.fast_check_traces.specs.Wants.{node_ranges}
-use Rattle.fast_check_findings.specs.Faults.{FaultSource, PlacedFault, placed, placed_seen}
+use Rattle.fast_check_traces.specs.Modules.{tables_in}
+use Rattle.fast_check_findings.specs.Faults.{FaultSource, placed_seen}
 use Rattle.fast_check_findings.specs.Findings.{placed_yield, placed_yields}
 use Rattle.fast_check_findings.specs.Found as found
 use Rattle.fast_check_findings.specs.Found.{module_yields}
 use Rattle.fast_check_findings.specs.declared.found.FoundModule.{FoundModule}
 use Rattle.fast_check_findings.specs.Yields.{Yield, recorded, public, implementing}
-use Rattle.fast_check_worklists.specs.Demands.{Text}
-use Rattle.fast_check_worklists.proofs.Maps.{first_in, rest_in, none_in, split_in}
+use Rattle.fast_check_worklists.proofs.Maps.{first_in, rest_in, split_in}
 use Rattle.fast_check_range_finder.specs.declared.demand.SymbolAt.{SymbolAt}
-use Rattle.fast_check_range_finder.specs.declared.finder.FollowedModule.{FollowedModule}
-use Rattle.fast_check_range_finder.specs.Finder.{Followed, Modules, place_nv, seen_at, followed_yields, traced_in, AreShown, Shows, AsksEach, IsModuleOf}
+use Rattle.fast_check_range_finder.specs.Finder.{seen_at, traced_in, AsksEach}
 use Rattle.fast_check_range_finder.specs.Rules.{own_text}
 use Rattle.fast_check_range_finder.specs.Yields.{text_of, source_in, public_at, implementing_at, fault_yields, faults_at}
 use Rattle.fast_check_range_finder.proofs.Places.{no_entry, some_entry}
-use Rattle.fast_check_range_finder.proofs.Steps.{joins_none, joins_behind, joins_then, joins_left, joins_right}
+use Rattle.fast_check_range_finder.proofs.Joins.{joins_last, joins_then, joins_left, joins_right}
 
 -- at a place
 
@@ -115,7 +109,7 @@ module _ (nv : Nv) (m : TracedModule) where
 
   joins_more : {X : Type 0} (f : List X → List Yield) → ((xs ys : List X) → f (xs ++ ys) ≡ f xs ++ f ys) → (xs ys zs : List X) → zs ≡ xs ++ ys →
       Joins (f ys) (f xs) (f zs)
-  joins_more f splits xs ys zs is = subst (λ (l : List Yield). Joins (f ys) (f xs) l) (sym (ap f is ∙ splits xs ys)) (joins_behind (f ys) (f xs))
+  joins_more f splits xs ys zs is = subst (λ (l : List Yield). Joins (f ys) (f xs) l) (sym (ap f is ∙ splits xs ys)) (joins_last (f ys) (f xs))
 
   -- where each part has more behind it
   pub parts_joins : (ranges more_ranges new_ranges implementations more_implementations new_implementations : List SourceRange)

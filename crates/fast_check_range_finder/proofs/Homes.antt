@@ -124,13 +124,3 @@ pub at_home : (k : Known) (d : Demand) → AreAtHome (package_of d) (world k d)
 at_home k (of_package nv) = package_home nv k (entrance_at k nv)
 at_home k (of_module nv t d) = home_each_of nv (names_wants k nv d) (module_at k t) (λ m. names_home nv k m d)
 at_home k (of_symbol nv t s) = home_each_of nv (symbol_wants k nv s) (module_of k t) (λ m. symbols_home nv k m s)
-
--- what is asked of a module is asked for the same package, or asks for the package too
-pub homes : (k : Known) (d : Demand) (p : Nv) (t : Text) (w : Wanted) → Contains (world k d) (to_module p t w) →
-    IsTrue (same_nv (package_of d) p) ⊎ Contains (world k d) (to_package p)
-homes k d p t w c = at_home k d (to_module p t w) c
-
--- what is asked of a symbol is asked for the same package
-pub symbol_homes : (k : Known) (d : Demand) (p : Nv) (t : Text) (s : SymbolDemand) → Contains (world k d) (to_symbol p t s) →
-    p ≡ package_of d
-symbol_homes k d p t s c = at_home k d (to_symbol p t s) c

@@ -1,10 +1,9 @@
 -- What was asked stays covered, when more is asked.
 use Rattle.std.proofs.Common.{◌≡◌, ◌∙◌, sym, ap, refl, subst, Bool, true, List, [], ◌∷◌, ◌++◌, Option, Some, None, inl, inr, ⊎_elim}
-use Rattle.std.proofs.Common.{◌||◌, ◌&&◌}
 use Rattle.std.specs.List.{list_any, Contains}
 use Rattle.std.specs.Str.{bytes_eq}
 use Rattle.std.specs.Cmp.{eq_by_cmp_equiv}
-use Rattle.std.proofs.lemmas.Bool.{cases_Bool, false≢true, or_left, and_parts, and_from}
+use Rattle.std.proofs.lemmas.Bool.{cases_Bool, false≢true, and_parts, and_from}
 use Rattle.std.proofs.lemmas.Slice.Eq.{bytes_eq-Decides}
 use Rattle.std.proofs.lemmas.List.Elements.{Contains-push_cases, Contains-append_left, Contains-append_right, Contains-append_cases}
 use Rattle.url.specs.Parts.{Parts, serialize}
@@ -14,7 +13,6 @@ use Rattle.fast_check_packages.specs.PackageOrder.{nv_total}
 use Rattle.fast_check_lattice.specs.Names.{Touched, IsBelow}
 use Rattle.fast_check_lattice.specs.Imports.{default_name, imported, is_star, NameDemand}
 use Rattle.fast_check_demands.specs.Demands.{Demand as SymbolDemand}
-use Rattle.fast_check_demands.specs.Account.{alike, referred}
 use Rattle.fast_check_worklists.specs.Demands.{Text, same_nv, asked_by, one, Want, to_package, to_module, to_symbol}
 use Rattle.fast_check_worklists.specs.Demands.{Demand, of_package, of_module, of_symbol, World, Gives}
 use Rattle.fast_check_range_finder.specs.Account.{is_package, is_of, names_at, joined, meets, IsStarred, Chained, widen}
@@ -23,7 +21,6 @@ use Rattle.fast_check_range_finder.specs.Search.{AsksAll}
 use Rattle.fast_check_range_finder.specs.Turn.{members, HasStar, IsKept}
 use Rattle.fast_check_worklists.proofs.Maps.{none_in, first_in, rest_in, split_in, some_is}
 use Rattle.fast_check_range_finder.proofs.Lists.{any_some, any_from, any_more, put_right}
-use Rattle.fast_check_range_finder.proofs.Same.{alike_itself}
 use Rattle.fast_check_worklists.proofs.Single.{asked_in}
 use Rattle.fast_check_range_finder.proofs.Added.{Gains, gains, IsWidenedFrom, default_of}
 
@@ -35,15 +32,6 @@ text_itself t = (bytes_eq-Decides t t).1 refl
 
 pub text_is : (t u : Text) → bytes_eq t u ≡ true → t ≡ u
 text_is t u h = (bytes_eq-Decides t u).0 h
-
-pub meets_itself : (nv : Nv) (t : Text) (d : SymbolDemand) → meets nv t d (of_symbol nv t d) ≡ true
-meets_itself nv t d =
-    and_from (same_nv nv nv) (bytes_eq t t && (alike d d || alike (referred d) d)) (nv_itself nv)
-    (and_from (bytes_eq t t) (alike d d || alike (referred d) d) (text_itself t)
-    (or_left (alike d d) (alike (referred d) d) (alike_itself d)))
-
-pub package_itself : (p : Nv) → is_package p (of_package p) ≡ true
-package_itself p = nv_itself p
 
 -- what was asked stays asked
 abbrev pub IsMore : Search → Search → Type 0

@@ -14,18 +14,16 @@ use Rattle.fast_check_demands.specs.Yields.{Joins}
 use Rattle.fast_check_findings.specs.declared.found.Entrance.{Entrance}
 use Rattle.fast_check_findings.specs.Found.{entrance_yields, untyped_yields}
 use Rattle.fast_check_findings.specs.Yields.{Yield}
-use Rattle.fast_check_worklists.specs.Demands.{Want}
 use Rattle.std.proofs.Common.{Some}
 use Rattle.fast_check_range_finder.specs.declared.demand.Dependency.{Dependency}
 use Rattle.fast_check_range_finder.specs.declared.demand.NamesAt.{NamesAt}
 use Rattle.fast_check_range_finder.specs.declared.demand.SymbolAt.{SymbolAt}
 use Rattle.fast_check_range_finder.specs.declared.finder.Finder.{Finder}
 use Rattle.fast_check_range_finder.specs.Once.{AreOnce}
-use Rattle.fast_check_range_finder.specs.Search.{Search}
 use Rattle.fast_check_range_finder.specs.Finder.{Modules, names_seen, seen_at, search_in, search_of, entered_yields, entered_nv, depends, followed_yields, noted_yields, yields_by, yields_in, IsSound, CanEnter, Goes}
 use Rattle.fast_check_range_finder.proofs.Followed.{once_same}
-use Rattle.fast_check_range_finder.proofs.Once.{once_all}
-use Rattle.fast_check_range_finder.proofs.Steps.{same_itself, goes_then, joins_left, joins_right, joins_behind}
+use Rattle.fast_check_range_finder.proofs.Steps.{same_itself}
+use Rattle.fast_check_range_finder.proofs.Joins.{joins_left, joins_right, joins_last}
 
 -- what is asked is the same
 pub record IsAskedAlike (f b : Finder) : Type 0 where
@@ -81,7 +79,7 @@ module _ (f b : Finder) (w : IsAskedAlike f b) where
           (subst (λ (ys : List Yield). Joins (entrance_yields (nv_of p) (Some e)) (flat_map entered_yields f.entrances.items) ys)
           (sym (flat_map-append entered_yields f.entrances.items ((p, e) ∷ []) ∙
           ap (λ (ys : List Yield). flat_map entered_yields f.entrances.items ++ ys) (append-nil (entered_yields (p, e)))))
-          (joins_behind (entrance_yields (nv_of p) (Some e)) (flat_map entered_yields f.entrances.items))));
+          (joins_last (entrance_yields (nv_of p) (Some e)) (flat_map entered_yields f.entrances.items))));
       sound = still (subst (λ (ns : List Nv). AreOnce (map nv_of f.packages) f.entered ns)
           (sym (ap (map entered_nv) more ∙ map-append entered_nv f.entrances.items ((p, e) ∷ []))) can);
     }
@@ -103,14 +101,6 @@ module _ (f b : Finder) (w : IsAskedAlike f b) where
           (subst (λ (ys : List Yield). Joins (untyped_yields (nv_of p) url) (flat_map noted_yields f.untyped.items) ys)
           (sym (flat_map-append noted_yields f.untyped.items ((p, url) ∷ []) ∙
           ap (λ (ys : List Yield). flat_map noted_yields f.untyped.items ++ ys) (append-nil (noted_yields (p, url)))))
-          (joins_behind (untyped_yields (nv_of p) url) (flat_map noted_yields f.untyped.items))))));
+          (joins_last (untyped_yields (nv_of p) url) (flat_map noted_yields f.untyped.items))))));
       sound = still (subst (λ (xs : List (PackageNv × Entrance)). AreOnce (map nv_of f.packages) f.entered (map entered_nv xs)) (sym same) sound.once);
     }
-
--- a package can still be entered behind what is asked
-pub can_still : (g : ModuleGraph) (r : RootSymbol) (nv : Nv) (ws : List Want) (ys : List Yield) (a b : Finder) → Goes g r ws ys a b →
-    b.entered ≡ a.entered → b.entrances.items ≡ a.entrances.items → CanEnter nv a → CanEnter nv b
-can_still g r nv ws ys a b goes entered same can =
-    subst (λ (xs : List (PackageNv × Entrance)). AreOnce (map nv_of b.packages) b.entered (map entered_nv xs ++ nv ∷ [])) (sym same)
-    (subst (λ (n : ℕ). AreOnce (map nv_of b.packages) n (map entered_nv a.entrances.items ++ nv ∷ [])) (sym entered)
-    (once_all goes.asked (search_of a) (search_of b) a.entered (map entered_nv a.entrances.items ++ nv ∷ []) goes.asks can))

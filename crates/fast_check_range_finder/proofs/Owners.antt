@@ -1,5 +1,5 @@
 -- What is asked of a file or a module, by the package that it belongs to.
-use Rattle.std.proofs.Common.{◌≡◌, sym, subst, Bool, true, false, cond, List, [], ◌∷◌, Option, Some, None}
+use Rattle.std.proofs.Common.{◌≡◌, sym, subst, Bool, false, cond, List, [], ◌∷◌, Option, Some, None}
 use Rattle.fast_check_packages.specs.Package.{Nv}
 use Rattle.fast_check_graph.specs.declared.graph.ModuleGraph.{ModuleGraph}
 use Rattle.fast_check_graph.specs.declared.root_symbol.RootSymbol.{RootSymbol}
@@ -21,10 +21,6 @@ module _ (g : ModuleGraph) (r : RootSymbol) (nv : Nv) where
   pub asks_none : {X : Type 0} (h : X → List Want) (o : Option X) (f : Finder) → IsSound g r f → o ≡ None → AsksFor (each_of h o) f f
   asks_none {X} h o f sound e = subst (λ (x : Option X). AsksFor (each_of h x) f f) (sym e) (goes_nowhere g r f sound)
 
-  -- and what resolves to one asks for what that one asks for
-  pub asks_some : {X : Type 0} (h : X → List Want) (o : Option X) (x : X) (a b : Finder) → o ≡ Some x → AsksFor (h x) a b → AsksFor (each_of h o) a b
-  asks_some {X} h o x a b e goes = subst (λ (y : Option X). AsksFor (each_of h y) a b) (sym e) goes
-
   module _ (t : Text) (w : Wanted) (o : Option Nv) where
     pub file_none : (f : Finder) → IsSound g r f → o ≡ None → AsksFor (file_at nv t w o) f f
     file_none f sound e = subst (λ (x : Option Nv). AsksFor (file_at nv t w x) f f) (sym e) (goes_nowhere g r f sound)
@@ -33,17 +29,6 @@ module _ (g : ModuleGraph) (r : RootSymbol) (nv : Nv) where
     behind_none f sound e = subst (λ (x : Option Nv). AsksFor (behind nv t w x) f f) (sym e) (goes_nowhere g r f sound)
 
     module _ (p : Nv) (a b : Finder) (e : o ≡ Some p) where
-      pub file_same : same_nv nv p ≡ true → Goes g r (to_module p t w ∷ []) [] a b → AsksFor (file_at nv t w o) a b
-      file_same s goes = subst (λ (x : Option Nv). AsksFor (file_at nv t w x) a b) (sym e)
-          (subst (λ (x : Bool). AsksFor (cond x (to_module p t w ∷ []) (to_package p ∷ [])) a b) (sym s) goes)
-
-      pub file_other : same_nv nv p ≡ false → Goes g r (to_package p ∷ []) (dependency nv p ∷ []) a b → AsksFor (file_at nv t w o) a b
-      file_other s goes = subst (λ (x : Option Nv). AsksFor (file_at nv t w x) a b) (sym e)
-          (subst (λ (x : Bool). AsksFor (cond x (to_module p t w ∷ []) (to_package p ∷ [])) a b) (sym s) goes)
-
-      pub behind_same : same_nv nv p ≡ true → Goes g r (to_module p t w ∷ []) [] a b → AsksFor (behind nv t w o) a b
-      behind_same s goes = subst (λ (x : Option Nv). AsksFor (behind nv t w x) a b) (sym e)
-          (subst (λ (x : Bool). AsksFor (to_module p t w ∷ cond x [] (to_package p ∷ [])) a b) (sym s) goes)
 
       pub behind_other : same_nv nv p ≡ false → Goes g r (to_module p t w ∷ to_package p ∷ []) (dependency nv p ∷ []) a b →
           AsksFor (behind nv t w o) a b

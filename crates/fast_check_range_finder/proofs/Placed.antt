@@ -1,13 +1,12 @@
 -- A module comes to have a place: nothing is asked by that, and that it is recorded is found.
 use Rattle.std.proofs.Common.{◌≡◌, ◌∙◌, sym, ap, refl, subst, ℕ, zero, suc, ◌<◌, Bool, true, false, ◌&&◌, ◌||◌, List, [], ◌∷◌, ◌++◌, Option, Some, None, map}
-use Rattle.std.proofs.Common.{slice_get, option_to_list, length, drop, ⊎_elim, inl, inr, ◌⊎◌, arith, length-append}
+use Rattle.std.proofs.Common.{slice_get, option_to_list, length, drop, ⊎_elim, inl, ◌⊎◌, arith, length-append}
 use Rattle.std.specs.Prelude.{IfSome}
 use Rattle.std.proofs.Math.Path.{fun_ext}
 use Rattle.std.specs.List.{flat_map, list_any, Contains}
-use Rattle.std.specs.Map.{keys_of}
 use Rattle.std.specs.Str.{bytes_eq}
 use Rattle.std.proofs.lemmas.Bool.{false≢true}
-use Rattle.std.proofs.lemmas.List.{append-nil, map-append}
+use Rattle.std.proofs.lemmas.List.{append-nil}
 use Rattle.std.proofs.lemmas.List.Concat.{flat_map-append}
 use Rattle.std.proofs.lemmas.List.Elements.{Contains-append_left, Contains-append_right, Contains-push_cases}
 use Rattle.url.specs.Parts.{Parts, serialize}
@@ -25,25 +24,24 @@ use Rattle.fast_check_lattice.specs.Traces.{handled}
 use Rattle.fast_check_demands.specs.Demands.{Demand as SymbolDemand}
 use Rattle.fast_check_demands.specs.Yields.{Joins}
 use Rattle.fast_check_demands.specs.declared.fault.SymbolFault.{SymbolFault}
-use Rattle.fast_check_demands.proofs.Elements.{in_flat, in_map, of_map}
-use Rattle.fast_check_traces.specs.Modules.{tables_in}
+use Rattle.fast_check_demands.proofs.Elements.{in_flat}
 use Rattle.fast_check_traces.specs.Origins.{IsIndexOf}
 use Rattle.fast_check_findings.specs.Faults.{placed_seen}
 use Rattle.fast_check_findings.specs.Findings.{placed_yields}
-use Rattle.fast_check_findings.specs.Found.{own_text, source_in, module_yields}
+use Rattle.fast_check_findings.specs.Found.{own_text, source_in}
 use Rattle.fast_check_findings.specs.Yields.{Yield, recorded, public, implementing}
-use Rattle.fast_check_worklists.specs.Demands.{Text, same_nv, Demand, of_package, Want}
-use Rattle.fast_check_worklists.proofs.Maps.{first_in, none_in, only_in, some_is}
+use Rattle.fast_check_worklists.specs.Demands.{Text, same_nv, Demand, of_package}
+use Rattle.fast_check_worklists.proofs.Maps.{first_in, only_in, some_is}
 use Rattle.fast_check_sources.specs.Sources.{named_at}
 use Rattle.fast_check_range_finder.specs.declared.demand.Dependency.{Dependency}
 use Rattle.fast_check_range_finder.specs.declared.demand.NamesAt.{NamesAt}
-use Rattle.fast_check_range_finder.specs.declared.demand.Place.{Place}
 use Rattle.fast_check_range_finder.specs.declared.demand.SymbolAt.{SymbolAt}
 use Rattle.fast_check_range_finder.specs.declared.finder.Finder.{Finder}
 use Rattle.fast_check_range_finder.specs.Asked.{covers}
 use Rattle.fast_check_range_finder.specs.Search.{Search}
-use Rattle.fast_check_range_finder.specs.Finder.{Followed, Modules, place_nv, place_text, has_symbol, place_of, places, names_seen, seen_at, symbol_at, symbols_at, search_in, search_of, entered_yields, entered_nv, depends, followed_yields, noted_yields, yields_by, yields_in, traced_in, AreShown, IsModuleOf, IsSound, IsPlaced, Goes}
-use Rattle.fast_check_range_finder.proofs.Steps.{same_itself, joins_left, joins_right, joins_behind}
+use Rattle.fast_check_range_finder.specs.Finder.{Followed, Modules, place_nv, place_text, has_symbol, place_of, places, names_seen, seen_at, symbol_at, symbols_at, search_in, search_of, entered_yields, entered_nv, depends, followed_yields, noted_yields, yields_by, yields_in, traced_in, IsModuleOf, IsSound, IsPlaced, Goes}
+use Rattle.fast_check_range_finder.proofs.Steps.{same_itself}
+use Rattle.fast_check_range_finder.proofs.Joins.{joins_left, joins_right, joins_last}
 use Rattle.fast_check_range_finder.proofs.Gained.{get_in}
 use Rattle.fast_check_range_finder.proofs.Followed.{once_same}
 
@@ -232,7 +230,7 @@ module _ (g : ModuleGraph) (r : RootSymbol) (f b : Finder) (sound : IsSound g r 
             (joins_left (recorded nv (serialize (specifier_of info)) ∷ []) (flat_map followed_yields f.modules.entries)
             (flat_map followed_yields (f.modules.entries ++ m ∷ [])) (flat_map noted_yields f.untyped.items)
             (subst (λ (ys : List Yield). Joins (recorded nv (serialize (specifier_of info)) ∷ []) (flat_map followed_yields f.modules.entries) ys)
-            (sym last_is) (joins_behind (recorded nv (serialize (specifier_of info)) ∷ []) (flat_map followed_yields f.modules.entries))))));
+            (sym last_is) (joins_last (recorded nv (serialize (specifier_of info)) ∷ []) (flat_map followed_yields f.modules.entries))))));
         sound = record {
           modules = λ x c. ⊎_elim (λ old. sound.modules x old) (λ is. subst (IsModuleOf g r) is own_module)
               (Contains-push_cases f.modules.entries m x (subst (λ (ms : Modules). Contains ms x) new.0 c));

@@ -98,10 +98,3 @@ pub refusal : (k : Known) (roots packages : List Nv) → ((p : Nv) → Contains 
     IsRefusedOf k packages f → IsRefusal k roots f
 refusal k roots packages chained OutOfMemory t = tt
 refusal k roots packages chained (InvalidExport p text) t = (chained (nv_of p) t.0, t.1)
-
--- where it is known which one is entered
-pub refusal_at : (k : Known) (roots : List Nv) (nv : Nv) → Chained (world k) roots (of_package nv) → (f : BuildFault) →
-    DiagnosesRefused nv (entrance_at k nv) f → IsRefusal k roots f
-refusal_at k roots nv chained OutOfMemory t = tt
-refusal_at k roots nv chained (InvalidExport p text) t =
-    (subst (λ (x : Nv). Chained (world k) roots (of_package x)) (sym t.0) chained, ap (entrance_at k) t.0 ∙ t.1)

@@ -1,5 +1,5 @@
 -- What is asked and found in steps, one behind another.
-use Rattle.std.proofs.Common.{◌≡◌, ◌∙◌, sym, ap, refl, subst, List, [], ◌∷◌, ◌++◌, inl, inr, ⊎_elim}
+use Rattle.std.proofs.Common.{◌≡◌, ◌∙◌, sym, ap, refl, subst, List, [], ◌∷◌, ◌++◌, ⊎_elim}
 use Rattle.std.specs.List.{Contains, flat_map}
 use Rattle.std.proofs.lemmas.List.{append-nil}
 use Rattle.std.proofs.lemmas.List.Concat.{flat_map-append}
@@ -7,15 +7,15 @@ use Rattle.std.proofs.lemmas.List.Elements.{Contains-append_left, Contains-appen
 use Rattle.fast_check_packages.specs.Package.{Nv}
 use Rattle.fast_check_graph.specs.declared.graph.ModuleGraph.{ModuleGraph}
 use Rattle.fast_check_graph.specs.declared.root_symbol.RootSymbol.{RootSymbol}
-use Rattle.fast_check_demands.specs.Yields.{Adds, Joins}
+use Rattle.fast_check_demands.specs.Yields.{Adds}
 use Rattle.fast_check_findings.specs.Yields.{Yield}
 use Rattle.fast_check_worklists.specs.Demands.{Want}
-use Rattle.fast_check_worklists.proofs.Maps.{none_in}
 use Rattle.fast_check_range_finder.specs.declared.finder.Finder.{Finder}
 use Rattle.fast_check_range_finder.specs.Search.{Search, AsksAll}
 use Rattle.fast_check_range_finder.specs.Turn.{AreSame}
 use Rattle.fast_check_range_finder.specs.Finder.{search_of, yields_in, IsSound, Goes}
 use Rattle.fast_check_range_finder.specs.Yields.{dependency_of, dependencies}
+use Rattle.fast_check_range_finder.proofs.Joins.{joins_none, joins_then}
 
 pub asks_then : (ws vs : List Want) (a b c : Search) → AsksAll ws a b → AsksAll vs b c → AsksAll (ws ++ vs) a c
 asks_then [] vs a b c h k = subst (λ (x : Search). AsksAll vs x c) h k
@@ -39,52 +39,6 @@ module _ {X : Type 0} where
   same_added these xs a = record {
     sound = λ x c. a.parts x (subst (λ (ys : List X). Contains ys x) a.is c);
     complete = a.whole;
-  }
-
-  pub joins_none : (xs : List X) → Joins [] xs xs
-  joins_none xs = record { sound = λ x c. inl c; kept = λ x c. c; whole = λ x c. absurd (none_in x c) }
-
-  pub joins_behind : (ys xs : List X) → Joins ys xs (xs ++ ys)
-  joins_behind ys xs = record {
-    sound = Contains-append_cases xs ys;
-    kept = Contains-append_left xs ys;
-    whole = Contains-append_right xs ys;
-  }
-
-  pub joins_then : (ys zs a b c : List X) → Joins ys a b → Joins zs b c → Joins (ys ++ zs) a c
-  joins_then ys zs a b c s t = record {
-    sound = λ x h. ⊎_elim
-        (λ l. ⊎_elim (λ o. inl o) (λ n. inr (Contains-append_left ys zs x n)) (s.sound x l))
-        (λ r. inr (Contains-append_right ys zs x r)) (t.sound x h);
-    kept = λ x h. t.kept x (s.kept x h);
-    whole = λ x h. ⊎_elim (λ l. t.kept x (s.whole x l)) (λ r. t.whole x r) (Contains-append_cases ys zs x h);
-  }
-
-  pub joins_left : (ys a b c : List X) → Joins ys a b → Joins ys (a ++ c) (b ++ c)
-  joins_left ys a b c s = record {
-    sound = λ x h. ⊎_elim
-        (λ l. ⊎_elim (λ o. inl (Contains-append_left a c x o)) (λ n. inr n) (s.sound x l))
-        (λ r. inl (Contains-append_right a c x r)) (Contains-append_cases b c x h);
-    kept = λ x h. ⊎_elim (λ l. Contains-append_left b c x (s.kept x l)) (λ r. Contains-append_right b c x r)
-        (Contains-append_cases a c x h);
-    whole = λ x h. Contains-append_left b c x (s.whole x h);
-  }
-
-  pub joins_right : (ys a b c : List X) → Joins ys a b → Joins ys (c ++ a) (c ++ b)
-  joins_right ys a b c s = record {
-    sound = λ x h. ⊎_elim
-        (λ l. inl (Contains-append_left c a x l))
-        (λ r. ⊎_elim (λ o. inl (Contains-append_right c a x o)) (λ n. inr n) (s.sound x r)) (Contains-append_cases c b x h);
-    kept = λ x h. ⊎_elim (λ l. Contains-append_left c b x l) (λ r. Contains-append_right c b x (s.kept x r))
-        (Contains-append_cases c a x h);
-    whole = λ x h. Contains-append_right c b x (s.whole x h);
-  }
-
-  pub joins_as : (ys zs a b : List X) → AreSame ys zs → Joins ys a b → Joins zs a b
-  joins_as ys zs a b s j = record {
-    sound = λ x h. ⊎_elim (λ o. inl o) (λ n. inr (s.sound x n)) (j.sound x h);
-    kept = j.kept;
-    whole = λ x h. j.whole x (s.complete x h);
   }
 
 module _ (g : ModuleGraph) (r : RootSymbol) where

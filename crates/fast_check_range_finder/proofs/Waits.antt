@@ -1,15 +1,13 @@
 -- Packages and names that are asked, and wait if they are new.
-use Rattle.std.proofs.Common.{◌≡◌, ◌∙◌, sym, ap, ap₂, refl, subst, ℕ, ◌<◌, ◌≤◌, Bool, true, false, cond, List, [], ◌∷◌, ◌++◌, ◌&&◌, Option, Some, None, map, zero, suc}
-use Rattle.std.proofs.Common.{length, drop, option_map, ⊎_elim, inl, inr, ◌⊎◌, arith}
-use Rattle.std.specs.List.{list_any, flat_map, Contains}
+use Rattle.std.proofs.Common.{◌≡◌, ◌∙◌, sym, ap, ap₂, refl, subst, ℕ, ◌≤◌, Bool, true, false, cond, List, [], ◌∷◌, ◌++◌, ◌&&◌, Some, None, map, zero, suc}
+use Rattle.std.proofs.Common.{length, drop, ⊎_elim, inl, inr, ◌⊎◌, arith}
+use Rattle.std.specs.List.{list_any, Contains}
 use Rattle.std.specs.BTreeSet.{insert_key}
-use Rattle.std.specs.declared.cmp.Ordering.{Ordering}
 use Rattle.std.specs.declared.cmp.Ordering.TheVariants.{Equal}
 use Rattle.std.proofs.lemmas.Bool.{cases_Bool, and_from, false≢true}
 use Rattle.std.specs.Ordering.{is_eq}
 use Rattle.std.specs.Str.{bytes_eq}
-use Rattle.std.proofs.lemmas.List.{map-append, length-map}
-use Rattle.std.proofs.lemmas.List.Elements.{Contains-append_left}
+use Rattle.std.proofs.lemmas.List.{map-append}
 use Rattle.url.specs.Parts.{Parts, serialize}
 use Rattle.fast_check_packages.specs.Package.{Nv, nv_of}
 use Rattle.fast_check_packages.specs.declared.package.PackageNv.{PackageNv}
@@ -34,16 +32,17 @@ use Rattle.fast_check_findings.specs.Yields.{Yield, dependency}
 use Rattle.fast_check_name_demands.specs.declared.want.NameDemand.{NameDemand as Single}
 use Rattle.fast_check_name_demands.specs.declared.want.NameDemand.TheVariants as singles
 use Rattle.fast_check_name_demands.specs.Files.{names_of, path_demand}
-use Rattle.fast_check_worklists.specs.Demands.{Text, same_nv, begins, asked_by, Demand, of_package, of_module, Want, to_package, to_module}
+use Rattle.fast_check_worklists.specs.Demands.{same_nv, begins, asked_by, Demand, of_package, of_module, Want, to_package, to_module}
 use Rattle.fast_check_worklists.specs.State.{AddsPackage}
 use Rattle.fast_check_range_finder.specs.declared.demand.Dependency.{Dependency}
 use Rattle.fast_check_range_finder.specs.declared.demand.NamesAt.{NamesAt}
 use Rattle.fast_check_range_finder.specs.declared.finder.Finder.{Finder}
-use Rattle.fast_check_range_finder.specs.Search.{Search, IsPut, AsksPackage, IsPackagePut, AddsNames, AsksNames}
+use Rattle.fast_check_range_finder.specs.Search.{Search, IsPut, AsksPackage, AddsNames, AsksNames}
 use Rattle.fast_check_range_finder.specs.Finder.{Modules, names_seen, seen_at, entered_nv, depends, search_in, search_of, yields_in, IsSound, CanEnter, Goes}
 use Rattle.fast_check_range_finder.proofs.Lists.{put_last, put_left, put_right}
 use Rattle.fast_check_range_finder.proofs.Compared.{key_kept, key_only, key_tied}
-use Rattle.fast_check_range_finder.proofs.Steps.{same_itself, joins_none}
+use Rattle.fast_check_range_finder.proofs.Steps.{same_itself}
+use Rattle.fast_check_range_finder.proofs.Joins.{joins_none}
 
 -- packages
 

@@ -14,7 +14,7 @@ use Rattle.fast_check_graph.specs.Root.{specifier_of}
 use Rattle.fast_check_demands.specs.Demands.{Demand as SymbolDemand}
 use Rattle.fast_check_demands.specs.Rules.{each_of}
 use Rattle.fast_check_demands.specs.Yields.{ranges, implementations, Fault, faults}
-use Rattle.fast_check_entries.specs.findings.Faults.{FaultSource, PlacedFault, placed}
+use Rattle.fast_check_entries.specs.findings.Faults.{FaultSource, placed}
 use Rattle.fast_check_traces.specs.declared.modules.TracedModule.{TracedModule}
 use Rattle.fast_check_traces.specs.Modules.{own_tables}
 use Rattle.fast_check_traces.specs.Wants.{re_export_ranges}
@@ -57,10 +57,6 @@ source_with m text = record { specifier = specifier_of m.info.now; text = text; 
 
 abbrev pub source_in : TracedModule → FaultSource
 source_in m = source_with m (text_of m.info.now)
-
--- faults at their places; one whose symbol has none is left out
-abbrev pub placed_all : FaultSource → List Fault → List PlacedFault
-placed_all m fs = flat_map (λ f. option_to_list (placed m f)) fs
 
 -- a fault of a demand at its place, if its symbol has one
 abbrev pub fault_yields : Nv → TracedModule → Fault → List Yield

@@ -1,5 +1,5 @@
 -- Names behind URLs, each of which is read once.
-use Rattle.std.proofs.Common.{◌≡◌, ◌∙◌, sym, ap, refl, subst, ℕ, Bool, true, false, cond, is_some, List, Option, Some, None, option_map, bytes_eq}
+use Rattle.std.proofs.Common.{◌≡◌, ◌∙◌, sym, refl, subst, ℕ, Bool, true, false, cond, is_some, List, Option, Some, None, option_map, bytes_eq}
 use Rattle.std.proofs.Common.{true≢false}
 use Rattle.std.specs.Borrow.{Bor}
 use Rattle.std.specs.BTreeMap.{BTreeMap}
@@ -18,7 +18,6 @@ use Rattle.fast_check_traces.specs.declared.modules.TracedModule.{TracedModule}
 use Rattle.fast_check_traces.specs.declared.origins.Origin.{Origin}
 use Rattle.fast_check_traces.specs.Modules.{tables_in}
 use Rattle.fast_check_traces.specs.Origins.{Answered, indexed, module_answer, is_met, AreFound, Puts}
-use Rattle.fast_check_traces.proofs.Firsts.{or_none}
 
 abbrev Index : Type 0
 Index = BTreeMap (Bor (List ℕ)) Origin
@@ -33,14 +32,6 @@ module_text m name text =
     (option_or (lookup (λ k. bytes_eq text (serialize k)) m.root_symbol.now.modules.entries)
     (option_and_then (module_named m.root_symbol.now.modules.entries)
     (lookup (λ k. bytes_eq text (serialize k)) m.root_symbol.now.aliases.entries)))
-
--- nothing is behind
-pub puts_none : (m : TracedModule) (met : Met) (names : Index) (answer : Name → Option Answered) → ((name : Name) → answer name ≡ None) →
-    AreFound m met names → Puts m answer met names names
-puts_none m met names answer none h = record {
-  adds = λ name. sym (ap (option_or (indexed name names)) (none name) ∙ or_none (indexed name names));
-  found = h;
-}
 
 -- behind one URL
 module _ (m : TracedModule) (x : ReExportAllNode) (url : Parts) where

@@ -7,7 +7,7 @@ use Rattle.fast_check_demands.specs.Yields.{Joins}
 use Rattle.fast_check_traces.specs.declared.re_exports.PublicReExports.{PublicReExports}
 use Rattle.fast_check_traces.specs.Modules.{tables_in}
 use Rattle.fast_check_traces.specs.Wants.{node_ranges, shown_ranges}
-use Rattle.fast_check_range_finder.proofs.Steps.{joins_behind}
+use Rattle.fast_check_range_finder.proofs.Joins.{joins_last}
 use Rattle.fast_check_range_finder.proofs.follow.show.Goals as goal
 
 pub returns-in_ok-push-in-First-clause-shows : goal.returns-in_ok-push-in-First-clause-shows
@@ -19,7 +19,7 @@ returns-in_ok-push-in-First-clause-shows c shown =
     record {
       info = refl;
       ranges = subst (λ (p : PublicReExports). Joins (shown_ranges nodes p) old c.push.new.self.items) (sym c.in-First.is)
-          (subst (λ (ys : List SourceRange). Joins (range ∷ []) old ys) (sym items) (joins_behind (range ∷ []) old));
+          (subst (λ (ys : List SourceRange). Joins (range ∷ []) old ys) (sym items) (joins_last (range ∷ []) old));
       implementations = refl;
       faults = refl;
       shown = λ t r h. subst (λ (ys : List SourceRange). Contains ys r) (sym items) (Contains-append_left old (range ∷ []) r (shown t r h));
@@ -34,7 +34,7 @@ returns-in_ok-push_all_ranges-in-All-clause-shows c shown =
     record {
       info = refl;
       ranges = subst (λ (p : PublicReExports). Joins (shown_ranges nodes p) old c.push_all_ranges.new.out.items) (sym c.in-All.is)
-          (subst (λ (ys : List SourceRange). Joins (node_ranges nodes) old ys) (sym items) (joins_behind (node_ranges nodes) old));
+          (subst (λ (ys : List SourceRange). Joins (node_ranges nodes) old ys) (sym items) (joins_last (node_ranges nodes) old));
       implementations = refl;
       faults = refl;
       shown = λ t r h. subst (λ (ys : List SourceRange). Contains ys r) (sym items) (Contains-append_right old (node_ranges nodes) r h);
