@@ -17,6 +17,7 @@ use Rattle.fast_check_range_finder.specs.Refusals.{JoinAll}
 use Rattle.fast_check_graph.specs.Root.{AreFoundByOwnNames}
 use Rattle.fast_check_build.specs.Found.{IsFound}
 use Rattle.fast_check_build.proofs.OwnRanges.{own_answers}
+use Rattle.fast_check_build.proofs.Packages.{all_asked}
 
 pub found_public : (k : Known) (roots : List Nv) (found : List (PackageNv × FoundPackage)) (answers : BTreeMap PackageNv PackagePublicRanges) →
     ((account : Account) × IsAccount (world k) roots account × IsYield (gives k) account (found_yields found) × JoinAll k account ×
@@ -29,6 +30,7 @@ found_public k roots found answers a says named = record {
   is_yield = a.2;
   join = a.3;
   says = says;
+  packages = all_asked k a.0 (found_yields found) a.2 a.4 answers says;
   own = own_answers k a.0 (found_yields found) a.2 named answers says;
 }
 

@@ -1,5 +1,6 @@
 -- What is found of packages that are handed in.
 use Rattle.std.specs.Prelude.{◌≡◌, ℕ, true, List, Option, IfSome}
+use Rattle.std.specs.List.{Contains}
 use Rattle.std.specs.BTreeMap.{BTreeMap}
 use Rattle.fast_check_syntax.specs.declared.source.SourceRange.{SourceRange}
 use Rattle.fast_check_packages.specs.Package.{Nv}
@@ -10,9 +11,9 @@ use Rattle.fast_check_graph.specs.declared.graph.ModuleGraph.{ModuleGraph}
 use Rattle.fast_check_graph.specs.declared.root_symbol.RootSymbol.{RootSymbol}
 use Rattle.fast_check_cache.specs.declared.package_ranges.PackagePublicRanges.{PackagePublicRanges}
 use Rattle.fast_check_modules.specs.diagnostics.PublicRanges.{PublicRanges, is_public, is_implementation}
-use Rattle.fast_check_worklists.specs.Demands.{Text}
+use Rattle.fast_check_worklists.specs.Demands.{Text, of_package}
 use Rattle.fast_check_package_ranges.specs.findings.Yields.{Yield}
-use Rattle.fast_check_package_ranges.specs.Answers.{AreAnswers, module_answer}
+use Rattle.fast_check_package_ranges.specs.Answers.{AreAnswers, lookup_package, module_answer}
 use Rattle.fast_check_range_finder.specs.wants.Sources.{none_used, Known, owner_by, named_at}
 use Rattle.fast_check_range_finder.specs.Account.{Account, IsAccount, IsYield}
 use Rattle.fast_check_range_finder.specs.Rules.{world}
@@ -37,8 +38,8 @@ pub record OwnsRanges (root : RootSymbol) (t : Text) (m : PublicRanges) : Type 0
   pub implementing : (r : SourceRange) → is_implementation m r ≡ true → IsOwnRange (named_at root t) r
 
 -- There is an account of demands, from the packages that are handed in, whose export texts all join; and the answers
--- say what its demands give, and nothing else. A package whose item is used demands what the item depends on, and gives
--- the item. What is public in a module is declared in it, so that the module admits it.
+-- say what its demands give, and nothing else, each of a package of the account. A package whose item is used demands
+-- what the item depends on, and gives the item. What is public in a module is declared in it, so that the module admits it.
 pub record IsFound (k : Known) (roots : List Nv) (answers : BTreeMap PackageNv PackagePublicRanges) : Type 0 where
   pub account : Account
   pub yields : List Yield
@@ -46,4 +47,5 @@ pub record IsFound (k : Known) (roots : List Nv) (answers : BTreeMap PackageNv P
   pub is_yield : IsYield (gives k) account yields
   pub join : JoinAll k account
   pub says : AreAnswers yields answers
+  pub packages : (nv : Nv) → IfSome (lookup_package nv answers.entries) (λ p. Contains account (of_package nv))
   pub own : (nv : Nv) (t : Text) → IfSome (module_answer answers nv t) (OwnsRanges k.root_symbol t)

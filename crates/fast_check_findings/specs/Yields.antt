@@ -29,3 +29,15 @@ pub data Yield : Type 0 where
   implementing : Nv → Text → SourceRange → Yield
   faulty : Nv → Text → ModuleFault → Yield
   kept : Nv → List Parts → ItemView → Yield
+
+-- the package that a yield is about
+abbrev pub package_of : Yield → Nv
+package_of (known_package nv) = nv
+package_of (entry_point nv t) = nv
+package_of (refused_export nv t) = nv
+package_of (dependency nv d) = nv
+package_of (recorded nv t) = nv
+package_of (public nv t r) = nv
+package_of (implementing nv t r) = nv
+package_of (faulty nv t f) = nv
+package_of (kept nv entry_points item) = nv

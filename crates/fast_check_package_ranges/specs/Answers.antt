@@ -16,19 +16,9 @@ use Rattle.fast_check_worklists.specs.Demands.{Text, same_nv}
 use Rattle.fast_check_findings.specs.Diagnostics.{AreDiagnosed}
 use Rattle.fast_check_findings.specs.Yields.{ModuleFault, Yield, known_package, entry_point, refused_export, dependency}
 use Rattle.fast_check_findings.specs.Yields.{recorded, public, implementing, faulty, kept}
+pub use Rattle.fast_check_findings.specs.Yields.{package_of}
 
--- which package a yield is about, and which module of it
-
-abbrev pub package_of : Yield → Nv
-package_of (known_package nv) = nv
-package_of (entry_point nv t) = nv
-package_of (refused_export nv t) = nv
-package_of (dependency nv d) = nv
-package_of (recorded nv t) = nv
-package_of (public nv t r) = nv
-package_of (implementing nv t r) = nv
-package_of (faulty nv t f) = nv
-package_of (kept nv entry_points item) = nv
+-- which module a yield is about
 
 abbrev pub modules_of : Yield → List Text
 modules_of (recorded nv t) = t ∷ []

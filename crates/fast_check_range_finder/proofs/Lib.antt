@@ -16,6 +16,7 @@ pub mod Reach
 pub mod Stored
 pub mod Homes
 pub mod Homed
+pub mod OfPackage
 pub mod Joins
 pub mod Collected
 pub mod Once
