@@ -1,3 +1,4 @@
+-- Inner: no contract of a public call cites what stands here.
 -- What is found of packages, as it is answered.
 use Rattle.std.specs.Prelude.{ℕ, List, [], ◌∷◌, ◌++◌, map, Option, Some, None, option_to_list, slice_get}
 use Rattle.std.specs.List.{flat_map}

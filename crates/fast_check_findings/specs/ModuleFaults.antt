@@ -1,3 +1,4 @@
+-- Inner: no contract of a public call cites what stands here.
 -- Inner: no contract of a public call cites what stands here, but for `AreFaultsOf` and `AddsTo`.
 -- What is wrong with a module, as far as it was collected.
 use Rattle.std.specs.Prelude.{◌≡◌, ℕ, Bool, true, false, cond, List, [], ◌∷◌, ◌++◌, Option, Some}

@@ -1,4 +1,3 @@
--- Inner: no contract of a public call cites what stands here.
 -- A list of demands that is closed under what follows, up to cover, and each of which comes from a handed-in package.
 use Rattle.std.specs.Prelude.{Bool, false, ◌&&◌, ◌||◌, List, IsTrue}
 use Rattle.std.specs.List.{list_any, Contains}
