@@ -1,5 +1,5 @@
 -- What is found of packages that are handed in.
-use Rattle.std.specs.Prelude.{◌≡◌, ℕ, true, List, Option, IfSome}
+use Rattle.std.specs.Prelude.{◌≡◌, true, List, Option, IfSome}
 use Rattle.std.specs.List.{Contains}
 use Rattle.std.specs.BTreeMap.{BTreeMap}
 use Rattle.fast_check_syntax.specs.declared.source.SourceRange.{SourceRange}
