@@ -10,5 +10,6 @@ pub mod cache {
     pub use fast_check_cache::{
         FastCheckCache, FastCheckCacheItem, FastCheckCacheKey, FastCheckCacheModuleItem,
         FastCheckCacheModuleItemDiagnostic, FastCheckCacheModuleItemInfo, HASH_SEED,
+        default_hash_seed,
     };
 }
