@@ -21,12 +21,12 @@ use Rattle.fast_check_range_finder.proofs.Places.{nv_is}
 -- one that passes a test, where some do
 some_passes : {X : Type 0} (test : X → Bool) (xs : List X) → is_filled (filter test xs) ≡ true → (x : X) × Contains xs x × (test x ≡ true)
 some_passes test [] h = absurd (false≢true h)
-some_passes {X} test (x ∷ xs) h = go (test x) refl h
+some_passes {X} test (x ∷ xs) h = go (test x) refl h (λ e. some_passes test xs e)
   where
     go : (b : Bool) → test x ≡ b → is_filled (cond b (x ∷ filter test xs) (filter test xs)) ≡ true →
-        (y : X) × Contains (x ∷ xs) y × (test y ≡ true)
-    go true e h = (x, first_in x xs, e)
-    go false e h = let s = some_passes test xs h in (s.0, rest_in x s.0 xs s.1, s.2)
+        (is_filled (filter test xs) ≡ true → (y : X) × Contains xs y × (test y ≡ true)) → (y : X) × Contains (x ∷ xs) y × (test y ≡ true)
+    go true e h later = (x, first_in x xs, e)
+    go false e h later = let s = later h in (s.0, rest_in x s.0 xs s.1, s.2)
 
 -- a demand of a package is that of the package
 is_asked : (nv : Nv) (d : Demand) → is_package nv d ≡ true → d ≡ of_package nv

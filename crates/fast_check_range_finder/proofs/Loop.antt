@@ -98,6 +98,10 @@ module _ (k : Known) (roots : List Nv) where
       (subst (λ (s : Search). IsOnTheWay (world k) (gives k) roots done s (yields_in a)) (sym rests.search) on.way) in
       let homed = subst (IsHomed done) (sym rests.search) on.homed in
       let e = ended (world k) (gives k) roots done (search_of f) (yields_in f) rests.none way in
-      let yields = same_yield (gives k) done (found_yields found) (yields_in f) same e.1 in
-      (done, e.0, yields, all_join k done (found_yields found) (found_join found) yields,
-      homed_ended k roots done (search_of f) way.kept homed rests.none)
+      let yields = same_yield (gives k) done (found_yields found) (yields_in f) same e.1 in (
+        done,
+        e.0,
+        yields,
+        all_join k done (found_yields found) (found_join found) yields,
+        homed_ended k roots done (search_of f) way.kept homed rests.none,
+      )

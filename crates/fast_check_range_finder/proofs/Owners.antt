@@ -29,7 +29,6 @@ module _ (g : ModuleGraph) (r : RootSymbol) (nv : Nv) where
     behind_none f sound e = subst (λ (x : Option Nv). AsksFor (behind nv t w x) f f) (sym e) (goes_nowhere g r f sound)
 
     module _ (p : Nv) (a b : Finder) (e : o ≡ Some p) where
-
       pub behind_other : same_nv nv p ≡ false → Goes g r (to_module p t w ∷ to_package p ∷ []) (dependency nv p ∷ []) a b →
           AsksFor (behind nv t w o) a b
       behind_other s goes = subst (λ (x : Option Nv). AsksFor (behind nv t w x) a b) (sym e)

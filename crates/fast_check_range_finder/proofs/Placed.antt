@@ -237,7 +237,7 @@ module _ (g : ModuleGraph) (r : RootSymbol) (f b : Finder) (sound : IsSound g r 
           symbols = λ x c. let h = sound.symbols x (subst (λ (s : List SymbolAt). Contains s x) w.symbols c) in
               let l = ap length new.0 ∙ length-append f.modules.entries (m ∷ []) in omega (arith, h, l);
           once = once_same (map nv_of b.packages) (map nv_of f.packages) b.entered f.entered (map entered_nv b.entrances.items)
-            (map entered_nv f.entrances.items) (ap (map nv_of) w.packages) w.entered (ap (map entered_nv) w.entrances) sound.once;
+              (map entered_nv f.entrances.items) (ap (map nv_of) w.packages) w.entered (ap (map entered_nv) w.entrances) sound.once;
         };
       }
 

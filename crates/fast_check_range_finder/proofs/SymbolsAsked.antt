@@ -51,8 +51,11 @@ pub each_more : (place : ℕ) (ds : List SymbolDemand) (d : SymbolDemand) (a b c
 each_more place [] d a b c old mid new w one = (
   c,
   new,
-  (one.0, subst (λ (xs : List SymbolDemand). AddsSymbol d one.0 xs c) w.0 one.1,
-      subst (λ (xs : List (ℕ × SymbolDemand)). map seen_at new ≡ cond one.0 (xs ++ (place, d) ∷ []) xs) w.1 one.2),
+  (
+    one.0,
+    subst (λ (xs : List SymbolDemand). AddsSymbol d one.0 xs c) w.0 one.1,
+    subst (λ (xs : List (ℕ × SymbolDemand)). map seen_at new ≡ cond one.0 (xs ++ (place, d) ∷ []) xs) w.1 one.2,
+  ),
   (refl, refl),
 )
 each_more place (x ∷ xs) d a b c old mid new w one = (w.0, w.1, w.2, each_more place xs d w.0 b c w.1 mid new w.3 one)
@@ -91,9 +94,9 @@ module _ (eq : Place → Place → Bool) (laws : IsEquivalence eq) (tells : Tell
       let parts = and_parts (same_nv (place_nv e) (place_nv s.0)) (bytes_eq (place_text e) (place_text s.0) && list_any (covers d) s.0.1.asked) s.2 in
       let more = and_parts (bytes_eq (place_text e) (place_text s.0)) (list_any (covers d) s.0.1.asked) parts.1 in
       let one = one_entry eq laws (with_asked xs)
-          (subst (λ (ks : List Place). IsDistinct eq ks) (sym (keys_set ms place (record e.1 { asked = xs }))) unique) place (entry xs) s.0
-          (get_set ms place e (record e.1 { asked = xs }) here) s.1
-          (tells e.0 s.0.0 ∙ and_from (same_nv (place_nv e) (place_nv s.0)) (bytes_eq (place_text e) (place_text s.0)) parts.0 more.0) in
+      (subst (λ (ks : List Place). IsDistinct eq ks) (sym (keys_set ms place (record e.1 { asked = xs }))) unique) place (entry xs) s.0
+      (get_set ms place e (record e.1 { asked = xs }) here) s.1
+      (tells e.0 s.0.0 ∙ and_from (same_nv (place_nv e) (place_nv s.0)) (bytes_eq (place_text e) (place_text s.0)) parts.0 more.0) in
       subst (λ (x : FollowedModule). list_any (covers d) x.asked ≡ true) (sym one) more.1
 
   places_same : (xs ys : List SymbolDemand) → places (with_asked xs) ≡ places (with_asked ys)
@@ -178,16 +181,20 @@ module _ (eq : Place → Place → Bool) (laws : IsEquivalence eq) (tells : Tell
   one_asked d true a b old new w is = record {
     packages = refl;
     handled = refl;
-    put = inr (marked d a b w old new,
-        subst (λ (ys : List (ℕ × SymbolDemand)). IsPut (of_symbol (place_nv e) (place_text e) d) (state a old).waiting (state b ys).waiting) (sym is)
-        (waits d a b old));
+    put = inr (
+      marked d a b w old new,
+      subst (λ (ys : List (ℕ × SymbolDemand)). IsPut (of_symbol (place_nv e) (place_text e) d) (state a old).waiting (state b ys).waiting) (sym is)
+          (waits d a b old),
+    );
   }
   one_asked d false a b old new w is = record {
     packages = refl;
     handled = refl;
-    put = inl (meets_own d a w.0,
-        λ p t x. ap (λ (xs : List SymbolDemand). list_any (has_symbol p t x) (with_asked xs)) w.1,
-        ap (λ (xs : List SymbolDemand). (state xs new).waiting) w.1 ∙ ap (λ (ys : List (ℕ × SymbolDemand)). (state a ys).waiting) is);
+    put = inl (
+      meets_own d a w.0,
+      λ p t x. ap (λ (xs : List SymbolDemand). list_any (has_symbol p t x) (with_asked xs)) w.1,
+      ap (λ (xs : List SymbolDemand). (state xs new).waiting) w.1 ∙ ap (λ (ys : List (ℕ × SymbolDemand)). (state a ys).waiting) is,
+    );
   }
 
   -- each of them

@@ -75,7 +75,6 @@ impl<'a> FollowedModule<'a> {
             found: FoundModule::new(alloc, info),
         }
     }
-
 }
 
 /// Asks for a demand of a symbol. If it is new, it waits.

@@ -170,7 +170,10 @@ impl<'a> Finder<'a> {
             let ws = file_wants k (nv_of nv.now) (traced_as k info.now) (file_demand_of want.entry) in
             OnOk result (IsSound k.graph k.root_symbol self.old → Goes k.graph k.root_symbol ws (dependencies (nv_of nv.now) ws) self.old self.new) }
     {
-        match sources.graph.resolve_dependency(want.specifier, info.specifier()) {
+        match sources
+            .graph
+            .resolve_dependency(want.specifier, info.specifier())
+        {
             None => Ok(()),
             Some(url) => self.ask_file(alloc, sources, provider, nv, url, want.names),
         }

@@ -12,9 +12,9 @@ mod packages;
 
 pub use asked::{AskedAs, AskedSymbol, AskedSymbols, NamePath};
 pub use demand::{Dependency, NamesAt, Place, SymbolAt};
+pub use enter::FinderInput;
 pub use fast_check_packages::{BuildFault, PackageNv, WorkspaceMember};
 pub use fast_check_sources::Sources;
-pub use enter::FinderInput;
 pub use find::find_all;
 pub use finder::{Finder, FollowedModule};
 pub use names::ask_names;

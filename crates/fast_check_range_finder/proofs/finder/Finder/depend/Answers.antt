@@ -15,7 +15,7 @@ returns c g r sound =
     let mid = c.ask_package.new.self in
     let new : Dependency = record { «package» = c.in_ok-copy_of.field-0; on = c.args.on } in
     let found = subst (λ (p : Nv). Joins (dependency p (nv_of c.args.on) ∷ []) (map depends mid.dependencies.keys) (map depends c.insert.new.self.keys))
-        c.in_ok-copy_of.ensures (dependency_joins new mid.dependencies.keys c.insert.new.self.keys c.in_ok-insert.ensures.keys) in
+    c.in_ok-copy_of.ensures (dependency_joins new mid.dependencies.keys c.insert.new.self.keys c.in_ok-insert.ensures.keys) in
     let ys = dependency (nv_of c.args.owner.now) (nv_of c.args.on) ∷ [] in
     record {
       asked = asked.asked;

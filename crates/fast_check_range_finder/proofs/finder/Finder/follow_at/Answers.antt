@@ -34,11 +34,12 @@ returns c = IfOk-weaker c.files_of.result _ _
     subst (λ (y : FollowedModule). let t = traced_in g r y.found.info.now in
     (out ≡ files (own_tables t) s) × Goes g r (map (to_symbol (place_nv e) (own_text t)) (names (own_tables t) s))
     (public_at (place_nv e) t (ranges (own_tables t) s) ++ (implementing_at (place_nv e) t (implementations (own_tables t) s)
-    ++ faults_at (place_nv e) t (faults (own_tables t) s))) f b) (sym same)
-    (is ∙ ap (λ (t : Tables). files t s) c.tables_of-tables.ensures,
-    symbol_within g r f b sound c.args.at.place (e.0, x) here_x m
-    (record { modules = refl; packages = refl; entered = refl; handled = refl; names = refl; entrances = refl; dependencies = refl; untyped = refl })
-    place_eq.eq-value.it tells_places c.get_index_mut.ensures.unique (ap (λ i. i.now) c.in_ok-follow_in.ensures.info) s asks.0 asks.1 asks.2
-    c.in_ok-follow_in.ensures.ranges c.in_ok-follow_in.ensures.implementations c.in_ok-follow_in.ensures.faults c.in_ok-follow_in.ensures.index
-    c.in_ok-follow_in.ensures.shows_all))
+    ++ faults_at (place_nv e) t (faults (own_tables t) s))) f b) (sym same) (
+      is ∙ ap (λ (t : Tables). files t s) c.tables_of-tables.ensures,
+      symbol_within g r f b sound c.args.at.place (e.0, x) here_x m
+          (record { modules = refl; packages = refl; entered = refl; handled = refl; names = refl; entrances = refl; dependencies = refl; untyped = refl })
+          place_eq.eq-value.it tells_places c.get_index_mut.ensures.unique (ap (λ i. i.now) c.in_ok-follow_in.ensures.info) s asks.0 asks.1 asks.2
+          c.in_ok-follow_in.ensures.ranges c.in_ok-follow_in.ensures.implementations c.in_ok-follow_in.ensures.faults c.in_ok-follow_in.ensures.index
+          c.in_ok-follow_in.ensures.shows_all,
+    ))
     c.files_of.ensures

@@ -40,8 +40,9 @@ returns c = with_ok c.follow_names_in.result c.follow_names_in.ensures.wants c.f
     let shown = shows own.shown in
     subst (λ (y : FollowedModule). let t = traced_in g r y.found.info.now in
     (out ≡ module_wants t d) × Goes g r (map (to_symbol (place_nv e) (own_text t)) (roots (own_tables t) d))
-    (public_at (place_nv e) t (re_export_ranges t d)) f b) (sym same)
-    (is,
-    names_within g r f b c.requires.sound c.args.place (e.0, x) here_x m
-    (record { modules = refl; packages = refl; entered = refl; handled = refl; names = refl; entrances = refl; dependencies = refl; untyped = refl })
-    place_eq.eq-value.it tells_places c.get_index_mut.ensures.unique (ap (λ i. i.now) shown.info) d asks shown index))
+    (public_at (place_nv e) t (re_export_ranges t d)) f b) (sym same) (
+      is,
+      names_within g r f b c.requires.sound c.args.place (e.0, x) here_x m
+          (record { modules = refl; packages = refl; entered = refl; handled = refl; names = refl; entrances = refl; dependencies = refl; untyped = refl })
+          place_eq.eq-value.it tells_places c.get_index_mut.ensures.unique (ap (λ i. i.now) shown.info) d asks shown index,
+    ))
