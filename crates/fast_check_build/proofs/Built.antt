@@ -21,7 +21,7 @@ use Rattle.fast_check_graph.specs.declared.root_symbol.AnyModuleInfo.TheVariants
 use Rattle.fast_check_graph.specs.declared.root_symbol.RootSymbol.{RootSymbol}
 use Rattle.fast_check_graph.specs.Root.{found_module}
 use Rattle.fast_check_cache.specs.declared.package_ranges.PackagePublicRanges.{PackagePublicRanges}
-use Rattle.fast_check_worklists.proofs.Maps.{first_in, rest_in}
+use Rattle.fast_check_demands.proofs.worklists.Maps.{first_in, rest_in}
 use Rattle.fast_check_package_ranges.specs.Parts.{is_text, is_package}
 use Rattle.fast_check_package_ranges.specs.Answers.{lookup_text, lookup_package, module_answer}
 use Rattle.fast_check_package_ranges.proofs.Maps.{lookup_key, text_one, text_total, package_one, package_total}
@@ -29,7 +29,7 @@ use Rattle.fast_check_package_answers.specs.PackageFaults.{PublicModule}
 use Rattle.fast_check_package_answers.specs.PackageAnswer.{TreeModule, with_tree, tree_modules, OwnsPublic, OwnsModule, OwnsAll}
 use Rattle.fast_check_package_answers.specs.Answered.{by_text, by_nv}
 use Rattle.fast_check_package_answers.specs.Owned.{IsOwned, AreOwned}
-use Rattle.fast_check_range_finder.specs.wants.Sources.{Known}
+use Rattle.fast_check_range_finder.specs.demands.sources.Sources.{Known}
 use Rattle.fast_check_range_finder.specs.Own.{IsOwnRange}
 use Rattle.fast_check_build.specs.Found.{OwnsRanges, IsFound}
 

@@ -8,11 +8,11 @@ use Rattle.fast_check_packages.specs.declared.package.PackageNv.{PackageNv}
 use Rattle.fast_check_cache.specs.declared.package_ranges.PackagePublicRanges.{PackagePublicRanges}
 use Rattle.fast_check_modules.specs.diagnostics.PublicRanges.{PublicRanges}
 use Rattle.fast_check_graph.specs.Root.{AreFoundByOwnNames}
-use Rattle.fast_check_worklists.specs.Demands.{Text}
+use Rattle.fast_check_demands.specs.worklists.Demands.{Text}
 use Rattle.fast_check_package_ranges.specs.findings.Yields.{Yield}
 use Rattle.fast_check_package_ranges.specs.Answers.{about, about_module, IsModuleAnswer, AreAnswers, module_answer}
 use Rattle.fast_check_package_ranges.proofs.Shown.{shown, implemented, module_stands}
-use Rattle.fast_check_range_finder.specs.wants.Sources.{Known}
+use Rattle.fast_check_range_finder.specs.demands.sources.Sources.{Known}
 use Rattle.fast_check_range_finder.specs.Account.{Account, IsYield}
 use Rattle.fast_check_range_finder.specs.Yields.{gives}
 use Rattle.fast_check_range_finder.specs.Own.{IsOwnYield}

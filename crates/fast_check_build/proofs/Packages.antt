@@ -7,11 +7,11 @@ use Rattle.std.proofs.lemmas.Bool.{false≢true}
 use Rattle.fast_check_packages.specs.Package.{Nv}
 use Rattle.fast_check_packages.specs.declared.package.PackageNv.{PackageNv}
 use Rattle.fast_check_cache.specs.declared.package_ranges.PackagePublicRanges.{PackagePublicRanges}
-use Rattle.fast_check_worklists.specs.Demands.{same_nv, Demand, of_package, of_module, of_symbol}
-use Rattle.fast_check_worklists.proofs.Maps.{first_in, rest_in}
+use Rattle.fast_check_demands.specs.worklists.Demands.{same_nv, Demand, of_package, of_module, of_symbol}
+use Rattle.fast_check_demands.proofs.worklists.Maps.{first_in, rest_in}
 use Rattle.fast_check_package_ranges.specs.findings.Yields.{Yield}
 use Rattle.fast_check_package_ranges.specs.Answers.{package_of as answered_of, about, is_filled, lookup_package, IsPackageAnswer, StandsFor, AreAnswers}
-use Rattle.fast_check_range_finder.specs.wants.Sources.{Known}
+use Rattle.fast_check_range_finder.specs.demands.sources.Sources.{Known}
 use Rattle.fast_check_range_finder.specs.Account.{Account, HasHomes, IsYield, package_of, is_package}
 use Rattle.fast_check_range_finder.specs.Yields.{gives}
 use Rattle.fast_check_range_finder.proofs.OfPackage.{of_demand}

@@ -11,10 +11,10 @@ use Rattle.fast_check_graph.specs.declared.graph.ModuleGraph.{ModuleGraph}
 use Rattle.fast_check_graph.specs.declared.root_symbol.RootSymbol.{RootSymbol}
 use Rattle.fast_check_cache.specs.declared.package_ranges.PackagePublicRanges.{PackagePublicRanges}
 use Rattle.fast_check_modules.specs.diagnostics.PublicRanges.{PublicRanges, is_public, is_implementation}
-use Rattle.fast_check_worklists.specs.Demands.{Text, of_package}
+use Rattle.fast_check_demands.specs.worklists.Demands.{Text, of_package}
 use Rattle.fast_check_package_ranges.specs.findings.Yields.{Yield}
 use Rattle.fast_check_package_ranges.specs.Answers.{AreAnswers, lookup_package, module_answer}
-use Rattle.fast_check_range_finder.specs.wants.Sources.{none_used, Known, owner_by, named_at}
+use Rattle.fast_check_range_finder.specs.demands.sources.Sources.{none_used, Known, owner_by, named_at}
 use Rattle.fast_check_range_finder.specs.Account.{Account, IsAccount, IsYield}
 use Rattle.fast_check_range_finder.specs.Rules.{world}
 use Rattle.fast_check_range_finder.specs.Yields.{gives}

@@ -4,7 +4,7 @@ ghost use Rattle.std.specs.Prelude.{◌≡◌, ⊤, map, MatchOption, IfOk, IfEr
 ghost use Rattle.fast_check_packages.specs.Package.{nv_of};
 ghost use Rattle.fast_check_packages.specs.MembersIn.{members_in};
 ghost use Rattle.fast_check_cache.specs.CachedPackages.{used_item};
-ghost use Rattle.fast_check_range_finder.specs.wants.Sources.{with_used};
+ghost use Rattle.fast_check_range_finder.specs.demands.sources.Sources.{with_used};
 ghost use Rattle.fast_check_range_finder.specs.Lent.{used_of};
 ghost use Rattle.fast_check_range_finder.specs.Refusals.{IsRefusal};
 ghost use Rattle.fast_check_build.specs.Found.{known_of, IsFound};

@@ -2,7 +2,7 @@
 ghost use Rattle.std.specs.Prelude.{◌≡◌, ⊤, map, MatchOption, IfOk, IfErr};
 ghost use Rattle.fast_check_packages.specs.Package.{nv_of};
 ghost use Rattle.fast_check_cache.specs.CachedPackages.{used_item};
-ghost use Rattle.fast_check_range_finder.specs.wants.Sources.{with_used};
+ghost use Rattle.fast_check_range_finder.specs.demands.sources.Sources.{with_used};
 ghost use Rattle.fast_check_range_finder.specs.Refusals.{IsRefusal};
 ghost use Rattle.fast_check_build.specs.Found.{known_of};
 ghost use Rattle.fast_check_build.specs.Build.{IsBuilt, IsBuiltWith, IsStopped};

@@ -8,19 +8,19 @@ use Rattle.std.proofs.lemmas.List.Elements.{Contains-append_right}
 use Rattle.std.proofs.lemmas.Simd.{map-map}
 use Rattle.std.proofs.lemmas.Option.{slice_get_within, get_or_from_slice_get}
 use Rattle.fast_check_lattice.specs.Names.{Name, Path}
-use Rattle.fast_check_symbol_demands.specs.symbols.Aliases.{Alias, symbol, part, file, export, alias_of, alias_at, AreAliases}
-use Rattle.fast_check_symbol_demands.specs.symbols.Tables.{Tables}
-use Rattle.fast_check_symbol_demands.specs.symbols.declared.symbol_id.SymbolId.{SymbolId}
-use Rattle.fast_check_symbol_demands.specs.symbols.declared.symbol.Symbol.{Symbol}
-use Rattle.fast_check_symbol_demands.specs.symbols.declared.decl.SymbolDecl.{SymbolDecl}
-use Rattle.fast_check_symbol_demands.specs.symbols.declared.decl.SymbolDeclKind.{SymbolDeclKind}
-use Rattle.fast_check_symbol_demands.specs.symbols.declared.decl.SymbolDeclKind.TheVariants.{Target, QualifiedTarget, FileRef, Definition}
-use Rattle.fast_check_symbol_demands.specs.symbols.declared.file_dep_name.FileDepName.TheVariants.{Star, Name as Named}
-use Rattle.fast_check_symbol_demands.specs.declared.demand.Extent.{Extent}
-use Rattle.fast_check_symbol_demands.specs.declared.demand.Extent.TheVariants.{Whole}
-use Rattle.fast_check_symbol_demands.specs.Demands.{Demand}
-use Rattle.fast_check_symbol_demands.specs.Rules.{each_of, bound, qualified, parts_names, alias_names, first_names, path_names}
-use Rattle.fast_check_symbol_demands.specs.Decls.{has_alias}
+use Rattle.fast_check_symbols.specs.Aliases.{Alias, symbol, part, file, export, alias_of, alias_at, AreAliases}
+use Rattle.fast_check_symbols.specs.Tables.{Tables}
+use Rattle.fast_check_symbols.specs.declared.symbol_id.SymbolId.{SymbolId}
+use Rattle.fast_check_symbols.specs.declared.symbol.Symbol.{Symbol}
+use Rattle.fast_check_symbols.specs.declared.decl.SymbolDecl.{SymbolDecl}
+use Rattle.fast_check_symbols.specs.declared.decl.SymbolDeclKind.{SymbolDeclKind}
+use Rattle.fast_check_symbols.specs.declared.decl.SymbolDeclKind.TheVariants.{Target, QualifiedTarget, FileRef, Definition}
+use Rattle.fast_check_symbols.specs.declared.file_dep_name.FileDepName.TheVariants.{Star, Name as Named}
+use Rattle.fast_check_demands.specs.declared.symbol_demands.demand.Extent.{Extent}
+use Rattle.fast_check_demands.specs.declared.symbol_demands.demand.Extent.TheVariants.{Whole}
+use Rattle.fast_check_demands.specs.symbol_demands.Demands.{Demand}
+use Rattle.fast_check_demands.specs.symbol_demands.Rules.{each_of, bound, qualified, parts_names, alias_names, first_names, path_names}
+use Rattle.fast_check_demands.specs.symbol_demands.Decls.{has_alias}
 use Rattle.fast_check_demands.specs.Yields.{Adds}
 use Rattle.fast_check_demands.proofs.Elements.{in_flat, of_flat}
 

@@ -3,8 +3,8 @@ use Rattle.std.proofs.Common.{◌≡◌, ◌∙◌, sym, ap, refl, ℕ, ◌+◌,
 use Rattle.std.specs.List.{filter, flat_map, list_any}
 use Rattle.std.proofs.lemmas.Bool.{false≢true}
 use Rattle.std.proofs.lemmas.List.Elements.{filter-append}
-use Rattle.fast_check_symbol_demands.specs.Rules.{each_of}
-use Rattle.fast_check_symbol_demands.proofs.EachAt.{each_more}
+use Rattle.fast_check_demands.specs.symbol_demands.Rules.{each_of}
+use Rattle.fast_check_demands.proofs.symbol_demands.EachAt.{each_more}
 
 -- after the place i
 pub filter_more : {X Y : Type 0} (p : Y → Bool) (f : X → List Y) (xs : List X) (i : ℕ) (start out : List Y) →

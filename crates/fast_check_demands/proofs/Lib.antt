@@ -1,4 +1,3 @@
-pub use Rattle.fast_check_symbol_demands.proofs.EachAt
 pub mod Adds
 pub mod Elements
 pub mod Each

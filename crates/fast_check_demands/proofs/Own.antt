@@ -5,15 +5,15 @@ use Rattle.std.specs.List.{Contains, flat_map, filter}
 use Rattle.std.proofs.lemmas.List.Elements.{Contains-append_left}
 use Rattle.fast_check_lattice.specs.Names.{Name}
 use Rattle.fast_check_syntax.specs.declared.source.SourceRange.{SourceRange}
-use Rattle.fast_check_symbol_demands.specs.symbols.declared.symbol_id.SymbolId.{SymbolId}
-use Rattle.fast_check_symbol_demands.specs.symbols.declared.symbol.Symbol.{Symbol}
-use Rattle.fast_check_symbol_demands.specs.symbols.declared.decl.SymbolDecl.{SymbolDecl}
-use Rattle.fast_check_symbol_demands.specs.symbols.Entries.{last_that}
-use Rattle.fast_check_symbol_demands.specs.symbols.Symbols.{symbol_of, has_id}
-use Rattle.fast_check_symbol_demands.specs.symbols.Tables.{Tables, table_ranges}
-use Rattle.fast_check_symbol_demands.specs.declared.demand.Namespace.{Namespace}
-use Rattle.fast_check_symbol_demands.specs.Demands.{Demand, Asked, by_reference, as_child, by_path}
-use Rattle.fast_check_symbol_demands.specs.Decls.{binds, is_implementation}
+use Rattle.fast_check_symbols.specs.declared.symbol_id.SymbolId.{SymbolId}
+use Rattle.fast_check_symbols.specs.declared.symbol.Symbol.{Symbol}
+use Rattle.fast_check_symbols.specs.declared.decl.SymbolDecl.{SymbolDecl}
+use Rattle.fast_check_symbols.specs.Entries.{last_that}
+use Rattle.fast_check_symbols.specs.Symbols.{symbol_of, has_id}
+use Rattle.fast_check_symbols.specs.Tables.{Tables, table_ranges}
+use Rattle.fast_check_demands.specs.declared.symbol_demands.demand.Namespace.{Namespace}
+use Rattle.fast_check_demands.specs.symbol_demands.Demands.{Demand, Asked, by_reference, as_child, by_path}
+use Rattle.fast_check_demands.specs.symbol_demands.Decls.{binds, is_implementation}
 use Rattle.fast_check_demands.specs.Yields.{decl_ranges, stands_outside, ranges_at, export_ranges, property_ranges, symbol_ranges}
 use Rattle.fast_check_demands.specs.Yields.{asked_ranges, ranges, symbol_implementations, asked_implementations, implementations}
 use Rattle.fast_check_demands.specs.Yields.{AreTableRanges}

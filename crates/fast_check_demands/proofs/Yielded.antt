@@ -4,11 +4,11 @@ use Rattle.std.proofs.Common.{◌≡◌, ◌∙◌, ◌↔◌, sym, ap, refl, su
 use Rattle.std.specs.List.{Contains, filter, flat_map}
 use Rattle.std.proofs.lemmas.List.Elements.{Contains-append_left, Contains-append_right, Contains-append_cases}
 use Rattle.fast_check_syntax.specs.declared.source.SourceRange.{SourceRange}
-use Rattle.fast_check_symbol_demands.specs.symbols.declared.symbol.Symbol.{Symbol}
-use Rattle.fast_check_symbol_demands.specs.symbols.declared.decl.SymbolDecl.{SymbolDecl}
-use Rattle.fast_check_symbol_demands.specs.symbols.Tables.{Tables}
-use Rattle.fast_check_symbol_demands.specs.declared.demand.Namespace.{Namespace}
-use Rattle.fast_check_symbol_demands.specs.Decls.{binds, is_implementation, is_function}
+use Rattle.fast_check_symbols.specs.declared.symbol.Symbol.{Symbol}
+use Rattle.fast_check_symbols.specs.declared.decl.SymbolDecl.{SymbolDecl}
+use Rattle.fast_check_symbols.specs.Tables.{Tables}
+use Rattle.fast_check_demands.specs.declared.symbol_demands.demand.Namespace.{Namespace}
+use Rattle.fast_check_demands.specs.symbol_demands.Decls.{binds, is_implementation, is_function}
 use Rattle.fast_check_demands.specs.Yields.{decl_ranges, is_within, has_properties, stands_outside, export_ranges, property_ranges}
 use Rattle.fast_check_demands.specs.Yields.{symbol_ranges}
 use Rattle.fast_check_demands.proofs.Elements.{no_element, first, later, cases, in_map, of_map, in_flat, of_flat, in_filter, of_filter}

@@ -2,12 +2,12 @@
 use Rattle.std.specs.Prelude.{Bool, true, false, ◌&&◌, [], ◌∷◌}
 use Rattle.std.specs.Str.{bytes_eq}
 use Rattle.fast_check_lattice.specs.Names.{Path}
-use Rattle.fast_check_symbol_demands.specs.symbols.declared.symbol_id.SymbolId.{SymbolId}
-use Rattle.fast_check_symbol_demands.specs.declared.demand.Namespace.{Namespace}
-use Rattle.fast_check_symbol_demands.specs.declared.demand.Namespace.TheVariants.{Value, Type_}
-use Rattle.fast_check_symbol_demands.specs.declared.demand.Extent.{Extent}
-use Rattle.fast_check_symbol_demands.specs.declared.demand.Extent.TheVariants.{Touched, Whole}
-use Rattle.fast_check_symbol_demands.specs.Demands.{Demand, Asked, by_reference, as_child, by_path, same_symbol}
+use Rattle.fast_check_symbols.specs.declared.symbol_id.SymbolId.{SymbolId}
+use Rattle.fast_check_demands.specs.declared.symbol_demands.demand.Namespace.{Namespace}
+use Rattle.fast_check_demands.specs.declared.symbol_demands.demand.Namespace.TheVariants.{Value, Type_}
+use Rattle.fast_check_demands.specs.declared.symbol_demands.demand.Extent.{Extent}
+use Rattle.fast_check_demands.specs.declared.symbol_demands.demand.Extent.TheVariants.{Touched, Whole}
+use Rattle.fast_check_demands.specs.symbol_demands.Demands.{Demand, Asked, by_reference, as_child, by_path, same_symbol}
 
 -- equality of what is asked
 

@@ -1,7 +1,8 @@
-pub use Rattle.fast_check_symbol_demands.specs as symbol_demands
-pub use Rattle.fast_check_symbol_demands.specs.symbols as symbols
-pub use Rattle.fast_check_symbol_demands.specs.Demands
-pub use Rattle.fast_check_symbol_demands.specs.Decls
-pub use Rattle.fast_check_symbol_demands.specs.Rules
+pub use Rattle.fast_check_symbols.specs as symbols
 pub mod Yields
 pub mod Account
+pub mod name_demands
+pub mod sources
+pub mod symbol_demands
+pub mod traces
+pub mod worklists

@@ -4,19 +4,19 @@ use Rattle.std.specs.Prelude.{take, option_to_list, leb, ◌⊎◌}
 use Rattle.std.specs.List.{Contains, flat_map, filter, list_any}
 use Rattle.fast_check_lattice.specs.Names.{Name, Path, path_of}
 use Rattle.fast_check_syntax.specs.declared.source.SourceRange.{SourceRange}
-use Rattle.fast_check_symbol_demands.specs.symbols.declared.symbol_id.SymbolId.{SymbolId}
-use Rattle.fast_check_symbol_demands.specs.symbols.declared.symbol.Symbol.{Symbol}
-use Rattle.fast_check_symbol_demands.specs.symbols.declared.decl.SymbolDecl.{SymbolDecl}
-use Rattle.fast_check_symbol_demands.specs.symbols.Symbols.{symbol_of}
-use Rattle.fast_check_symbol_demands.specs.symbols.Exports.{export_named}
-use Rattle.fast_check_symbol_demands.specs.symbols.Tables.{Tables, table_ranges}
-use Rattle.fast_check_symbol_demands.specs.declared.demand.Namespace.{Namespace}
+use Rattle.fast_check_symbols.specs.declared.symbol_id.SymbolId.{SymbolId}
+use Rattle.fast_check_symbols.specs.declared.symbol.Symbol.{Symbol}
+use Rattle.fast_check_symbols.specs.declared.decl.SymbolDecl.{SymbolDecl}
+use Rattle.fast_check_symbols.specs.Symbols.{symbol_of}
+use Rattle.fast_check_symbols.specs.Exports.{export_named}
+use Rattle.fast_check_symbols.specs.Tables.{Tables, table_ranges}
+use Rattle.fast_check_demands.specs.declared.symbol_demands.demand.Namespace.{Namespace}
 use Rattle.fast_check_demands.specs.declared.fault.DemandFaultKind.{DemandFaultKind}
 use Rattle.fast_check_demands.specs.declared.fault.DemandFaultKind.TheVariants.{PrivateMember, NotFound, TooComplex}
 use Rattle.fast_check_demands.specs.declared.fault.SymbolFault.{SymbolFault}
-use Rattle.fast_check_symbol_demands.specs.Demands.{Demand, Asked, by_reference, as_child, by_path, same_symbol}
-use Rattle.fast_check_symbol_demands.specs.Decls.{binds, is_implementation, is_function, has_alias, is_closed}
-use Rattle.fast_check_symbol_demands.specs.Rules.{each_of, is_prototype, member_named}
+use Rattle.fast_check_demands.specs.symbol_demands.Demands.{Demand, Asked, by_reference, as_child, by_path, same_symbol}
+use Rattle.fast_check_demands.specs.symbol_demands.Decls.{binds, is_implementation, is_function, has_alias, is_closed}
+use Rattle.fast_check_demands.specs.symbol_demands.Rules.{each_of, is_prototype, member_named}
 
 -- ranges
 

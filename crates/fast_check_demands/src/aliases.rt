@@ -3,15 +3,15 @@ ghost use Rattle.std.specs.Prelude.{◌≡◌, ◌∷◌, [], ◌++◌, OnOk, co
 ghost use Rattle.std.specs.List.{flat_map};
 ghost use Rattle.std.specs.Option.{option_copied};
 ghost use Rattle.fast_check_lattice.specs.Names.{path_of};
-ghost use Rattle.fast_check_symbol_demands.specs.symbols.Symbols.{symbol_of};
-ghost use Rattle.fast_check_symbol_demands.specs.Demands.{demand_of};
-ghost use Rattle.fast_check_symbol_demands.specs.Rules.{each_of, qualified, parts_names, alias_names, member_names, prototype_names, export_names};
-ghost use Rattle.fast_check_symbol_demands.specs.Rules.{whole_names, export_part_names, first_names, path_names};
+ghost use Rattle.fast_check_symbols.specs.Symbols.{symbol_of};
+ghost use Rattle.fast_check_demands.specs.symbol_demands.Demands.{demand_of};
+ghost use Rattle.fast_check_demands.specs.symbol_demands.Rules.{each_of, qualified, parts_names, alias_names, member_names, prototype_names, export_names};
+ghost use Rattle.fast_check_demands.specs.symbol_demands.Rules.{whole_names, export_part_names, first_names, path_names};
 ghost use Rattle.fast_check_demands.specs.Yields.{Adds};
 
 use crate::names::is_prototype;
-use fast_check_symbol_demands::symbols::{CheckedTables, SymbolDeclKind, SymbolDecls, SymbolId};
-use fast_check_symbol_demands::{Demands, Extent, SymbolDemand, bound, push_path, push_references};
+use crate::symbol_demands::symbols::{CheckedTables, SymbolDeclKind, SymbolDecls, SymbolId};
+use crate::symbol_demands::{Demands, Extent, SymbolDemand, bound, push_path, push_references};
 use std::alloc::AllocError;
 use std::slice;
 

@@ -2,13 +2,13 @@
 ghost use Rattle.std.specs.Prelude.{◌≡◌, option_map};
 ghost use Rattle.std.specs.Option.{option_and_then};
 ghost use Rattle.fast_check_lattice.specs.Names.{path_of};
-ghost use Rattle.fast_check_symbol_demands.specs.symbols.Symbols.{symbol_of};
-ghost use Rattle.fast_check_symbol_demands.specs.Demands.{demand_of};
+ghost use Rattle.fast_check_symbols.specs.Symbols.{symbol_of};
+ghost use Rattle.fast_check_demands.specs.symbol_demands.Demands.{demand_of};
 ghost use Rattle.fast_check_demands.specs.Yields.{fault_seen, fault_at as fault_there, is_parent, private_fault, member_fault, prototype_fault, export_fault, first_fault, path_fault, fault_in};
 
 use crate::names::{is_prototype, start_of};
-use fast_check_symbol_demands::symbols::{CheckedTables, Symbol, SymbolId};
-use fast_check_symbol_demands::{Ask, SymbolDemand, is_same};
+use crate::symbol_demands::symbols::{CheckedTables, Symbol, SymbolId};
+use crate::symbol_demands::{Ask, SymbolDemand, is_same};
 
 /// What is wrong with a demand.
 #[derive(Clone, Copy, Debug, PartialEq, Eq, PartialOrd, Ord)]

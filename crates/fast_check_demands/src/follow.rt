@@ -1,13 +1,13 @@
 //! What follows from one demand of a module.
 ghost use Rattle.std.specs.Prelude.{◌≡◌, [], ◌++◌, IfOk, OnOk};
-ghost use Rattle.fast_check_symbol_demands.specs.Demands.{demand_of};
-ghost use Rattle.fast_check_symbol_demands.specs.Rules.{each_of, symbol_names, names};
-ghost use Rattle.fast_check_symbol_demands.specs.symbols.Symbols.{symbol_of};
+ghost use Rattle.fast_check_demands.specs.symbol_demands.Demands.{demand_of};
+ghost use Rattle.fast_check_demands.specs.symbol_demands.Rules.{each_of, symbol_names, names};
+ghost use Rattle.fast_check_symbols.specs.Symbols.{symbol_of};
 ghost use Rattle.fast_check_demands.specs.Yields.{Adds};
 
 use crate::aliases::push_path_demands;
-use fast_check_symbol_demands::symbols::CheckedTables;
-use fast_check_symbol_demands::{Ask, Demands, Namespace, SymbolDemand, push_symbol};
+use crate::symbol_demands::symbols::CheckedTables;
+use crate::symbol_demands::{Ask, Demands, Namespace, SymbolDemand, push_symbol};
 use std::alloc::{AllocError, Global};
 
 fn push_symbol_of<'a>(

@@ -4,12 +4,16 @@
 mod aliases;
 mod fault;
 mod follow;
+pub mod name_demands;
 mod names;
 mod public;
+pub mod sources;
+pub mod symbol_demands;
+pub mod traces;
+pub mod worklists;
 
-pub use fast_check_symbol_demands as symbol_demands;
-pub use fast_check_symbol_demands::symbols::{CheckedTables, SymbolId};
-pub use fast_check_symbol_demands::{Ask, Demands, Extent, Namespace, SymbolDemand, binds};
+pub use crate::symbol_demands::symbols::{CheckedTables, SymbolId};
+pub use crate::symbol_demands::{Ask, Demands, Extent, Namespace, SymbolDemand, binds};
 pub use fast_check_syntax::SourceRange;
 pub use fault::{DemandFaultKind, SymbolFault, fault_of};
 pub use follow::demands_of;

@@ -1,9 +1,9 @@
 //! Members by their names, and where a qualified name begins.
 ghost use Rattle.std.specs.Prelude.{◌≡◌, string_bytes, take, ◌<◌, length};
 ghost use Rattle.fast_check_lattice.specs.Names.{path_of};
-ghost use Rattle.fast_check_symbol_demands.specs.Rules.{is_prototype};
+ghost use Rattle.fast_check_demands.specs.symbol_demands.Rules.{is_prototype};
 
-use fast_check_symbol_demands::symbols::SymbolDecls;
+use crate::symbol_demands::symbols::SymbolDecls;
 
 /// Whether a name is `prototype`, of a class.
 pub fn is_prototype(name: &str, decls: &SymbolDecls) -> bool

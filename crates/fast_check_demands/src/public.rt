@@ -1,18 +1,16 @@
 //! The ranges that a demand makes public, and those of implementations.
 ghost use Rattle.std.specs.Prelude.{◌≡◌, ◌++◌, ◌&&◌, ◌||◌, not, option_map, OnOk};
-ghost use Rattle.fast_check_symbol_demands.specs.symbols.Exports.{seen_export};
+ghost use Rattle.fast_check_symbols.specs.Exports.{seen_export};
 ghost use Rattle.std.specs.List.{filter};
-ghost use Rattle.fast_check_symbol_demands.specs.Demands.{demand_of, asked_of};
-ghost use Rattle.fast_check_symbol_demands.specs.Decls.{binds as binds_in, is_implementation as implements};
-ghost use Rattle.fast_check_symbol_demands.specs.Rules.{each_of};
+ghost use Rattle.fast_check_demands.specs.symbol_demands.Demands.{demand_of, asked_of};
+ghost use Rattle.fast_check_demands.specs.symbol_demands.Decls.{binds as binds_in, is_implementation as implements};
+ghost use Rattle.fast_check_demands.specs.symbol_demands.Rules.{each_of};
 ghost use Rattle.fast_check_demands.specs.Yields.{decl_ranges, is_within, is_outside, has_properties, stands_outside, ranges_at, export_ranges};
 ghost use Rattle.fast_check_demands.specs.Yields.{property_ranges, symbol_ranges, asked_ranges, ranges};
 ghost use Rattle.fast_check_demands.specs.Yields.{symbol_implementations, asked_implementations, implementations};
 
-use fast_check_symbol_demands::symbols::{
-    CheckedTables, Symbol, SymbolDecl, SymbolExports, SymbolId,
-};
-use fast_check_symbol_demands::{Ask, Namespace, SymbolDemand, binds, is_function};
+use crate::symbol_demands::symbols::{CheckedTables, Symbol, SymbolDecl, SymbolExports, SymbolId};
+use crate::symbol_demands::{Ask, Namespace, SymbolDemand, binds, is_function};
 use fast_check_syntax::{SourcePos, SourceRange};
 use std::alloc::AllocError;
 

@@ -10,7 +10,7 @@ use Rattle.std.proofs.lemmas.List.Elements.{All-from_recursion, All-map, All-con
 use Rattle.std.proofs.lemmas.Map.Keys.{IsDistinct-cons}
 use Rattle.url.specs.Parts.{Parts, serialize}
 use Rattle.fast_check_diagnostics.specs.declared.diagnostics.FastCheckDiagnostic.{FastCheckDiagnostic}
-use Rattle.fast_check_worklists.specs.Demands.{Text}
+use Rattle.fast_check_demands.specs.worklists.Demands.{Text}
 use Rattle.fast_check_findings.specs.declared.module_faults.ToldFault.{ToldFault}
 use Rattle.fast_check_findings.specs.Yields.{ModuleFault, missing_entry, untyped_entry, untyped_module, of_demand}
 use Rattle.fast_check_findings.specs.Diagnostics.{fault_told, same_report, is_untyped, others, told, told_of, AreDiagnosed}

@@ -12,7 +12,7 @@ use Rattle.fast_check_diagnostics.specs.declared.diagnostics.FastCheckDiagnostic
 }
 use Rattle.fast_check_demands.specs.declared.fault.DemandFaultKind.{DemandFaultKind}
 use Rattle.fast_check_demands.specs.declared.fault.DemandFaultKind.TheVariants.{PrivateMember, NotFound, TooComplex}
-use Rattle.fast_check_worklists.specs.Demands.{Text}
+use Rattle.fast_check_demands.specs.worklists.Demands.{Text}
 use Rattle.fast_check_findings.specs.Faults.{PlacedFault, demand_fault}
 use Rattle.fast_check_findings.specs.Yields.{ModuleFault, missing_entry, untyped_entry, untyped_module, of_demand}
 

@@ -1,7 +1,7 @@
 -- What is wrong, as it is answered.
 use Rattle.std.specs.Prelude.{List, [], ◌∷◌, map}
 use Rattle.fast_check_packages.specs.Package.{Nv}
-use Rattle.fast_check_worklists.specs.Demands.{Text}
+use Rattle.fast_check_demands.specs.worklists.Demands.{Text}
 use Rattle.fast_check_findings.specs.declared.found.EntryFault.{EntryFault}
 use Rattle.fast_check_findings.specs.declared.found.EntryFault.TheVariants.{NotFound, Untyped}
 use Rattle.fast_check_findings.specs.Faults.{PlacedFault}

@@ -11,7 +11,7 @@ use Rattle.fast_check_symbols.specs.declared.symbol.Symbol.{Symbol}
 use Rattle.fast_check_graph.specs.declared.root_symbol.AnyModuleInfo.{AnyModuleInfo}
 use Rattle.fast_check_graph.specs.declared.root_symbol.AnyModuleInfo.TheVariants.{Esm, Json}
 use Rattle.fast_check_graph.specs.ModuleNames.{specifier_of}
-use Rattle.fast_check_worklists.specs.Demands.{Text}
+use Rattle.fast_check_demands.specs.worklists.Demands.{Text}
 use Rattle.fast_check_findings.specs.declared.found.EntryFault.{EntryFault}
 use Rattle.fast_check_findings.specs.declared.found.Entrance.{Entrance}
 use Rattle.fast_check_findings.specs.declared.found.Entrance.TheVariants.{Entered, Kept}

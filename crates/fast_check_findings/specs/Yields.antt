@@ -5,7 +5,7 @@ use Rattle.fast_check_syntax.specs.declared.source.SourceRange.{SourceRange}
 use Rattle.fast_check_packages.specs.Package.{Nv}
 use Rattle.fast_check_cache.specs.Cache.{ItemView}
 use Rattle.fast_check_findings.specs.Faults.{PlacedFault}
-use Rattle.fast_check_worklists.specs.Demands.{Text}
+use Rattle.fast_check_demands.specs.worklists.Demands.{Text}
 
 -- What is wrong with a module: an entry point that the graph does not have, one whose types are not known, another
 -- module whose types are not known, or something that was demanded of it.

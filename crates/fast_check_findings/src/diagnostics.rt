@@ -2,7 +2,7 @@
 
 ghost use Rattle.std.specs.Prelude.{◌≡◌, Some};
 ghost use Rattle.std.specs.Rc.{rc_str_bytes};
-ghost use Rattle.fast_check_worklists.specs.Demands.{Text};
+ghost use Rattle.fast_check_demands.specs.worklists.Demands.{Text};
 ghost use Rattle.fast_check_findings.specs.Faults.{placed_with};
 ghost use Rattle.fast_check_findings.specs.Diagnostics.{fault_told};
 ghost use Rattle.fast_check_findings.specs.Yields.{of_demand};

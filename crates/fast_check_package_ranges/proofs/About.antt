@@ -6,7 +6,7 @@ use Rattle.std.specs.Prelude.{Option, Some, None, option_to_list, slice_get}
 use Rattle.url.specs.Parts.{Parts, serialize}
 use Rattle.fast_check_packages.specs.Package.{Nv}
 use Rattle.fast_check_graph.specs.ModuleNames.{specifier_of}
-use Rattle.fast_check_worklists.specs.Demands.{Text, same_nv}
+use Rattle.fast_check_demands.specs.worklists.Demands.{Text, same_nv}
 use Rattle.fast_check_findings.specs.Faults.{placed_seen}
 use Rattle.fast_check_findings.specs.Findings.{faulty_module, placed_yield}
 use Rattle.fast_check_findings.specs.Found.{source_in, own_text, module_yields, entry_fault_yields, entrance_yields}

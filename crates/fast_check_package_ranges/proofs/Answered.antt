@@ -19,7 +19,7 @@ use Rattle.fast_check_packages.specs.declared.package.PackageNv.{PackageNv}
 use Rattle.fast_check_packages.specs.contracts.package.PackageNvPartialEq.TheImpl as package_eq
 use Rattle.fast_check_cache.specs.Cache.{ItemView}
 use Rattle.fast_check_cache.specs.declared.package_ranges.PackagePublicRanges.{PackagePublicRanges}
-use Rattle.fast_check_worklists.specs.Demands.{same_nv}
+use Rattle.fast_check_demands.specs.worklists.Demands.{same_nv}
 use Rattle.fast_check_findings.specs.Found.{package_yields}
 use Rattle.fast_check_findings.specs.Yields.{Yield}
 use Rattle.fast_check_findings.specs.declared.found.FoundPackage.{FoundPackage}

@@ -11,7 +11,7 @@ use Rattle.std.specs.BTreeSet.{BTreeSet, contains, Updates}
 use Rattle.fast_check_packages.specs.declared.package.PackageNv.{PackageNv}
 use Rattle.fast_check_packages.specs.Package.{Nv}
 use Rattle.fast_check_packages.specs.Packages.{package_cmp}
-use Rattle.fast_check_worklists.specs.Demands.{same_nv}
+use Rattle.fast_check_demands.specs.worklists.Demands.{same_nv}
 use Rattle.fast_check_findings.proofs.Bools.{or_assoc}
 use Rattle.fast_check_findings.proofs.Lists.{any_push}
 use Rattle.fast_check_package_ranges.specs.Parts.{is_package, named_at}

@@ -17,7 +17,7 @@ use Rattle.std.proofs.lemmas.List.Elements.{filter-append}
 use Rattle.url.specs.Parts.{Parts, serialize}
 use Rattle.fast_check_diagnostics.specs.PublicRanges.{PublicRanges}
 use Rattle.fast_check_packages.specs.Package.{Nv}
-use Rattle.fast_check_worklists.specs.Demands.{Text}
+use Rattle.fast_check_demands.specs.worklists.Demands.{Text}
 use Rattle.fast_check_findings.specs.Found.{entry_fault_yields, entrance_yields}
 use Rattle.fast_check_findings.specs.declared.found.EntryFault.{EntryFault}
 use Rattle.fast_check_findings.specs.declared.found.Entrance.TheVariants.{Entered}

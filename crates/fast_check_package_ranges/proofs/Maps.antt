@@ -13,7 +13,7 @@ use Rattle.url.specs.Parts.{Parts, serialize}
 use Rattle.fast_check_packages.specs.Package.{Nv, nv_of, nv_cmp}
 use Rattle.fast_check_packages.specs.PackageOrder.{nv_total}
 use Rattle.fast_check_packages.specs.declared.package.PackageNv.{PackageNv}
-use Rattle.fast_check_worklists.specs.Demands.{Text}
+use Rattle.fast_check_demands.specs.worklists.Demands.{Text}
 use Rattle.fast_check_package_ranges.specs.Parts.{is_text, is_package}
 
 -- tests that agree find the same

@@ -17,7 +17,7 @@ use Rattle.fast_check_packages.specs.declared.package.PackageNv.{PackageNv}
 use Rattle.fast_check_cache.specs.Cache.{ItemView}
 use Rattle.fast_check_cache.specs.declared.package_ranges.PackagePublicRanges.{PackagePublicRanges}
 use Rattle.fast_check_diagnostics.specs.PublicRanges.{PublicRanges, same_range}
-use Rattle.fast_check_worklists.specs.Demands.{Text, same_nv}
+use Rattle.fast_check_demands.specs.worklists.Demands.{Text, same_nv}
 use Rattle.fast_check_findings.specs.Yields.{Yield, known_package, entry_point, refused_export, dependency, recorded, public}
 use Rattle.fast_check_findings.specs.Yields.{implementing, faulty, kept}
 use Rattle.fast_check_findings.proofs.Bools.{or_none}

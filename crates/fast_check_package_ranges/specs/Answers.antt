@@ -12,7 +12,7 @@ use Rattle.fast_check_packages.specs.declared.package.PackageNv.{PackageNv}
 use Rattle.fast_check_cache.specs.Cache.{ItemView, module_of as item_module}
 use Rattle.fast_check_cache.specs.declared.package_ranges.PackagePublicRanges.{PackagePublicRanges}
 use Rattle.fast_check_diagnostics.specs.PublicRanges.{PublicRanges, same_range}
-use Rattle.fast_check_worklists.specs.Demands.{Text, same_nv}
+use Rattle.fast_check_demands.specs.worklists.Demands.{Text, same_nv}
 use Rattle.fast_check_findings.specs.Diagnostics.{AreDiagnosed}
 use Rattle.fast_check_findings.specs.Yields.{ModuleFault, Yield, known_package, entry_point, refused_export, dependency}
 use Rattle.fast_check_findings.specs.Yields.{recorded, public, implementing, faulty, kept}

@@ -9,7 +9,7 @@ use Rattle.fast_check_packages.specs.declared.package.PackageNv.{PackageNv}
 use Rattle.fast_check_cache.specs.Cache.{ItemView, item_of}
 use Rattle.fast_check_cache.specs.declared.package_ranges.PackagePublicRanges.{PackagePublicRanges}
 use Rattle.fast_check_diagnostics.specs.PublicRanges.{PublicRanges}
-use Rattle.fast_check_worklists.specs.Demands.{Text, same_nv}
+use Rattle.fast_check_demands.specs.worklists.Demands.{Text, same_nv}
 use Rattle.fast_check_findings.specs.Found.{package_yields}
 use Rattle.fast_check_findings.specs.ModuleFaults.{AreFaultsOf}
 use Rattle.fast_check_findings.specs.Yields.{Yield}

@@ -4,7 +4,7 @@ ghost use Rattle.std.specs.Prelude.{[], ◌++◌, List, OnOk, IfOk};
 ghost use Rattle.std.specs.List.{flat_map};
 ghost use Rattle.url.specs.Parts.{serialize};
 ghost use Rattle.fast_check_packages.specs.Package.{Nv};
-ghost use Rattle.fast_check_worklists.specs.Demands.{Text};
+ghost use Rattle.fast_check_demands.specs.worklists.Demands.{Text};
 ghost use Rattle.fast_check_findings.specs.Findings.{faulty_module, entry_fault};
 ghost use Rattle.fast_check_findings.specs.Found.{module_yields, entry_fault_yields, untyped_yields};
 ghost use Rattle.fast_check_findings.specs.Yields.{Yield, untyped_module};

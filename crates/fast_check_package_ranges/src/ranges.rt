@@ -8,8 +8,8 @@ ghost use Rattle.fast_check_package_ranges.specs.Parts.{IsAdded};
 
 use crate::packages::{answer_of, is_known};
 use fast_check_cache::PackagePublicRanges;
+use fast_check_demands::worklists::copy_of;
 use fast_check_findings::{FoundPackage, PackageNv};
-use fast_check_worklists::copy_of;
 use indexmap::IndexMap;
 use std::alloc::{AllocError, Global};
 use std::collections::BTreeMap;

@@ -16,14 +16,14 @@ use Rattle.fast_check_lattice.proofs.Shapes.{own_set}
 use Rattle.fast_check_lattice.specs.Imports.{default_name, all_but_default, imported, NameDemand, names_but_default, each_name, subset_at, whole_at}
 use Rattle.fast_check_lattice.specs.Imports.{IsAnswer, IsDefaultAlone, IsRest, is_star}
 use Rattle.fast_check_lattice.specs.Traces.{is_module, HandlesAt}
-use Rattle.fast_check_worklists.specs.Demands.{Text, asked, asked_by, one, touched_path, set_demands}
+use Rattle.fast_check_demands.specs.worklists.Demands.{Text, asked, asked_by, one, touched_path, set_demands}
 use Rattle.fast_check_range_finder.specs.Account.{IsStarred, HasDefault}
 use Rattle.fast_check_range_finder.specs.Search.{handled_at, was_told, new_beside, new_names, WereAsked, AreAdded, AddsNames}
 use Rattle.fast_check_range_finder.specs.Measure.{IsWithin, rank}
-use Rattle.fast_check_worklists.proofs.Maps.{some_is}
-use Rattle.fast_check_worklists.proofs.Taken.{IsTaken, taken}
-use Rattle.fast_check_worklists.proofs.Single.{one_in, path_in, whole_covered, whole_set}
-use Rattle.fast_check_worklists.proofs.Ranks.{rank_le, rank_some, rank_falls, first_whole}
+use Rattle.fast_check_demands.proofs.worklists.Maps.{some_is}
+use Rattle.fast_check_demands.proofs.worklists.Taken.{IsTaken, taken}
+use Rattle.fast_check_demands.proofs.worklists.Single.{one_in, path_in, whole_covered, whole_set}
+use Rattle.fast_check_demands.proofs.worklists.Ranks.{rank_le, rank_some, rank_falls, first_whole}
 use Rattle.fast_check_range_finder.proofs.Inside.{default_within}
 
 none_some : {X : Type 0} {Z : Type 0} (x : X) → None ≡ Some x → Z

@@ -15,16 +15,16 @@ use Rattle.std.specs.Cmp.Lexicographic.{slice_cmp}
 use Rattle.std.proofs.lemmas.Bool.{cases_Bool, false≢true, or_left, eq-eqb}
 use Rattle.std.proofs.lemmas.List.{length-map}
 use Rattle.std.proofs.lemmas.Map.Text.{is_eq-slice_cmp}
-use Rattle.fast_check_demands.specs.symbol_demands.contracts.demand.NamespaceOrd.TheImpl as namespace_order
-use Rattle.fast_check_demands.specs.symbol_demands.contracts.demand.ExtentOrd.TheImpl as extent_order
-use Rattle.fast_check_demands.specs.symbol_demands.declared.demand.Namespace.{Namespace}
-use Rattle.fast_check_demands.specs.symbol_demands.declared.demand.Namespace.TheVariants.{Value, Type_}
-use Rattle.fast_check_demands.specs.symbol_demands.declared.demand.Extent.{Extent}
-use Rattle.fast_check_demands.specs.symbol_demands.declared.demand.Extent.TheVariants.{Touched, Whole}
-use Rattle.fast_check_demands.specs.Demands.{Demand}
+use Rattle.fast_check_demands.specs.contracts.symbol_demands.demand.NamespaceOrd.TheImpl as namespace_order
+use Rattle.fast_check_demands.specs.contracts.symbol_demands.demand.ExtentOrd.TheImpl as extent_order
+use Rattle.fast_check_demands.specs.declared.symbol_demands.demand.Namespace.{Namespace}
+use Rattle.fast_check_demands.specs.declared.symbol_demands.demand.Namespace.TheVariants.{Value, Type_}
+use Rattle.fast_check_demands.specs.declared.symbol_demands.demand.Extent.{Extent}
+use Rattle.fast_check_demands.specs.declared.symbol_demands.demand.Extent.TheVariants.{Touched, Whole}
+use Rattle.fast_check_demands.specs.symbol_demands.Demands.{Demand}
 use Rattle.fast_check_demands.specs.Account.{same_namespace, same_extent, same_path, same, essence, alike, referred}
 use Rattle.fast_check_demands.proofs.Elements.{in_map as contains_map}
-use Rattle.fast_check_worklists.proofs.Maps.{none_in, first_in, rest_in, split_in}
+use Rattle.fast_check_demands.proofs.worklists.Maps.{none_in, first_in, rest_in, split_in}
 use Rattle.fast_check_range_finder.specs.contracts.asked.AskedSymbolOrd.TheImpl as order
 use Rattle.fast_check_range_finder.specs.declared.asked.AskedAs.{AskedAs}
 use Rattle.fast_check_range_finder.specs.declared.asked.AskedAs.TheVariants.{Reference, Child, Path as ByPath}

@@ -4,7 +4,7 @@ use Rattle.std.specs.Option.{MatchOption}
 use Rattle.url.specs.Parts.{Parts}
 use Rattle.fast_check_packages.specs.Package.{Nv}
 use Rattle.fast_check_cache.specs.Cache.{ItemView}
-use Rattle.fast_check_sources.specs.Sources.{Used}
+use Rattle.fast_check_demands.specs.sources.Sources.{Used}
 use Rattle.fast_check_range_finder.specs.Lent.{used_of}
 
 -- what a look-up answers is what is used

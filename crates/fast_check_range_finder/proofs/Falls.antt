@@ -9,13 +9,13 @@ use Rattle.url.specs.Parts.{Parts, serialize}
 use Rattle.fast_check_lattice.specs.declared.lattice.imported_exports.ImportedExports.{ImportedExports}
 use Rattle.fast_check_packages.specs.Package.{Nv}
 use Rattle.fast_check_lattice.specs.Imports.{NameDemand}
-use Rattle.fast_check_demands.specs.Demands.{Demand as SymbolDemand}
-use Rattle.fast_check_worklists.specs.Demands.{Text, same_nv, asked_by, Want, to_package, to_module, to_symbol, World, Demand}
+use Rattle.fast_check_demands.specs.symbol_demands.Demands.{Demand as SymbolDemand}
+use Rattle.fast_check_demands.specs.worklists.Demands.{Text, same_nv, asked_by, Want, to_package, to_module, to_symbol, World, Demand}
 use Rattle.fast_check_range_finder.specs.Search.{Search, handled_at, MeetsSame, IsTaken, AsksPackage, IsMarked, AsksSymbol, AsksNames, WaitsFor, Asks, AsksAll}
 use Rattle.fast_check_range_finder.specs.Measure.{Universe, IsWithin, IsWantInside, IsUniverse, cost, total, rank, ranks, packages_left, symbols_left, left}
-use Rattle.fast_check_worklists.proofs.Maps.{first_in, rest_in}
+use Rattle.fast_check_demands.proofs.worklists.Maps.{first_in, rest_in}
 use Rattle.fast_check_range_finder.proofs.Lists.{any_from, any_more}
-use Rattle.fast_check_worklists.proofs.Ranks.{cost_le, total_le, total_less}
+use Rattle.fast_check_demands.proofs.worklists.Ranks.{cost_le, total_le, total_less}
 use Rattle.fast_check_range_finder.proofs.Added.{Gains, gains}
 use Rattle.fast_check_range_finder.proofs.Kept.{nv_itself, text_is}
 

@@ -14,19 +14,19 @@ use Rattle.fast_check_graph.specs.declared.root_symbol.AnyModuleInfo.{AnyModuleI
 use Rattle.fast_check_graph.specs.declared.root_symbol.AnyModuleInfo.TheVariants.{Esm, Json}
 use Rattle.fast_check_graph.specs.declared.root_symbol.RootSymbol.{RootSymbol}
 use Rattle.fast_check_symbols.specs.declared.symbol.Symbol.{Symbol}
-use Rattle.fast_check_demands.specs.Demands.{Demand as SymbolDemand}
+use Rattle.fast_check_demands.specs.symbol_demands.Demands.{Demand as SymbolDemand}
 use Rattle.fast_check_demands.specs.Yields.{Joins, Fault, fault_seen}
 use Rattle.fast_check_demands.specs.declared.fault.SymbolFault.{SymbolFault}
 use Rattle.fast_check_demands.proofs.Elements.{in_map, of_map}
-use Rattle.fast_check_traces.specs.declared.modules.TracedModule.{TracedModule}
-use Rattle.fast_check_traces.specs.Modules.{tables_in}
+use Rattle.fast_check_demands.specs.declared.traces.modules.TracedModule.{TracedModule}
+use Rattle.fast_check_demands.specs.traces.Modules.{tables_in}
 use Rattle.fast_check_findings.specs.Faults.{FaultSource, placed_seen}
 use Rattle.fast_check_findings.specs.Findings.{placed_yield, placed_yields}
 use Rattle.fast_check_findings.specs.Found as found
 use Rattle.fast_check_findings.specs.Found.{module_yields}
 use Rattle.fast_check_findings.specs.declared.found.FoundModule.{FoundModule}
 use Rattle.fast_check_findings.specs.Yields.{Yield, recorded, public, implementing}
-use Rattle.fast_check_worklists.proofs.Maps.{first_in, rest_in, split_in}
+use Rattle.fast_check_demands.proofs.worklists.Maps.{first_in, rest_in, split_in}
 use Rattle.fast_check_range_finder.specs.declared.demand.SymbolAt.{SymbolAt}
 use Rattle.fast_check_range_finder.specs.Finder.{seen_at, traced_in, AsksEach}
 use Rattle.fast_check_range_finder.specs.Rules.{own_text}

@@ -7,10 +7,10 @@ use Rattle.url.specs.Parts.{serialize}
 use Rattle.fast_check_packages.specs.Package.{Nv}
 use Rattle.fast_check_packages.specs.PackageOrder.{nv_total}
 use Rattle.fast_check_lattice.specs.Imports.{NameDemand}
-use Rattle.fast_check_worklists.specs.Demands.{Text, same_nv, Want, to_package, to_module, to_symbol, Demand, of_package, of_module}
-use Rattle.fast_check_worklists.specs.Demands.{of_symbol}
-use Rattle.fast_check_worklists.proofs.Maps.{none_in, first_in, rest_in, split_in}
-use Rattle.fast_check_sources.specs.Sources.{Known}
+use Rattle.fast_check_demands.specs.worklists.Demands.{Text, same_nv, Want, to_package, to_module, to_symbol, Demand, of_package, of_module}
+use Rattle.fast_check_demands.specs.worklists.Demands.{of_symbol}
+use Rattle.fast_check_demands.proofs.worklists.Maps.{none_in, first_in, rest_in, split_in}
+use Rattle.fast_check_demands.specs.sources.Sources.{Known}
 use Rattle.fast_check_range_finder.specs.Account.{package_of, is_package}
 use Rattle.fast_check_range_finder.specs.Search.{Search, IsPut, AsksPackage, AsksSymbol, WaitsFor, Asks, AsksAll}
 use Rattle.fast_check_range_finder.specs.Turn.{IsTurn, IsBegun, members, IsKept}

@@ -7,22 +7,22 @@ use Rattle.url.specs.Parts.{Parts, serialize}
 use Rattle.fast_check_packages.specs.Package.{Nv}
 use Rattle.fast_check_cache.specs.Cache.{ItemView}
 use Rattle.fast_check_lattice.specs.Imports.{NameDemand, names_but_default}
-use Rattle.fast_check_demands.specs.Demands.{Demand as SymbolDemand}
-use Rattle.fast_check_demands.specs.Rules.{each_of, names}
+use Rattle.fast_check_demands.specs.symbol_demands.Demands.{Demand as SymbolDemand}
+use Rattle.fast_check_demands.specs.symbol_demands.Rules.{each_of, names}
 use Rattle.fast_check_demands.proofs.Elements.{later, in_flat}
 use Rattle.fast_check_demands.proofs.Each.{Each, each_nil, each_one, each_append, each_cons, each_map, each_flat}
-use Rattle.fast_check_name_demands.specs.Files.{FileDemand, files}
+use Rattle.fast_check_demands.specs.name_demands.Files.{FileDemand, files}
 use Rattle.fast_check_findings.specs.declared.found.EntryFault.{EntryFault}
-use Rattle.fast_check_traces.specs.declared.modules.TracedModule.{TracedModule}
-use Rattle.fast_check_traces.specs.Modules.{own_tables}
-use Rattle.fast_check_traces.specs.Roots.{roots}
-use Rattle.fast_check_traces.specs.Wants.{Want as ModuleWant, re_exported, answered, module_wants}
-use Rattle.fast_check_worklists.specs.Demands.{Text, Wanted, same_nv, asked_by, Want, to_package, to_module, to_symbol}
-use Rattle.fast_check_worklists.specs.Demands.{Demand, of_package, of_module, of_symbol}
-use Rattle.fast_check_worklists.proofs.Maps.{first_in}
+use Rattle.fast_check_demands.specs.declared.traces.modules.TracedModule.{TracedModule}
+use Rattle.fast_check_demands.specs.traces.Modules.{own_tables}
+use Rattle.fast_check_demands.specs.traces.Roots.{roots}
+use Rattle.fast_check_demands.specs.traces.Wants.{Want as ModuleWant, re_exported, answered, module_wants}
+use Rattle.fast_check_demands.specs.worklists.Demands.{Text, Wanted, same_nv, asked_by, Want, to_package, to_module, to_symbol}
+use Rattle.fast_check_demands.specs.worklists.Demands.{Demand, of_package, of_module, of_symbol}
+use Rattle.fast_check_demands.proofs.worklists.Maps.{first_in}
 use Rattle.fast_check_entries.specs.Entries.{Entrance, passed_over, refused, entered, all_faults}
-use Rattle.fast_check_sources.specs.Sources.{Known, module_at}
-use Rattle.fast_check_sources.specs.Wants.{file_at, behind, resolved, file_wants, left_wants}
+use Rattle.fast_check_demands.specs.sources.Sources.{Known, module_at}
+use Rattle.fast_check_demands.specs.sources.Wants.{file_at, behind, resolved, file_wants, left_wants}
 use Rattle.fast_check_range_finder.specs.Account.{package_of}
 use Rattle.fast_check_range_finder.specs.Rules.{own_text, module_of, names_wants, symbol_wants, entry_want, unless_faulty, entrance_at}
 use Rattle.fast_check_range_finder.specs.Rules.{entered_wants, entry_wants, world}

@@ -7,11 +7,11 @@ use Rattle.std.proofs.lemmas.Slice.Eq.{bytes_eq-Decides}
 use Rattle.fast_check_packages.specs.Package.{Nv}
 use Rattle.fast_check_lattice.specs.Names.{Name, Path, whole_path, has_whole}
 use Rattle.fast_check_lattice.specs.Imports.{default_name, NameDemand, names_but_default, each_name, subset_at, whole_at}
-use Rattle.fast_check_worklists.specs.Demands.{asked_by, Want, to_package, to_module, to_symbol, Demand, of_package, of_module, of_symbol}
-use Rattle.fast_check_worklists.specs.Demands.{World, Gives}
+use Rattle.fast_check_demands.specs.worklists.Demands.{asked_by, Want, to_package, to_module, to_symbol, Demand, of_package, of_module, of_symbol}
+use Rattle.fast_check_demands.specs.worklists.Demands.{World, Gives}
 use Rattle.fast_check_range_finder.specs.Account.{Chained, root, step, widen}
 use Rattle.fast_check_range_finder.specs.Measure.{Universe, IsWithin, IsInside, IsWantInside, IsUniverse}
-use Rattle.fast_check_worklists.proofs.Single.{whole_covered}
+use Rattle.fast_check_demands.proofs.worklists.Single.{whole_covered}
 
 module _ (ps : List Path) (default : Contains ps (default_name ∷ [])) (empty : Contains ps []) where
   no_subset : (b : Bool) → (b && true) && not (b && true) ≡ true → ⊥

@@ -12,16 +12,16 @@ use Rattle.fast_check_packages.specs.Package.{Nv}
 use Rattle.fast_check_packages.specs.PackageOrder.{nv_total}
 use Rattle.fast_check_lattice.specs.Names.{Touched, IsBelow}
 use Rattle.fast_check_lattice.specs.Imports.{default_name, imported, is_star, NameDemand}
-use Rattle.fast_check_demands.specs.Demands.{Demand as SymbolDemand}
-use Rattle.fast_check_worklists.specs.Demands.{Text, same_nv, asked_by, one, Want, to_package, to_module, to_symbol}
-use Rattle.fast_check_worklists.specs.Demands.{Demand, of_package, of_module, of_symbol, World, Gives}
+use Rattle.fast_check_demands.specs.symbol_demands.Demands.{Demand as SymbolDemand}
+use Rattle.fast_check_demands.specs.worklists.Demands.{Text, same_nv, asked_by, one, Want, to_package, to_module, to_symbol}
+use Rattle.fast_check_demands.specs.worklists.Demands.{Demand, of_package, of_module, of_symbol, World, Gives}
 use Rattle.fast_check_range_finder.specs.Account.{is_package, is_of, names_at, joined, meets, IsStarred, Chained, widen}
 use Rattle.fast_check_range_finder.specs.Search.{Search, handled_at, IsAsked, MeetsSame, IsPut, IsTaken, AsksPackage, IsMarked, AsksSymbol, AsksNames, WaitsFor, Asks}
 use Rattle.fast_check_range_finder.specs.Search.{AsksAll}
 use Rattle.fast_check_range_finder.specs.Turn.{members, HasStar, IsKept}
-use Rattle.fast_check_worklists.proofs.Maps.{none_in, first_in, rest_in, split_in, some_is}
+use Rattle.fast_check_demands.proofs.worklists.Maps.{none_in, first_in, rest_in, split_in, some_is}
 use Rattle.fast_check_range_finder.proofs.Lists.{any_some, any_from, any_more, put_right}
-use Rattle.fast_check_worklists.proofs.Single.{asked_in}
+use Rattle.fast_check_demands.proofs.worklists.Single.{asked_in}
 use Rattle.fast_check_range_finder.proofs.Added.{Gains, gains, IsWidenedFrom, default_of}
 
 pub nv_itself : (p : Nv) → same_nv p p ≡ true

@@ -4,7 +4,7 @@ use Rattle.std.specs.List.{list_any, Contains}
 use Rattle.std.proofs.lemmas.Bool.{false≢true, or_left, or_right, or_cases}
 use Rattle.std.proofs.lemmas.List.Elements.{Contains-push_cases, Contains-push, Contains-append_left, Contains-append_right, Contains-append_cases}
 use Rattle.fast_check_range_finder.specs.Search.{IsPut}
-use Rattle.fast_check_worklists.proofs.Maps.{first_in, rest_in, split_in}
+use Rattle.fast_check_demands.proofs.worklists.Maps.{first_in, rest_in, split_in}
 
 pub any_some : {X : Type 0} (f : X → Bool) (xs : List X) → list_any f xs ≡ true → (x : X) × Contains xs x × (f x ≡ true)
 any_some f [] h = absurd (false≢true h)

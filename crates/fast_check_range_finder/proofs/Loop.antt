@@ -10,9 +10,9 @@ use Rattle.fast_check_graph.specs.declared.graph.ModuleGraph.{ModuleGraph}
 use Rattle.fast_check_graph.specs.declared.root_symbol.RootSymbol.{RootSymbol}
 use Rattle.fast_check_demands.proofs.Elements.{in_map, of_map}
 use Rattle.std.proofs.lemmas.Bool.{false≢true}
-use Rattle.fast_check_worklists.specs.Demands.{same_nv, Demand, of_package, of_module, of_symbol, to_package}
-use Rattle.fast_check_worklists.proofs.Maps.{first_in, none_in}
-use Rattle.fast_check_sources.specs.Sources.{Known}
+use Rattle.fast_check_demands.specs.worklists.Demands.{same_nv, Demand, of_package, of_module, of_symbol, to_package}
+use Rattle.fast_check_demands.proofs.worklists.Maps.{first_in, none_in}
+use Rattle.fast_check_demands.specs.sources.Sources.{Known}
 use Rattle.fast_check_range_finder.specs.declared.finder.Finder.{Finder}
 use Rattle.fast_check_range_finder.specs.Account.{Account, is_package, Chained, HasHomes, IsAccount, IsYield}
 use Rattle.fast_check_range_finder.specs.Finder.{search_of, yields_in, IsSound, Goes, Begins, Turns, Rests}

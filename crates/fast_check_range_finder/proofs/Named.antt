@@ -22,20 +22,20 @@ use Rattle.fast_check_symbols.specs.Entries.{last_that}
 use Rattle.fast_check_symbols.specs.Symbols.{symbol_of, has_id, mentioned_by}
 use Rattle.fast_check_symbols.specs.Exports.{export_named}
 use Rattle.fast_check_symbols.specs.Tables.{Tables, symbol_of_swc, symbol_id_of}
-use Rattle.fast_check_demands.specs.symbol_demands.declared.demand.Namespace.{Namespace}
-use Rattle.fast_check_demands.specs.symbol_demands.declared.demand.Namespace.TheVariants.{Value, Type_}
-use Rattle.fast_check_demands.specs.symbol_demands.declared.demand.Extent.{Extent}
-use Rattle.fast_check_demands.specs.symbol_demands.declared.demand.Extent.TheVariants.{Touched, Whole}
-use Rattle.fast_check_demands.specs.Demands.{Demand, Asked, by_reference, as_child, by_path, same_symbol}
-use Rattle.fast_check_demands.specs.Decls.{binds, is_implementation, has_alias, is_closed}
-use Rattle.fast_check_demands.specs.Rules.{reference, child, qualified, references, children, references_in, named, each_of}
-use Rattle.fast_check_demands.specs.Rules.{bound, parent_at, parent_names, dep_names, deps_names, kind_names, decl_names}
-use Rattle.fast_check_demands.specs.Rules.{exports_names, members_names, symbol_names, parts_names, alias_names, member_named}
-use Rattle.fast_check_demands.specs.Rules.{symbol_is_named, member_names, whole_names, prototype_names, export_part_names, export_names}
-use Rattle.fast_check_demands.specs.Rules.{is_prototype, first_names, path_names, asked_names, names}
+use Rattle.fast_check_demands.specs.declared.symbol_demands.demand.Namespace.{Namespace}
+use Rattle.fast_check_demands.specs.declared.symbol_demands.demand.Namespace.TheVariants.{Value, Type_}
+use Rattle.fast_check_demands.specs.declared.symbol_demands.demand.Extent.{Extent}
+use Rattle.fast_check_demands.specs.declared.symbol_demands.demand.Extent.TheVariants.{Touched, Whole}
+use Rattle.fast_check_demands.specs.symbol_demands.Demands.{Demand, Asked, by_reference, as_child, by_path, same_symbol}
+use Rattle.fast_check_demands.specs.symbol_demands.Decls.{binds, is_implementation, has_alias, is_closed}
+use Rattle.fast_check_demands.specs.symbol_demands.Rules.{reference, child, qualified, references, children, references_in, named, each_of}
+use Rattle.fast_check_demands.specs.symbol_demands.Rules.{bound, parent_at, parent_names, dep_names, deps_names, kind_names, decl_names}
+use Rattle.fast_check_demands.specs.symbol_demands.Rules.{exports_names, members_names, symbol_names, parts_names, alias_names, member_named}
+use Rattle.fast_check_demands.specs.symbol_demands.Rules.{symbol_is_named, member_names, whole_names, prototype_names, export_part_names, export_names}
+use Rattle.fast_check_demands.specs.symbol_demands.Rules.{is_prototype, first_names, path_names, asked_names, names}
 use Rattle.fast_check_demands.proofs.Elements.{later, in_map, in_flat}
 use Rattle.fast_check_demands.proofs.Each.{Each, each_nil, each_one, each_append, each_cons, each_map, each_flat, each_cond, each_each_of}
-use Rattle.fast_check_worklists.proofs.Maps.{some_is, first_in, found_in}
+use Rattle.fast_check_demands.proofs.worklists.Maps.{some_is, first_in, found_in}
 use Rattle.fast_check_range_finder.specs.Universe.{symbol_ids, IsAskedAmong, IsAmong}
 
 pub none_some : {X : Type 0} (x : X) → None ≡ Some x → ⊥

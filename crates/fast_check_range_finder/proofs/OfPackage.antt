@@ -7,21 +7,21 @@ use Rattle.fast_check_syntax.specs.declared.source.SourceRange.{SourceRange}
 use Rattle.fast_check_packages.specs.Package.{Nv}
 use Rattle.fast_check_cache.specs.Cache.{ItemView}
 use Rattle.fast_check_lattice.specs.Imports.{NameDemand}
-use Rattle.fast_check_demands.specs.Demands.{Demand as SymbolDemand}
+use Rattle.fast_check_demands.specs.symbol_demands.Demands.{Demand as SymbolDemand}
 use Rattle.fast_check_demands.specs.Yields.{ranges, implementations, Fault, faults}
 use Rattle.fast_check_demands.proofs.Each.{Each, each_nil, each_one, each_append, each_cons, each_map, each_flat}
 use Rattle.fast_check_demands.proofs.Each.{each_cond, each_each_of}
-use Rattle.fast_check_traces.specs.declared.modules.TracedModule.{TracedModule}
-use Rattle.fast_check_traces.specs.Modules.{own_tables}
-use Rattle.fast_check_traces.specs.Wants.{re_export_ranges}
-use Rattle.fast_check_worklists.specs.Demands.{Text, Want, to_package, to_module, to_symbol, Demand, of_package, of_module, of_symbol}
+use Rattle.fast_check_demands.specs.declared.traces.modules.TracedModule.{TracedModule}
+use Rattle.fast_check_demands.specs.traces.Modules.{own_tables}
+use Rattle.fast_check_demands.specs.traces.Wants.{re_export_ranges}
+use Rattle.fast_check_demands.specs.worklists.Demands.{Text, Want, to_package, to_module, to_symbol, Demand, of_package, of_module, of_symbol}
 use Rattle.fast_check_findings.specs.Yields.{Yield, known_package, entry_point, refused_export, dependency}
 use Rattle.fast_check_findings.specs.Yields.{recorded, public, implementing, faulty, untyped_module, kept}
 use Rattle.fast_check_findings.specs.Findings.{faulty_module, entry_fault, placed_yield}
 use Rattle.fast_check_findings.specs.Faults.{placed}
 use Rattle.fast_check_findings.specs.Yields.{package_of as answered_of}
 use Rattle.fast_check_entries.specs.Entries.{Entrance, passed_over, refused, entered, all_faults}
-use Rattle.fast_check_sources.specs.Sources.{Known, module_at, untyped_at}
+use Rattle.fast_check_demands.specs.sources.Sources.{Known, module_at, untyped_at}
 use Rattle.fast_check_range_finder.specs.Account.{package_of}
 use Rattle.fast_check_range_finder.specs.Rules.{own_text, module_of, names_wants, symbol_wants, entrance_at}
 use Rattle.fast_check_range_finder.specs.Yields.{dependency_of, dependencies, public_at, implementing_at, names_yields, source_in}

@@ -9,7 +9,7 @@ use Rattle.std.proofs.lemmas.List.{take-append-le}
 use Rattle.std.proofs.lemmas.List.Elements.{Contains-push_cases, Contains-push}
 use Rattle.fast_check_packages.specs.Package.{Nv}
 use Rattle.fast_check_demands.proofs.Elements.{no_element, first, later, cases, in_any}
-use Rattle.fast_check_worklists.specs.Demands.{same_nv, Want, to_package, to_module, to_symbol, Demand}
+use Rattle.fast_check_demands.specs.worklists.Demands.{same_nv, Want, to_package, to_module, to_symbol, Demand}
 use Rattle.fast_check_range_finder.specs.Account.{Account, IsYield}
 use Rattle.fast_check_range_finder.specs.Search.{Search, AsksPackage, Asks, AsksAll}
 use Rattle.fast_check_range_finder.specs.Once.{AreApart, AreOnce}

@@ -15,21 +15,21 @@ use Rattle.fast_check_graph.specs.declared.root_symbol.AnyModuleInfo.{AnyModuleI
 use Rattle.fast_check_graph.specs.Modules.{is_typed_module}
 use Rattle.fast_check_graph.specs.Graph.{is_specifier}
 use Rattle.fast_check_graph.specs.Root.{specifier_of, module_named, AreFoundByOwnNames}
-use Rattle.fast_check_demands.specs.Demands.{Demand as SymbolDemand}
-use Rattle.fast_check_demands.specs.Rules.{each_of}
+use Rattle.fast_check_demands.specs.symbol_demands.Demands.{Demand as SymbolDemand}
+use Rattle.fast_check_demands.specs.symbol_demands.Rules.{each_of}
 use Rattle.fast_check_demands.specs.Yields.{ranges, implementations, Fault, faults, AreTableRanges}
 use Rattle.fast_check_demands.proofs.Own.{own_ranges, own_implementations}
 use Rattle.fast_check_entries.specs.findings.Faults.{PlacedFault, placed}
-use Rattle.fast_check_traces.specs.declared.modules.TracedModule.{TracedModule}
-use Rattle.fast_check_traces.specs.Modules.{own_tables}
-use Rattle.fast_check_traces.specs.Wants.{re_export_ranges}
-use Rattle.fast_check_traces.proofs.OwnRanges.{own_demand}
-use Rattle.fast_check_worklists.specs.Demands.{Text, Want, to_package, to_module, to_symbol, Demand, of_package, of_module, of_symbol}
+use Rattle.fast_check_demands.specs.declared.traces.modules.TracedModule.{TracedModule}
+use Rattle.fast_check_demands.specs.traces.Modules.{own_tables}
+use Rattle.fast_check_demands.specs.traces.Wants.{re_export_ranges}
+use Rattle.fast_check_demands.proofs.traces.OwnRanges.{own_demand}
+use Rattle.fast_check_demands.specs.worklists.Demands.{Text, Want, to_package, to_module, to_symbol, Demand, of_package, of_module, of_symbol}
 use Rattle.fast_check_entries.specs.findings.Yields.{Yield, known_package, entry_point, refused_export, dependency, public, implementing}
 use Rattle.fast_check_entries.specs.findings.Yields.{ModuleFault, recorded, faulty, untyped_module, kept}
 use Rattle.fast_check_entries.specs.findings.Findings.{faulty_module, entry_fault, placed_yield, placed_yields}
 use Rattle.fast_check_entries.specs.Entries.{Entrance, passed_over, refused, entered, all_faults}
-use Rattle.fast_check_sources.specs.Sources.{Known, is_text, node_at, named_at, traced_as, typed_info, info_at, module_at, untyped_at}
+use Rattle.fast_check_demands.specs.sources.Sources.{Known, is_text, node_at, named_at, traced_as, typed_info, info_at, module_at, untyped_at}
 use Rattle.fast_check_range_finder.specs.Rules.{own_text, module_of, names_wants, symbol_wants, entrance_at}
 use Rattle.fast_check_range_finder.specs.Yields.{dependency_of, dependencies, public_at, implementing_at, names_yields, source_in}
 use Rattle.fast_check_range_finder.specs.Yields.{faults_at, fault_yields, symbol_yields, untyped_yields, entry_fault_yields, entered_yields}
@@ -37,7 +37,7 @@ use Rattle.fast_check_range_finder.specs.Yields.{entry_yields, gives}
 use Rattle.fast_check_range_finder.specs.Own.{IsOwnRange, IsOwnYield}
 use Rattle.fast_check_demands.proofs.Each.{Each, each_nil, each_one, each_append, each_cons, each_map, each_flat}
 use Rattle.fast_check_demands.proofs.Each.{each_cond, each_each_of}
-use Rattle.fast_check_worklists.proofs.Maps.{found_in}
+use Rattle.fast_check_demands.proofs.worklists.Maps.{found_in}
 use Rattle.fast_check_range_finder.specs.Account.{Account, IsYield}
 
 module _ (k : Known) (found : AreFoundByOwnNames k.root_symbol) where

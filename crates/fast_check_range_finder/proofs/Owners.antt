@@ -3,10 +3,10 @@ use Rattle.std.proofs.Common.{◌≡◌, sym, subst, Bool, false, cond, List, []
 use Rattle.fast_check_packages.specs.Package.{Nv}
 use Rattle.fast_check_graph.specs.declared.graph.ModuleGraph.{ModuleGraph}
 use Rattle.fast_check_graph.specs.declared.root_symbol.RootSymbol.{RootSymbol}
-use Rattle.fast_check_demands.specs.Rules.{each_of}
+use Rattle.fast_check_demands.specs.symbol_demands.Rules.{each_of}
 use Rattle.fast_check_findings.specs.Yields.{dependency}
-use Rattle.fast_check_worklists.specs.Demands.{Text, Wanted, same_nv, Want, to_package, to_module}
-use Rattle.fast_check_sources.specs.Wants.{file_at, behind}
+use Rattle.fast_check_demands.specs.worklists.Demands.{Text, Wanted, same_nv, Want, to_package, to_module}
+use Rattle.fast_check_demands.specs.sources.Wants.{file_at, behind}
 use Rattle.fast_check_range_finder.specs.declared.finder.Finder.{Finder}
 use Rattle.fast_check_range_finder.specs.Finder.{IsSound, Goes}
 use Rattle.fast_check_range_finder.specs.Yields.{dependencies}

@@ -9,13 +9,13 @@ use Rattle.fast_check_lattice.specs.Names.{Name, Path, Touched, Covered, whole_b
 use Rattle.fast_check_lattice.specs.Imports.{NameDemand, names_but_default, each_name, subset_at, whole_at}
 use Rattle.fast_check_lattice.specs.declared.lattice.imported_exports.ImportedExports.TheVariants.{Star, StarWithDefault}
 use Rattle.fast_check_lattice.proofs.Sets.{same_whole}
-use Rattle.fast_check_worklists.proofs.Single.{whole_covered}
-use Rattle.fast_check_worklists.specs.Demands.{begins, touched_path, asked, asked_by}
+use Rattle.fast_check_demands.proofs.worklists.Single.{whole_covered}
+use Rattle.fast_check_demands.specs.worklists.Demands.{begins, touched_path, asked, asked_by}
 use Rattle.fast_check_range_finder.specs.Measure.{IsWithin}
 use Rattle.fast_check_range_finder.specs.Reach.{paths_up_to}
 use Rattle.fast_check_demands.proofs.Elements.{no_element, later, only, cases, in_map, of_map, in_flat, of_flat}
 use Rattle.fast_check_demands.proofs.Each.{Each, each_nil}
-use Rattle.fast_check_worklists.proofs.Maps.{first_in}
+use Rattle.fast_check_demands.proofs.worklists.Maps.{first_in}
 
 pub flat_longer : {X Y : Type 0} (f : X → List Y) (xs : List X) (x : X) → Contains xs x → length (f x) ≤ length (flat_map f xs)
 flat_longer f [] x c = absurd (no_element x c)

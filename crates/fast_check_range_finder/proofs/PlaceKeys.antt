@@ -9,7 +9,7 @@ use Rattle.std.specs.Str.{bytes_eq}
 use Rattle.url.specs.Parts.{serialize}
 use Rattle.fast_check_packages.specs.Package.{nv_of}
 use Rattle.fast_check_packages.specs.PackageOrder.{nv_ties}
-use Rattle.fast_check_worklists.specs.Demands.{same_nv}
+use Rattle.fast_check_demands.specs.worklists.Demands.{same_nv}
 use Rattle.fast_check_range_finder.specs.declared.demand.Place.{Place}
 use Rattle.fast_check_range_finder.specs.contracts.demand.PlacePartialEq.TheImpl as place_eq
 use Rattle.fast_check_range_finder.proofs.Places.{no_entry, some_entry}

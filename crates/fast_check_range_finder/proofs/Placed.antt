@@ -18,21 +18,21 @@ use Rattle.fast_check_graph.specs.declared.root_symbol.AnyModuleInfo.{AnyModuleI
 use Rattle.fast_check_graph.specs.declared.root_symbol.RootSymbol.{RootSymbol}
 use Rattle.fast_check_packages.specs.declared.package.PackageNv.{PackageNv}
 use Rattle.fast_check_findings.specs.declared.found.Entrance.{Entrance}
-use Rattle.fast_check_traces.specs.declared.origins.ReExportIndex.{ReExportIndex}
+use Rattle.fast_check_demands.specs.declared.traces.origins.ReExportIndex.{ReExportIndex}
 use Rattle.fast_check_lattice.specs.declared.lattice.imported_exports.ImportedExports.{ImportedExports}
 use Rattle.fast_check_lattice.specs.Traces.{handled}
-use Rattle.fast_check_demands.specs.Demands.{Demand as SymbolDemand}
+use Rattle.fast_check_demands.specs.symbol_demands.Demands.{Demand as SymbolDemand}
 use Rattle.fast_check_demands.specs.Yields.{Joins}
 use Rattle.fast_check_demands.specs.declared.fault.SymbolFault.{SymbolFault}
 use Rattle.fast_check_demands.proofs.Elements.{in_flat}
-use Rattle.fast_check_traces.specs.Origins.{IsIndexOf}
+use Rattle.fast_check_demands.specs.traces.Origins.{IsIndexOf}
 use Rattle.fast_check_findings.specs.Faults.{placed_seen}
 use Rattle.fast_check_findings.specs.Findings.{placed_yields}
 use Rattle.fast_check_findings.specs.Found.{own_text, source_in}
 use Rattle.fast_check_findings.specs.Yields.{Yield, recorded, public, implementing}
-use Rattle.fast_check_worklists.specs.Demands.{Text, same_nv, Demand, of_package}
-use Rattle.fast_check_worklists.proofs.Maps.{first_in, only_in, some_is}
-use Rattle.fast_check_sources.specs.Sources.{named_at}
+use Rattle.fast_check_demands.specs.worklists.Demands.{Text, same_nv, Demand, of_package}
+use Rattle.fast_check_demands.proofs.worklists.Maps.{first_in, only_in, some_is}
+use Rattle.fast_check_demands.specs.sources.Sources.{named_at}
 use Rattle.fast_check_range_finder.specs.declared.demand.Dependency.{Dependency}
 use Rattle.fast_check_range_finder.specs.declared.demand.NamesAt.{NamesAt}
 use Rattle.fast_check_range_finder.specs.declared.demand.SymbolAt.{SymbolAt}

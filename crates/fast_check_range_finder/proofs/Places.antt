@@ -18,7 +18,7 @@ use Rattle.semver.specs.Order.{pre_cmp, build_cmp}
 use Rattle.semver.specs.OrderLaws.{pre-anti, build-anti}
 use Rattle.indexmap.specs.IndexMap.{set_value_at}
 use Rattle.fast_check_packages.specs.Package.{Nv, VersionParts, version_cmp, nv_cmp}
-use Rattle.fast_check_worklists.specs.Demands.{same_nv}
+use Rattle.fast_check_demands.specs.worklists.Demands.{same_nv}
 
 -- packages that are the same are one
 

@@ -15,22 +15,22 @@ use Rattle.fast_check_graph.specs.declared.root_symbol.AnyModuleInfo.{AnyModuleI
 use Rattle.fast_check_graph.specs.Graph.{is_specifier}
 use Rattle.fast_check_graph.specs.Resolutions.{text_resolved}
 use Rattle.fast_check_graph.specs.Root.{specifier_of, found_module}
-use Rattle.fast_check_demands.specs.Demands.{Demand as SymbolDemand}
-use Rattle.fast_check_demands.specs.Rules.{each_of, names}
+use Rattle.fast_check_demands.specs.symbol_demands.Demands.{Demand as SymbolDemand}
+use Rattle.fast_check_demands.specs.symbol_demands.Rules.{each_of, names}
 use Rattle.fast_check_demands.proofs.Elements.{in_map, in_flat}
 use Rattle.fast_check_demands.proofs.Each.{Each, each_nil, each_one, each_append, each_cons, each_map, each_flat, each_cond, each_each_of}
-use Rattle.fast_check_name_demands.specs.Files.{files}
-use Rattle.fast_check_traces.specs.declared.modules.TracedModule.{TracedModule}
-use Rattle.fast_check_traces.specs.Modules.{tables_in, own_export, led_to, answer_of, first_with, answer_to}
-use Rattle.fast_check_traces.specs.Roots.{roots}
-use Rattle.fast_check_traces.specs.Wants.{Want as ModuleWant, re_exported, answered, all_wants, answered_at, path_wants, module_wants}
-use Rattle.fast_check_worklists.specs.Demands.{Text, same_nv, asked_by, Want, to_package, to_module, to_symbol, Demand, of_package}
-use Rattle.fast_check_worklists.specs.Demands.{of_module, of_symbol}
-use Rattle.fast_check_worklists.proofs.Maps.{first_in, found_in}
+use Rattle.fast_check_demands.specs.name_demands.Files.{files}
+use Rattle.fast_check_demands.specs.declared.traces.modules.TracedModule.{TracedModule}
+use Rattle.fast_check_demands.specs.traces.Modules.{tables_in, own_export, led_to, answer_of, first_with, answer_to}
+use Rattle.fast_check_demands.specs.traces.Roots.{roots}
+use Rattle.fast_check_demands.specs.traces.Wants.{Want as ModuleWant, re_exported, answered, all_wants, answered_at, path_wants, module_wants}
+use Rattle.fast_check_demands.specs.worklists.Demands.{Text, same_nv, asked_by, Want, to_package, to_module, to_symbol, Demand, of_package}
+use Rattle.fast_check_demands.specs.worklists.Demands.{of_module, of_symbol}
+use Rattle.fast_check_demands.proofs.worklists.Maps.{first_in, found_in}
 use Rattle.fast_check_findings.specs.declared.found.EntryFault.{EntryFault}
 use Rattle.fast_check_entries.specs.Entries.{Entrance, passed_over, refused, entered, all_faults}
-use Rattle.fast_check_sources.specs.Sources.{Used, Known, named_at, info_at, traced_as}
-use Rattle.fast_check_sources.specs.Wants.{file_at, behind, resolved, file_wants, left_wants}
+use Rattle.fast_check_demands.specs.sources.Sources.{Used, Known, named_at, info_at, traced_as}
+use Rattle.fast_check_demands.specs.sources.Wants.{file_at, behind, resolved, file_wants, left_wants}
 use Rattle.fast_check_range_finder.specs.Measure.{IsWithin, IsInside, IsWantInside, IsUniverse}
 use Rattle.fast_check_range_finder.specs.Rules.{own_text, names_wants, symbol_wants, entry_want, unless_faulty, entrance_at}
 use Rattle.fast_check_range_finder.specs.Rules.{entered_wants, entry_wants, world}

@@ -21,10 +21,10 @@ use Rattle.fast_check_findings.specs.Findings.{faulty_module, entry_fault, place
 use Rattle.fast_check_findings.specs.Found.{source_in, own_text, module_yields, entry_fault_yields, entrance_yields, dependency_yields}
 use Rattle.fast_check_findings.specs.Found.{untyped_yields, package_yields, found_yields}
 use Rattle.fast_check_entries.specs.Entries.{Entrance, passed_over, refused, entered, DiagnosesRefused}
-use Rattle.fast_check_worklists.specs.Demands.{Text, of_package}
-use Rattle.fast_check_sources.specs.Sources.{Known}
+use Rattle.fast_check_demands.specs.worklists.Demands.{Text, of_package}
+use Rattle.fast_check_demands.specs.sources.Sources.{Known}
 use Rattle.fast_check_demands.proofs.Each.{Each, each_nil, each_one, each_append, each_cons, each_map, each_flat}
-use Rattle.fast_check_worklists.proofs.Maps.{first_in}
+use Rattle.fast_check_demands.proofs.worklists.Maps.{first_in}
 use Rattle.fast_check_range_finder.specs.Account.{Account, Chained, IsYield}
 use Rattle.fast_check_range_finder.specs.Rules.{entrance_at, world}
 use Rattle.fast_check_range_finder.specs.Yields.{entry_yields, gives}

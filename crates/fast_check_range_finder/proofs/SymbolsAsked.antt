@@ -14,10 +14,10 @@ use Rattle.url.specs.Parts.{Parts, serialize}
 use Rattle.indexmap.specs.IndexMap.{set_value_at}
 use Rattle.fast_check_packages.specs.Package.{Nv, nv_of}
 use Rattle.fast_check_lattice.specs.declared.lattice.imported_exports.ImportedExports.{ImportedExports}
-use Rattle.fast_check_demands.specs.Demands.{Demand as SymbolDemand, Asked, by_reference, as_child, by_path, demand_of}
+use Rattle.fast_check_demands.specs.symbol_demands.Demands.{Demand as SymbolDemand, Asked, by_reference, as_child, by_path, demand_of}
 use Rattle.fast_check_symbols.specs.declared.symbol_id.SymbolId.{SymbolId}
 use Rattle.fast_check_demands.specs.Account.{alike, essence, referred, same, asker}
-use Rattle.fast_check_worklists.specs.Demands.{Text, same_nv, Demand, of_package, of_symbol, Want, to_symbol}
+use Rattle.fast_check_demands.specs.worklists.Demands.{Text, same_nv, Demand, of_package, of_symbol, Want, to_symbol}
 use Rattle.fast_check_range_finder.specs.declared.demand.Place.{Place}
 use Rattle.fast_check_range_finder.specs.declared.demand.SymbolAt.{SymbolAt}
 use Rattle.fast_check_range_finder.specs.declared.finder.FollowedModule.{FollowedModule}

@@ -8,11 +8,11 @@ use Rattle.std.proofs.lemmas.List.Concat.{flat_map-append}
 use Rattle.url.specs.Parts.{Parts}
 use Rattle.fast_check_packages.specs.Package.{Nv, nv_of}
 use Rattle.fast_check_lattice.specs.declared.lattice.imported_exports.ImportedExports.{ImportedExports}
-use Rattle.fast_check_demands.specs.Demands.{Demand as SymbolDemand}
+use Rattle.fast_check_demands.specs.symbol_demands.Demands.{Demand as SymbolDemand}
 use Rattle.fast_check_demands.specs.Yields.{Joins}
 use Rattle.fast_check_findings.specs.Yields.{Yield}
-use Rattle.fast_check_worklists.specs.Demands.{Demand, of_package, of_symbol}
-use Rattle.fast_check_sources.specs.Sources.{Known}
+use Rattle.fast_check_demands.specs.worklists.Demands.{Demand, of_package, of_symbol}
+use Rattle.fast_check_demands.specs.sources.Sources.{Known}
 use Rattle.fast_check_range_finder.specs.declared.finder.Finder.{Finder}
 use Rattle.fast_check_range_finder.specs.Search.{Search, IsPut, IsTaken}
 use Rattle.fast_check_range_finder.specs.Turn.{IsTurn}

@@ -10,14 +10,14 @@ use Rattle.fast_check_lattice.specs.Imports.{NameDemand, imported}
 use Rattle.fast_check_lattice.specs.Names.{IsBelow}
 use Rattle.fast_check_lattice.proofs.Forms.{least_all}
 use Rattle.fast_check_demands.specs.Yields.{Joins}
-use Rattle.fast_check_worklists.specs.Demands.{Text, same_nv, one, Want, to_package, Demand, of_package, of_module, of_symbol, World, Follows, Gives}
+use Rattle.fast_check_demands.specs.worklists.Demands.{Text, same_nv, one, Want, to_package, Demand, of_package, of_module, of_symbol, World, Follows, Gives}
 use Rattle.fast_check_range_finder.specs.Account.{is_package, is_of, meets, names_at, IsCovered, Chained, root, step, IsWidening, IsAccount, IsYield}
 use Rattle.fast_check_range_finder.specs.Search.{Search, handled_at, IsAsked}
 use Rattle.fast_check_range_finder.specs.Turn.{IsTurn, IsBegun, members, IsKept, IsOnTheWay}
 use Rattle.fast_check_range_finder.specs.Measure.{Universe, IsUniverse, left}
-use Rattle.fast_check_worklists.proofs.Maps.{none_in, first_in, some_is}
+use Rattle.fast_check_demands.proofs.worklists.Maps.{none_in, first_in, some_is}
 use Rattle.fast_check_range_finder.proofs.Lists.{any_more}
-use Rattle.fast_check_worklists.proofs.Single.{star_in, default_in, one_below_all}
+use Rattle.fast_check_demands.proofs.worklists.Single.{star_in, default_in, one_below_all}
 use Rattle.fast_check_range_finder.proofs.Kept.{kept_all, more_all, now_all, kept_taken, more_taken}
 use Rattle.fast_check_range_finder.proofs.Inside.{inside}
 use Rattle.fast_check_range_finder.proofs.Falls.{falls_all, falls_taken}

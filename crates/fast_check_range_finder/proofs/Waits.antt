@@ -15,25 +15,25 @@ use Rattle.fast_check_lattice.specs.declared.lattice.imported_exports.ImportedEx
 use Rattle.fast_check_lattice.specs.Traces.{handled}
 use Rattle.fast_check_lattice.specs.Imports.{NameDemand}
 use Rattle.fast_check_lattice.specs.Names.{Path, path_of, whole_below, has_whole}
-use Rattle.fast_check_demands.specs.symbol_demands.declared.demand.Extent.{Extent}
-use Rattle.fast_check_demands.specs.symbol_demands.declared.demand.Extent.TheVariants.{Touched, Whole}
+use Rattle.fast_check_demands.specs.declared.symbol_demands.demand.Extent.{Extent}
+use Rattle.fast_check_demands.specs.declared.symbol_demands.demand.Extent.TheVariants.{Touched, Whole}
 use Rattle.fast_check_packages.specs.contracts.package.PackageNvOrd.TheImpl as package_order
 use Rattle.fast_check_range_finder.specs.contracts.demand.DependencyOrd.TheImpl as dependency_order
-use Rattle.fast_check_worklists.proofs.Maps.{first_in, only_in}
+use Rattle.fast_check_demands.proofs.worklists.Maps.{first_in, only_in}
 use Rattle.fast_check_range_finder.proofs.Kept.{text_itself}
 use Rattle.fast_check_range_finder.proofs.Once.{once_asked}
 use Rattle.fast_check_range_finder.proofs.Places.{nv_is, then_both}
 use Rattle.fast_check_graph.specs.declared.graph.ModuleGraph.{ModuleGraph}
 use Rattle.fast_check_graph.specs.declared.root_symbol.RootSymbol.{RootSymbol}
-use Rattle.fast_check_demands.specs.Demands.{Demand as SymbolDemand}
+use Rattle.fast_check_demands.specs.symbol_demands.Demands.{Demand as SymbolDemand}
 use Rattle.fast_check_demands.specs.Yields.{Joins}
 use Rattle.fast_check_demands.proofs.Elements.{in_map, of_map}
 use Rattle.fast_check_findings.specs.Yields.{Yield, dependency}
-use Rattle.fast_check_name_demands.specs.declared.want.NameDemand.{NameDemand as Single}
-use Rattle.fast_check_name_demands.specs.declared.want.NameDemand.TheVariants as singles
-use Rattle.fast_check_name_demands.specs.Files.{names_of, path_demand}
-use Rattle.fast_check_worklists.specs.Demands.{same_nv, begins, asked_by, Demand, of_package, of_module, Want, to_package, to_module}
-use Rattle.fast_check_worklists.specs.State.{AddsPackage}
+use Rattle.fast_check_demands.specs.declared.name_demands.want.NameDemand.{NameDemand as Single}
+use Rattle.fast_check_demands.specs.declared.name_demands.want.NameDemand.TheVariants as singles
+use Rattle.fast_check_demands.specs.name_demands.Files.{names_of, path_demand}
+use Rattle.fast_check_demands.specs.worklists.Demands.{same_nv, begins, asked_by, Demand, of_package, of_module, Want, to_package, to_module}
+use Rattle.fast_check_demands.specs.worklists.State.{AddsPackage}
 use Rattle.fast_check_range_finder.specs.declared.demand.Dependency.{Dependency}
 use Rattle.fast_check_range_finder.specs.declared.demand.NamesAt.{NamesAt}
 use Rattle.fast_check_range_finder.specs.declared.finder.Finder.{Finder}

@@ -12,19 +12,19 @@ use Rattle.fast_check_graph.specs.Modules.{is_typed_module, is_external}
 use Rattle.fast_check_graph.specs.declared.module.Module.{Module}
 use Rattle.fast_check_graph.specs.declared.root_symbol.AnyModuleInfo.{AnyModuleInfo}
 use Rattle.fast_check_lattice.specs.Imports.{NameDemand}
-use Rattle.fast_check_demands.specs.Demands.{Demand as SymbolDemand}
-use Rattle.fast_check_demands.specs.Rules.{each_of, names}
+use Rattle.fast_check_demands.specs.symbol_demands.Demands.{Demand as SymbolDemand}
+use Rattle.fast_check_demands.specs.symbol_demands.Rules.{each_of, names}
 use Rattle.fast_check_demands.specs.Yields.{ranges, implementations, faults}
-use Rattle.fast_check_name_demands.specs.Files.{FileDemand, files}
-use Rattle.fast_check_traces.specs.declared.modules.TracedModule.{TracedModule}
-use Rattle.fast_check_traces.specs.Modules.{own_tables}
-use Rattle.fast_check_traces.specs.Roots.{roots}
-use Rattle.fast_check_traces.specs.Wants.{Want as ModuleWant, re_export_ranges, module_wants}
+use Rattle.fast_check_demands.specs.name_demands.Files.{FileDemand, files}
+use Rattle.fast_check_demands.specs.declared.traces.modules.TracedModule.{TracedModule}
+use Rattle.fast_check_demands.specs.traces.Modules.{own_tables}
+use Rattle.fast_check_demands.specs.traces.Roots.{roots}
+use Rattle.fast_check_demands.specs.traces.Wants.{Want as ModuleWant, re_export_ranges, module_wants}
 use Rattle.fast_check_findings.specs.Findings.{faulty_module}
 use Rattle.fast_check_findings.specs.Yields.{Yield, recorded, untyped_module}
-use Rattle.fast_check_worklists.specs.Demands.{Text, of_symbol, of_module, Want, to_symbol}
-use Rattle.fast_check_sources.specs.Sources.{Known, named_at, traced_as, node_at, typed_info, info_at, module_at, is_untyped, untyped_at}
-use Rattle.fast_check_sources.specs.Wants.{file_wants, left_wants}
+use Rattle.fast_check_demands.specs.worklists.Demands.{Text, of_symbol, of_module, Want, to_symbol}
+use Rattle.fast_check_demands.specs.sources.Sources.{Known, named_at, traced_as, node_at, typed_info, info_at, module_at, is_untyped, untyped_at}
+use Rattle.fast_check_demands.specs.sources.Wants.{file_wants, left_wants}
 use Rattle.fast_check_range_finder.specs.declared.finder.Finder.{Finder}
 use Rattle.fast_check_range_finder.specs.Finder.{Followed, place_nv, place_text, IsModuleOf, Goes}
 use Rattle.fast_check_range_finder.specs.Rules.{own_text, module_of, names_wants, symbol_wants, world}

@@ -14,20 +14,20 @@ use Rattle.fast_check_graph.specs.declared.graph.ModuleGraph.{ModuleGraph}
 use Rattle.fast_check_graph.specs.declared.root_symbol.AnyModuleInfo.{AnyModuleInfo}
 use Rattle.fast_check_graph.specs.declared.root_symbol.RootSymbol.{RootSymbol}
 use Rattle.fast_check_lattice.specs.Imports.{NameDemand}
-use Rattle.fast_check_demands.specs.Demands.{Demand as SymbolDemand}
-use Rattle.fast_check_demands.specs.Rules.{names}
+use Rattle.fast_check_demands.specs.symbol_demands.Demands.{Demand as SymbolDemand}
+use Rattle.fast_check_demands.specs.symbol_demands.Rules.{names}
 use Rattle.fast_check_demands.specs.Yields.{Joins, Fault, ranges, implementations, faults, fault_seen}
 use Rattle.fast_check_demands.specs.declared.fault.SymbolFault.{SymbolFault}
-use Rattle.fast_check_traces.specs.declared.modules.TracedModule.{TracedModule}
-use Rattle.fast_check_traces.specs.Modules.{tables_in, own_tables}
-use Rattle.fast_check_traces.specs.Origins.{IsIndexOf}
-use Rattle.fast_check_traces.specs.Roots.{roots}
-use Rattle.fast_check_traces.specs.Wants.{node_ranges, re_export_ranges}
-use Rattle.fast_check_traces.specs.declared.origins.ReExportIndex.{ReExportIndex}
+use Rattle.fast_check_demands.specs.declared.traces.modules.TracedModule.{TracedModule}
+use Rattle.fast_check_demands.specs.traces.Modules.{tables_in, own_tables}
+use Rattle.fast_check_demands.specs.traces.Origins.{IsIndexOf}
+use Rattle.fast_check_demands.specs.traces.Roots.{roots}
+use Rattle.fast_check_demands.specs.traces.Wants.{node_ranges, re_export_ranges}
+use Rattle.fast_check_demands.specs.declared.traces.origins.ReExportIndex.{ReExportIndex}
 use Rattle.fast_check_findings.specs.Found.{module_yields}
 use Rattle.fast_check_findings.specs.Yields.{Yield}
-use Rattle.fast_check_worklists.specs.Demands.{Text, Want, to_symbol}
-use Rattle.fast_check_sources.specs.Sources.{named_at}
+use Rattle.fast_check_demands.specs.worklists.Demands.{Text, Want, to_symbol}
+use Rattle.fast_check_demands.specs.sources.Sources.{named_at}
 use Rattle.fast_check_range_finder.specs.declared.demand.Place.{Place}
 use Rattle.fast_check_range_finder.specs.declared.demand.SymbolAt.{SymbolAt}
 use Rattle.fast_check_range_finder.specs.declared.finder.Finder.{Finder}

@@ -27,23 +27,23 @@ use Rattle.fast_check_graph.specs.declared.root_symbol.AnyModuleInfo.{AnyModuleI
 use Rattle.fast_check_graph.specs.Modules.{is_typed_module}
 use Rattle.fast_check_graph.specs.Graph.{is_specifier}
 use Rattle.fast_check_graph.specs.Root.{specifier_of, module_named}
-use Rattle.fast_check_demands.specs.symbol_demands.declared.demand.Namespace.{Namespace}
-use Rattle.fast_check_demands.specs.symbol_demands.declared.demand.Namespace.TheVariants.{Value, Type_}
-use Rattle.fast_check_demands.specs.symbol_demands.declared.demand.Extent.{Extent}
-use Rattle.fast_check_demands.specs.symbol_demands.declared.demand.Extent.TheVariants.{Touched, Whole}
-use Rattle.fast_check_demands.specs.Demands.{Demand, Asked, by_reference, as_child, by_path}
-use Rattle.fast_check_demands.specs.Decls.{binds, is_implementation}
-use Rattle.fast_check_demands.specs.Rules.{names, reference, references, qualified}
+use Rattle.fast_check_demands.specs.declared.symbol_demands.demand.Namespace.{Namespace}
+use Rattle.fast_check_demands.specs.declared.symbol_demands.demand.Namespace.TheVariants.{Value, Type_}
+use Rattle.fast_check_demands.specs.declared.symbol_demands.demand.Extent.{Extent}
+use Rattle.fast_check_demands.specs.declared.symbol_demands.demand.Extent.TheVariants.{Touched, Whole}
+use Rattle.fast_check_demands.specs.symbol_demands.Demands.{Demand, Asked, by_reference, as_child, by_path}
+use Rattle.fast_check_demands.specs.symbol_demands.Decls.{binds, is_implementation}
+use Rattle.fast_check_demands.specs.symbol_demands.Rules.{names, reference, references, qualified}
 use Rattle.fast_check_demands.proofs.Elements.{later, in_map, in_flat}
 use Rattle.fast_check_demands.proofs.Each.{Each, each_nil, each_one, each_cons, each_flat, each_cond, each_each_of}
-use Rattle.fast_check_name_demands.specs.Files.{FileDemand, wants, path_demand, import_demand, dep_files, kind_files}
-use Rattle.fast_check_name_demands.specs.Files.{decl_files, symbol_files, alias_files, asked_files, files}
-use Rattle.fast_check_traces.specs.Modules.{tables_in, own_export}
-use Rattle.fast_check_traces.specs.Roots.{roots, is_exported_in, references_as, exported_as, export_whole, star_export, star_roots}
-use Rattle.fast_check_traces.specs.Roots.{path_roots}
-use Rattle.fast_check_worklists.specs.Demands.{Text}
-use Rattle.fast_check_worklists.proofs.Maps.{first_in, found_in}
-use Rattle.fast_check_sources.specs.Sources.{Known, is_text, node_at, named_at, typed_info, info_at}
+use Rattle.fast_check_demands.specs.name_demands.Files.{FileDemand, wants, path_demand, import_demand, dep_files, kind_files}
+use Rattle.fast_check_demands.specs.name_demands.Files.{decl_files, symbol_files, alias_files, asked_files, files}
+use Rattle.fast_check_demands.specs.traces.Modules.{tables_in, own_export}
+use Rattle.fast_check_demands.specs.traces.Roots.{roots, is_exported_in, references_as, exported_as, export_whole, star_export, star_roots}
+use Rattle.fast_check_demands.specs.traces.Roots.{path_roots}
+use Rattle.fast_check_demands.specs.worklists.Demands.{Text}
+use Rattle.fast_check_demands.proofs.worklists.Maps.{first_in, found_in}
+use Rattle.fast_check_demands.specs.sources.Sources.{Known, is_text, node_at, named_at, typed_info, info_at}
 use Rattle.fast_check_range_finder.specs.Measure.{IsWithin}
 use Rattle.fast_check_range_finder.specs.Universe.{symbol_ids, table_ids, IsAskedAmong, IsAmong}
 use Rattle.fast_check_range_finder.specs.Reach.{dep_names, kind_names, symbol_names, table_names, all_names, paths_up_to, symbol_paths}

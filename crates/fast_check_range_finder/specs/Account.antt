@@ -5,11 +5,11 @@ use Rattle.std.specs.Str.{bytes_eq}
 use Rattle.fast_check_packages.specs.Package.{Nv}
 use Rattle.fast_check_lattice.specs.Names.{NameSet, IsBelow}
 use Rattle.fast_check_lattice.specs.Imports.{NameDemand}
-use Rattle.fast_check_demands.specs.Demands.{Demand as SymbolDemand}
+use Rattle.fast_check_demands.specs.symbol_demands.Demands.{Demand as SymbolDemand}
 use Rattle.fast_check_demands.specs.Account.{alike, referred}
-use Rattle.fast_check_worklists.specs.Demands.{Text, same_nv, one, Demand, of_package, of_module}
-use Rattle.fast_check_worklists.specs.Demands.{of_symbol, World, Follows}
-pub use Rattle.fast_check_worklists.specs.Account.{IsStarred, HasDefault, IsWidening, Chained, root, step, widen}
+use Rattle.fast_check_demands.specs.worklists.Demands.{Text, same_nv, one, Demand, of_package, of_module}
+use Rattle.fast_check_demands.specs.worklists.Demands.{of_symbol, World, Follows}
+pub use Rattle.fast_check_demands.specs.worklists.Account.{IsStarred, HasDefault, IsWidening, Chained, root, step, widen}
 
 abbrev pub Account : Type 0
 Account = List Demand

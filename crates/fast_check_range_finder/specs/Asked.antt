@@ -4,7 +4,7 @@ use Rattle.std.specs.Prelude.{◌≡◌, Bool, true, false, ◌||◌, List, ◌�
 use Rattle.std.specs.List.{list_any, Contains}
 use Rattle.fast_check_lattice.specs.Names.{path_of}
 use Rattle.fast_check_symbols.specs.declared.symbol_id.SymbolId.{SymbolId}
-use Rattle.fast_check_demands.specs.Demands.{Demand, Asked, by_reference, as_child, by_path}
+use Rattle.fast_check_demands.specs.symbol_demands.Demands.{Demand, Asked, by_reference, as_child, by_path}
 use Rattle.fast_check_demands.specs.Account.{alike, referred, essence}
 use Rattle.fast_check_range_finder.specs.declared.asked.AskedAs.{AskedAs}
 use Rattle.fast_check_range_finder.specs.declared.asked.AskedAs.TheVariants as kinds

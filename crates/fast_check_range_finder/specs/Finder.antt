@@ -14,18 +14,18 @@ use Rattle.fast_check_graph.specs.declared.root_symbol.AnyModuleInfo.{AnyModuleI
 use Rattle.fast_check_graph.specs.declared.root_symbol.RootSymbol.{RootSymbol}
 use Rattle.fast_check_lattice.specs.declared.lattice.imported_exports.ImportedExports.{ImportedExports}
 use Rattle.fast_check_lattice.specs.Traces.{handled}
-use Rattle.fast_check_demands.specs.Demands.{Demand as SymbolDemand, demand_of}
+use Rattle.fast_check_demands.specs.symbol_demands.Demands.{Demand as SymbolDemand, demand_of}
 use Rattle.fast_check_demands.specs.Yields.{Joins}
-use Rattle.fast_check_name_demands.specs.Files.{names_of}
-use Rattle.fast_check_traces.specs.declared.modules.TracedModule.{TracedModule}
-use Rattle.fast_check_traces.specs.Modules.{tables_in}
-use Rattle.fast_check_traces.specs.Origins.{IsIndexOf}
-use Rattle.fast_check_traces.specs.Wants.{node_ranges}
+use Rattle.fast_check_demands.specs.name_demands.Files.{names_of}
+use Rattle.fast_check_demands.specs.declared.traces.modules.TracedModule.{TracedModule}
+use Rattle.fast_check_demands.specs.traces.Modules.{tables_in}
+use Rattle.fast_check_demands.specs.traces.Origins.{IsIndexOf}
+use Rattle.fast_check_demands.specs.traces.Wants.{node_ranges}
 use Rattle.fast_check_findings.specs.Found.{entrance_yields, module_yields, untyped_yields}
 use Rattle.fast_check_findings.specs.Yields.{Yield, dependency}
 use Rattle.fast_check_findings.specs.declared.found.Entrance.{Entrance}
-use Rattle.fast_check_worklists.specs.Demands.{Text, same_nv, Want, Demand, of_package, of_module, of_symbol}
-use Rattle.fast_check_sources.specs.Sources.{Known, named_at, lent}
+use Rattle.fast_check_demands.specs.worklists.Demands.{Text, same_nv, Want, Demand, of_package, of_module, of_symbol}
+use Rattle.fast_check_demands.specs.sources.Sources.{Known, named_at, lent}
 use Rattle.fast_check_range_finder.specs.declared.demand.Place.{Place}
 use Rattle.fast_check_range_finder.specs.declared.demand.NamesAt.{NamesAt}
 use Rattle.fast_check_range_finder.specs.declared.demand.SymbolAt.{SymbolAt}

@@ -1,5 +1,4 @@
-pub use Rattle.fast_check_traces.specs as traces
-pub use Rattle.fast_check_sources.specs as wants
+pub use Rattle.fast_check_demands.specs as demands
 pub use Rattle.fast_check_entries.specs as entries
 pub mod Account
 pub mod Asked

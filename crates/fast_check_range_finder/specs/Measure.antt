@@ -5,11 +5,11 @@ use Rattle.std.specs.List.{list_any, Contains}
 use Rattle.fast_check_packages.specs.Package.{Nv}
 use Rattle.fast_check_lattice.specs.Names.{Path}
 use Rattle.fast_check_lattice.specs.Imports.{default_name, NameDemand}
-use Rattle.fast_check_demands.specs.Demands.{Demand as SymbolDemand}
-use Rattle.fast_check_worklists.specs.Demands.{Text, same_nv, Want, to_package, to_module, to_symbol, Demand}
-use Rattle.fast_check_worklists.specs.Demands.{of_package, of_module, of_symbol, World}
+use Rattle.fast_check_demands.specs.symbol_demands.Demands.{Demand as SymbolDemand}
+use Rattle.fast_check_demands.specs.worklists.Demands.{Text, same_nv, Want, to_package, to_module, to_symbol, Demand}
+use Rattle.fast_check_demands.specs.worklists.Demands.{of_package, of_module, of_symbol, World}
 use Rattle.fast_check_range_finder.specs.Search.{Search, handled_at}
-pub use Rattle.fast_check_worklists.specs.Measure.{IsWithin, total, cost, missing, rank}
+pub use Rattle.fast_check_demands.specs.worklists.Measure.{IsWithin, total, cost, missing, rank}
 
 -- all that can be demanded: packages, specifiers, paths of names below a module, and demands of symbols
 pub record Universe : Type 0 where

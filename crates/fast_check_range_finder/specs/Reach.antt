@@ -19,12 +19,12 @@ use Rattle.fast_check_symbols.specs.declared.node.SymbolDep.{SymbolDep}
 use Rattle.fast_check_symbols.specs.declared.node.SymbolDep.TheVariants as deps
 use Rattle.fast_check_symbols.specs.Tables.{Tables}
 use Rattle.fast_check_graph.specs.Root.{specifier_of}
-use Rattle.fast_check_traces.specs.Modules.{tables_in}
-use Rattle.fast_check_worklists.specs.Demands.{Text}
+use Rattle.fast_check_demands.specs.traces.Modules.{tables_in}
+use Rattle.fast_check_demands.specs.worklists.Demands.{Text}
 use Rattle.fast_check_range_finder.specs.Measure.{Universe}
 use Rattle.fast_check_range_finder.specs.Universe.{table_ids, demands_among}
 use Rattle.fast_check_entries.specs.Entries.{Entrance, passed_over, refused, entered}
-use Rattle.fast_check_sources.specs.Sources.{Known}
+use Rattle.fast_check_demands.specs.sources.Sources.{Known}
 use Rattle.fast_check_range_finder.specs.Rules.{entrance_at}
 
 -- the names that the tables of a module write

@@ -4,11 +4,11 @@ use Rattle.std.specs.List.{Contains}
 use Rattle.fast_check_packages.specs.Package.{Nv, nv_of}
 use Rattle.fast_check_packages.specs.declared.fault.BuildFault.{BuildFault}
 use Rattle.fast_check_packages.specs.declared.fault.BuildFault.TheVariants.{InvalidExport, OutOfMemory}
-use Rattle.fast_check_worklists.specs.Demands.{of_package}
+use Rattle.fast_check_demands.specs.worklists.Demands.{of_package}
 use Rattle.fast_check_range_finder.specs.Account.{Account, Chained}
 use Rattle.fast_check_entries.specs.findings.Yields.{Yield, refused_export}
 use Rattle.fast_check_entries.specs.Entries.{Entrance, passed_over, refused, entered}
-use Rattle.fast_check_sources.specs.Sources.{Known}
+use Rattle.fast_check_demands.specs.sources.Sources.{Known}
 use Rattle.fast_check_range_finder.specs.Rules.{entrance_at, world}
 
 -- a package that is demanded, and its first export text that does not join. Of want of memory nothing is said

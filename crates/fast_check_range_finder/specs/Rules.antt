@@ -7,19 +7,19 @@ use Rattle.fast_check_packages.specs.Package.{Nv}
 use Rattle.fast_check_cache.specs.Cache.{ItemView}
 use Rattle.fast_check_lattice.specs.Imports.{NameDemand, each_name}
 use Rattle.fast_check_graph.specs.declared.graph.ModuleGraph.{ModuleGraph}
-use Rattle.fast_check_demands.specs.Demands.{Demand as SymbolDemand}
-use Rattle.fast_check_demands.specs.Rules.{each_of, names}
-use Rattle.fast_check_name_demands.specs.Files.{files}
-use Rattle.fast_check_traces.specs.declared.modules.TracedModule.{TracedModule}
-use Rattle.fast_check_traces.specs.Modules.{own_tables}
-use Rattle.fast_check_traces.specs.Roots.{roots}
-use Rattle.fast_check_traces.specs.Wants.{module_wants}
+use Rattle.fast_check_demands.specs.symbol_demands.Demands.{Demand as SymbolDemand}
+use Rattle.fast_check_demands.specs.symbol_demands.Rules.{each_of, names}
+use Rattle.fast_check_demands.specs.name_demands.Files.{files}
+use Rattle.fast_check_demands.specs.declared.traces.modules.TracedModule.{TracedModule}
+use Rattle.fast_check_demands.specs.traces.Modules.{own_tables}
+use Rattle.fast_check_demands.specs.traces.Roots.{roots}
+use Rattle.fast_check_demands.specs.traces.Wants.{module_wants}
 use Rattle.fast_check_entries.specs.findings.declared.found.EntryFault.{EntryFault}
 use Rattle.fast_check_entries.specs.Entries.{Entrance, passed_over, refused, entered, all_faults, entrance_of}
-use Rattle.fast_check_worklists.specs.Demands.{Text, asked_by, Want, to_package, to_module, to_symbol, of_package}
-use Rattle.fast_check_worklists.specs.Demands.{of_module, of_symbol, World}
-use Rattle.fast_check_sources.specs.Sources.{Used, Known, named_at, traced_as, module_at}
-use Rattle.fast_check_sources.specs.Wants.{file_wants, left_wants}
+use Rattle.fast_check_demands.specs.worklists.Demands.{Text, asked_by, Want, to_package, to_module, to_symbol, of_package}
+use Rattle.fast_check_demands.specs.worklists.Demands.{of_module, of_symbol, World}
+use Rattle.fast_check_demands.specs.sources.Sources.{Used, Known, named_at, traced_as, module_at}
+use Rattle.fast_check_demands.specs.sources.Wants.{file_wants, left_wants}
 
 -- the module's own name
 abbrev pub own_text : TracedModule → Text

@@ -11,11 +11,11 @@ use Rattle.fast_check_lattice.specs.Names.{IsBelow}
 use Rattle.fast_check_lattice.specs.Imports.{default_name, imported, NameDemand, names_but_default, each_name, whole_at}
 use Rattle.fast_check_packages.specs.Package.{Nv}
 use Rattle.fast_check_lattice.specs.Traces.{is_module, Handles}
-use Rattle.fast_check_demands.specs.Demands.{Demand as SymbolDemand}
-use Rattle.fast_check_worklists.specs.Demands.{Text, same_nv, asked, asked_by, one, Want, to_package, to_module, to_symbol}
-use Rattle.fast_check_worklists.specs.Demands.{Demand, of_package, of_module, of_symbol}
+use Rattle.fast_check_demands.specs.symbol_demands.Demands.{Demand as SymbolDemand}
+use Rattle.fast_check_demands.specs.worklists.Demands.{Text, same_nv, asked, asked_by, one, Want, to_package, to_module, to_symbol}
+use Rattle.fast_check_demands.specs.worklists.Demands.{Demand, of_package, of_module, of_symbol}
 use Rattle.fast_check_range_finder.specs.Account.{meets}
-pub use Rattle.fast_check_worklists.specs.State.{has_path, was_told}
+pub use Rattle.fast_check_demands.specs.worklists.State.{has_path, was_told}
 
 -- the packages that were asked for, in the order in which they came; what was asked of each module; whether a demand of
 -- a symbol is met by one that was asked for; and what waits

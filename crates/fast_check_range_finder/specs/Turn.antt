@@ -6,9 +6,9 @@ use Rattle.fast_check_packages.specs.Package.{Nv}
 use Rattle.fast_check_lattice.specs.declared.lattice.imported_exports.ImportedExports.{ImportedExports}
 use Rattle.fast_check_lattice.specs.Names.{IsBelow}
 use Rattle.fast_check_lattice.specs.Imports.{imported, is_star, NameDemand}
-use Rattle.fast_check_demands.specs.Demands.{Demand as SymbolDemand}
+use Rattle.fast_check_demands.specs.symbol_demands.Demands.{Demand as SymbolDemand}
 use Rattle.fast_check_demands.specs.Yields.{Joins}
-use Rattle.fast_check_worklists.specs.Demands.{Text, same_nv, Want, to_package, Demand, of_package, of_module, World, Follows}
+use Rattle.fast_check_demands.specs.worklists.Demands.{Text, same_nv, Want, to_package, Demand, of_package, of_module, World, Follows}
 use Rattle.fast_check_range_finder.specs.Account.{is_package, is_of, meets, joined, Chained, IsStarred, IsYield}
 use Rattle.fast_check_range_finder.specs.Search.{Search, handled_at, IsAsked, IsTaken, AsksAll, IsFresh}
 

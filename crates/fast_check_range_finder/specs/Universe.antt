@@ -7,9 +7,9 @@ use Rattle.fast_check_symbols.specs.declared.symbol_id.SymbolId.{SymbolId}
 use Rattle.fast_check_symbols.specs.declared.symbol.Symbol.{Symbol}
 use Rattle.fast_check_symbols.specs.Symbols.{mentioned_by}
 use Rattle.fast_check_symbols.specs.Tables.{Tables}
-use Rattle.fast_check_demands.specs.symbol_demands.declared.demand.Namespace.TheVariants.{Value, Type_}
-use Rattle.fast_check_demands.specs.symbol_demands.declared.demand.Extent.TheVariants.{Touched, Whole}
-use Rattle.fast_check_demands.specs.Demands.{Demand, Asked, by_reference, as_child, by_path}
+use Rattle.fast_check_demands.specs.declared.symbol_demands.demand.Namespace.TheVariants.{Value, Type_}
+use Rattle.fast_check_demands.specs.declared.symbol_demands.demand.Extent.TheVariants.{Touched, Whole}
+use Rattle.fast_check_demands.specs.symbol_demands.Demands.{Demand, Asked, by_reference, as_child, by_path}
 
 -- the ids that the tables of a module mention
 

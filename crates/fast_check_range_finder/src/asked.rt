@@ -3,7 +3,7 @@
 ghost use Rattle.std.specs.Prelude.{◌≡◌, [], Some, IfOk, OnErr};
 ghost use Rattle.std.proofs.Common.{refl};
 ghost use Rattle.std.specs.List.{list_any};
-ghost use Rattle.fast_check_demands.specs.Demands.{demand_of};
+ghost use Rattle.fast_check_demands.specs.symbol_demands.Demands.{demand_of};
 ghost use Rattle.fast_check_demands.specs.Account.{essence, referred};
 ghost use Rattle.fast_check_range_finder.specs.Asked.{demand_at, covers, AddsSymbol};
 ghost use Rattle.fast_check_range_finder.specs.NameOrder.{names_cmp, names_total, names_ties, names_po};
@@ -98,7 +98,7 @@ pub struct AskedSymbols<'a> {
 
 impl<'a> Model for AskedSymbols<'a> {
     ghost use Rattle.std.specs.Prelude.{List, map};
-    ghost use Rattle.fast_check_demands.specs.Demands.{Demand};
+    ghost use Rattle.fast_check_demands.specs.symbol_demands.Demands.{Demand};
     ghost use Rattle.fast_check_range_finder.specs.Asked.{demand_at};
 
     ghost Value = { List Demand };

@@ -1,7 +1,7 @@
 //! What waits in the loop, and where.
 
 use fast_check_demands::SymbolDemand;
-use fast_check_name_demands::NameDemand;
+use fast_check_demands::name_demands::NameDemand;
 use fast_check_packages::PackageNv;
 use url::Url;
 

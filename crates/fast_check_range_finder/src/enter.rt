@@ -10,8 +10,8 @@ ghost use Rattle.fast_check_cache.specs.CachedPackages.{used_item};
 ghost use Rattle.fast_check_entries.specs.findings.Yields.{kept};
 ghost use Rattle.fast_check_entries.specs.Entries.{entrance_seen, DiagnosesRefused};
 ghost use Rattle.fast_check_entries.specs.Kept.{AreKept};
-ghost use Rattle.fast_check_worklists.specs.Demands.{of_package, to_package};
-ghost use Rattle.fast_check_sources.specs.Sources.{known, with_used};
+ghost use Rattle.fast_check_demands.specs.worklists.Demands.{of_package, to_package};
+ghost use Rattle.fast_check_demands.specs.sources.Sources.{known, with_used};
 ghost use Rattle.fast_check_range_finder.specs.Finder.{IsSound, CanEnter, Goes};
 ghost use Rattle.fast_check_range_finder.specs.Lent.{used_of};
 ghost use Rattle.fast_check_range_finder.specs.Rules.{entry_want, unless_faulty, entered_wants, entry_wants, entrance_at, world};
@@ -19,13 +19,13 @@ ghost use Rattle.fast_check_range_finder.specs.Yields.{entered_yields, entry_yie
 
 use crate::finder::Finder;
 use fast_check_cache::{FastCheckCache, FastCheckCacheItem, look_up};
+use fast_check_demands::name_demands::NameDemand;
+use fast_check_demands::sources::Sources;
+use fast_check_demands::worklists::copy_of;
 use fast_check_entries::{MemberEntries, entry_faults, entry_points};
 use fast_check_findings::{Entrance, EntryFault};
 use fast_check_graph::ModuleGraph;
-use fast_check_name_demands::NameDemand;
 use fast_check_packages::{BuildFault, JsrUrlProvider, PackageNv};
-use fast_check_sources::Sources;
-use fast_check_worklists::copy_of;
 use std::alloc::{AllocError, Global};
 use std::collections::BTreeSet;
 use std::rc::Rc;

@@ -6,17 +6,17 @@ ghost use Rattle.fast_check_packages.specs.Package.{nv_of};
 ghost use Rattle.fast_check_graph.specs.Root.{specifier_of};
 ghost use Rattle.fast_check_graph.specs.declared.graph.ModuleGraph.{ModuleGraph as ModuleGraphSeen};
 ghost use Rattle.fast_check_graph.specs.declared.root_symbol.RootSymbol.{RootSymbol as RootSymbolSeen};
-ghost use Rattle.fast_check_demands.specs.Demands.{Demand as SymbolSeen, demand_of};
-ghost use Rattle.fast_check_demands.specs.Rules.{names};
+ghost use Rattle.fast_check_demands.specs.symbol_demands.Demands.{Demand as SymbolSeen, demand_of};
+ghost use Rattle.fast_check_demands.specs.symbol_demands.Rules.{names};
 ghost use Rattle.fast_check_demands.specs.Yields.{ranges, implementations, faults, fault_seen};
-ghost use Rattle.fast_check_name_demands.specs.Files.{names_of, files, file_demand_of};
-ghost use Rattle.fast_check_traces.specs.Modules.{tables_in, own_tables};
-ghost use Rattle.fast_check_traces.specs.Origins.{IsIndexOf};
-ghost use Rattle.fast_check_traces.specs.Roots.{roots};
-ghost use Rattle.fast_check_traces.specs.Wants.{module_wants, want_of, shown_ranges, re_export_ranges};
-ghost use Rattle.fast_check_worklists.specs.Demands.{asked_by, of_symbol, to_symbol};
-ghost use Rattle.fast_check_sources.specs.Sources.{known, named_at, traced_as};
-ghost use Rattle.fast_check_sources.specs.Wants.{file_at, behind, file_wants, left_wants};
+ghost use Rattle.fast_check_demands.specs.name_demands.Files.{names_of, files, file_demand_of};
+ghost use Rattle.fast_check_demands.specs.traces.Modules.{tables_in, own_tables};
+ghost use Rattle.fast_check_demands.specs.traces.Origins.{IsIndexOf};
+ghost use Rattle.fast_check_demands.specs.traces.Roots.{roots};
+ghost use Rattle.fast_check_demands.specs.traces.Wants.{module_wants, want_of, shown_ranges, re_export_ranges};
+ghost use Rattle.fast_check_demands.specs.worklists.Demands.{asked_by, of_symbol, to_symbol};
+ghost use Rattle.fast_check_demands.specs.sources.Sources.{known, named_at, traced_as};
+ghost use Rattle.fast_check_demands.specs.sources.Wants.{file_at, behind, file_wants, left_wants};
 ghost use Rattle.fast_check_range_finder.specs.Finder.{Followed, place_nv, place_text, names_seen, traced_in, AsksEach, AreShown, Shows, IsSound, Goes};
 ghost use Rattle.fast_check_range_finder.specs.Rules.{own_text, world, names_wants};
 ghost use Rattle.fast_check_range_finder.specs.Turn.{AreSame};
@@ -24,16 +24,16 @@ ghost use Rattle.fast_check_range_finder.specs.Yields.{dependencies, public_at, 
 
 use crate::demand::{NamesAt, SymbolAt};
 use crate::finder::{Finder, FollowedModule, ask_each, place_of};
-use fast_check_demands::{demands_of, fault_of, push_implementations, push_ranges};
-use fast_check_graph::AnyModuleInfo;
-use fast_check_name_demands::{FileWant, FileWants, NameDemand, files_of};
-use fast_check_packages::{JsrUrlProvider, PackageNv};
-use fast_check_sources::{Sources, info_of, is_untyped, owner_of};
-use fast_check_traces::{
+use fast_check_demands::name_demands::{FileWant, FileWants, NameDemand, files_of};
+use fast_check_demands::sources::{Sources, info_of, is_untyped, owner_of};
+use fast_check_demands::traces::{
     ModuleWant, ModuleWants, PublicReExports, TracedModule, push_all_ranges, re_exports_of,
     roots_of, tables_of,
 };
-use fast_check_worklists::{copy_of, is_same_package};
+use fast_check_demands::worklists::{copy_of, is_same_package};
+use fast_check_demands::{demands_of, fault_of, push_implementations, push_ranges};
+use fast_check_graph::AnyModuleInfo;
+use fast_check_packages::{JsrUrlProvider, PackageNv};
 use std::alloc::{AllocError, Global};
 use url::Url;
 

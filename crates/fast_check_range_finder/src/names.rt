@@ -5,13 +5,13 @@ ghost use Rattle.fast_check_lattice.specs.Names.{path_of};
 ghost use Rattle.fast_check_lattice.specs.Imports.{NameDemand as NamesSeen};
 ghost use Rattle.fast_check_lattice.specs.Traces.{handled};
 ghost use Rattle.fast_check_lattice.specs.declared.lattice.imported_exports.ImportedExports.{ImportedExports as ExportsSeen};
-ghost use Rattle.fast_check_name_demands.specs.Files.{names_of, path_demand};
+ghost use Rattle.fast_check_demands.specs.name_demands.Files.{names_of, path_demand};
 ghost use Rattle.fast_check_range_finder.specs.Search.{has_path, was_told, new_beside, new_names, AddsNames};
 
 use fast_check_demands::Extent;
+use fast_check_demands::name_demands::NameDemand;
+use fast_check_demands::worklists::exports_to_ask;
 use fast_check_lattice::{HandledExports, ImportedExports};
-use fast_check_name_demands::NameDemand;
-use fast_check_worklists::exports_to_ask;
 use std::alloc::{AllocError, Global};
 use url::Url;
 

@@ -21,8 +21,8 @@ pub mod diagnostics {
 
 /// Sets of demanded names, and the modules that were followed or wait.
 pub mod lattice {
+    pub use fast_check_demands::worklists::{HandledExports, PendingTrace, PendingTraces};
     pub use fast_check_lattice::{Exports, FileDepName, ImportedExports, NamedSubset};
-    pub use fast_check_worklists::{HandledExports, PendingTrace, PendingTraces};
 }
 
 /// What a caller lends, and why a build stops.

@@ -5,7 +5,7 @@ use Rattle.fast_check_packages.specs.declared.package.PackageNv.{PackageNv}
 use Rattle.fast_check_packages.specs.MembersIn.{members_in}
 use Rattle.fast_check_cache.specs.CachedPackages.{used_item}
 use Rattle.fast_check_range_finder.specs.Lent.{used_of}
-use Rattle.fast_check_range_finder.specs.wants.Sources.{with_used}
+use Rattle.fast_check_range_finder.specs.demands.sources.Sources.{with_used}
 use Rattle.fast_check_range_finder.specs.Refusals.{IsRefusal}
 use Rattle.fast_check_build.specs.Found.{known_of, IsFound}
 use Rattle.fast_check_build.proofs.Said.{found_public}

@@ -2,8 +2,8 @@ use Rattle.std.proofs.Common.{◌∙◌, ap, ◌++◌}
 use Rattle.std.specs.List.{flat_map}
 use Rattle.std.proofs.lemmas.List.{take_all}
 use Rattle.fast_check_lattice.specs.Names.{path_of}
-use Rattle.fast_check_symbol_demands.specs.Demands.{demand_of}
-use Rattle.fast_check_symbol_demands.specs.Rules.{alias_names}
+use Rattle.fast_check_demands.specs.symbol_demands.Demands.{demand_of}
+use Rattle.fast_check_demands.specs.symbol_demands.Rules.{alias_names}
 use Rattle.fast_check_demands.proofs.Aliased.{at, adds_aliases, demands_below, below}
 use Rattle.fast_check_demands.proofs.aliases.push_aliases.Goals as goal
 

@@ -1,8 +1,8 @@
 use Rattle.std.proofs.Common.{◌≡◌, ◌++◌, take}
 use Rattle.std.specs.List.{flat_map}
 use Rattle.fast_check_lattice.specs.Names.{path_of}
-use Rattle.fast_check_symbol_demands.specs.Demands.{demand_of}
-use Rattle.fast_check_symbol_demands.specs.Rules.{alias_names}
+use Rattle.fast_check_demands.specs.symbol_demands.Demands.{demand_of}
+use Rattle.fast_check_demands.specs.symbol_demands.Rules.{alias_names}
 use Rattle.fast_check_demands.proofs.Aliased.{at}
 use Rattle.fast_check_demands.proofs.aliases.push_aliases.Given as goal
 

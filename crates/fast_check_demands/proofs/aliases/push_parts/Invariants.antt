@@ -1,6 +1,6 @@
 use Rattle.std.proofs.Common.{◌≡◌, ◌++◌, take}
-use Rattle.fast_check_symbol_demands.specs.Demands.{demand_of}
-use Rattle.fast_check_symbol_demands.specs.Rules.{parts_names}
+use Rattle.fast_check_demands.specs.symbol_demands.Demands.{demand_of}
+use Rattle.fast_check_demands.specs.symbol_demands.Rules.{parts_names}
 use Rattle.fast_check_demands.proofs.aliases.push_parts.Given as goal
 
 abbrev pub invariant-loop-part : goal.invariant-loop-part

@@ -2,8 +2,8 @@ use Rattle.std.proofs.Common.{◌∙◌, sym, ap}
 use Rattle.std.specs.Option.{option_copied}
 use Rattle.std.proofs.lemmas.Result.{on_ok_weaker}
 use Rattle.fast_check_lattice.specs.Names.{path_of}
-use Rattle.fast_check_symbol_demands.specs.symbols.Symbols.{symbol_of}
-use Rattle.fast_check_symbol_demands.specs.Demands.{demand_of}
+use Rattle.fast_check_symbols.specs.Symbols.{symbol_of}
+use Rattle.fast_check_demands.specs.symbol_demands.Demands.{demand_of}
 use Rattle.fast_check_demands.proofs.Adds.{adds_all, adds_as}
 use Rattle.fast_check_demands.proofs.Aliased.{with_alias, without_alias}
 use Rattle.fast_check_demands.proofs.aliases.push_path_demands.Goals as goal

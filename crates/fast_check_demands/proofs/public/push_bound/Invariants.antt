@@ -1,6 +1,6 @@
 use Rattle.std.proofs.Common.{◌≡◌, ◌++◌, take}
 use Rattle.std.specs.List.{filter}
-use Rattle.fast_check_symbol_demands.specs.Decls.{binds}
+use Rattle.fast_check_demands.specs.symbol_demands.Decls.{binds}
 use Rattle.fast_check_demands.specs.Yields.{decl_ranges}
 use Rattle.fast_check_demands.proofs.public.push_bound.Given as goal
 

@@ -1,6 +1,6 @@
 use Rattle.std.proofs.Common.{◌≡◌, ◌++◌, ◌&&◌, take}
 use Rattle.std.specs.List.{filter}
-use Rattle.fast_check_symbol_demands.specs.Decls.{binds, is_implementation}
+use Rattle.fast_check_demands.specs.symbol_demands.Decls.{binds, is_implementation}
 use Rattle.fast_check_demands.specs.Yields.{decl_ranges}
 use Rattle.fast_check_demands.proofs.public.push_implementing.Given as goal
 

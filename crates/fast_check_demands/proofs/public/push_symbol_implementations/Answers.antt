@@ -1,6 +1,6 @@
 use Rattle.std.proofs.Common.{◌≡◌, ◌∙◌, sym, ap, refl, Bool, true, false, cond, List, [], ◌++◌, append-nil}
 use Rattle.fast_check_syntax.specs.declared.source.SourceRange.{SourceRange}
-use Rattle.fast_check_symbol_demands.specs.Decls.{binds, is_implementation}
+use Rattle.fast_check_demands.specs.symbol_demands.Decls.{binds, is_implementation}
 use Rattle.fast_check_demands.specs.Yields.{decl_ranges}
 use Rattle.fast_check_demands.proofs.Filters.{filter_beside}
 use Rattle.fast_check_demands.proofs.public.push_symbol_implementations.Goals as goal

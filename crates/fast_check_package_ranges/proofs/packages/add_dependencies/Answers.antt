@@ -2,7 +2,7 @@ use Rattle.std.proofs.Common.{◌≡◌, ◌||◌, map, List, ℕ, subst, refl}
 use Rattle.std.specs.List.{list_any}
 use Rattle.std.proofs.lemmas.List.{take_all}
 use Rattle.fast_check_packages.specs.Package.{nv_of}
-use Rattle.fast_check_worklists.specs.Demands.{same_nv}
+use Rattle.fast_check_demands.specs.worklists.Demands.{same_nv}
 use Rattle.fast_check_package_ranges.specs.Parts.{is_package, named_at}
 use Rattle.fast_check_package_ranges.proofs.Dependencies.{named_more}
 use Rattle.fast_check_package_ranges.proofs.packages.add_dependencies.Goals as goal

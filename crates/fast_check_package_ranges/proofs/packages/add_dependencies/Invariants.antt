@@ -1,7 +1,7 @@
 use Rattle.std.proofs.Common.{◌≡◌, ◌||◌, map, take}
 use Rattle.std.specs.List.{list_any}
 use Rattle.fast_check_packages.specs.Package.{Nv, nv_of}
-use Rattle.fast_check_worklists.specs.Demands.{same_nv}
+use Rattle.fast_check_demands.specs.worklists.Demands.{same_nv}
 use Rattle.fast_check_package_ranges.specs.Parts.{is_package, named_at}
 use Rattle.fast_check_package_ranges.proofs.packages.add_dependencies.Given as goal
 

@@ -2,7 +2,7 @@ use Rattle.std.proofs.Common.{◌≡◌, ◌∙◌, ◌+◌, sym, ap, subst, [],
 use Rattle.std.proofs.lemmas.List.{take_more, take_all, map-append}
 use Rattle.fast_check_packages.specs.Package.{Nv, nv_of}
 use Rattle.fast_check_packages.specs.declared.package.PackageNv.{PackageNv}
-use Rattle.fast_check_worklists.specs.Demands.{Want, to_package}
+use Rattle.fast_check_demands.specs.worklists.Demands.{Want, to_package}
 use Rattle.fast_check_range_finder.specs.Finder.{Goes}
 use Rattle.fast_check_range_finder.proofs.Loop.{begins_from}
 use Rattle.fast_check_range_finder.proofs.Steps.{goes_nowhere, goes_then}

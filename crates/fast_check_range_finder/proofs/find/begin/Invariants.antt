@@ -2,7 +2,7 @@ use Rattle.std.proofs.Common.{List, [], map, take}
 use Rattle.fast_check_packages.specs.Package.{nv_of}
 use Rattle.fast_check_graph.specs.declared.graph.ModuleGraph.{ModuleGraph}
 use Rattle.fast_check_graph.specs.declared.root_symbol.RootSymbol.{RootSymbol}
-use Rattle.fast_check_worklists.specs.Demands.{to_package}
+use Rattle.fast_check_demands.specs.worklists.Demands.{to_package}
 use Rattle.fast_check_range_finder.specs.Finder.{Goes}
 use Rattle.fast_check_range_finder.proofs.find.begin.Given as goal
 

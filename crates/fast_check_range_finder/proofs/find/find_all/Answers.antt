@@ -3,7 +3,7 @@ use Rattle.fast_check_packages.specs.Package.{nv_of}
 use Rattle.fast_check_packages.specs.MembersIn.{members_in}
 use Rattle.fast_check_cache.specs.CachedPackages.{used_item}
 use Rattle.fast_check_entries.proofs.Passed.{passed_on}
-use Rattle.fast_check_sources.specs.Sources.{known, with_used}
+use Rattle.fast_check_demands.specs.sources.Sources.{known, with_used}
 use Rattle.fast_check_range_finder.specs.Finder.{search_of, Turns, Rests}
 use Rattle.fast_check_range_finder.specs.Lent.{used_of}
 use Rattle.fast_check_range_finder.specs.Reach.{lent_dependencies, reach}

@@ -1,6 +1,6 @@
 use Rattle.std.proofs.Common.{◌≡◌, ◌∙◌, ◌+◌, sym, ap, subst, [], ◌∷◌, ◌++◌, map, take, List}
 use Rattle.std.proofs.lemmas.List.{take_more, map-append}
-use Rattle.fast_check_demands.specs.Demands.{Demand as SymbolDemand, demand_of}
+use Rattle.fast_check_demands.specs.symbol_demands.Demands.{Demand as SymbolDemand, demand_of}
 use Rattle.fast_check_range_finder.specs.Finder.{AsksEach}
 use Rattle.fast_check_range_finder.proofs.SymbolsAsked.{each_more}
 use Rattle.fast_check_range_finder.proofs.finder.ask_each.Goals as goal

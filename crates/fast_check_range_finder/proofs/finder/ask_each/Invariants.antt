@@ -1,5 +1,5 @@
 use Rattle.std.proofs.Common.{take, map}
-use Rattle.fast_check_demands.specs.Demands.{demand_of}
+use Rattle.fast_check_demands.specs.symbol_demands.Demands.{demand_of}
 use Rattle.fast_check_range_finder.specs.Finder.{AsksEach}
 use Rattle.fast_check_range_finder.proofs.finder.ask_each.Given as goal
 

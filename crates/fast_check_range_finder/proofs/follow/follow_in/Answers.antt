@@ -1,10 +1,10 @@
 use Rattle.std.proofs.Common.{◌∙◌, ap, subst, [], List}
 use Rattle.std.proofs.lemmas.Result.{on_ok_weaker}
 use Rattle.fast_check_modules.specs.symbols.Tables.{Tables}
-use Rattle.fast_check_demands.specs.Demands.{Demand as SymbolDemand, demand_of}
-use Rattle.fast_check_demands.specs.Rules.{names}
+use Rattle.fast_check_demands.specs.symbol_demands.Demands.{Demand as SymbolDemand, demand_of}
+use Rattle.fast_check_demands.specs.symbol_demands.Rules.{names}
 use Rattle.fast_check_demands.specs.Yields.{Adds}
-use Rattle.fast_check_traces.specs.Modules.{tables_in}
+use Rattle.fast_check_demands.specs.traces.Modules.{tables_in}
 use Rattle.fast_check_range_finder.specs.Finder.{AsksEach}
 use Rattle.fast_check_range_finder.proofs.Steps.{same_added}
 use Rattle.fast_check_range_finder.proofs.follow.follow_in.Goals as goal

@@ -4,9 +4,9 @@ use Rattle.std.proofs.lemmas.List.Elements.{Contains-append_left, Contains-appen
 use Rattle.fast_check_syntax.specs.declared.source.SourceRange.{SourceRange}
 use Rattle.fast_check_modules.specs.symbols.Tables.{Tables}
 use Rattle.fast_check_demands.specs.Yields.{Joins}
-use Rattle.fast_check_traces.specs.declared.re_exports.PublicReExports.{PublicReExports}
-use Rattle.fast_check_traces.specs.Modules.{tables_in}
-use Rattle.fast_check_traces.specs.Wants.{node_ranges, shown_ranges}
+use Rattle.fast_check_demands.specs.declared.traces.re_exports.PublicReExports.{PublicReExports}
+use Rattle.fast_check_demands.specs.traces.Modules.{tables_in}
+use Rattle.fast_check_demands.specs.traces.Wants.{node_ranges, shown_ranges}
 use Rattle.fast_check_range_finder.proofs.Joins.{joins_last}
 use Rattle.fast_check_range_finder.proofs.follow.show.Goals as goal
 

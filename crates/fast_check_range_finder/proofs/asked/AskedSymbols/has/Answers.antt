@@ -1,6 +1,6 @@
 use Rattle.std.proofs.Common.{◌∙◌, sym, ap, List}
 use Rattle.std.specs.List.{list_any}
-use Rattle.fast_check_demands.specs.Demands.{Demand, demand_of}
+use Rattle.fast_check_demands.specs.symbol_demands.Demands.{Demand, demand_of}
 use Rattle.fast_check_demands.specs.Account.{essence}
 use Rattle.fast_check_range_finder.specs.Asked.{covers}
 use Rattle.fast_check_range_finder.proofs.Compared.{found_first, found_second}

@@ -3,9 +3,9 @@ use Rattle.std.proofs.lemmas.Result.{on_ok_weaker}
 use Rattle.url.specs.Parts.{serialize}
 use Rattle.fast_check_packages.specs.Package.{Nv, nv_of}
 use Rattle.fast_check_findings.specs.Yields.{dependency}
-use Rattle.fast_check_name_demands.specs.Files.{names_of}
-use Rattle.fast_check_worklists.specs.Demands.{asked_by, to_package, to_module}
-use Rattle.fast_check_sources.specs.Sources.{known}
+use Rattle.fast_check_demands.specs.name_demands.Files.{names_of}
+use Rattle.fast_check_demands.specs.worklists.Demands.{asked_by, to_package, to_module}
+use Rattle.fast_check_demands.specs.sources.Sources.{known}
 use Rattle.fast_check_range_finder.proofs.Owners.{behind_none, behind_other}
 use Rattle.fast_check_range_finder.proofs.Steps.{goes_then}
 use Rattle.fast_check_range_finder.proofs.finder.Finder.ask_behind.Goals as goal

@@ -2,7 +2,7 @@ use Rattle.std.proofs.Common.{◌≡◌, ◌++◌, List, [], map}
 use Rattle.fast_check_packages.specs.Package.{Nv, nv_of}
 use Rattle.fast_check_graph.specs.declared.graph.ModuleGraph.{ModuleGraph}
 use Rattle.fast_check_graph.specs.declared.root_symbol.RootSymbol.{RootSymbol}
-use Rattle.fast_check_worklists.specs.Demands.{Want}
+use Rattle.fast_check_demands.specs.worklists.Demands.{Want}
 use Rattle.fast_check_range_finder.specs.Finder.{IsSound, CanEnter, Goes}
 use Rattle.fast_check_range_finder.specs.Rules.{entry_want}
 use Rattle.fast_check_range_finder.proofs.finder.Finder.ask_entries.Given as goal

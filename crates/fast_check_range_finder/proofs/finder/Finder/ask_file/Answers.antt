@@ -1,9 +1,9 @@
 use Rattle.std.proofs.Common.{◌≡◌, ◌∙◌, sym, ap, None, option_map}
 use Rattle.url.specs.Parts.{serialize}
 use Rattle.fast_check_packages.specs.Package.{nv_of}
-use Rattle.fast_check_name_demands.specs.Files.{names_of}
-use Rattle.fast_check_worklists.specs.Demands.{asked_by}
-use Rattle.fast_check_sources.specs.Sources.{known}
+use Rattle.fast_check_demands.specs.name_demands.Files.{names_of}
+use Rattle.fast_check_demands.specs.worklists.Demands.{asked_by}
+use Rattle.fast_check_demands.specs.sources.Sources.{known}
 use Rattle.fast_check_range_finder.proofs.Owners.{file_none}
 use Rattle.fast_check_range_finder.proofs.finder.Finder.ask_file.Goals as goal
 

@@ -4,11 +4,11 @@ use Rattle.url.specs.Parts.{Parts, serialize}
 use Rattle.fast_check_packages.specs.Package.{nv_of}
 use Rattle.fast_check_graph.specs.Graph.{resolved_to}
 use Rattle.fast_check_lattice.specs.Imports.{names_but_default}
-use Rattle.fast_check_traces.specs.declared.list.ModuleWant.{ModuleWant}
-use Rattle.fast_check_traces.specs.Wants.{want_of}
-use Rattle.fast_check_worklists.specs.Demands.{asked_by}
-use Rattle.fast_check_sources.specs.Sources.{known, traced_as}
-use Rattle.fast_check_sources.specs.Wants.{behind, resolved, left_wants}
+use Rattle.fast_check_demands.specs.declared.traces.list.ModuleWant.{ModuleWant}
+use Rattle.fast_check_demands.specs.traces.Wants.{want_of}
+use Rattle.fast_check_demands.specs.worklists.Demands.{asked_by}
+use Rattle.fast_check_demands.specs.sources.Sources.{known, traced_as}
+use Rattle.fast_check_demands.specs.sources.Wants.{behind, resolved, left_wants}
 use Rattle.fast_check_range_finder.proofs.Owners.{AsksFor, asks_none}
 use Rattle.fast_check_range_finder.proofs.finder.Finder.ask_left.Goals as goal
 

@@ -3,9 +3,9 @@ use Rattle.url.specs.Parts.{Parts, serialize}
 use Rattle.fast_check_packages.specs.Package.{Nv, nv_of}
 use Rattle.fast_check_lattice.specs.Traces.{handled}
 use Rattle.fast_check_lattice.specs.Imports.{NameDemand}
-use Rattle.fast_check_name_demands.specs.Files.{names_of}
-use Rattle.fast_check_name_demands.specs.declared.want.NameDemand.{NameDemand as Single}
-use Rattle.fast_check_worklists.specs.Demands.{Demand, of_module}
+use Rattle.fast_check_demands.specs.name_demands.Files.{names_of}
+use Rattle.fast_check_demands.specs.declared.name_demands.want.NameDemand.{NameDemand as Single}
+use Rattle.fast_check_demands.specs.worklists.Demands.{Demand, of_module}
 use Rattle.fast_check_range_finder.specs.declared.demand.NamesAt.{NamesAt}
 use Rattle.fast_check_range_finder.specs.declared.finder.Finder.{Finder}
 use Rattle.fast_check_range_finder.specs.Search.{AddsNames, AsksNames}

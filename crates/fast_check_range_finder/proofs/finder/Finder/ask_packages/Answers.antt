@@ -2,7 +2,7 @@ use Rattle.std.proofs.Common.{◌≡◌, ◌∙◌, sym, ap, refl, [], ◌∷◌
 use Rattle.std.proofs.lemmas.List.{append_assoc}
 use Rattle.fast_check_packages.specs.Package.{nv_of}
 use Rattle.fast_check_packages.specs.declared.package.PackageNv.{PackageNv}
-use Rattle.fast_check_worklists.specs.Demands.{to_package}
+use Rattle.fast_check_demands.specs.worklists.Demands.{to_package}
 use Rattle.fast_check_range_finder.proofs.Steps.{goes_nowhere, goes_then}
 use Rattle.fast_check_range_finder.proofs.finder.Finder.ask_packages.Goals as goal
 

@@ -3,10 +3,10 @@ use Rattle.std.specs.Option.{option_copied}
 use Rattle.url.specs.Parts.{Parts, serialize}
 use Rattle.fast_check_packages.specs.Package.{nv_of}
 use Rattle.fast_check_graph.specs.Graph.{resolved_to}
-use Rattle.fast_check_name_demands.specs.Files.{names_of}
-use Rattle.fast_check_worklists.specs.Demands.{asked_by}
-use Rattle.fast_check_sources.specs.Sources.{known, traced_as}
-use Rattle.fast_check_sources.specs.Wants.{file_at, resolved}
+use Rattle.fast_check_demands.specs.name_demands.Files.{names_of}
+use Rattle.fast_check_demands.specs.worklists.Demands.{asked_by}
+use Rattle.fast_check_demands.specs.sources.Sources.{known, traced_as}
+use Rattle.fast_check_demands.specs.sources.Wants.{file_at, resolved}
 use Rattle.fast_check_range_finder.proofs.Owners.{asks_none}
 use Rattle.fast_check_range_finder.proofs.finder.Finder.ask_want.Goals as goal
 

@@ -8,7 +8,7 @@ use Rattle.fast_check_entries.specs.Entries.{all_faults}
 use Rattle.fast_check_entries.specs.findings.Yields.{Yield, known_package, entry_point}
 use Rattle.fast_check_entries.specs.findings.declared.found.EntryFault.{EntryFault}
 use Rattle.fast_check_entries.specs.findings.declared.found.Entrance.TheVariants.{Entered}
-use Rattle.fast_check_worklists.specs.Demands.{Want}
+use Rattle.fast_check_demands.specs.worklists.Demands.{Want}
 use Rattle.fast_check_range_finder.specs.declared.finder.Finder.{Finder}
 use Rattle.fast_check_range_finder.specs.Finder.{CanEnter, Goes}
 use Rattle.fast_check_range_finder.specs.Rules.{entry_want, unless_faulty}

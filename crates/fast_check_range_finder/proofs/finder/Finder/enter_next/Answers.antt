@@ -8,8 +8,8 @@ use Rattle.fast_check_packages.specs.declared.package.PackageNv.{PackageNv}
 use Rattle.fast_check_cache.specs.CachedPackages.{used_item}
 use Rattle.fast_check_entries.proofs.Passed.{passed_on}
 use Rattle.fast_check_lattice.specs.Traces.{handled}
-use Rattle.fast_check_worklists.specs.Demands.{Demand, of_package}
-use Rattle.fast_check_sources.specs.Sources.{known, with_used}
+use Rattle.fast_check_demands.specs.worklists.Demands.{Demand, of_package}
+use Rattle.fast_check_demands.specs.sources.Sources.{known, with_used}
 use Rattle.fast_check_range_finder.specs.declared.demand.NamesAt.{NamesAt}
 use Rattle.fast_check_range_finder.specs.declared.demand.SymbolAt.{SymbolAt}
 use Rattle.fast_check_range_finder.specs.declared.finder.Finder.{Finder}

@@ -2,14 +2,14 @@ use Rattle.std.proofs.Common.{◌≡◌, ◌∙◌, sym, ap, refl, subst, Option
 use Rattle.std.specs.Prelude.{slice_get}
 use Rattle.std.proofs.lemmas.Result.{IfOk-weaker}
 use Rattle.indexmap.specs.IndexMap.{with_value_at}
-use Rattle.fast_check_demands.specs.Demands.{Demand as SymbolDemand, demand_of}
-use Rattle.fast_check_demands.specs.Rules.{names}
+use Rattle.fast_check_demands.specs.symbol_demands.Demands.{Demand as SymbolDemand, demand_of}
+use Rattle.fast_check_demands.specs.symbol_demands.Rules.{names}
 use Rattle.fast_check_demands.specs.Yields.{ranges, implementations, faults}
 use Rattle.fast_check_modules.specs.symbols.Tables.{Tables}
-use Rattle.fast_check_name_demands.specs.Files.{FileDemand, files}
-use Rattle.fast_check_traces.specs.Modules.{tables_in, own_tables}
-use Rattle.fast_check_worklists.specs.Demands.{to_symbol}
-use Rattle.fast_check_worklists.proofs.Maps.{some_is}
+use Rattle.fast_check_demands.specs.name_demands.Files.{FileDemand, files}
+use Rattle.fast_check_demands.specs.traces.Modules.{tables_in, own_tables}
+use Rattle.fast_check_demands.specs.worklists.Demands.{to_symbol}
+use Rattle.fast_check_demands.proofs.worklists.Maps.{some_is}
 use Rattle.fast_check_range_finder.specs.declared.finder.Finder.{Finder}
 use Rattle.fast_check_range_finder.specs.declared.finder.FollowedModule.{FollowedModule}
 use Rattle.fast_check_range_finder.specs.contracts.demand.PlacePartialEq.TheImpl as place_eq

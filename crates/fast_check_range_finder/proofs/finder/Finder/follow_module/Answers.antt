@@ -5,12 +5,12 @@ use Rattle.std.proofs.lemmas.Option.{slice_get_within}
 use Rattle.url.specs.Parts.{serialize}
 use Rattle.fast_check_packages.specs.Package.{Nv, nv_of}
 use Rattle.fast_check_graph.specs.Root.{specifier_of}
-use Rattle.fast_check_name_demands.specs.Files.{names_of}
+use Rattle.fast_check_demands.specs.name_demands.Files.{names_of}
 use Rattle.fast_check_findings.specs.Yields.{recorded}
-use Rattle.fast_check_traces.specs.Wants.{Want as WantSeen, want_of}
-use Rattle.fast_check_traces.specs.declared.list.ModuleWant.{ModuleWant}
-use Rattle.fast_check_sources.specs.Sources.{known, traced_as}
-use Rattle.fast_check_sources.specs.Wants.{left_wants}
+use Rattle.fast_check_demands.specs.traces.Wants.{Want as WantSeen, want_of}
+use Rattle.fast_check_demands.specs.declared.traces.list.ModuleWant.{ModuleWant}
+use Rattle.fast_check_demands.specs.sources.Sources.{known, traced_as}
+use Rattle.fast_check_demands.specs.sources.Wants.{left_wants}
 use Rattle.fast_check_range_finder.specs.declared.finder.Finder.{Finder}
 use Rattle.fast_check_range_finder.specs.Finder.{Goes}
 use Rattle.fast_check_range_finder.proofs.Owners.{AsksFor}

@@ -3,10 +3,10 @@ use Rattle.std.specs.Option.{option_copied}
 use Rattle.std.proofs.lemmas.Result.{on_ok_weaker}
 use Rattle.url.specs.Parts.{serialize}
 use Rattle.fast_check_packages.specs.Package.{nv_of}
-use Rattle.fast_check_name_demands.specs.Files.{names_of}
+use Rattle.fast_check_demands.specs.name_demands.Files.{names_of}
 use Rattle.fast_check_findings.specs.Findings.{faulty_module}
 use Rattle.fast_check_findings.specs.Yields.{untyped_module}
-use Rattle.fast_check_sources.specs.Sources.{known}
+use Rattle.fast_check_demands.specs.sources.Sources.{known}
 use Rattle.fast_check_range_finder.specs.declared.finder.Finder.{Finder}
 use Rattle.fast_check_range_finder.specs.Finder.{Goes}
 use Rattle.fast_check_range_finder.proofs.Noted.{untyped_goes}

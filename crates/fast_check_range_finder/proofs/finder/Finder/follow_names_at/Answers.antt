@@ -1,12 +1,12 @@
 use Rattle.std.proofs.Common.{◌≡◌, ◌∙◌, sym, ap, refl, subst, Option, Some, List, map}
 use Rattle.std.specs.Prelude.{slice_get}
 use Rattle.indexmap.specs.IndexMap.{with_value_at}
-use Rattle.fast_check_name_demands.specs.Files.{names_of}
-use Rattle.fast_check_traces.specs.Modules.{own_tables}
-use Rattle.fast_check_traces.specs.Roots.{roots}
-use Rattle.fast_check_traces.specs.Wants.{module_wants, re_export_ranges}
-use Rattle.fast_check_worklists.specs.Demands.{to_symbol}
-use Rattle.fast_check_worklists.proofs.Maps.{some_is}
+use Rattle.fast_check_demands.specs.name_demands.Files.{names_of}
+use Rattle.fast_check_demands.specs.traces.Modules.{own_tables}
+use Rattle.fast_check_demands.specs.traces.Roots.{roots}
+use Rattle.fast_check_demands.specs.traces.Wants.{module_wants, re_export_ranges}
+use Rattle.fast_check_demands.specs.worklists.Demands.{to_symbol}
+use Rattle.fast_check_demands.proofs.worklists.Maps.{some_is}
 use Rattle.fast_check_range_finder.specs.declared.finder.Finder.{Finder}
 use Rattle.fast_check_range_finder.specs.declared.finder.FollowedModule.{FollowedModule}
 use Rattle.fast_check_range_finder.specs.contracts.demand.PlacePartialEq.TheImpl as place_eq

@@ -4,12 +4,12 @@ use Rattle.std.specs.Prelude.{option_map}
 use Rattle.std.specs.Map.Iter.{deref_pair}
 use Rattle.std.proofs.lemmas.List.{take_more, take_all, map-append}
 use Rattle.fast_check_packages.specs.Package.{Nv, nv_of}
-use Rattle.fast_check_demands.specs.Demands.{demand_of}
-use Rattle.fast_check_name_demands.specs.Files.{FileDemand, file_demand_of}
-use Rattle.fast_check_name_demands.specs.declared.want.FileWant.{FileWant}
-use Rattle.fast_check_sources.specs.Sources.{known, traced_as}
-use Rattle.fast_check_sources.specs.Wants.{file_wants}
-use Rattle.fast_check_worklists.proofs.Maps.{some_is}
+use Rattle.fast_check_demands.specs.symbol_demands.Demands.{demand_of}
+use Rattle.fast_check_demands.specs.name_demands.Files.{FileDemand, file_demand_of}
+use Rattle.fast_check_demands.specs.declared.name_demands.want.FileWant.{FileWant}
+use Rattle.fast_check_demands.specs.sources.Sources.{known, traced_as}
+use Rattle.fast_check_demands.specs.sources.Wants.{file_wants}
+use Rattle.fast_check_demands.proofs.worklists.Maps.{some_is}
 use Rattle.fast_check_range_finder.specs.Finder.{Followed, place_nv}
 use Rattle.fast_check_range_finder.proofs.Gained.{get_in}
 use Rattle.fast_check_range_finder.proofs.Owners.{AsksFor}

@@ -1,9 +1,9 @@
 use Rattle.std.proofs.Common.{map, take}
 use Rattle.std.specs.List.{flat_map}
 use Rattle.fast_check_packages.specs.Package.{nv_of}
-use Rattle.fast_check_name_demands.specs.Files.{file_demand_of}
-use Rattle.fast_check_sources.specs.Sources.{known, traced_as}
-use Rattle.fast_check_sources.specs.Wants.{file_wants}
+use Rattle.fast_check_demands.specs.name_demands.Files.{file_demand_of}
+use Rattle.fast_check_demands.specs.sources.Sources.{known, traced_as}
+use Rattle.fast_check_demands.specs.sources.Wants.{file_wants}
 use Rattle.fast_check_range_finder.specs.Finder.{IsSound, Goes}
 use Rattle.fast_check_range_finder.specs.Yields.{dependencies}
 use Rattle.fast_check_range_finder.proofs.finder.Finder.follow_symbol.Given as goal

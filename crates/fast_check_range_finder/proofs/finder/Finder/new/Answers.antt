@@ -2,7 +2,7 @@ use Rattle.std.proofs.Common.{◌≡◌, ◌∙◌, sym, ap, refl, subst, ℕ, L
 use Rattle.std.specs.List.{Contains}
 use Rattle.fast_check_packages.specs.Package.{Nv, nv_of}
 use Rattle.fast_check_packages.specs.declared.package.PackageNv.{PackageNv}
-use Rattle.fast_check_worklists.proofs.Maps.{none_in}
+use Rattle.fast_check_demands.proofs.worklists.Maps.{none_in}
 use Rattle.fast_check_range_finder.specs.declared.demand.SymbolAt.{SymbolAt}
 use Rattle.fast_check_range_finder.specs.Finder.{Modules, entered_nv}
 use Rattle.fast_check_range_finder.proofs.Followed.{once_same}

@@ -6,9 +6,9 @@ use Rattle.std.proofs.lemmas.Result.{IfOk-weaker}
 use Rattle.fast_check_packages.specs.Package.{nv_of}
 use Rattle.fast_check_cache.specs.CachedPackages.{used_item}
 use Rattle.fast_check_lattice.specs.Traces.{handled}
-use Rattle.fast_check_demands.specs.Demands.{demand_of}
-use Rattle.fast_check_worklists.specs.Demands.{of_symbol}
-use Rattle.fast_check_sources.specs.Sources.{known, with_used}
+use Rattle.fast_check_demands.specs.symbol_demands.Demands.{demand_of}
+use Rattle.fast_check_demands.specs.worklists.Demands.{of_symbol}
+use Rattle.fast_check_demands.specs.sources.Sources.{known, with_used}
 use Rattle.fast_check_range_finder.specs.declared.demand.NamesAt.{NamesAt}
 use Rattle.fast_check_range_finder.specs.declared.demand.SymbolAt.{SymbolAt}
 use Rattle.fast_check_range_finder.specs.declared.finder.Finder.{Finder}

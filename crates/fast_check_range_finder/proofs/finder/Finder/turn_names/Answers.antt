@@ -4,7 +4,7 @@ use Rattle.std.proofs.lemmas.Result.{IfOk-weaker}
 use Rattle.fast_check_packages.specs.Package.{nv_of}
 use Rattle.fast_check_cache.specs.CachedPackages.{used_item}
 use Rattle.fast_check_lattice.specs.Traces.{handled}
-use Rattle.fast_check_sources.specs.Sources.{known, with_used}
+use Rattle.fast_check_demands.specs.sources.Sources.{known, with_used}
 use Rattle.fast_check_range_finder.specs.declared.finder.Finder.{Finder}
 use Rattle.fast_check_range_finder.specs.Finder.{names_seen, seen_at}
 use Rattle.fast_check_range_finder.specs.Lent.{used_of}

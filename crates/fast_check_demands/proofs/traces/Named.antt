@@ -1,0 +1,36 @@
+-- What a name that the module does not export itself makes public, and asks for, by where it comes from.
+use Rattle.std.proofs.Common.{◌≡◌, ◌∙◌, ap, subst, cond, is_some, List, [], Option, None, option_map}
+use Rattle.fast_check_lattice.specs.Names.{Name}
+use Rattle.fast_check_lattice.specs.Imports.{NameDemand}
+use Rattle.fast_check_symbols.specs.declared.symbol_id.SymbolId.{SymbolId}
+use Rattle.fast_check_modules.specs.symbols.Tables.{Tables}
+use Rattle.fast_check_modules.specs.symbols.declared.tables.ReExportAllNode.{ReExportAllNode}
+use Rattle.fast_check_demands.specs.declared.traces.modules.TracedModule.{TracedModule}
+use Rattle.fast_check_demands.specs.declared.traces.re_exports.PublicReExports.{PublicReExports}
+use Rattle.fast_check_demands.specs.traces.Modules.{own_tables, own_export, first_with, answer_to}
+use Rattle.fast_check_demands.specs.traces.Origins.{Answered, own_origin}
+use Rattle.fast_check_demands.specs.traces.Wants.{Want, shown_ranges, first_range, path_ranges, answered_at, path_wants}
+use Rattle.fast_check_demands.proofs.traces.Firsts.{first_node, first_answer}
+
+module _ (m : TracedModule) (name : Name) (t : Tables) (is : t ≡ own_tables m) (none : None ≡ own_export t name) (o : Option Answered)
+    (from : o ≡ own_origin m name) where
+  abbrev nodes : List ReExportAllNode
+  nodes = (own_tables m).re_exports
+
+  no_export : None ≡ own_export (own_tables m) name
+  no_export = subst (λ (u : Tables). None ≡ own_export u name) is none
+
+  pub named_ranges : (r : PublicReExports) → shown_ranges t.re_exports r ≡ first_range t.re_exports (option_map (λ a. a.0) o) →
+      shown_ranges (own_tables m).re_exports r ≡ path_ranges m name
+  named_ranges r e =
+      subst (λ (u : Tables). shown_ranges u.re_exports r ≡ first_range u.re_exports (option_map (λ a. a.0) o)) is e
+      ∙ (ap (λ (p : Option Answered). first_range nodes (option_map (λ a. a.0) p)) from
+      ∙ (ap (first_range nodes) (first_node m name nodes)
+      ∙ ap (λ (x : Option SymbolId). cond (is_some x) [] (first_range nodes (first_with m name nodes))) no_export))
+
+  pub named_wants : (d : NameDemand) (wants : List Want) → wants ≡ answered_at d (option_map (λ a. a.1) o) → wants ≡ path_wants m name d
+  named_wants d wants e =
+      e
+      ∙ (ap (λ (p : Option Answered). answered_at d (option_map (λ a. a.1) p)) from
+      ∙ (ap (answered_at d) (first_answer m name nodes)
+      ∙ ap (λ (x : Option SymbolId). cond (is_some x) [] (answered_at d (answer_to m name))) no_export))

@@ -1,0 +1,78 @@
+-- What a demand of a module asks of other modules, by what the module exports again, and which re-exports of all it
+-- makes public.
+use Rattle.std.specs.Prelude.{ℕ, is_some, cond, List, [], ◌∷◌, map, Option, Some, None, string_bytes}
+use Rattle.url.specs.Parts.{Parts}
+use Rattle.fast_check_syntax.specs.declared.source.SourceRange.{SourceRange}
+use Rattle.fast_check_lattice.specs.Names.{Name, Path}
+use Rattle.fast_check_lattice.specs.Imports.{NameDemand, names_but_default, each_name, subset_at, whole_at}
+use Rattle.fast_check_modules.specs.symbols.declared.tables.ReExportAllNode.{ReExportAllNode}
+use Rattle.fast_check_demands.specs.symbol_demands.Rules.{each_of}
+use Rattle.fast_check_demands.specs.name_demands.Files.{names_of}
+use Rattle.fast_check_demands.specs.declared.traces.list.ModuleWant.{ModuleWant}
+use Rattle.fast_check_demands.specs.declared.traces.list.ModuleWant.TheVariants.{ReExported, Answered}
+use Rattle.fast_check_demands.specs.declared.traces.modules.TracedModule.{TracedModule}
+use Rattle.fast_check_demands.specs.declared.traces.re_exports.PublicReExports.{PublicReExports}
+use Rattle.fast_check_demands.specs.declared.traces.re_exports.PublicReExports.TheVariants.{Nothing, First, All}
+use Rattle.fast_check_demands.specs.traces.Modules.{own_tables, own_export, first_with, answer_to}
+
+-- all but `default` of the file that a text names, or a name of the module that answers it; both of whatever package
+pub data Want : Type 0 where
+  re_exported : List ℕ → Want
+  answered : Parts → NameDemand → Want
+
+-- what a value of the code stands for
+abbrev pub want_of : ModuleWant → Want
+want_of (ReExported text) = re_exported text.now
+want_of (Answered url demand) = answered url.now (names_of demand)
+
+-- ranges
+
+abbrev pub node_ranges : List ReExportAllNode → List SourceRange
+node_ranges nodes = map (λ x. x.range) nodes
+
+-- a name that the module does not export itself makes the first re-export of all public that has it, and all of them
+-- where none has it
+abbrev pub first_range : List ReExportAllNode → Option ReExportAllNode → List SourceRange
+first_range nodes None = node_ranges nodes
+first_range nodes (Some x) = x.range ∷ []
+
+abbrev pub path_ranges : TracedModule → Name → List SourceRange
+path_ranges m name = cond (is_some (own_export (own_tables m) name)) []
+    (first_range (own_tables m).re_exports (first_with m name (own_tables m).re_exports))
+
+-- stars make all of them public
+abbrev pub re_export_ranges : TracedModule → NameDemand → List SourceRange
+re_export_ranges m names_but_default = node_ranges (own_tables m).re_exports
+re_export_ranges m each_name = node_ranges (own_tables m).re_exports
+re_export_ranges m (subset_at []) = []
+re_export_ranges m (subset_at (n ∷ p)) = path_ranges m n
+re_export_ranges m (whole_at []) = []
+re_export_ranges m (whole_at (n ∷ p)) = path_ranges m n
+
+-- what a value of the code stands for
+abbrev pub shown_ranges : List ReExportAllNode → PublicReExports → List SourceRange
+shown_ranges nodes Nothing = []
+shown_ranges nodes (First range) = range ∷ []
+shown_ranges nodes All = node_ranges nodes
+
+-- wants
+
+abbrev pub all_wants : List ReExportAllNode → List Want
+all_wants nodes = map (λ x. re_exported (string_bytes x.specifier)) nodes
+
+abbrev pub answered_at : NameDemand → Option Parts → List Want
+answered_at demand answer = each_of (λ url. answered url demand ∷ []) answer
+
+-- a name that the module does not export itself is asked of the module that answers it
+abbrev pub path_wants : TracedModule → Name → NameDemand → List Want
+path_wants m name demand = cond (is_some (own_export (own_tables m) name)) [] (answered_at demand (answer_to m name))
+
+abbrev pub named_wants : TracedModule → Path → NameDemand → List Want
+named_wants m [] demand = []
+named_wants m (n ∷ p) demand = path_wants m n demand
+
+abbrev pub module_wants : TracedModule → NameDemand → List Want
+module_wants m names_but_default = all_wants (own_tables m).re_exports
+module_wants m each_name = all_wants (own_tables m).re_exports
+module_wants m (subset_at p) = named_wants m p (subset_at p)
+module_wants m (whole_at p) = named_wants m p (whole_at p)

@@ -1,0 +1,96 @@
+-- Demands of packages, of names of modules and of symbols, and what follows from one.
+use Rattle.std.specs.Prelude.{◌≡◌, ℕ, Bool, true, false, ◌&&◌, List, [], ◌∷◌, IsTrue}
+use Rattle.std.specs.List.{Contains}
+use Rattle.std.specs.Str.{bytes_eq}
+use Rattle.std.specs.Ordering.{is_eq}
+use Rattle.fast_check_packages.specs.Package.{Nv, nv_cmp}
+use Rattle.fast_check_lattice.specs.declared.lattice.imported_exports.ImportedExports.{ImportedExports}
+use Rattle.fast_check_lattice.specs.declared.lattice.imported_exports.ImportedExports.TheVariants.{Star, StarWithDefault}
+use Rattle.fast_check_lattice.specs.declared.lattice.imported_exports.ImportedExports.TheVariants.{Subset}
+use Rattle.fast_check_lattice.specs.Names.{Path, NameSet, paths, is_touched, whole_path, has_subset, has_whole}
+use Rattle.fast_check_lattice.specs.Imports.{NameDemand, names_but_default, each_name, subset_at, whole_at}
+use Rattle.fast_check_lattice.specs.Imports.{all_but_default, all_names}
+use Rattle.fast_check_demands.specs.symbol_demands.Demands.{Demand as SymbolDemand}
+
+-- a specifier, by its text
+abbrev pub Text : Type 0
+Text = List ℕ
+
+-- packages are told by name and version
+abbrev pub same_nv : Nv → Nv → Bool
+same_nv a b = is_eq (nv_cmp a b)
+
+-- for each single demand of names, whether it is among those that are asked for
+abbrev pub Wanted : Type 0
+Wanted = NameDemand → Bool
+
+-- the single demands of a name set: the empty path touched, each path that holds a subset touched, and each path that
+-- is whole
+abbrev pub set_demands : NameSet → Wanted
+set_demands f names_but_default = false
+set_demands f each_name = false
+set_demands f (subset_at []) = true
+set_demands f (subset_at (n ∷ p)) = has_subset f (n ∷ p)
+set_demands f (whole_at p) = has_whole f p
+
+-- the single demands of what is asked of a module
+abbrev pub asked : ImportedExports → Wanted
+asked Star names_but_default = true
+asked StarWithDefault each_name = true
+asked (Subset s) d = set_demands (paths s) d
+asked _ _ = false
+
+-- the beginnings of a path
+abbrev pub begins : Path → Path → Bool
+begins [] p = true
+begins (m ∷ q) [] = false
+begins (m ∷ q) (n ∷ p) = bytes_eq n m && begins q p
+
+-- a path touched touches its beginnings, but for the empty one
+abbrev pub touched_path : Path → NameSet
+touched_path p part [] = false
+touched_path p part (m ∷ q) = is_touched part && begins (m ∷ q) p
+
+-- the names of a single demand
+abbrev pub one : NameDemand → NameSet
+one names_but_default = all_but_default
+one each_name = all_names
+one (subset_at p) = touched_path p
+one (whole_at p) = whole_path p
+
+-- what is asked for where a single demand is: a path as a name set, with its beginnings touched
+abbrev pub asked_by : NameDemand → Wanted
+asked_by names_but_default = asked Star
+asked_by each_name = asked StarWithDefault
+asked_by (subset_at p) = set_demands (touched_path p)
+asked_by (whole_at p) = set_demands (whole_path p)
+
+-- a single demand: a package; one thing of a module, for a package, under the specifier by which it is asked for; or a
+-- demand of a symbol of a module, for a package, where the module goes by its own name
+pub data Demand : Type 0 where
+  of_package : Nv → Demand
+  of_module : Nv → Text → NameDemand → Demand
+  of_symbol : Nv → Text → SymbolDemand → Demand
+
+-- what a demand names: a package, names of a module for a package, or a demand of a symbol
+pub data Want : Type 0 where
+  to_package : Nv → Want
+  to_module : Nv → Text → Wanted → Want
+  to_symbol : Nv → Text → SymbolDemand → Want
+
+-- what each demand names
+abbrev pub World : Type 0
+World = Demand → List Want
+
+-- the single demands that a want stands for
+abbrev pub Gives : Want → Demand → Type 0
+Gives (to_package p) (of_package q) = p ≡ q
+Gives (to_module p t w) (of_module q u d) = (p ≡ q) × (t ≡ u) × IsTrue (w d)
+Gives (to_symbol p t s) (of_symbol q u e) = (p ≡ q) × (t ≡ u) × (s ≡ e)
+Gives _ _ = ⊥
+
+-- e follows from d
+pub record Follows (world : World) (d e : Demand) : Type 0 where
+  pub want : Want
+  pub among : Contains (world d) want
+  pub gives : Gives want e

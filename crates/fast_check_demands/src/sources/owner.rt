@@ -1,0 +1,54 @@
+//! The package that a module belongs to.
+ghost use Rattle.std.specs.Prelude.{◌≡◌, slice_get, option_map, IfOk};
+ghost use Rattle.url.specs.Parts.{serialize};
+ghost use Rattle.fast_check_packages.specs.Package.{nv_of};
+ghost use Rattle.fast_check_packages.specs.Members.{member_nv, member_of};
+ghost use Rattle.fast_check_packages.specs.MembersIn.{members_in};
+ghost use Rattle.fast_check_demands.specs.sources.Sources.{owner_by};
+
+use crate::sources::sources::Sources;
+use fast_check_packages::{IndexedMembers, JsrUrlProvider, PackageNv};
+use std::alloc::AllocError;
+use url::Url;
+
+fn copy_of(nv: &PackageNv) -> Result<PackageNv, AllocError>
+    ensures { IfOk result (λ copy. nv_of copy ≡ nv_of nv.now) }
+{
+    nv.clone()
+}
+
+/// The package of the member at a place.
+fn member_at(members: &IndexedMembers<'_>, place: usize) -> Result<Option<PackageNv>, AllocError>
+    ensures { IfOk result (λ owner. option_map nv_of owner ≡ option_map member_nv (slice_get (members_in members.now) place)) }
+{
+    match members.package_at(place) {
+        None => Ok(None),
+        Some(nv) => Ok(Some(copy_of(nv)?)),
+    }
+}
+
+/// The package of the first member whose base begins the text.
+fn member_owner(members: &IndexedMembers<'_>, text: &str) -> Result<Option<PackageNv>, AllocError>
+    ensures { IfOk result (λ owner. option_map nv_of owner ≡ option_map member_nv (member_of (members_in members.now) text.now)) }
+{
+    match members.place_around(text) {
+        None => Ok(None),
+        Some(place) => member_at(members, place),
+    }
+}
+
+/// The package that a URL belongs to: that of a member of the workspace for a file, and else what the provider says.
+pub fn owner_of(
+    sources: Sources<'_>,
+    provider: &dyn JsrUrlProvider,
+    url: &Url,
+) -> Result<Option<PackageNv>, AllocError>
+    ensures { let members = members_in sources.entry.workspace_members.now in
+        IfOk result (λ owner. option_map nv_of owner ≡ owner_by members (nv_at provider.now) (serialize url.now)) }
+{
+    let text = url.as_str();
+    if text.as_bytes().starts_with(b"file:") {
+        return member_owner(sources.workspace_members, text);
+    }
+    provider.package_url_to_nv(url)
+}

@@ -1,0 +1,136 @@
+//! Demands by the names that a module binds.
+ghost use Rattle.std.specs.Prelude.{◌≡◌, [], ◌∷◌, ◌++◌, OnOk};
+ghost use Rattle.fast_check_lattice.specs.Names.{path_of};
+ghost use Rattle.fast_check_demands.specs.symbol_demands.Rules.{bound, each_of, reference, child, references, children, references_in, qualified, named};
+
+use crate::symbol_demands::demand::{Ask, Extent, Namespace, SymbolDemand};
+use crate::symbol_demands::list::Demands;
+use fast_check_symbols::{CheckedTables, ReferenceNamespace, SymbolId};
+use fast_check_syntax::Id;
+use std::alloc::AllocError;
+
+/// The symbol that an identifier is bound to.
+pub fn bound(tables: &CheckedTables, id: &Id) -> Option<SymbolId>
+    ensures { result ≡ bound tables.now id.now }
+{
+    let symbol = tables.symbol_from_swc(id)?;
+    Some(symbol.id)
+}
+
+/// Demands a symbol in a namespace.
+pub fn push_reference(
+    symbol: SymbolId,
+    namespace: Namespace,
+    referrer: SymbolId,
+    out: &mut Demands<'_>,
+) -> Result<(), AllocError>
+    ensures { OnOk result (out.new ≡ out.old ++ reference symbol namespace referrer ∷ []) }
+{
+    out.push(SymbolDemand {
+        symbol,
+        ask: Ask::Reference(namespace),
+        referrer,
+    })
+}
+
+/// Demands a symbol in both namespaces.
+pub fn push_references(
+    symbol: SymbolId,
+    referrer: SymbolId,
+    out: &mut Demands<'_>,
+) -> Result<(), AllocError>
+    ensures { OnOk result (out.new ≡ out.old ++ references symbol referrer) }
+{
+    push_reference(symbol, Namespace::Value, referrer, out)?;
+    push_reference(symbol, Namespace::Type_, referrer, out)
+}
+
+/// Demands a symbol in the namespaces that a reference is looked up in.
+pub fn push_references_in(
+    namespace: ReferenceNamespace,
+    symbol: SymbolId,
+    referrer: SymbolId,
+    out: &mut Demands<'_>,
+) -> Result<(), AllocError>
+    ensures { OnOk result (out.new ≡ out.old ++ references_in namespace symbol referrer) }
+{
+    match namespace {
+        ReferenceNamespace::Value => push_reference(symbol, Namespace::Value, referrer, out),
+        ReferenceNamespace::Type_ => push_reference(symbol, Namespace::Type_, referrer, out),
+        ReferenceNamespace::Both => push_references(symbol, referrer, out),
+    }
+}
+
+fn push_child(
+    symbol: SymbolId,
+    namespace: Namespace,
+    parent: SymbolId,
+    out: &mut Demands<'_>,
+) -> Result<(), AllocError>
+    ensures { OnOk result (out.new ≡ out.old ++ child symbol namespace parent ∷ []) }
+{
+    out.push(SymbolDemand {
+        symbol,
+        ask: Ask::Child(namespace),
+        referrer: parent,
+    })
+}
+
+/// Demands a symbol as a child of another, in both namespaces.
+pub fn push_children(
+    symbol: SymbolId,
+    parent: SymbolId,
+    out: &mut Demands<'_>,
+) -> Result<(), AllocError>
+    ensures { OnOk result (out.new ≡ out.old ++ children symbol parent) }
+{
+    push_child(symbol, Namespace::Value, parent, out)?;
+    push_child(symbol, Namespace::Type_, parent, out)
+}
+
+/// Demands what a path below a symbol leads to.
+pub fn push_path<'a>(
+    symbol: SymbolId,
+    names: &'a [String],
+    extent: Extent,
+    referrer: SymbolId,
+    out: &mut Demands<'a>,
+) -> Result<(), AllocError>
+    ensures { OnOk result (out.new ≡ out.old ++ qualified symbol (path_of names.now) extent referrer ∷ []) }
+{
+    out.push(SymbolDemand {
+        symbol,
+        ask: Ask::Path(names, extent),
+        referrer,
+    })
+}
+
+/// Demands what a qualified name leads to.
+pub fn push_named<'a>(
+    symbol: SymbolId,
+    parts: &'a [String],
+    referrer: SymbolId,
+    out: &mut Demands<'a>,
+) -> Result<(), AllocError>
+    ensures { OnOk result (out.new ≡ out.old ++ named symbol (path_of parts.now) referrer ∷ []) }
+{
+    match parts.split_first() {
+        None => push_path(symbol, parts, Extent::Touched, referrer, out),
+        Some(_) => push_path(symbol, parts, Extent::Whole, referrer, out),
+    }
+}
+
+/// Demands what a qualified name leads to, if there is a symbol.
+pub fn push_named_at<'a>(
+    symbol: Option<SymbolId>,
+    parts: &'a [String],
+    referrer: SymbolId,
+    out: &mut Demands<'a>,
+) -> Result<(), AllocError>
+    ensures { OnOk result (out.new ≡ out.old ++ each_of (λ x. named x (path_of parts.now) referrer ∷ []) symbol) }
+{
+    match symbol {
+        None => Ok(()),
+        Some(symbol) => push_named(symbol, parts, referrer, out),
+    }
+}

@@ -1,0 +1,151 @@
+//! Demands of what the public face of a declaration depends on.
+ghost use Rattle.std.specs.Prelude.{◌≡◌, ◌∷◌, [], ◌++◌, OnOk};
+ghost use Rattle.fast_check_demands.specs.symbol_demands.Demands.{demand_of, same_symbol};
+ghost use Rattle.fast_check_demands.specs.symbol_demands.Rules.{each_of, reference, references_in, parent_at, parent_names, dep_names, deps_names, kind_names};
+
+use crate::symbol_demands::bindings::{
+    bound, push_named_at, push_reference, push_references, push_references_in,
+};
+use crate::symbol_demands::demand::{Namespace, SymbolDemand};
+use crate::symbol_demands::list::Demands;
+use fast_check_symbols::{
+    CheckedTables, ReferenceNamespace, SymbolDeclKind, SymbolDep, SymbolId, SymbolNode,
+    SymbolNodeDep,
+};
+use std::alloc::AllocError;
+
+fn push_reference_at(
+    symbol: Option<SymbolId>,
+    namespace: Namespace,
+    referrer: SymbolId,
+    out: &mut Demands<'_>,
+) -> Result<(), AllocError>
+    ensures { OnOk result (out.new ≡ out.old ++ each_of (λ x. reference x namespace referrer ∷ []) symbol) }
+{
+    match symbol {
+        None => Ok(()),
+        Some(symbol) => push_reference(symbol, namespace, referrer, out),
+    }
+}
+
+fn push_references_at(
+    symbol: Option<SymbolId>,
+    namespace: ReferenceNamespace,
+    referrer: SymbolId,
+    out: &mut Demands<'_>,
+) -> Result<(), AllocError>
+    ensures { OnOk result (out.new ≡ out.old ++ each_of (λ x. references_in namespace x referrer) symbol) }
+{
+    match symbol {
+        None => Ok(()),
+        Some(symbol) => push_references_in(namespace, symbol, referrer, out),
+    }
+}
+
+fn push_dep<'a>(
+    tables: &CheckedTables,
+    referrer: SymbolId,
+    dep: &'a SymbolNodeDep,
+    out: &mut Demands<'a>,
+) -> Result<(), AllocError>
+    ensures { OnOk result (out.new ≡ out.old ++ dep_names tables.now referrer dep.now.namespace dep.now.dep) }
+{
+    match &dep.dep {
+        SymbolDep::Id(id) => push_references_at(bound(tables, id), dep.namespace, referrer, out),
+        SymbolDep::QualifiedId(id, parts) => {
+            push_named_at(bound(tables, id), parts.as_slice(), referrer, out)
+        }
+        SymbolDep::ImportType(_, _) => Ok(()),
+    }
+}
+
+fn push_deps<'a>(
+    tables: &CheckedTables,
+    referrer: SymbolId,
+    deps: &'a [SymbolNodeDep],
+    out: &mut Demands<'a>,
+) -> Result<(), AllocError>
+    ensures { OnOk result (out.new ≡ out.old ++ deps_names tables.now referrer deps.now) }
+{
+    for dep in deps {
+        push_dep(tables, referrer, dep, out)?;
+    }
+    Ok(())
+}
+
+fn push_parent_at(
+    demand: SymbolDemand<'_>,
+    parent: Option<SymbolId>,
+    out: &mut Demands<'_>,
+) -> Result<(), AllocError>
+    ensures { OnOk result (out.new ≡ out.old ++ parent_at (demand_of demand.entry) parent) }
+{
+    match parent {
+        None => Ok(()),
+        Some(parent) => {
+            if is_same(parent, demand.referrer) {
+                return Ok(());
+            }
+            push_references(parent, demand.symbol, out)
+        }
+    }
+}
+
+/// Whether two ids are one.
+pub fn is_same(a: SymbolId, b: SymbolId) -> bool
+    ensures { result ≡ same_symbol a b }
+{
+    a.0 == b.0
+}
+
+fn push_parent(
+    demand: SymbolDemand<'_>,
+    is_member: bool,
+    parent: Option<SymbolId>,
+    out: &mut Demands<'_>,
+) -> Result<(), AllocError>
+    ensures { OnOk result (out.new ≡ out.old ++ parent_names (demand_of demand.entry) is_member parent) }
+{
+    if is_member {
+        push_parent_at(demand, parent, out)
+    } else {
+        Ok(())
+    }
+}
+
+fn push_node<'a>(
+    tables: &CheckedTables,
+    demand: SymbolDemand<'_>,
+    parent: Option<SymbolId>,
+    node: &'a SymbolNode,
+    out: &mut Demands<'a>,
+) -> Result<(), AllocError>
+    ensures { OnOk result (out.new ≡ out.old ++ (parent_names (demand_of demand.entry) node.now.is_member parent ++
+        deps_names tables.now demand.entry.symbol node.now.deps.items)) }
+{
+    push_parent(demand, node.is_member, parent, out)?;
+    push_deps(tables, demand.symbol, node.deps.as_slice(), out)
+}
+
+/// What a declaration of a symbol demands, where the symbol is demanded in a namespace.
+pub fn push_kind<'a>(
+    tables: &CheckedTables,
+    demand: SymbolDemand<'_>,
+    namespace: Namespace,
+    parent: Option<SymbolId>,
+    kind: &'a SymbolDeclKind,
+    out: &mut Demands<'a>,
+) -> Result<(), AllocError>
+    ensures { OnOk result (out.new ≡ out.old ++ kind_names tables.now (demand_of demand.entry) namespace parent kind.now) }
+{
+    match kind {
+        SymbolDeclKind::Target(id) => {
+            push_reference_at(bound(tables, id), namespace, demand.symbol, out)
+        }
+        SymbolDeclKind::QualifiedTarget(id, parts) => {
+            push_named_at(bound(tables, id), parts.as_slice(), demand.symbol, out)
+        }
+        SymbolDeclKind::FileRef { .. } | SymbolDeclKind::Definition(None) => Ok(()),
+        SymbolDeclKind::Definition(Some(node)) => push_node(tables, demand, parent, node, out),
+    }
+}

@@ -1,0 +1,153 @@
+//! Re-exports of all: which are public, and what they ask of other modules.
+ghost use Rattle.std.specs.Prelude.{◌≡◌, [], ◌++◌, map, option_map, OnOk, IfOk, IfSome, string_bytes};
+ghost use Rattle.fast_check_demands.specs.name_demands.Files.{names_of};
+ghost use Rattle.fast_check_demands.specs.declared.traces.re_exports.PublicReExports.TheVariants.{Nothing};
+ghost use Rattle.fast_check_demands.specs.traces.Modules.{own_tables as tables_at};
+ghost use Rattle.fast_check_demands.specs.traces.Wants.{node_ranges, shown_ranges, first_range, path_ranges, re_export_ranges};
+ghost use Rattle.fast_check_demands.specs.traces.Wants.{answered_at, path_wants, all_wants, module_wants};
+ghost use Rattle.fast_check_demands.specs.traces.Origins.{origin_of, IsIndexOf};
+
+use crate::name_demands::NameDemand;
+use crate::traces::list::{ModuleWant, ModuleWants};
+use crate::traces::modules::{TracedModule, own_export, own_tables};
+use crate::traces::origins::{Origin, ReExportIndex, origin_by};
+use crate::{CheckedTables, SourceRange};
+use fast_check_modules::ReExportAllNode;
+use std::alloc::{AllocError, Global};
+
+/// Which re-exports of all of a module are public.
+#[derive(Clone, Copy)]
+pub enum PublicReExports {
+    Nothing,
+    /// The one at this range: the first that has a name.
+    First(SourceRange),
+    All,
+}
+
+/// What a demand of a module makes public of its re-exports of all, and asks of other modules by them.
+#[derive(Drop)]
+pub struct ReExports<'a> {
+    pub public: PublicReExports,
+    pub wants: ModuleWants<'a>,
+}
+
+fn push_ranges(nodes: &[ReExportAllNode], out: &mut Vec<SourceRange>) -> Result<(), AllocError>
+    ensures { OnOk result (out.new.items ≡ out.old.items ++ node_ranges nodes.now) }
+{
+    for node in nodes {
+        out.push(node.range)?;
+    }
+    Ok(())
+}
+
+/// Pushes the ranges of all re-exports of all of a module.
+pub fn push_all_ranges(tables: &CheckedTables, out: &mut Vec<SourceRange>) -> Result<(), AllocError>
+    ensures { OnOk result (out.new.items ≡ out.old.items ++ node_ranges tables.now.re_exports) }
+{
+    push_ranges(tables.re_export_all_nodes(), out)
+}
+
+fn push_all_wants<'a>(
+    nodes: &'a [ReExportAllNode],
+    out: &mut ModuleWants<'a>,
+) -> Result<(), AllocError>
+    ensures { OnOk result (out.new ≡ out.old ++ all_wants nodes.now) }
+{
+    for node in nodes {
+        out.push(ModuleWant::ReExported(node.specifier.as_str()))?;
+    }
+    Ok(())
+}
+
+/// A star makes all of them public, and asks for what is behind each.
+fn star_re_exports<'a>(
+    alloc: Global,
+    tables: &'a CheckedTables,
+) -> Result<ReExports<'a>, AllocError>
+    ensures public { IfOk result (λ r. shown_ranges tables.now.re_exports r.public ≡ node_ranges tables.now.re_exports) }
+    ensures wants { IfOk result (λ r. r.wants ≡ all_wants tables.now.re_exports) }
+{
+    let mut wants = ModuleWants::new(alloc);
+    push_all_wants(tables.re_export_all_nodes(), &mut wants)?;
+    Ok(ReExports {
+        public: PublicReExports::All,
+        wants,
+    })
+}
+
+fn no_re_exports<'a>(alloc: Global) -> ReExports<'a>
+    ensures public { result.public ≡ Nothing }
+    ensures wants { result.wants ≡ [] }
+{
+    ReExports {
+        public: PublicReExports::Nothing,
+        wants: ModuleWants::new(alloc),
+    }
+}
+
+/// What a name asks for by where it comes from. One that comes from nowhere makes all of them public.
+fn re_exports_at<'a>(
+    alloc: Global,
+    tables: &CheckedTables,
+    origin: Option<Origin<'a>>,
+    demand: NameDemand<'a>,
+) -> Result<ReExports<'a>, AllocError>
+    ensures public { IfOk result (λ r. shown_ranges tables.now.re_exports r.public
+        ≡ first_range tables.now.re_exports (option_map (λ a. a.0) (option_map origin_of origin.entry))) }
+    ensures wants { IfOk result (λ r. r.wants ≡ answered_at (names_of demand.entry) (option_map (λ a. a.1) (option_map origin_of origin.entry))) }
+{
+    let mut found = no_re_exports(alloc);
+    match origin {
+        None => found.public = PublicReExports::All,
+        Some(origin) => {
+            found.public = PublicReExports::First(origin.node.range);
+            found
+                .wants
+                .push(ModuleWant::Answered(origin.module, demand))?;
+        }
+    }
+    Ok(found)
+}
+
+/// What a name asks for, unless the module exports it itself.
+fn named_re_exports<'a, 'm: 'a>(
+    alloc: Global,
+    traced: TracedModule<'m>,
+    first: &str,
+    demand: NameDemand<'a>,
+    index: &mut Option<ReExportIndex<'m>>,
+) -> Result<ReExports<'a>, AllocError>
+    requires { IfSome index.old (IsIndexOf traced) }
+    ensures index { OnOk result (IfSome index.new (IsIndexOf traced.entry)) }
+    ensures public { IfOk result (λ r. shown_ranges (tables_at traced.entry).re_exports r.public ≡ path_ranges traced.entry first.now) }
+    ensures wants { IfOk result (λ r. r.wants ≡ path_wants traced.entry first.now (names_of demand.entry)) }
+{
+    let tables = own_tables(traced);
+    match own_export(tables, first) {
+        Some(_) => Ok(no_re_exports(alloc)),
+        None => {
+            let origin = origin_by(alloc, traced, first, index)?;
+            re_exports_at(alloc, tables, origin, demand)
+        }
+    }
+}
+
+/// What a demand of a module makes public of its re-exports of all, and asks of other modules by them. The index of the names behind them is made where a
+/// name is first looked for, and handed on for the next one.
+pub fn re_exports_of<'a, 'm: 'a>(
+    alloc: Global,
+    traced: TracedModule<'m>,
+    demand: NameDemand<'a>,
+    index: &mut Option<ReExportIndex<'m>>,
+) -> Result<ReExports<'a>, AllocError>
+    requires { IfSome index.old (IsIndexOf traced) }
+    ensures index { OnOk result (IfSome index.new (IsIndexOf traced.entry)) }
+    ensures public { IfOk result (λ r. shown_ranges (tables_at traced.entry).re_exports r.public ≡ re_export_ranges traced.entry (names_of demand.entry)) }
+    ensures wants { IfOk result (λ r. r.wants ≡ module_wants traced.entry (names_of demand.entry)) }
+{
+    match demand {
+        NameDemand::AllButDefault | NameDemand::All => star_re_exports(alloc, own_tables(traced)),
+        NameDemand::There => Ok(no_re_exports(alloc)),
+        NameDemand::Path(first, _, _) => named_re_exports(alloc, traced, first, demand, index),
+    }
+}

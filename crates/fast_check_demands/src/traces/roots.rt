@@ -1,0 +1,210 @@
+//! The symbols that the names of a module ask for.
+ghost use Rattle.std.specs.Prelude.{◌≡◌, ◌∷◌, [], ◌++◌, option_map, OnOk, IfOk};
+ghost use Rattle.std.specs.Option.{option_copied};
+ghost use Rattle.std.specs.List.{flat_map};
+ghost use Rattle.fast_check_lattice.specs.Names.{path_of};
+ghost use Rattle.fast_check_symbols.specs.Exports.{seen_export};
+ghost use Rattle.fast_check_demands.specs.name_demands.Files.{names_of, path_demand};
+ghost use Rattle.fast_check_demands.specs.symbol_demands.Rules.{each_of, reference};
+ghost use Rattle.fast_check_demands.specs.traces.Roots.{is_exported_in, references_as, exported_as, export_whole, star_export, star_roots, path_roots, roots};
+
+use crate::name_demands::NameDemand;
+use crate::traces::modules::own_export;
+use crate::{Ask, CheckedTables, Demands, Extent, Namespace, SymbolDemand};
+use fast_check_symbols::{Symbol, SymbolDecls, SymbolExports, SymbolId};
+use std::alloc::{AllocError, Global};
+
+fn is_exported_in(decls: &SymbolDecls, namespace: Namespace) -> bool
+    ensures { result ≡ is_exported_in decls.now.items namespace }
+{
+    match namespace {
+        Namespace::Value => decls.is_exported_value(),
+        Namespace::Type_ => decls.is_exported_type(),
+    }
+}
+
+fn push_reference(
+    tables: &CheckedTables,
+    symbol: SymbolId,
+    namespace: Namespace,
+    out: &mut Demands<'_>,
+) -> Result<(), AllocError>
+    ensures { OnOk result (out.new ≡ out.old ++ reference symbol namespace tables.now.module_symbol ∷ []) }
+{
+    out.push(SymbolDemand {
+        symbol,
+        ask: Ask::Reference(namespace),
+        referrer: tables.module_symbol(),
+    })
+}
+
+fn push_references_as(
+    tables: &CheckedTables,
+    symbol: SymbolId,
+    as_value: bool,
+    as_type: bool,
+    out: &mut Demands<'_>,
+) -> Result<(), AllocError>
+    ensures { OnOk result (out.new ≡ out.old ++ references_as as_value as_type symbol tables.now.module_symbol) }
+{
+    match (as_value, as_type) {
+        (true, false) => push_reference(tables, symbol, Namespace::Value, out),
+        (false, true) => push_reference(tables, symbol, Namespace::Type_, out),
+        _ => {
+            push_reference(tables, symbol, Namespace::Value, out)?;
+            push_reference(tables, symbol, Namespace::Type_, out)
+        }
+    }
+}
+
+fn push_exported(
+    tables: &CheckedTables,
+    id: SymbolId,
+    symbol: Option<&Symbol>,
+    out: &mut Demands<'_>,
+) -> Result<(), AllocError>
+    ensures { OnOk result (out.new ≡ out.old ++ exported_as (option_copied symbol.entry) id tables.now.module_symbol) }
+{
+    match symbol {
+        None => push_references_as(tables, id, true, true, out),
+        Some(symbol) => {
+            let as_value = is_exported_in(&symbol.decls, Namespace::Value);
+            let as_type = is_exported_in(&symbol.decls, Namespace::Type_);
+            push_references_as(tables, id, as_value, as_type, out)
+        }
+    }
+}
+
+fn push_export_whole(
+    tables: &CheckedTables,
+    export: SymbolId,
+    out: &mut Demands<'_>,
+) -> Result<(), AllocError>
+    ensures { OnOk result (out.new ≡ out.old ++ export_whole tables.now export) }
+{
+    push_exported(tables, export, tables.symbol(export), out)
+}
+
+fn push_star_export(
+    tables: &CheckedTables,
+    with_default: bool,
+    export: Option<(&str, SymbolId)>,
+    out: &mut Demands<'_>,
+) -> Result<(), AllocError>
+    ensures { OnOk result (out.new ≡ out.old ++ each_of (star_export tables.now with_default) (option_map seen_export export.entry)) }
+{
+    match export {
+        None => Ok(()),
+        Some((name, export)) => {
+            if with_default || name != "default" {
+                return push_export_whole(tables, export, out);
+            }
+            Ok(())
+        }
+    }
+}
+
+fn push_star_exports(
+    tables: &CheckedTables,
+    with_default: bool,
+    exports: &SymbolExports,
+    out: &mut Demands<'_>,
+) -> Result<(), AllocError>
+    ensures { OnOk result (out.new ≡ out.old ++ flat_map (star_export tables.now with_default) exports.now) }
+{
+    for place in 0..exports.len() {
+        push_star_export(tables, with_default, exports.at(place), out)?;
+    }
+    Ok(())
+}
+
+fn push_star(
+    tables: &CheckedTables,
+    with_default: bool,
+    out: &mut Demands<'_>,
+) -> Result<(), AllocError>
+    ensures { OnOk result (out.new ≡ out.old ++ star_roots tables.now with_default) }
+{
+    match tables.symbol(tables.module_symbol()) {
+        None => Ok(()),
+        Some(symbol) => push_star_exports(tables, with_default, &symbol.exports, out),
+    }
+}
+
+fn push_path<'a>(
+    tables: &CheckedTables,
+    export: SymbolId,
+    rest: &'a [String],
+    extent: Extent,
+    out: &mut Demands<'a>,
+) -> Result<(), AllocError>
+    ensures { OnOk result (out.new ≡ out.old ++ path_roots tables.now export (path_of rest.now) extent) }
+{
+    match extent {
+        Extent::Whole if rest.is_empty() => push_export_whole(tables, export, out),
+        _ => out.push(SymbolDemand {
+            symbol: export,
+            ask: Ask::Path(rest, extent),
+            referrer: tables.module_symbol(),
+        }),
+    }
+}
+
+fn push_path_at<'a>(
+    tables: &CheckedTables,
+    export: Option<SymbolId>,
+    rest: &'a [String],
+    extent: Extent,
+    out: &mut Demands<'a>,
+) -> Result<(), AllocError>
+    ensures { OnOk result (out.new ≡ out.old ++ each_of (λ x. path_roots tables.now x (path_of rest.now) extent) export) }
+{
+    match export {
+        None => Ok(()),
+        Some(export) => push_path(tables, export, rest, extent, out),
+    }
+}
+
+fn push_named<'a>(
+    tables: &CheckedTables,
+    first: &str,
+    rest: &'a [String],
+    extent: Extent,
+    out: &mut Demands<'a>,
+) -> Result<(), AllocError>
+    ensures { OnOk result (out.new ≡ out.old ++ roots tables.now (path_demand (first.now ∷ path_of rest.now) extent)) }
+{
+    let export = own_export(tables, first);
+    match extent {
+        Extent::Touched => push_path_at(tables, export, rest, Extent::Touched, out),
+        Extent::Whole => push_path_at(tables, export, rest, Extent::Whole, out),
+    }
+}
+
+fn push_roots<'a>(
+    tables: &CheckedTables,
+    demand: NameDemand<'a>,
+    out: &mut Demands<'a>,
+) -> Result<(), AllocError>
+    ensures { OnOk result (out.new ≡ out.old ++ roots tables.now (names_of demand.entry)) }
+{
+    match demand {
+        NameDemand::AllButDefault => push_star(tables, false, out),
+        NameDemand::All => push_star(tables, true, out),
+        NameDemand::There => Ok(()),
+        NameDemand::Path(first, rest, extent) => push_named(tables, first, rest, extent, out),
+    }
+}
+
+/// What a demand of a module asks of its symbols.
+pub fn roots_of<'a>(
+    alloc: Global,
+    tables: &CheckedTables,
+    demand: NameDemand<'a>,
+) -> Result<Demands<'a>, AllocError>
+    ensures { IfOk result (λ out. out ≡ roots tables.now (names_of demand.entry)) }
+{
+    let mut out = Demands::new(alloc);
+    push_roots(tables, demand, &mut out)?;
+    Ok(out)
+}
