@@ -9,7 +9,7 @@ program=$(readlink -f "$2")
 cd "$(dirname "$(readlink -f "${BASH_SOURCE[0]}")")/../.."
 case $1 in
   names) below="fast_check_cases fast_check_lattice" ;;
-  refused) below="fast_check_lattice fast_check_packages fast_check_worklists semver url" ;;
+  refused) below="fast_check_lattice fast_check_packages semver url" ;;
   builds) below="anyhow fast_check_build fast_check_requests fast_check_cache fast_check_cache_cases fast_check_graph fast_check_packages serde_json" ;;
   *) echo "no driver: $1" >&2; exit 2 ;;
 esac

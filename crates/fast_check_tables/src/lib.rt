@@ -21,7 +21,7 @@ pub mod diagnostics {
 
 /// Sets of demanded names, and the modules that were followed or wait.
 pub mod lattice {
-    pub use fast_check_demands::worklists::{HandledExports, PendingTrace, PendingTraces};
+    pub use fast_check_lattice::{HandledExports, PendingTrace, PendingTraces};
     pub use fast_check_lattice::{Exports, FileDepName, ImportedExports, NamedSubset};
 }
 
