@@ -6,7 +6,7 @@ use Rattle.fast_check_packages.specs.Package.{Nv}
 use Rattle.fast_check_packages.specs.declared.package.PackageNv.{PackageNv}
 use Rattle.fast_check_cache.specs.declared.package_ranges.PackagePublicRanges.{PackagePublicRanges}
 use Rattle.fast_check_package_ranges.specs.findings.Found.{found_yields}
-use Rattle.fast_check_package_ranges.specs.findings.declared.found.FoundPackage.{FoundPackage}
+use Rattle.fast_check_package_ranges.specs.declared.findings.found.FoundPackage.{FoundPackage}
 use Rattle.fast_check_package_ranges.specs.Answers.{AreAnswers}
 use Rattle.fast_check_range_finder.specs.demands.sources.Sources.{Used, none_used, with_used, Known}
 use Rattle.fast_check_range_finder.specs.Lent.{used_of}

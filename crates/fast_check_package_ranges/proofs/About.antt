@@ -7,18 +7,18 @@ use Rattle.url.specs.Parts.{Parts, serialize}
 use Rattle.fast_check_packages.specs.Package.{Nv}
 use Rattle.fast_check_graph.specs.ModuleNames.{specifier_of}
 use Rattle.fast_check_demands.specs.worklists.Demands.{Text, same_nv}
-use Rattle.fast_check_findings.specs.Faults.{placed_seen}
-use Rattle.fast_check_findings.specs.Findings.{faulty_module, placed_yield}
-use Rattle.fast_check_findings.specs.Found.{source_in, own_text, module_yields, entry_fault_yields, entrance_yields}
-use Rattle.fast_check_findings.specs.Found.{dependency_yields, untyped_yields, package_yields}
-use Rattle.fast_check_findings.specs.Yields.{ModuleFault, Yield, entry_point, dependency, public}
-use Rattle.fast_check_findings.specs.Yields.{implementing}
-use Rattle.fast_check_findings.specs.declared.found.Entrance.{Entrance}
-use Rattle.fast_check_findings.specs.declared.found.Entrance.TheVariants.{Entered, Kept}
-use Rattle.fast_check_findings.specs.declared.found.FoundModule.{FoundModule}
-use Rattle.fast_check_findings.specs.declared.found.FoundPackage.{FoundPackage}
-use Rattle.fast_check_findings.proofs.Bools.{or_none}
-use Rattle.fast_check_findings.proofs.Collected.{all_weaker}
+use Rattle.fast_check_package_ranges.specs.findings.Faults.{placed_seen}
+use Rattle.fast_check_package_ranges.specs.findings.Findings.{faulty_module, placed_yield}
+use Rattle.fast_check_package_ranges.specs.findings.Found.{source_in, own_text, module_yields, entry_fault_yields, entrance_yields}
+use Rattle.fast_check_package_ranges.specs.findings.Found.{dependency_yields, untyped_yields, package_yields}
+use Rattle.fast_check_package_ranges.specs.findings.Yields.{ModuleFault, Yield, entry_point, dependency, public}
+use Rattle.fast_check_package_ranges.specs.findings.Yields.{implementing}
+use Rattle.fast_check_package_ranges.specs.declared.findings.found.Entrance.{Entrance}
+use Rattle.fast_check_package_ranges.specs.declared.findings.found.Entrance.TheVariants.{Entered, Kept}
+use Rattle.fast_check_package_ranges.specs.declared.findings.found.FoundModule.{FoundModule}
+use Rattle.fast_check_package_ranges.specs.declared.findings.found.FoundPackage.{FoundPackage}
+use Rattle.fast_check_package_ranges.proofs.findings.Bools.{or_none}
+use Rattle.fast_check_package_ranges.proofs.findings.Collected.{all_weaker}
 use Rattle.fast_check_package_ranges.specs.Answers.{package_of, modules_of, about, about_module}
 use Rattle.fast_check_package_ranges.specs.Parts.{is_text}
 use Rattle.fast_check_package_ranges.proofs.Lists.{all_append, all_map, all_flat, filter_const}

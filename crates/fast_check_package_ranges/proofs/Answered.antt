@@ -20,10 +20,10 @@ use Rattle.fast_check_packages.specs.contracts.package.PackageNvPartialEq.TheImp
 use Rattle.fast_check_cache.specs.Cache.{ItemView}
 use Rattle.fast_check_cache.specs.declared.package_ranges.PackagePublicRanges.{PackagePublicRanges}
 use Rattle.fast_check_demands.specs.worklists.Demands.{same_nv}
-use Rattle.fast_check_findings.specs.Found.{package_yields}
-use Rattle.fast_check_findings.specs.Yields.{Yield}
-use Rattle.fast_check_findings.specs.declared.found.FoundPackage.{FoundPackage}
-use Rattle.fast_check_findings.proofs.Lists.{any_map}
+use Rattle.fast_check_package_ranges.specs.findings.Found.{package_yields}
+use Rattle.fast_check_package_ranges.specs.findings.Yields.{Yield}
+use Rattle.fast_check_package_ranges.specs.declared.findings.found.FoundPackage.{FoundPackage}
+use Rattle.fast_check_package_ranges.proofs.findings.Lists.{any_map}
 use Rattle.fast_check_package_ranges.specs.Answers.{package_of, about, is_filled, StandsFor}
 use Rattle.fast_check_package_ranges.specs.Answers.{lookup_package, IsItemAnswer, IsAnswerBy, IsPackageAnswer}
 use Rattle.fast_check_package_ranges.specs.Parts.{is_package, urls_at, item_at, named_at, yields_at, AreAnswered, IsAdded}

@@ -10,7 +10,7 @@ use Rattle.std.specs.BTreeMap as tree
 use Rattle.std.specs.Map.{lookup, IsKeyTest}
 use Rattle.std.proofs.lemmas.Bool.{cases_Bool, false≢true}
 use Rattle.std.proofs.lemmas.List.Folds.{list_any-append}
-use Rattle.fast_check_findings.proofs.Bools.{or_none}
+use Rattle.fast_check_package_ranges.proofs.findings.Bools.{or_none}
 use Rattle.fast_check_package_ranges.proofs.Maps.{lookup_key, lookup_after}
 
 -- a key of these entries passes the test

@@ -12,8 +12,8 @@ use Rattle.fast_check_packages.specs.declared.package.PackageNv.{PackageNv}
 use Rattle.fast_check_packages.specs.Package.{Nv}
 use Rattle.fast_check_packages.specs.Packages.{package_cmp}
 use Rattle.fast_check_demands.specs.worklists.Demands.{same_nv}
-use Rattle.fast_check_findings.proofs.Bools.{or_assoc}
-use Rattle.fast_check_findings.proofs.Lists.{any_push}
+use Rattle.fast_check_package_ranges.proofs.findings.Bools.{or_assoc}
+use Rattle.fast_check_package_ranges.proofs.findings.Lists.{any_push}
 use Rattle.fast_check_package_ranges.specs.Parts.{is_package, named_at}
 use Rattle.fast_check_package_ranges.proofs.Maps.{package_one, package_total}
 use Rattle.fast_check_package_ranges.proofs.Sets.{collected}

@@ -8,17 +8,17 @@ use Rattle.url.specs.Parts.{Parts, serialize}
 use Rattle.fast_check_syntax.specs.declared.source.SourceRange.{SourceRange}
 use Rattle.fast_check_packages.specs.Package.{Nv}
 use Rattle.fast_check_demands.specs.worklists.Demands.{Text}
-use Rattle.fast_check_findings.specs.Faults.{placed_seen}
-use Rattle.fast_check_findings.specs.Findings.{placed_yield}
-use Rattle.fast_check_findings.specs.Found.{source_in, own_text, module_yields, entry_fault_yields, entrance_yields}
-use Rattle.fast_check_findings.specs.Found.{dependency_yields, untyped_yields, package_yields}
-use Rattle.fast_check_findings.specs.Yields.{ModuleFault, Yield, known_package, entry_point, dependency, recorded, public}
-use Rattle.fast_check_findings.specs.Yields.{implementing, faulty, of_demand}
-use Rattle.fast_check_findings.specs.declared.found.EntryFault.{EntryFault}
-use Rattle.fast_check_findings.specs.declared.found.Entrance.{Entrance}
-use Rattle.fast_check_findings.specs.declared.found.Entrance.TheVariants.{Entered, Kept}
-use Rattle.fast_check_findings.specs.declared.found.FoundModule.{FoundModule}
-use Rattle.fast_check_findings.specs.declared.found.FoundPackage.{FoundPackage}
+use Rattle.fast_check_package_ranges.specs.findings.Faults.{placed_seen}
+use Rattle.fast_check_package_ranges.specs.findings.Findings.{placed_yield}
+use Rattle.fast_check_package_ranges.specs.findings.Found.{source_in, own_text, module_yields, entry_fault_yields, entrance_yields}
+use Rattle.fast_check_package_ranges.specs.findings.Found.{dependency_yields, untyped_yields, package_yields}
+use Rattle.fast_check_package_ranges.specs.findings.Yields.{ModuleFault, Yield, known_package, entry_point, dependency, recorded, public}
+use Rattle.fast_check_package_ranges.specs.findings.Yields.{implementing, faulty, of_demand}
+use Rattle.fast_check_package_ranges.specs.declared.findings.found.EntryFault.{EntryFault}
+use Rattle.fast_check_package_ranges.specs.declared.findings.found.Entrance.{Entrance}
+use Rattle.fast_check_package_ranges.specs.declared.findings.found.Entrance.TheVariants.{Entered, Kept}
+use Rattle.fast_check_package_ranges.specs.declared.findings.found.FoundModule.{FoundModule}
+use Rattle.fast_check_package_ranges.specs.declared.findings.found.FoundPackage.{FoundPackage}
 use Rattle.fast_check_package_ranges.specs.Answers.{entry_points_of, dependencies_of, refused_of, is_filled, items_of, modules_of}
 use Rattle.fast_check_package_ranges.specs.Parts.{urls_at, item_at, named_at}
 use Rattle.fast_check_package_ranges.proofs.Lists.{all_append, all_map, all_flat, none_given}

@@ -18,11 +18,11 @@ use Rattle.url.specs.Parts.{Parts, serialize}
 use Rattle.fast_check_diagnostics.specs.PublicRanges.{PublicRanges}
 use Rattle.fast_check_packages.specs.Package.{Nv}
 use Rattle.fast_check_demands.specs.worklists.Demands.{Text}
-use Rattle.fast_check_findings.specs.Found.{entry_fault_yields, entrance_yields}
-use Rattle.fast_check_findings.specs.declared.found.EntryFault.{EntryFault}
-use Rattle.fast_check_findings.specs.declared.found.Entrance.TheVariants.{Entered}
-use Rattle.fast_check_findings.specs.ModuleFaults.{AreFaultsOf}
-use Rattle.fast_check_findings.specs.Yields.{ModuleFault, Yield, known_package, entry_point}
+use Rattle.fast_check_package_ranges.specs.findings.Found.{entry_fault_yields, entrance_yields}
+use Rattle.fast_check_package_ranges.specs.declared.findings.found.EntryFault.{EntryFault}
+use Rattle.fast_check_package_ranges.specs.declared.findings.found.Entrance.TheVariants.{Entered}
+use Rattle.fast_check_package_ranges.specs.findings.ModuleFaults.{AreFaultsOf}
+use Rattle.fast_check_package_ranges.specs.findings.Yields.{ModuleFault, Yield, known_package, entry_point}
 use Rattle.fast_check_package_ranges.specs.declared.modules.ModuleParts.{ModuleParts}
 use Rattle.fast_check_package_ranges.specs.Answers.{modules_of, ranges_of, implementations_of, faults_of, about_module, is_filled}
 use Rattle.fast_check_package_ranges.specs.Answers.{StandsFor, lookup_text, IsModuleAnswer}

@@ -7,11 +7,11 @@ use Rattle.std.specs.Option.{is_some}
 use Rattle.std.proofs.lemmas.Bool.{false≢true, lt-ltb, ltb-true}
 use Rattle.std.proofs.lemmas.Option.{slice_get_within, slice_get-get_or}
 use Rattle.fast_check_packages.specs.Package.{Nv}
-use Rattle.fast_check_findings.specs.Found.{module_yields, entrance_yields, dependency_yields, untyped_yields, package_yields}
-use Rattle.fast_check_findings.specs.Yields.{dependency}
-use Rattle.fast_check_findings.specs.declared.found.Entrance.{Entrance}
-use Rattle.fast_check_findings.specs.declared.found.Entrance.TheVariants.{Entered, Kept}
-use Rattle.fast_check_findings.specs.declared.found.FoundPackage.{FoundPackage}
+use Rattle.fast_check_package_ranges.specs.findings.Found.{module_yields, entrance_yields, dependency_yields, untyped_yields, package_yields}
+use Rattle.fast_check_package_ranges.specs.findings.Yields.{dependency}
+use Rattle.fast_check_package_ranges.specs.declared.findings.found.Entrance.{Entrance}
+use Rattle.fast_check_package_ranges.specs.declared.findings.found.Entrance.TheVariants.{Entered, Kept}
+use Rattle.fast_check_package_ranges.specs.declared.findings.found.FoundPackage.{FoundPackage}
 use Rattle.fast_check_package_ranges.specs.Answers.{is_filled}
 use Rattle.fast_check_package_ranges.proofs.Lists.{filled_append, filled_map, filled_flat}
 

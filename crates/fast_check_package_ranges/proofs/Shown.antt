@@ -18,10 +18,10 @@ use Rattle.fast_check_cache.specs.Cache.{ItemView}
 use Rattle.fast_check_cache.specs.declared.package_ranges.PackagePublicRanges.{PackagePublicRanges}
 use Rattle.fast_check_diagnostics.specs.PublicRanges.{PublicRanges, same_range}
 use Rattle.fast_check_demands.specs.worklists.Demands.{Text, same_nv}
-use Rattle.fast_check_findings.specs.Yields.{Yield, known_package, entry_point, refused_export, dependency, recorded, public}
-use Rattle.fast_check_findings.specs.Yields.{implementing, faulty, kept}
-use Rattle.fast_check_findings.proofs.Bools.{or_none}
-use Rattle.fast_check_findings.proofs.Lists.{any_flat}
+use Rattle.fast_check_package_ranges.specs.findings.Yields.{Yield, known_package, entry_point, refused_export, dependency, recorded, public}
+use Rattle.fast_check_package_ranges.specs.findings.Yields.{implementing, faulty, kept}
+use Rattle.fast_check_package_ranges.proofs.findings.Bools.{or_none}
+use Rattle.fast_check_package_ranges.proofs.findings.Lists.{any_flat}
 use Rattle.fast_check_package_ranges.specs.Answers.{package_of, modules_of, about, about_module, ranges_of, implementations_of, items_of}
 use Rattle.fast_check_package_ranges.specs.Answers.{StandsFor, lookup_text, lookup_package, IsModuleAnswer, IsAnswerBy}
 use Rattle.fast_check_package_ranges.specs.Answers.{IsPackageAnswer, AreAnswers, module_answer}

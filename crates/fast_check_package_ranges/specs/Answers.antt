@@ -13,10 +13,10 @@ use Rattle.fast_check_cache.specs.Cache.{ItemView, module_of as item_module}
 use Rattle.fast_check_cache.specs.declared.package_ranges.PackagePublicRanges.{PackagePublicRanges}
 use Rattle.fast_check_diagnostics.specs.PublicRanges.{PublicRanges, same_range}
 use Rattle.fast_check_demands.specs.worklists.Demands.{Text, same_nv}
-use Rattle.fast_check_findings.specs.Diagnostics.{AreDiagnosed}
-use Rattle.fast_check_findings.specs.Yields.{ModuleFault, Yield, known_package, entry_point, refused_export, dependency}
-use Rattle.fast_check_findings.specs.Yields.{recorded, public, implementing, faulty, kept}
-pub use Rattle.fast_check_findings.specs.Yields.{package_of}
+use Rattle.fast_check_package_ranges.specs.findings.Diagnostics.{AreDiagnosed}
+use Rattle.fast_check_package_ranges.specs.findings.Yields.{ModuleFault, Yield, known_package, entry_point, refused_export, dependency}
+use Rattle.fast_check_package_ranges.specs.findings.Yields.{recorded, public, implementing, faulty, kept}
+pub use Rattle.fast_check_package_ranges.specs.findings.Yields.{package_of}
 
 -- which module a yield is about
 

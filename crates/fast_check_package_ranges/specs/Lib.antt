@@ -1,3 +1,4 @@
-pub use Rattle.fast_check_findings.specs as findings
 pub mod Answers
 pub mod Parts
+pub mod entries
+pub mod findings

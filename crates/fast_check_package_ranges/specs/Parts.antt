@@ -10,12 +10,12 @@ use Rattle.fast_check_cache.specs.Cache.{ItemView, item_of}
 use Rattle.fast_check_cache.specs.declared.package_ranges.PackagePublicRanges.{PackagePublicRanges}
 use Rattle.fast_check_diagnostics.specs.PublicRanges.{PublicRanges}
 use Rattle.fast_check_demands.specs.worklists.Demands.{Text, same_nv}
-use Rattle.fast_check_findings.specs.Found.{package_yields}
-use Rattle.fast_check_findings.specs.ModuleFaults.{AreFaultsOf}
-use Rattle.fast_check_findings.specs.Yields.{Yield}
-use Rattle.fast_check_findings.specs.declared.found.Entrance.{Entrance}
-use Rattle.fast_check_findings.specs.declared.found.Entrance.TheVariants.{Entered, Kept}
-use Rattle.fast_check_findings.specs.declared.found.FoundPackage.{FoundPackage}
+use Rattle.fast_check_package_ranges.specs.findings.Found.{package_yields}
+use Rattle.fast_check_package_ranges.specs.findings.ModuleFaults.{AreFaultsOf}
+use Rattle.fast_check_package_ranges.specs.findings.Yields.{Yield}
+use Rattle.fast_check_package_ranges.specs.declared.findings.found.Entrance.{Entrance}
+use Rattle.fast_check_package_ranges.specs.declared.findings.found.Entrance.TheVariants.{Entered, Kept}
+use Rattle.fast_check_package_ranges.specs.declared.findings.found.FoundPackage.{FoundPackage}
 use Rattle.fast_check_package_ranges.specs.declared.modules.ModuleParts.{ModuleParts}
 use Rattle.fast_check_package_ranges.specs.Answers.{ranges_of, implementations_of, faults_of, about_module, StandsFor}
 use Rattle.fast_check_package_ranges.specs.Answers.{lookup_text, lookup_package, IsModuleAnswer, IsPackageAnswer}

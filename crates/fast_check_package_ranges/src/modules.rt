@@ -5,14 +5,14 @@ ghost use Rattle.std.specs.List.{flat_map};
 ghost use Rattle.url.specs.Parts.{serialize};
 ghost use Rattle.fast_check_packages.specs.Package.{Nv};
 ghost use Rattle.fast_check_demands.specs.worklists.Demands.{Text};
-ghost use Rattle.fast_check_findings.specs.Findings.{faulty_module, entry_fault};
-ghost use Rattle.fast_check_findings.specs.Found.{module_yields, entry_fault_yields, untyped_yields};
-ghost use Rattle.fast_check_findings.specs.Yields.{Yield, untyped_module};
+ghost use Rattle.fast_check_package_ranges.specs.findings.Findings.{faulty_module, entry_fault};
+ghost use Rattle.fast_check_package_ranges.specs.findings.Found.{module_yields, entry_fault_yields, untyped_yields};
+ghost use Rattle.fast_check_package_ranges.specs.findings.Yields.{Yield, untyped_module};
 ghost use Rattle.fast_check_package_ranges.specs.Answers.{IsModuleAnswer};
 ghost use Rattle.fast_check_package_ranges.specs.Parts.{AreParts, AreModules, Joins, AreAnswered};
 
+use crate::findings::{EntryFault, FoundModule, ModuleFaults};
 use fast_check_diagnostics::ModulePublicRanges;
-use fast_check_findings::{EntryFault, FoundModule, ModuleFaults};
 use fast_check_syntax::SourceRange;
 use std::alloc::{AllocError, Global};
 use std::collections::BTreeMap;

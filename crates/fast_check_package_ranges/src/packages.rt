@@ -5,16 +5,16 @@ ghost use Rattle.std.specs.List.{list_any};
 ghost use Rattle.fast_check_packages.specs.Package.{Nv, nv_of};
 ghost use Rattle.fast_check_cache.specs.Cache.{item_of};
 ghost use Rattle.fast_check_demands.specs.worklists.Demands.{same_nv};
-ghost use Rattle.fast_check_findings.specs.Found.{entrance_yields, package_yields};
+ghost use Rattle.fast_check_package_ranges.specs.findings.Found.{entrance_yields, package_yields};
 ghost use Rattle.fast_check_package_ranges.specs.Answers.{is_filled, IsItemAnswer, IsPackageAnswer};
 ghost use Rattle.fast_check_package_ranges.specs.Parts.{is_package, Joins, urls_at, item_at, named_at};
 
+use crate::findings::{Entrance, FoundPackage, PackageNv};
 use crate::modules::{
     ModuleParts, add_all_followed, add_all_untyped, add_entry_faults, all_module_ranges,
 };
 use fast_check_cache::{FastCheckCacheItem, FastCheckCacheModuleItem, PackagePublicRanges};
 use fast_check_demands::worklists::copy_of;
-use fast_check_findings::{Entrance, FoundPackage, PackageNv};
 use std::alloc::{AllocError, Global};
 use std::collections::{BTreeMap, BTreeSet};
 use url::Url;

@@ -2,14 +2,14 @@
 
 ghost use Rattle.std.specs.Prelude.{◌≡◌, map, OnOk, IfOk};
 ghost use Rattle.fast_check_packages.specs.Package.{nv_of};
-ghost use Rattle.fast_check_findings.specs.Found.{found_yields};
+ghost use Rattle.fast_check_package_ranges.specs.findings.Found.{found_yields};
 ghost use Rattle.fast_check_package_ranges.specs.Answers.{AreAnswers};
 ghost use Rattle.fast_check_package_ranges.specs.Parts.{IsAdded};
 
+use crate::findings::{FoundPackage, PackageNv};
 use crate::packages::{answer_of, is_known};
 use fast_check_cache::PackagePublicRanges;
 use fast_check_demands::worklists::copy_of;
-use fast_check_findings::{FoundPackage, PackageNv};
 use indexmap::IndexMap;
 use std::alloc::{AllocError, Global};
 use std::collections::BTreeMap;

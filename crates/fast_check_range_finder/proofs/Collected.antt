@@ -19,11 +19,11 @@ use Rattle.fast_check_packages.specs.Package.{Nv, nv_of}
 use Rattle.fast_check_packages.specs.declared.package.PackageNv.{PackageNv}
 use Rattle.fast_check_demands.specs.Yields.{Joins}
 use Rattle.fast_check_demands.proofs.Elements.{no_element, first, later, cases, in_map, of_map}
-use Rattle.fast_check_findings.specs.Found.{entrance_yields, dependency_yields, module_yields, untyped_yields, package_yields, found_yields}
-use Rattle.fast_check_findings.specs.Yields.{Yield, dependency}
-use Rattle.fast_check_findings.specs.declared.found.Entrance.{Entrance}
-use Rattle.fast_check_findings.specs.declared.found.FoundModule.{FoundModule}
-use Rattle.fast_check_findings.specs.declared.found.FoundPackage.{FoundPackage}
+use Rattle.fast_check_package_ranges.specs.findings.Found.{entrance_yields, dependency_yields, module_yields, untyped_yields, package_yields, found_yields}
+use Rattle.fast_check_package_ranges.specs.findings.Yields.{Yield, dependency}
+use Rattle.fast_check_package_ranges.specs.declared.findings.found.Entrance.{Entrance}
+use Rattle.fast_check_package_ranges.specs.declared.findings.found.FoundModule.{FoundModule}
+use Rattle.fast_check_package_ranges.specs.declared.findings.found.FoundPackage.{FoundPackage}
 use Rattle.fast_check_range_finder.specs.Finder.{entered_nv, entered_yields}
 use Rattle.fast_check_range_finder.specs.Once.{AreApart}
 use Rattle.fast_check_range_finder.specs.Packages.{Found, Entered, IsNew, IsNumbered, HasPlaces, Adds, IsEntered}

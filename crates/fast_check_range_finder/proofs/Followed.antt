@@ -15,11 +15,11 @@ use Rattle.fast_check_graph.specs.declared.root_symbol.RootSymbol.{RootSymbol}
 use Rattle.fast_check_packages.specs.declared.package.PackageNv.{PackageNv}
 use Rattle.fast_check_lattice.specs.declared.lattice.imported_exports.ImportedExports.{ImportedExports}
 use Rattle.fast_check_lattice.specs.Traces.{handled}
-use Rattle.fast_check_findings.specs.declared.found.Entrance.{Entrance}
+use Rattle.fast_check_package_ranges.specs.declared.findings.found.Entrance.{Entrance}
 use Rattle.fast_check_demands.specs.symbol_demands.Demands.{Demand as SymbolDemand}
 use Rattle.fast_check_demands.specs.Yields.{Joins}
 use Rattle.fast_check_demands.proofs.Elements.{in_map, of_map}
-use Rattle.fast_check_findings.specs.Yields.{Yield}
+use Rattle.fast_check_package_ranges.specs.findings.Yields.{Yield}
 use Rattle.fast_check_demands.specs.worklists.Demands.{Text, same_nv, to_symbol}
 use Rattle.fast_check_range_finder.specs.declared.demand.Dependency.{Dependency}
 use Rattle.fast_check_range_finder.specs.declared.demand.NamesAt.{NamesAt}

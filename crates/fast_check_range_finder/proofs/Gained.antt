@@ -20,12 +20,12 @@ use Rattle.fast_check_demands.specs.declared.fault.SymbolFault.{SymbolFault}
 use Rattle.fast_check_demands.proofs.Elements.{in_map, of_map}
 use Rattle.fast_check_demands.specs.declared.traces.modules.TracedModule.{TracedModule}
 use Rattle.fast_check_demands.specs.traces.Modules.{tables_in}
-use Rattle.fast_check_findings.specs.Faults.{FaultSource, placed_seen}
-use Rattle.fast_check_findings.specs.Findings.{placed_yield, placed_yields}
-use Rattle.fast_check_findings.specs.Found as found
-use Rattle.fast_check_findings.specs.Found.{module_yields}
-use Rattle.fast_check_findings.specs.declared.found.FoundModule.{FoundModule}
-use Rattle.fast_check_findings.specs.Yields.{Yield, recorded, public, implementing}
+use Rattle.fast_check_package_ranges.specs.findings.Faults.{FaultSource, placed_seen}
+use Rattle.fast_check_package_ranges.specs.findings.Findings.{placed_yield, placed_yields}
+use Rattle.fast_check_package_ranges.specs.findings.Found as found
+use Rattle.fast_check_package_ranges.specs.findings.Found.{module_yields}
+use Rattle.fast_check_package_ranges.specs.declared.findings.found.FoundModule.{FoundModule}
+use Rattle.fast_check_package_ranges.specs.findings.Yields.{Yield, recorded, public, implementing}
 use Rattle.fast_check_demands.proofs.worklists.Maps.{first_in, rest_in, split_in}
 use Rattle.fast_check_range_finder.specs.declared.demand.SymbolAt.{SymbolAt}
 use Rattle.fast_check_range_finder.specs.Finder.{seen_at, traced_in, AsksEach}

@@ -12,7 +12,7 @@ use Rattle.fast_check_demands.specs.symbol_demands.Rules.{each_of, names}
 use Rattle.fast_check_demands.proofs.Elements.{later, in_flat}
 use Rattle.fast_check_demands.proofs.Each.{Each, each_nil, each_one, each_append, each_cons, each_map, each_flat}
 use Rattle.fast_check_demands.specs.name_demands.Files.{FileDemand, files}
-use Rattle.fast_check_findings.specs.declared.found.EntryFault.{EntryFault}
+use Rattle.fast_check_package_ranges.specs.declared.findings.found.EntryFault.{EntryFault}
 use Rattle.fast_check_demands.specs.declared.traces.modules.TracedModule.{TracedModule}
 use Rattle.fast_check_demands.specs.traces.Modules.{own_tables}
 use Rattle.fast_check_demands.specs.traces.Roots.{roots}
@@ -20,7 +20,7 @@ use Rattle.fast_check_demands.specs.traces.Wants.{Want as ModuleWant, re_exporte
 use Rattle.fast_check_demands.specs.worklists.Demands.{Text, Wanted, same_nv, asked_by, Want, to_package, to_module, to_symbol}
 use Rattle.fast_check_demands.specs.worklists.Demands.{Demand, of_package, of_module, of_symbol}
 use Rattle.fast_check_demands.proofs.worklists.Maps.{first_in}
-use Rattle.fast_check_entries.specs.Entries.{Entrance, passed_over, refused, entered, all_faults}
+use Rattle.fast_check_package_ranges.specs.entries.Entries.{Entrance, passed_over, refused, entered, all_faults}
 use Rattle.fast_check_demands.specs.sources.Sources.{Known, module_at}
 use Rattle.fast_check_demands.specs.sources.Wants.{file_at, behind, resolved, file_wants, left_wants}
 use Rattle.fast_check_range_finder.specs.Account.{package_of}

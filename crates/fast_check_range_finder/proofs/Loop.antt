@@ -3,9 +3,9 @@ use Rattle.std.proofs.Common.{◌≡◌, sym, refl, subst, ℕ, ◌<◌, Bool, t
 use Rattle.std.specs.List.{Contains}
 use Rattle.fast_check_packages.specs.Package.{Nv}
 use Rattle.fast_check_packages.specs.declared.package.PackageNv.{PackageNv}
-use Rattle.fast_check_findings.specs.declared.found.FoundPackage.{FoundPackage}
-use Rattle.fast_check_findings.specs.Found.{found_yields}
-use Rattle.fast_check_findings.specs.Yields.{Yield}
+use Rattle.fast_check_package_ranges.specs.declared.findings.found.FoundPackage.{FoundPackage}
+use Rattle.fast_check_package_ranges.specs.findings.Found.{found_yields}
+use Rattle.fast_check_package_ranges.specs.findings.Yields.{Yield}
 use Rattle.fast_check_graph.specs.declared.graph.ModuleGraph.{ModuleGraph}
 use Rattle.fast_check_graph.specs.declared.root_symbol.RootSymbol.{RootSymbol}
 use Rattle.fast_check_demands.proofs.Elements.{in_map, of_map}

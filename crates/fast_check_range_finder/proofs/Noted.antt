@@ -11,9 +11,9 @@ use Rattle.fast_check_graph.specs.declared.root_symbol.RootSymbol.{RootSymbol}
 use Rattle.fast_check_lattice.specs.declared.lattice.imported_exports.ImportedExports.{ImportedExports}
 use Rattle.fast_check_lattice.specs.Traces.{handled}
 use Rattle.fast_check_demands.specs.Yields.{Joins}
-use Rattle.fast_check_findings.specs.declared.found.Entrance.{Entrance}
-use Rattle.fast_check_findings.specs.Found.{entrance_yields, untyped_yields}
-use Rattle.fast_check_findings.specs.Yields.{Yield}
+use Rattle.fast_check_package_ranges.specs.declared.findings.found.Entrance.{Entrance}
+use Rattle.fast_check_package_ranges.specs.findings.Found.{entrance_yields, untyped_yields}
+use Rattle.fast_check_package_ranges.specs.findings.Yields.{Yield}
 use Rattle.std.proofs.Common.{Some}
 use Rattle.fast_check_range_finder.specs.declared.demand.Dependency.{Dependency}
 use Rattle.fast_check_range_finder.specs.declared.demand.NamesAt.{NamesAt}

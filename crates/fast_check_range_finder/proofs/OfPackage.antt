@@ -15,12 +15,12 @@ use Rattle.fast_check_demands.specs.declared.traces.modules.TracedModule.{Traced
 use Rattle.fast_check_demands.specs.traces.Modules.{own_tables}
 use Rattle.fast_check_demands.specs.traces.Wants.{re_export_ranges}
 use Rattle.fast_check_demands.specs.worklists.Demands.{Text, Want, to_package, to_module, to_symbol, Demand, of_package, of_module, of_symbol}
-use Rattle.fast_check_findings.specs.Yields.{Yield, known_package, entry_point, refused_export, dependency}
-use Rattle.fast_check_findings.specs.Yields.{recorded, public, implementing, faulty, untyped_module, kept}
-use Rattle.fast_check_findings.specs.Findings.{faulty_module, entry_fault, placed_yield}
-use Rattle.fast_check_findings.specs.Faults.{placed}
-use Rattle.fast_check_findings.specs.Yields.{package_of as answered_of}
-use Rattle.fast_check_entries.specs.Entries.{Entrance, passed_over, refused, entered, all_faults}
+use Rattle.fast_check_package_ranges.specs.findings.Yields.{Yield, known_package, entry_point, refused_export, dependency}
+use Rattle.fast_check_package_ranges.specs.findings.Yields.{recorded, public, implementing, faulty, untyped_module, kept}
+use Rattle.fast_check_package_ranges.specs.findings.Findings.{faulty_module, entry_fault, placed_yield}
+use Rattle.fast_check_package_ranges.specs.findings.Faults.{placed}
+use Rattle.fast_check_package_ranges.specs.findings.Yields.{package_of as answered_of}
+use Rattle.fast_check_package_ranges.specs.entries.Entries.{Entrance, passed_over, refused, entered, all_faults}
 use Rattle.fast_check_demands.specs.sources.Sources.{Known, module_at, untyped_at}
 use Rattle.fast_check_range_finder.specs.Account.{package_of}
 use Rattle.fast_check_range_finder.specs.Rules.{own_text, module_of, names_wants, symbol_wants, entrance_at}

@@ -19,16 +19,16 @@ use Rattle.fast_check_demands.specs.symbol_demands.Demands.{Demand as SymbolDema
 use Rattle.fast_check_demands.specs.symbol_demands.Rules.{each_of}
 use Rattle.fast_check_demands.specs.Yields.{ranges, implementations, Fault, faults, AreTableRanges}
 use Rattle.fast_check_demands.proofs.Own.{own_ranges, own_implementations}
-use Rattle.fast_check_entries.specs.findings.Faults.{PlacedFault, placed}
+use Rattle.fast_check_package_ranges.specs.findings.Faults.{PlacedFault, placed}
 use Rattle.fast_check_demands.specs.declared.traces.modules.TracedModule.{TracedModule}
 use Rattle.fast_check_demands.specs.traces.Modules.{own_tables}
 use Rattle.fast_check_demands.specs.traces.Wants.{re_export_ranges}
 use Rattle.fast_check_demands.proofs.traces.OwnRanges.{own_demand}
 use Rattle.fast_check_demands.specs.worklists.Demands.{Text, Want, to_package, to_module, to_symbol, Demand, of_package, of_module, of_symbol}
-use Rattle.fast_check_entries.specs.findings.Yields.{Yield, known_package, entry_point, refused_export, dependency, public, implementing}
-use Rattle.fast_check_entries.specs.findings.Yields.{ModuleFault, recorded, faulty, untyped_module, kept}
-use Rattle.fast_check_entries.specs.findings.Findings.{faulty_module, entry_fault, placed_yield, placed_yields}
-use Rattle.fast_check_entries.specs.Entries.{Entrance, passed_over, refused, entered, all_faults}
+use Rattle.fast_check_package_ranges.specs.findings.Yields.{Yield, known_package, entry_point, refused_export, dependency, public, implementing}
+use Rattle.fast_check_package_ranges.specs.findings.Yields.{ModuleFault, recorded, faulty, untyped_module, kept}
+use Rattle.fast_check_package_ranges.specs.findings.Findings.{faulty_module, entry_fault, placed_yield, placed_yields}
+use Rattle.fast_check_package_ranges.specs.entries.Entries.{Entrance, passed_over, refused, entered, all_faults}
 use Rattle.fast_check_demands.specs.sources.Sources.{Known, is_text, node_at, named_at, traced_as, typed_info, info_at, module_at, untyped_at}
 use Rattle.fast_check_range_finder.specs.Rules.{own_text, module_of, names_wants, symbol_wants, entrance_at}
 use Rattle.fast_check_range_finder.specs.Yields.{dependency_of, dependencies, public_at, implementing_at, names_yields, source_in}

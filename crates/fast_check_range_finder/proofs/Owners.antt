@@ -4,7 +4,7 @@ use Rattle.fast_check_packages.specs.Package.{Nv}
 use Rattle.fast_check_graph.specs.declared.graph.ModuleGraph.{ModuleGraph}
 use Rattle.fast_check_graph.specs.declared.root_symbol.RootSymbol.{RootSymbol}
 use Rattle.fast_check_demands.specs.symbol_demands.Rules.{each_of}
-use Rattle.fast_check_findings.specs.Yields.{dependency}
+use Rattle.fast_check_package_ranges.specs.findings.Yields.{dependency}
 use Rattle.fast_check_demands.specs.worklists.Demands.{Text, Wanted, same_nv, Want, to_package, to_module}
 use Rattle.fast_check_demands.specs.sources.Wants.{file_at, behind}
 use Rattle.fast_check_range_finder.specs.declared.finder.Finder.{Finder}

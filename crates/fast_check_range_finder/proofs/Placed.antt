@@ -17,7 +17,7 @@ use Rattle.fast_check_graph.specs.declared.graph.ModuleGraph.{ModuleGraph}
 use Rattle.fast_check_graph.specs.declared.root_symbol.AnyModuleInfo.{AnyModuleInfo}
 use Rattle.fast_check_graph.specs.declared.root_symbol.RootSymbol.{RootSymbol}
 use Rattle.fast_check_packages.specs.declared.package.PackageNv.{PackageNv}
-use Rattle.fast_check_findings.specs.declared.found.Entrance.{Entrance}
+use Rattle.fast_check_package_ranges.specs.declared.findings.found.Entrance.{Entrance}
 use Rattle.fast_check_demands.specs.declared.traces.origins.ReExportIndex.{ReExportIndex}
 use Rattle.fast_check_lattice.specs.declared.lattice.imported_exports.ImportedExports.{ImportedExports}
 use Rattle.fast_check_lattice.specs.Traces.{handled}
@@ -26,10 +26,10 @@ use Rattle.fast_check_demands.specs.Yields.{Joins}
 use Rattle.fast_check_demands.specs.declared.fault.SymbolFault.{SymbolFault}
 use Rattle.fast_check_demands.proofs.Elements.{in_flat}
 use Rattle.fast_check_demands.specs.traces.Origins.{IsIndexOf}
-use Rattle.fast_check_findings.specs.Faults.{placed_seen}
-use Rattle.fast_check_findings.specs.Findings.{placed_yields}
-use Rattle.fast_check_findings.specs.Found.{own_text, source_in}
-use Rattle.fast_check_findings.specs.Yields.{Yield, recorded, public, implementing}
+use Rattle.fast_check_package_ranges.specs.findings.Faults.{placed_seen}
+use Rattle.fast_check_package_ranges.specs.findings.Findings.{placed_yields}
+use Rattle.fast_check_package_ranges.specs.findings.Found.{own_text, source_in}
+use Rattle.fast_check_package_ranges.specs.findings.Yields.{Yield, recorded, public, implementing}
 use Rattle.fast_check_demands.specs.worklists.Demands.{Text, same_nv, Demand, of_package}
 use Rattle.fast_check_demands.proofs.worklists.Maps.{first_in, only_in, some_is}
 use Rattle.fast_check_demands.specs.sources.Sources.{named_at}

@@ -27,8 +27,8 @@ use Rattle.fast_check_demands.specs.traces.Wants.{Want as ModuleWant, re_exporte
 use Rattle.fast_check_demands.specs.worklists.Demands.{Text, same_nv, asked_by, Want, to_package, to_module, to_symbol, Demand, of_package}
 use Rattle.fast_check_demands.specs.worklists.Demands.{of_module, of_symbol}
 use Rattle.fast_check_demands.proofs.worklists.Maps.{first_in, found_in}
-use Rattle.fast_check_findings.specs.declared.found.EntryFault.{EntryFault}
-use Rattle.fast_check_entries.specs.Entries.{Entrance, passed_over, refused, entered, all_faults}
+use Rattle.fast_check_package_ranges.specs.declared.findings.found.EntryFault.{EntryFault}
+use Rattle.fast_check_package_ranges.specs.entries.Entries.{Entrance, passed_over, refused, entered, all_faults}
 use Rattle.fast_check_demands.specs.sources.Sources.{Used, Known, named_at, info_at, traced_as}
 use Rattle.fast_check_demands.specs.sources.Wants.{file_at, behind, resolved, file_wants, left_wants}
 use Rattle.fast_check_range_finder.specs.Measure.{IsWithin, IsInside, IsWantInside, IsUniverse}

@@ -10,17 +10,17 @@ use Rattle.fast_check_packages.specs.Package.{Nv, nv_of}
 use Rattle.fast_check_packages.specs.declared.fault.BuildFault.{BuildFault}
 use Rattle.fast_check_packages.specs.declared.fault.BuildFault.TheVariants.{InvalidExport, OutOfMemory}
 use Rattle.fast_check_cache.specs.Cache.{item_of}
-use Rattle.fast_check_findings.specs.declared.found.Entrance.{Entrance as FoundEntrance}
-use Rattle.fast_check_findings.specs.declared.found.Entrance.TheVariants.{Entered, Kept}
-use Rattle.fast_check_findings.specs.declared.found.FoundModule.{FoundModule}
-use Rattle.fast_check_findings.specs.declared.found.FoundPackage.{FoundPackage}
-use Rattle.fast_check_findings.specs.Faults.{placed_seen}
-use Rattle.fast_check_findings.specs.Yields.{ModuleFault, Yield, known_package, entry_point, refused_export, dependency, recorded, public}
-use Rattle.fast_check_findings.specs.Yields.{implementing, faulty, untyped_module, kept}
-use Rattle.fast_check_findings.specs.Findings.{faulty_module, entry_fault, placed_yield, placed_yields}
-use Rattle.fast_check_findings.specs.Found.{source_in, own_text, module_yields, entry_fault_yields, entrance_yields, dependency_yields}
-use Rattle.fast_check_findings.specs.Found.{untyped_yields, package_yields, found_yields}
-use Rattle.fast_check_entries.specs.Entries.{Entrance, passed_over, refused, entered, DiagnosesRefused}
+use Rattle.fast_check_package_ranges.specs.declared.findings.found.Entrance.{Entrance as FoundEntrance}
+use Rattle.fast_check_package_ranges.specs.declared.findings.found.Entrance.TheVariants.{Entered, Kept}
+use Rattle.fast_check_package_ranges.specs.declared.findings.found.FoundModule.{FoundModule}
+use Rattle.fast_check_package_ranges.specs.declared.findings.found.FoundPackage.{FoundPackage}
+use Rattle.fast_check_package_ranges.specs.findings.Faults.{placed_seen}
+use Rattle.fast_check_package_ranges.specs.findings.Yields.{ModuleFault, Yield, known_package, entry_point, refused_export, dependency, recorded, public}
+use Rattle.fast_check_package_ranges.specs.findings.Yields.{implementing, faulty, untyped_module, kept}
+use Rattle.fast_check_package_ranges.specs.findings.Findings.{faulty_module, entry_fault, placed_yield, placed_yields}
+use Rattle.fast_check_package_ranges.specs.findings.Found.{source_in, own_text, module_yields, entry_fault_yields, entrance_yields, dependency_yields}
+use Rattle.fast_check_package_ranges.specs.findings.Found.{untyped_yields, package_yields, found_yields}
+use Rattle.fast_check_package_ranges.specs.entries.Entries.{Entrance, passed_over, refused, entered, DiagnosesRefused}
 use Rattle.fast_check_demands.specs.worklists.Demands.{Text, of_package}
 use Rattle.fast_check_demands.specs.sources.Sources.{Known}
 use Rattle.fast_check_demands.proofs.Each.{Each, each_nil, each_one, each_append, each_cons, each_map, each_flat}

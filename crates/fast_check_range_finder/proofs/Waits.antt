@@ -28,7 +28,7 @@ use Rattle.fast_check_graph.specs.declared.root_symbol.RootSymbol.{RootSymbol}
 use Rattle.fast_check_demands.specs.symbol_demands.Demands.{Demand as SymbolDemand}
 use Rattle.fast_check_demands.specs.Yields.{Joins}
 use Rattle.fast_check_demands.proofs.Elements.{in_map, of_map}
-use Rattle.fast_check_findings.specs.Yields.{Yield, dependency}
+use Rattle.fast_check_package_ranges.specs.findings.Yields.{Yield, dependency}
 use Rattle.fast_check_demands.specs.declared.name_demands.want.NameDemand.{NameDemand as Single}
 use Rattle.fast_check_demands.specs.declared.name_demands.want.NameDemand.TheVariants as singles
 use Rattle.fast_check_demands.specs.name_demands.Files.{names_of, path_demand}

@@ -20,8 +20,8 @@ use Rattle.fast_check_demands.specs.declared.traces.modules.TracedModule.{Traced
 use Rattle.fast_check_demands.specs.traces.Modules.{own_tables}
 use Rattle.fast_check_demands.specs.traces.Roots.{roots}
 use Rattle.fast_check_demands.specs.traces.Wants.{Want as ModuleWant, re_export_ranges, module_wants}
-use Rattle.fast_check_findings.specs.Findings.{faulty_module}
-use Rattle.fast_check_findings.specs.Yields.{Yield, recorded, untyped_module}
+use Rattle.fast_check_package_ranges.specs.findings.Findings.{faulty_module}
+use Rattle.fast_check_package_ranges.specs.findings.Yields.{Yield, recorded, untyped_module}
 use Rattle.fast_check_demands.specs.worklists.Demands.{Text, of_symbol, of_module, Want, to_symbol}
 use Rattle.fast_check_demands.specs.sources.Sources.{Known, named_at, traced_as, node_at, typed_info, info_at, module_at, is_untyped, untyped_at}
 use Rattle.fast_check_demands.specs.sources.Wants.{file_wants, left_wants}

@@ -24,8 +24,8 @@ use Rattle.fast_check_demands.specs.traces.Origins.{IsIndexOf}
 use Rattle.fast_check_demands.specs.traces.Roots.{roots}
 use Rattle.fast_check_demands.specs.traces.Wants.{node_ranges, re_export_ranges}
 use Rattle.fast_check_demands.specs.declared.traces.origins.ReExportIndex.{ReExportIndex}
-use Rattle.fast_check_findings.specs.Found.{module_yields}
-use Rattle.fast_check_findings.specs.Yields.{Yield}
+use Rattle.fast_check_package_ranges.specs.findings.Found.{module_yields}
+use Rattle.fast_check_package_ranges.specs.findings.Yields.{Yield}
 use Rattle.fast_check_demands.specs.worklists.Demands.{Text, Want, to_symbol}
 use Rattle.fast_check_demands.specs.sources.Sources.{named_at}
 use Rattle.fast_check_range_finder.specs.declared.demand.Place.{Place}

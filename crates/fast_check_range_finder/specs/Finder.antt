@@ -21,9 +21,9 @@ use Rattle.fast_check_demands.specs.declared.traces.modules.TracedModule.{Traced
 use Rattle.fast_check_demands.specs.traces.Modules.{tables_in}
 use Rattle.fast_check_demands.specs.traces.Origins.{IsIndexOf}
 use Rattle.fast_check_demands.specs.traces.Wants.{node_ranges}
-use Rattle.fast_check_findings.specs.Found.{entrance_yields, module_yields, untyped_yields}
-use Rattle.fast_check_findings.specs.Yields.{Yield, dependency}
-use Rattle.fast_check_findings.specs.declared.found.Entrance.{Entrance}
+use Rattle.fast_check_package_ranges.specs.findings.Found.{entrance_yields, module_yields, untyped_yields}
+use Rattle.fast_check_package_ranges.specs.findings.Yields.{Yield, dependency}
+use Rattle.fast_check_package_ranges.specs.declared.findings.found.Entrance.{Entrance}
 use Rattle.fast_check_demands.specs.worklists.Demands.{Text, same_nv, Want, Demand, of_package, of_module, of_symbol}
 use Rattle.fast_check_demands.specs.sources.Sources.{Known, named_at, lent}
 use Rattle.fast_check_range_finder.specs.declared.demand.Place.{Place}

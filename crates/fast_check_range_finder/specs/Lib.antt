@@ -1,5 +1,5 @@
 pub use Rattle.fast_check_demands.specs as demands
-pub use Rattle.fast_check_entries.specs as entries
+pub use Rattle.fast_check_package_ranges.specs as package_ranges
 pub mod Account
 pub mod Asked
 pub mod NameOrder

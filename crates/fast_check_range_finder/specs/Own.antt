@@ -6,7 +6,7 @@ use Rattle.fast_check_symbols.specs.Tables.{table_ranges}
 use Rattle.fast_check_graph.specs.declared.root_symbol.AnyModuleInfo.{AnyModuleInfo}
 use Rattle.fast_check_graph.specs.declared.root_symbol.RootSymbol.{RootSymbol}
 use Rattle.fast_check_demands.specs.traces.Modules.{tables_in}
-use Rattle.fast_check_entries.specs.findings.Yields.{Yield, public, implementing}
+use Rattle.fast_check_package_ranges.specs.findings.Yields.{Yield, public, implementing}
 use Rattle.fast_check_demands.specs.sources.Sources.{named_at}
 
 -- a range of the tables of a module

@@ -5,10 +5,10 @@ use Rattle.std.specs.List.{flat_map, Contains}
 use Rattle.fast_check_packages.specs.Package.{Nv, nv_of}
 use Rattle.fast_check_packages.specs.declared.package.PackageNv.{PackageNv}
 use Rattle.fast_check_demands.specs.Yields.{Joins}
-use Rattle.fast_check_findings.specs.Found.{found_yields}
-use Rattle.fast_check_findings.specs.Yields.{Yield}
-use Rattle.fast_check_findings.specs.declared.found.Entrance.{Entrance}
-use Rattle.fast_check_findings.specs.declared.found.FoundPackage.{FoundPackage}
+use Rattle.fast_check_package_ranges.specs.findings.Found.{found_yields}
+use Rattle.fast_check_package_ranges.specs.findings.Yields.{Yield}
+use Rattle.fast_check_package_ranges.specs.declared.findings.found.Entrance.{Entrance}
+use Rattle.fast_check_package_ranges.specs.declared.findings.found.FoundPackage.{FoundPackage}
 use Rattle.fast_check_range_finder.specs.Finder.{entered_yields, entered_nv}
 use Rattle.fast_check_range_finder.specs.Once.{AreApart}
 

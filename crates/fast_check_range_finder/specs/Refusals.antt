@@ -6,8 +6,8 @@ use Rattle.fast_check_packages.specs.declared.fault.BuildFault.{BuildFault}
 use Rattle.fast_check_packages.specs.declared.fault.BuildFault.TheVariants.{InvalidExport, OutOfMemory}
 use Rattle.fast_check_demands.specs.worklists.Demands.{of_package}
 use Rattle.fast_check_range_finder.specs.Account.{Account, Chained}
-use Rattle.fast_check_entries.specs.findings.Yields.{Yield, refused_export}
-use Rattle.fast_check_entries.specs.Entries.{Entrance, passed_over, refused, entered}
+use Rattle.fast_check_package_ranges.specs.findings.Yields.{Yield, refused_export}
+use Rattle.fast_check_package_ranges.specs.entries.Entries.{Entrance, passed_over, refused, entered}
 use Rattle.fast_check_demands.specs.sources.Sources.{Known}
 use Rattle.fast_check_range_finder.specs.Rules.{entrance_at, world}
 

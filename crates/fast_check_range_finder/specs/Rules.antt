@@ -14,8 +14,8 @@ use Rattle.fast_check_demands.specs.declared.traces.modules.TracedModule.{Traced
 use Rattle.fast_check_demands.specs.traces.Modules.{own_tables}
 use Rattle.fast_check_demands.specs.traces.Roots.{roots}
 use Rattle.fast_check_demands.specs.traces.Wants.{module_wants}
-use Rattle.fast_check_entries.specs.findings.declared.found.EntryFault.{EntryFault}
-use Rattle.fast_check_entries.specs.Entries.{Entrance, passed_over, refused, entered, all_faults, entrance_of}
+use Rattle.fast_check_package_ranges.specs.declared.findings.found.EntryFault.{EntryFault}
+use Rattle.fast_check_package_ranges.specs.entries.Entries.{Entrance, passed_over, refused, entered, all_faults, entrance_of}
 use Rattle.fast_check_demands.specs.worklists.Demands.{Text, asked_by, Want, to_package, to_module, to_symbol, of_package}
 use Rattle.fast_check_demands.specs.worklists.Demands.{of_module, of_symbol, World}
 use Rattle.fast_check_demands.specs.sources.Sources.{Used, Known, named_at, traced_as, module_at}

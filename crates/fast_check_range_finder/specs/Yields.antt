@@ -14,17 +14,17 @@ use Rattle.fast_check_graph.specs.Root.{specifier_of}
 use Rattle.fast_check_demands.specs.symbol_demands.Demands.{Demand as SymbolDemand}
 use Rattle.fast_check_demands.specs.symbol_demands.Rules.{each_of}
 use Rattle.fast_check_demands.specs.Yields.{ranges, implementations, Fault, faults}
-use Rattle.fast_check_entries.specs.findings.Faults.{FaultSource, placed}
+use Rattle.fast_check_package_ranges.specs.findings.Faults.{FaultSource, placed}
 use Rattle.fast_check_demands.specs.declared.traces.modules.TracedModule.{TracedModule}
 use Rattle.fast_check_demands.specs.traces.Modules.{own_tables}
 use Rattle.fast_check_demands.specs.traces.Wants.{re_export_ranges}
 use Rattle.fast_check_demands.specs.worklists.Demands.{Text, Want, to_package, to_module, to_symbol, Demand, of_package}
 use Rattle.fast_check_demands.specs.worklists.Demands.{of_module, of_symbol}
-use Rattle.fast_check_entries.specs.findings.declared.found.EntryFault.{EntryFault}
-use Rattle.fast_check_entries.specs.findings.Yields.{Yield, known_package, entry_point, refused_export, dependency}
-use Rattle.fast_check_entries.specs.findings.Yields.{recorded, public, implementing, untyped_module, kept}
-use Rattle.fast_check_entries.specs.findings.Findings.{faulty_module, entry_fault, placed_yields}
-use Rattle.fast_check_entries.specs.Entries.{Entrance, passed_over, refused, entered, all_faults}
+use Rattle.fast_check_package_ranges.specs.declared.findings.found.EntryFault.{EntryFault}
+use Rattle.fast_check_package_ranges.specs.findings.Yields.{Yield, known_package, entry_point, refused_export, dependency}
+use Rattle.fast_check_package_ranges.specs.findings.Yields.{recorded, public, implementing, untyped_module, kept}
+use Rattle.fast_check_package_ranges.specs.findings.Findings.{faulty_module, entry_fault, placed_yields}
+use Rattle.fast_check_package_ranges.specs.entries.Entries.{Entrance, passed_over, refused, entered, all_faults}
 use Rattle.fast_check_demands.specs.sources.Sources.{Used, Known, module_at, untyped_at}
 use Rattle.fast_check_range_finder.specs.Rules.{own_text, module_of, names_wants, symbol_wants, entrance_at}
 

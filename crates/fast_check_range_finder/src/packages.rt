@@ -3,7 +3,7 @@
 ghost use Rattle.std.specs.Prelude.{◌∷◌, ◌++◌, [], List, map, IfOk, OnOk};
 ghost use Rattle.std.specs.List.{flat_map, Contains};
 ghost use Rattle.fast_check_packages.specs.Package.{nv_of};
-ghost use Rattle.fast_check_findings.specs.Found.{module_yields, untyped_yields, found_yields};
+ghost use Rattle.fast_check_package_ranges.specs.findings.Found.{module_yields, untyped_yields, found_yields};
 ghost use Rattle.fast_check_range_finder.specs.Finder.{entered_nv, depends, followed_yields, noted_yields, yields_in};
 ghost use Rattle.fast_check_range_finder.specs.Once.{AreApart};
 ghost use Rattle.fast_check_range_finder.specs.Packages.{Entered, IsNumbered, Adds, IsEntered};
@@ -11,7 +11,7 @@ ghost use Rattle.fast_check_range_finder.specs.Turn.{AreSame};
 
 use crate::demand::{Dependency, Place};
 use crate::finder::{Finder, FollowedModule};
-use fast_check_findings::{Entrance, FoundModule, FoundPackage};
+use fast_check_package_ranges::findings::{Entrance, FoundModule, FoundPackage};
 use fast_check_packages::PackageNv;
 use indexmap::IndexMap;
 use std::alloc::{AllocError, Global};

@@ -1,6 +1,6 @@
 use Rattle.std.specs.List.{flat_map}
 use Rattle.fast_check_packages.specs.Package.{Nv}
-use Rattle.fast_check_findings.specs.Found.{untyped_yields}
+use Rattle.fast_check_package_ranges.specs.findings.Found.{untyped_yields}
 use Rattle.fast_check_package_ranges.specs.Parts.{Joins}
 use Rattle.fast_check_package_ranges.proofs.modules.add_all_untyped.Given as goal
 

@@ -2,8 +2,8 @@ use Rattle.std.proofs.Common.{◌∙◌, refl, sym, ap, subst, unwrap_or, List, 
 use Rattle.std.proofs.lemmas.Result.{on_ok_weaker}
 use Rattle.std.specs.BTreeMap.Entry.{map_with_value}
 use Rattle.url.specs.Parts.{Parts, serialize}
-use Rattle.fast_check_findings.specs.Findings.{entry_fault}
-use Rattle.fast_check_findings.specs.Found.{entry_fault_yields}
+use Rattle.fast_check_package_ranges.specs.findings.Findings.{entry_fault}
+use Rattle.fast_check_package_ranges.specs.findings.Found.{entry_fault_yields}
 use Rattle.fast_check_package_ranges.specs.declared.modules.ModuleParts.{ModuleParts}
 use Rattle.fast_check_package_ranges.specs.Parts.{AreParts, Joins}
 use Rattle.fast_check_package_ranges.proofs.About.{faulty_of}

@@ -1,6 +1,6 @@
 use Rattle.std.specs.List.{flat_map}
 use Rattle.fast_check_packages.specs.Package.{Nv}
-use Rattle.fast_check_findings.specs.Found.{entry_fault_yields}
+use Rattle.fast_check_package_ranges.specs.findings.Found.{entry_fault_yields}
 use Rattle.fast_check_package_ranges.specs.Parts.{Joins}
 use Rattle.fast_check_package_ranges.proofs.modules.add_entry_faults.Given as goal
 

@@ -2,7 +2,7 @@ use Rattle.std.proofs.Common.{◌∙◌, refl, sym, ap, subst, unwrap_or, List, 
 use Rattle.std.proofs.lemmas.Result.{on_ok_weaker}
 use Rattle.std.specs.BTreeMap.Entry.{map_with_value}
 use Rattle.url.specs.Parts.{Parts}
-use Rattle.fast_check_findings.specs.Found.{module_yields}
+use Rattle.fast_check_package_ranges.specs.findings.Found.{module_yields}
 use Rattle.fast_check_package_ranges.specs.declared.modules.ModuleParts.{ModuleParts}
 use Rattle.fast_check_package_ranges.specs.Parts.{AreParts, Joins}
 use Rattle.fast_check_package_ranges.proofs.About.{followed_of}

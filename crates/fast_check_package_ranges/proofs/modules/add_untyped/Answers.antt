@@ -1,8 +1,8 @@
 use Rattle.std.proofs.Common.{◌∙◌, refl, sym, ap, subst, unwrap_or, List, rules}
 use Rattle.std.specs.BTreeMap.Entry.{map_with_value}
 use Rattle.url.specs.Parts.{Parts, serialize}
-use Rattle.fast_check_findings.specs.Found.{untyped_yields}
-use Rattle.fast_check_findings.specs.Yields.{untyped_module}
+use Rattle.fast_check_package_ranges.specs.findings.Found.{untyped_yields}
+use Rattle.fast_check_package_ranges.specs.findings.Yields.{untyped_module}
 use Rattle.fast_check_package_ranges.specs.declared.modules.ModuleParts.{ModuleParts}
 use Rattle.fast_check_package_ranges.specs.Parts.{AreParts, Joins}
 use Rattle.fast_check_package_ranges.proofs.About.{faulty_of}

@@ -3,7 +3,7 @@ use Rattle.std.specs.Cmp.Lexicographic.{bytes_decides}
 use Rattle.std.proofs.lemmas.List.{map-id}
 use Rattle.std.proofs.lemmas.Map.Iter.{iter_end, btree_map_turn}
 use Rattle.url.specs.Parts.{serialize}
-use Rattle.fast_check_findings.specs.Yields.{Yield}
+use Rattle.fast_check_package_ranges.specs.findings.Yields.{Yield}
 use Rattle.fast_check_package_ranges.specs.Answers.{about_module, lookup_text, IsModuleAnswer}
 use Rattle.fast_check_package_ranges.specs.Parts.{is_text, AreParts, IsAnswerOf}
 use Rattle.fast_check_package_ranges.proofs.Joined.{answered}

@@ -3,7 +3,7 @@ use Rattle.std.specs.List.{flat_map, list_any}
 use Rattle.url.specs.Parts.{Parts}
 use Rattle.fast_check_packages.specs.Package.{nv_of}
 use Rattle.fast_check_demands.specs.worklists.Demands.{same_nv}
-use Rattle.fast_check_findings.specs.Found.{module_yields, entrance_yields, dependency_yields, untyped_yields, package_yields}
+use Rattle.fast_check_package_ranges.specs.findings.Found.{module_yields, entrance_yields, dependency_yields, untyped_yields, package_yields}
 use Rattle.fast_check_package_ranges.specs.declared.modules.ModuleParts.{ModuleParts}
 use Rattle.fast_check_package_ranges.specs.Answers.{is_filled}
 use Rattle.fast_check_package_ranges.specs.Parts.{is_package, named_at, AreModules}

@@ -1,6 +1,6 @@
 use Rattle.std.proofs.Common.{◌∙◌, sym, ap, subst, Option, Some}
-use Rattle.fast_check_findings.specs.Found.{entrance_yields}
-use Rattle.fast_check_findings.specs.declared.found.Entrance.{Entrance}
+use Rattle.fast_check_package_ranges.specs.findings.Found.{entrance_yields}
+use Rattle.fast_check_package_ranges.specs.declared.findings.found.Entrance.{Entrance}
 use Rattle.fast_check_package_ranges.specs.Parts.{Joins}
 use Rattle.fast_check_package_ranges.proofs.Joined.{joins_entered}
 use Rattle.fast_check_package_ranges.proofs.packages.entered_answer.Goals as goal

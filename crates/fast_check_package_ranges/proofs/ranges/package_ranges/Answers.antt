@@ -6,7 +6,7 @@ use Rattle.fast_check_packages.specs.Package.{Nv, nv_of}
 use Rattle.fast_check_packages.specs.declared.package.PackageNv.{PackageNv}
 use Rattle.fast_check_packages.specs.contracts.package.PackageNvPartialEq.TheImpl as package_eq
 use Rattle.fast_check_cache.specs.declared.package_ranges.PackagePublicRanges.{PackagePublicRanges}
-use Rattle.fast_check_findings.specs.Yields.{Yield}
+use Rattle.fast_check_package_ranges.specs.findings.Yields.{Yield}
 use Rattle.fast_check_package_ranges.specs.Answers.{about, StandsFor, lookup_package, IsPackageAnswer}
 use Rattle.fast_check_package_ranges.specs.Parts.{yields_at, IsAdded}
 use Rattle.fast_check_package_ranges.proofs.Answered.{Found, differ, added}

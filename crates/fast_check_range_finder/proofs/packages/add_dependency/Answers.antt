@@ -1,6 +1,6 @@
 use Rattle.std.proofs.Common.{refl, List, [], ◌∷◌}
 use Rattle.fast_check_packages.specs.Package.{nv_of}
-use Rattle.fast_check_findings.specs.declared.found.FoundPackage.{FoundPackage}
+use Rattle.fast_check_package_ranges.specs.declared.findings.found.FoundPackage.{FoundPackage}
 use Rattle.fast_check_range_finder.specs.Finder.{depends}
 use Rattle.fast_check_range_finder.specs.Packages.{Adds}
 use Rattle.fast_check_range_finder.proofs.Collected.{not_there, still_there, add_dependency, adds_then, adds_numbered}

@@ -1,6 +1,6 @@
 use Rattle.std.proofs.Common.{refl}
 use Rattle.fast_check_packages.specs.Package.{nv_of}
-use Rattle.fast_check_findings.specs.declared.found.FoundPackage.{FoundPackage}
+use Rattle.fast_check_package_ranges.specs.declared.findings.found.FoundPackage.{FoundPackage}
 use Rattle.fast_check_range_finder.proofs.Collected.{not_there, add_untyped}
 use Rattle.fast_check_range_finder.proofs.packages.add_untyped.Goals as goal
 

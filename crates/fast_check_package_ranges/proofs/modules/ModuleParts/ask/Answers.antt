@@ -1,7 +1,7 @@
 use Rattle.std.proofs.Common.{sym, append-nil}
 use Rattle.std.specs.List.{flat_map}
-use Rattle.fast_check_findings.specs.Findings.{faulty_module}
-use Rattle.fast_check_findings.specs.Yields.{untyped_module}
+use Rattle.fast_check_package_ranges.specs.findings.Findings.{faulty_module}
+use Rattle.fast_check_package_ranges.specs.findings.Yields.{untyped_module}
 use Rattle.fast_check_package_ranges.specs.Answers.{faults_of}
 use Rattle.fast_check_package_ranges.proofs.Joined.{parts_more}
 use Rattle.fast_check_package_ranges.proofs.modules.ModuleParts.ask.Goals as goal

@@ -4,12 +4,12 @@ use Rattle.std.proofs.lemmas.List.Concat.{flat_map-append, flat_map_single}
 use Rattle.std.proofs.lemmas.List.Folds.{flat_map-map}
 use Rattle.std.proofs.lemmas.Result.{on_ok_weaker}
 use Rattle.fast_check_packages.specs.Package.{Nv}
-use Rattle.fast_check_findings.specs.Faults.{placed_seen}
-use Rattle.fast_check_findings.specs.Findings.{placed_yield}
-use Rattle.fast_check_findings.specs.Found.{source_in, own_text, module_yields}
-use Rattle.fast_check_findings.specs.Yields.{ModuleFault, Yield, recorded, public, implementing, of_demand}
-use Rattle.fast_check_findings.specs.ModuleFaults.{AreFaultsOf}
-use Rattle.fast_check_findings.specs.declared.found.FoundModule.{FoundModule}
+use Rattle.fast_check_package_ranges.specs.findings.Faults.{placed_seen}
+use Rattle.fast_check_package_ranges.specs.findings.Findings.{placed_yield}
+use Rattle.fast_check_package_ranges.specs.findings.Found.{source_in, own_text, module_yields}
+use Rattle.fast_check_package_ranges.specs.findings.Yields.{ModuleFault, Yield, recorded, public, implementing, of_demand}
+use Rattle.fast_check_package_ranges.specs.findings.ModuleFaults.{AreFaultsOf}
+use Rattle.fast_check_package_ranges.specs.declared.findings.found.FoundModule.{FoundModule}
 use Rattle.fast_check_package_ranges.specs.Answers.{ranges_of, implementations_of, faults_of}
 use Rattle.fast_check_package_ranges.proofs.Joined.{parts_more}
 use Rattle.fast_check_package_ranges.proofs.Lists.{all_map, none_given}

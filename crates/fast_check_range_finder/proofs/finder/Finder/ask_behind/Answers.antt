@@ -2,7 +2,7 @@ use Rattle.std.proofs.Common.{◌≡◌, ◌∙◌, sym, ap, [], ◌∷◌, Opti
 use Rattle.std.proofs.lemmas.Result.{on_ok_weaker}
 use Rattle.url.specs.Parts.{serialize}
 use Rattle.fast_check_packages.specs.Package.{Nv, nv_of}
-use Rattle.fast_check_findings.specs.Yields.{dependency}
+use Rattle.fast_check_package_ranges.specs.findings.Yields.{dependency}
 use Rattle.fast_check_demands.specs.name_demands.Files.{names_of}
 use Rattle.fast_check_demands.specs.worklists.Demands.{asked_by, to_package, to_module}
 use Rattle.fast_check_demands.specs.sources.Sources.{known}

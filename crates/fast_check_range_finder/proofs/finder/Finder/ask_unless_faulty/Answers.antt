@@ -1,7 +1,7 @@
 use Rattle.std.proofs.Common.{sym, subst, [], map, List}
 use Rattle.url.specs.Parts.{Parts}
 use Rattle.fast_check_packages.specs.Package.{nv_of}
-use Rattle.fast_check_entries.specs.findings.declared.found.EntryFault.{EntryFault}
+use Rattle.fast_check_package_ranges.specs.declared.findings.found.EntryFault.{EntryFault}
 use Rattle.fast_check_range_finder.specs.Finder.{Goes}
 use Rattle.fast_check_range_finder.specs.Rules.{entry_want, unless_faulty}
 use Rattle.fast_check_range_finder.proofs.Steps.{goes_nowhere}

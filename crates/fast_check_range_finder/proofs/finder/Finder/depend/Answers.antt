@@ -2,7 +2,7 @@ use Rattle.std.proofs.Common.{subst, [], ◌∷◌, map}
 use Rattle.std.specs.List.{flat_map}
 use Rattle.fast_check_packages.specs.Package.{Nv, nv_of}
 use Rattle.fast_check_demands.specs.Yields.{Joins}
-use Rattle.fast_check_findings.specs.Yields.{dependency}
+use Rattle.fast_check_package_ranges.specs.findings.Yields.{dependency}
 use Rattle.fast_check_range_finder.specs.declared.demand.Dependency.{Dependency}
 use Rattle.fast_check_range_finder.specs.Finder.{depends, entered_yields, yields_in, yields_by}
 use Rattle.fast_check_range_finder.proofs.Joins.{joins_then, joins_left, joins_right}

@@ -1,7 +1,7 @@
 use Rattle.std.proofs.Common.{sym, subst}
 use Rattle.fast_check_packages.specs.Package.{nv_of}
 use Rattle.fast_check_cache.specs.CachedPackages.{used_item}
-use Rattle.fast_check_entries.specs.Entries.{Entrance}
+use Rattle.fast_check_package_ranges.specs.entries.Entries.{Entrance}
 use Rattle.fast_check_demands.specs.sources.Sources.{known, with_used}
 use Rattle.fast_check_range_finder.specs.Finder.{Goes}
 use Rattle.fast_check_range_finder.specs.Lent.{used_of}

@@ -4,10 +4,10 @@ use Rattle.std.specs.List.{flat_map}
 use Rattle.std.proofs.lemmas.List.{append-nil}
 use Rattle.url.specs.Parts.{Parts, serialize}
 use Rattle.fast_check_packages.specs.Package.{Nv, nv_of}
-use Rattle.fast_check_entries.specs.Entries.{all_faults}
-use Rattle.fast_check_entries.specs.findings.Yields.{Yield, known_package, entry_point}
-use Rattle.fast_check_entries.specs.findings.declared.found.EntryFault.{EntryFault}
-use Rattle.fast_check_entries.specs.findings.declared.found.Entrance.TheVariants.{Entered}
+use Rattle.fast_check_package_ranges.specs.entries.Entries.{all_faults}
+use Rattle.fast_check_package_ranges.specs.findings.Yields.{Yield, known_package, entry_point}
+use Rattle.fast_check_package_ranges.specs.declared.findings.found.EntryFault.{EntryFault}
+use Rattle.fast_check_package_ranges.specs.declared.findings.found.Entrance.TheVariants.{Entered}
 use Rattle.fast_check_demands.specs.worklists.Demands.{Want}
 use Rattle.fast_check_range_finder.specs.declared.finder.Finder.{Finder}
 use Rattle.fast_check_range_finder.specs.Finder.{CanEnter, Goes}

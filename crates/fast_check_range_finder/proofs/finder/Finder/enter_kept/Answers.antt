@@ -2,8 +2,8 @@ use Rattle.std.proofs.Common.{◌≡◌, ◌∙◌, sym, ap, refl, subst, [], �
 use Rattle.std.proofs.lemmas.List.{append-nil}
 use Rattle.fast_check_packages.specs.Package.{Nv, nv_of}
 use Rattle.fast_check_cache.specs.Cache.{item_of}
-use Rattle.fast_check_entries.specs.findings.Yields.{kept}
-use Rattle.fast_check_entries.specs.findings.declared.found.Entrance.TheVariants.{Kept}
+use Rattle.fast_check_package_ranges.specs.findings.Yields.{kept}
+use Rattle.fast_check_package_ranges.specs.declared.findings.found.Entrance.TheVariants.{Kept}
 use Rattle.fast_check_demands.specs.worklists.Demands.{Want, to_package}
 use Rattle.fast_check_range_finder.specs.declared.finder.Finder.{Finder}
 use Rattle.fast_check_range_finder.specs.Finder.{CanEnter, Goes}

@@ -6,7 +6,7 @@ use Rattle.std.proofs.lemmas.Option.{slice_get_read}
 use Rattle.fast_check_packages.specs.Package.{Nv, nv_of}
 use Rattle.fast_check_packages.specs.declared.package.PackageNv.{PackageNv}
 use Rattle.fast_check_cache.specs.CachedPackages.{used_item}
-use Rattle.fast_check_entries.proofs.Passed.{passed_on}
+use Rattle.fast_check_package_ranges.proofs.entries.Passed.{passed_on}
 use Rattle.fast_check_lattice.specs.Traces.{handled}
 use Rattle.fast_check_demands.specs.worklists.Demands.{Demand, of_package}
 use Rattle.fast_check_demands.specs.sources.Sources.{known, with_used}

@@ -6,7 +6,7 @@ use Rattle.std.specs.declared.rc.Rc.{Rc}
 use Rattle.url.specs.Parts.{Parts}
 use Rattle.fast_check_packages.specs.Package.{nv_of}
 use Rattle.fast_check_cache.specs.CachedPackages.{used_item}
-use Rattle.fast_check_entries.specs.Entries.{entrance_seen}
+use Rattle.fast_check_package_ranges.specs.entries.Entries.{entrance_seen}
 use Rattle.fast_check_graph.specs.declared.graph.ModuleGraph.{ModuleGraph}
 use Rattle.fast_check_graph.specs.declared.root_symbol.RootSymbol.{RootSymbol}
 use Rattle.fast_check_range_finder.specs.Finder.{IsSound, CanEnter, Goes}

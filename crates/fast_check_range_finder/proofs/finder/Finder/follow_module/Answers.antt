@@ -6,7 +6,7 @@ use Rattle.url.specs.Parts.{serialize}
 use Rattle.fast_check_packages.specs.Package.{Nv, nv_of}
 use Rattle.fast_check_graph.specs.Root.{specifier_of}
 use Rattle.fast_check_demands.specs.name_demands.Files.{names_of}
-use Rattle.fast_check_findings.specs.Yields.{recorded}
+use Rattle.fast_check_package_ranges.specs.findings.Yields.{recorded}
 use Rattle.fast_check_demands.specs.traces.Wants.{Want as WantSeen, want_of}
 use Rattle.fast_check_demands.specs.declared.traces.list.ModuleWant.{ModuleWant}
 use Rattle.fast_check_demands.specs.sources.Sources.{known, traced_as}

@@ -4,8 +4,8 @@ use Rattle.std.proofs.lemmas.Result.{on_ok_weaker}
 use Rattle.url.specs.Parts.{serialize}
 use Rattle.fast_check_packages.specs.Package.{nv_of}
 use Rattle.fast_check_demands.specs.name_demands.Files.{names_of}
-use Rattle.fast_check_findings.specs.Findings.{faulty_module}
-use Rattle.fast_check_findings.specs.Yields.{untyped_module}
+use Rattle.fast_check_package_ranges.specs.findings.Findings.{faulty_module}
+use Rattle.fast_check_package_ranges.specs.findings.Yields.{untyped_module}
 use Rattle.fast_check_demands.specs.sources.Sources.{known}
 use Rattle.fast_check_range_finder.specs.declared.finder.Finder.{Finder}
 use Rattle.fast_check_range_finder.specs.Finder.{Goes}

@@ -1,6 +1,0 @@
-use Rattle.std.proofs.Common.{◌≡◌, ◌++◌}
-use Rattle.fast_check_entries.specs.Entries.{all_faults}
-use Rattle.fast_check_entries.proofs.faults.entry_faults.Given as goal
-
-abbrev pub invariant-loop-url : goal.invariant-loop-url
-invariant-loop-url l = l.faults.items ++ all_faults l.graph l.url-iterator ≡ all_faults l.graph l.urls.keys

@@ -1,6 +1,0 @@
-use Rattle.std.proofs.Common.{refl}
-use Rattle.fast_check_findings.proofs.Collected.{adds_untyped}
-use Rattle.fast_check_findings.proofs.module_faults.ModuleFaults.add_untyped.Goals as goal
-
-pub returns : goal.returns
-returns c = adds_untyped c.args.self.now _ refl refl
