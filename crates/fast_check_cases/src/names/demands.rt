@@ -3,8 +3,9 @@
 use crate::names::packages::package_of;
 use crate::names::sets::{name_and_rest, say_set, set_of};
 use crate::said::Said;
-use fast_check_lattice::{HandledExports, PendingTrace, PendingTraces};
-use fast_check_lattice::{FileDepName, ImportedExports};
+use fast_check_lattice::{
+    FileDepName, HandledExports, ImportedExports, PendingTrace, PendingTraces,
+};
 use std::alloc::{AllocError, Global};
 use url::Url;
 
