@@ -21,8 +21,10 @@ pub mod diagnostics {
 
 /// Sets of demanded names, and the modules that were followed or wait.
 pub mod lattice {
-    pub use fast_check_lattice::{HandledExports, PendingTrace, PendingTraces};
-    pub use fast_check_lattice::{Exports, FileDepName, ImportedExports, NamedSubset};
+    pub use fast_check_lattice::{
+        Exports, FileDepName, HandledExports, ImportedExports, NamedSubset, PendingTrace,
+        PendingTraces,
+    };
 }
 
 /// What a caller lends, and why a build stops.
