@@ -233,7 +233,7 @@ const VERSION = /^\d+\.\d+\.\d+(-[0-9A-Za-z.-]+)?(\+[0-9A-Za-z.-]+)?$/;
 
 /** The folders of a folder's packages: itself where it has entry points, and the members of its workspace, which have to lie within it. */
 function foldersOf(dir, config, options, { errors, faults }) {
-  const members = options.exports === undefined ? membersOf(dir, config) : [];
+  const members = options.members || (options.exports === undefined ? membersOf(dir, config) : []);
   const isThere = (folder) => fs.existsSync(folder);
   for (const folder of members) {
     if (!isInside(dir, folder)) errors.push({ path: folder, code: 'no-entry-point', message: 'this member of the workspace lies outside of the folder' });

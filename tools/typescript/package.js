@@ -269,9 +269,9 @@ function readPackage(dir, options = {}) {
   };
 }
 
-/** Where the texts of a folder's files lead inside of it, as `(from, text) -> path`, or null. */
-function resolverOf(dir) {
-  const reader = new Reader(dir, { isQuiet: true });
+/** Where the texts of files of a workspace with these `members` lead inside of it, as `(from, text) -> path`, or null. */
+function resolverOf(dir, members) {
+  const reader = new Reader(dir, { isQuiet: true, members });
   return (from, text) => reader.resolve(from, text);
 }
 

@@ -27,12 +27,13 @@ function allMembers(folder) {
   return [...configs, { workspaces: listedByPnpm(folder, files) }].flatMap((it) => membersOf(folder, it));
 }
 
-/** The folder of the innermost workspace that a folder, or one around it, is a member of; null where there is none. */
+/** The innermost workspace that a folder, or one around it, is a member of: its folder, null where there is none, and those of its members. */
 function workspaceAround(dir) {
   for (let at = path.dirname(dir); path.dirname(at) !== at; at = path.dirname(at)) {
-    if (allMembers(at).some((it) => it === dir || isInside(it, dir))) return at;
+    const members = allMembers(at);
+    if (members.some((it) => it === dir || isInside(it, dir))) return { folder: at, members: members.filter((it) => isInside(at, it)) };
   }
-  return null;
+  return { folder: null, members: [] };
 }
 
 /** What the compiler finds at a path, as it finds a package in `node_modules`. */
@@ -46,16 +47,17 @@ const isTyped = (found) => Boolean(found) && !isJavaScript(mediaTypeOf(found.res
 const workspaces = new Map();
 
 /** Where the texts of a workspace's files lead inside of it. */
-function inWorkspace(folder) {
-  if (!workspaces.has(folder)) workspaces.set(folder, resolverOf(folder));
+function inWorkspace({ folder, members }) {
+  if (!workspaces.has(folder)) workspaces.set(folder, folder === null ? () => null : resolverOf(folder, members));
   return workspaces.get(folder);
 }
 
 class Surroundings {
   constructor(dir) {
     this.dir = dir;
-    this.workspace = workspaceAround(dir);
-    this.inWorkspace = this.workspace === null ? () => null : inWorkspace(this.workspace);
+    const around = workspaceAround(dir);
+    this.workspace = around.folder;
+    this.inWorkspace = inWorkspace(around);
     const named = (process.env.NODE_PATH || '').split(path.delimiter).filter(path.isAbsolute);
     this.system = [...named, ...SYSTEM].filter((it) => fs.existsSync(it));
   }
