@@ -6,10 +6,10 @@ const { ts } = require('./typescript');
 
 const { SyntaxKind: K } = ts;
 
-const { NoTruncation, AllowUniqueESSymbolType, AllowNodeModulesRelativePaths, UseAliasDefinedOutsideCurrentScope } = ts.NodeBuilderFlags;
-const FLAGS = NoTruncation | AllowUniqueESSymbolType | AllowNodeModulesRelativePaths;
+const Flags = ts.NodeBuilderFlags;
+const FLAGS = Flags.NoTruncation | Flags.AllowUniqueESSymbolType | Flags.AllowNodeModulesRelativePaths | Flags.WriteClassExpressionAsTypeLiteral;
 // With the names of types that are not in sight, where these can be imported; else as what they stand for.
-const WAYS = [FLAGS | UseAliasDefinedOutsideCurrentScope, FLAGS];
+const WAYS = [FLAGS | Flags.UseAliasDefinedOutsideCurrentScope, FLAGS];
 // The most characters of a type that is written.
 const LONGEST = 400;
 // The most parts of a type that are looked at.
@@ -98,6 +98,63 @@ function entityText(qualifier) {
   return qualifier.kind === K.Identifier ? qualifier.text : `${entityText(qualifier.left)}.${qualifier.right.text}`;
 }
 
+const isAnonymous = (type) => Boolean(type.flags & ts.TypeFlags.Object && type.objectFlags & ts.ObjectFlags.Anonymous);
+
+/** The declaration of a class that is a value, where a type is of it or of what it makes. */
+function classOf({ symbol }) {
+  const declaration = symbol && symbol.valueDeclaration;
+  return declaration && ts.isClassExpression(declaration) ? declaration : null;
+}
+
+/** The parts of types that are written out where no name stands for them, seen from a node. */
+class Parts {
+  constructor(checker, node) {
+    this.checker = checker;
+    this.node = node;
+    this.seen = new Map();
+    this.count = 0;
+  }
+
+  /** Whether a type is met for the first time with these classes around it. */
+  isNew(type, around) {
+    const key = around.map((it) => `${it.isStatic} ${it.declaration.pos}`).join();
+    if (!this.seen.has(key)) this.seen.set(key, new Set());
+    const types = this.seen.get(key);
+    if (types.has(type) || this.count > MOST_PARTS) return false;
+    this.count += 1;
+    return Boolean(types.add(type));
+  }
+
+  /** Whether a part of a type is not known. */
+  hasUnknown(type) {
+    if (type.intrinsicName === 'error' && !type.aliasSymbol) return true;
+    return this.isNew(type, []) && this.of(type).some((it) => this.hasUnknown(it));
+  }
+
+  /** Whether a class that is a value is in its own parts: written out, it has no end. */
+  hasCircle(type, around = []) {
+    const declaration = classOf(type);
+    const isStatic = isAnonymous(type);
+    if (declaration && around.some((it) => it.declaration === declaration && it.isStatic === isStatic)) return true;
+    const inside = declaration ? [...around, { declaration, isStatic }] : around;
+    return this.isNew(type, around) && this.of(type).some((it) => this.hasCircle(it, inside));
+  }
+
+  of(type) {
+    const { checker, node } = this;
+    const named = [...(type.aliasTypeArguments || []), ...(type.types || [])];
+    if (!(type.flags & ts.TypeFlags.Object)) return named;
+    const isReference = type.objectFlags & ts.ObjectFlags.Reference;
+    const all = isReference ? [...named, ...checker.getTypeArguments(type)] : named;
+    const isNamed = type.symbol && type.symbol.flags & ts.SymbolFlags.Class && !classOf(type);
+    if (isNamed || !(classOf(type) || isAnonymous(type))) return all;
+    const signatures = [...type.getCallSignatures(), ...type.getConstructSignatures()];
+    const ofSignature = (it) => [it.getReturnType(), ...it.getParameters().map((each) => checker.getTypeOfSymbolAtLocation(each, node))];
+    const members = type.getProperties().map((it) => checker.getTypeOfSymbolAtLocation(it, node));
+    return [...all, ...signatures.flatMap(ofSignature), ...members, ...checker.getIndexInfosOfType(type).map((it) => it.type)];
+  }
+}
+
 /** Writes the types of one file: what is taken there, and what has to be imported. `naming` says how the file names what other modules export. */
 class TypeWriter {
   constructor(checker, file, naming) {
@@ -176,31 +233,12 @@ class TypeWriter {
     }
   }
 
-  /** A type that the compiler does not know, or of which a part is not known, is none. */
+  /** A type that the compiler does not know, or of which a part is not known or has no end, is none. */
   known(type, node) {
     if (type.intrinsicName === 'error') throw new NotFixed('its type comes of something that is not found');
-    if (this.hasUnknown(type, node, new Set())) throw new NotFixed('a part of its type comes of something that is not found');
+    if (new Parts(this.checker, node).hasUnknown(type)) throw new NotFixed('a part of its type comes of something that is not found');
+    if (new Parts(this.checker, node).hasCircle(type)) throw new NotFixed('its type has a class without a name in it, which names itself');
     return type;
-  }
-
-  /** Whether a part of a type that is written out is not known. */
-  hasUnknown(type, node, seen) {
-    if (type.intrinsicName === 'error' && !type.aliasSymbol) return true;
-    if (seen.has(type) || seen.size > MOST_PARTS) return false;
-    seen.add(type);
-    return this.partsOf(type, node).some((it) => this.hasUnknown(it, node, seen));
-  }
-
-  partsOf(type, node) {
-    const { checker } = this;
-    const named = [...(type.aliasTypeArguments || []), ...(type.types || [])];
-    if (!(type.flags & ts.TypeFlags.Object)) return named;
-    if (type.objectFlags & ts.ObjectFlags.Reference) return [...named, ...checker.getTypeArguments(type)];
-    if (!(type.objectFlags & ts.ObjectFlags.Anonymous) || (type.symbol && type.symbol.flags & ts.SymbolFlags.Class)) return named;
-    const signatures = [...type.getCallSignatures(), ...type.getConstructSignatures()];
-    const ofSignature = (it) => [it.getReturnType(), ...it.getParameters().map((each) => checker.getTypeOfSymbolAtLocation(each, node))];
-    const indexes = checker.getIndexInfosOfType(type).map((it) => it.type);
-    return [...named, ...signatures.flatMap(ofSignature), ...type.getProperties().map((it) => checker.getTypeOfSymbolAtLocation(it, node)), ...indexes];
   }
 
   /** The text of a type; `name` is that of the value, where it has one. */
