@@ -57,7 +57,7 @@ function isElsewhere(identifier) {
   const { parent } = identifier;
   if (parent.propertyName === identifier || parent.right === identifier) return !ts.isBinaryExpression(parent);
   if (ts.isExportSpecifier(parent)) return Boolean(parent.parent.parent.moduleSpecifier);
-  const isMember = ts.isPropertyAccessExpression(parent) || ts.isClassElement(parent) || ts.isTypeElement(parent) || ts.isPropertyAssignment(parent) || ts.isEnumMember(parent);
+  const isMember = [ts.isPropertyAccessExpression, ts.isClassElement, ts.isTypeElement, ts.isPropertyAssignment, ts.isEnumMember].some((is) => is(parent));
   return isMember && parent.name === identifier;
 }
 
@@ -198,7 +198,8 @@ class TypeWriter {
     const { Namespace } = ts.SymbolFlags;
     const found = this.checker.resolveName(first.text, node, first === entity ? meaning : Namespace, false);
     const known = [found, found && this.naming.behind(found), found && this.checker.getExportSymbolOfSymbol(found)];
-    if (!known.includes(symbol) && !known.includes(this.naming.behind(symbol))) throw new NotFixed(`its type names ${first.text}, which is not exported where it is declared`);
+    if ([symbol, this.naming.behind(symbol)].some((it) => known.includes(it))) return;
+    throw new NotFixed(`its type names ${first.text}, which is not exported where it is declared`);
   }
 
   /** Types of other modules by names that are imported, where these are free. */
