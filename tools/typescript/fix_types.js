@@ -74,6 +74,21 @@ function identifiersOf(file) {
 
 // ---- types as text
 
+/** Whether a type has more names and words than it may have characters: it is not even printed then. */
+function isLong(node) {
+  let count = 0;
+  const visit = (at) => {
+    let isLeaf = true;
+    const isOver = ts.forEachChild(at, (it) => {
+      isLeaf = false;
+      return visit(it);
+    });
+    if (isLeaf) count += 1;
+    return isOver || count > LONGEST;
+  };
+  return visit(node);
+}
+
 /** Whether an expression is a name, or one with dots. */
 function isName(node) {
   return node.kind === K.Identifier || (node.kind === K.PropertyAccessExpression && node.name.kind === K.Identifier && isName(node.expression));
@@ -214,6 +229,7 @@ class TypeWriter {
 
   text(node, place) {
     if (!node) throw new NotFixed('the compiler has no type for it');
+    if (isLong(node)) throw new NotFixed(`its type has more than ${LONGEST} characters: give it a name`);
     const printer = ts.createPrinter({ removeComments: true });
     const text = printer.printNode(ts.EmitHint.Unspecified, this.named(node, place), this.file).replace(/\n\s*/g, ' ');
     if (text.length > LONGEST) throw new NotFixed(`its type has ${text.length} characters: give it a name`);
