@@ -69,10 +69,13 @@ class Project {
 
   /** The program of some texts: the last one, where these are its texts. */
   program(world, texts) {
-    const { last } = this;
-    if (last && last.texts.size === texts.size && [...texts].every(([name, text]) => last.texts.get(name) === text)) return last.program;
-    this.last = { texts, program: this.made(world, texts) };
-    return this.last.program;
+    const isLast = ({ texts: known }) => known.size === texts.size && [...texts].every(([name, text]) => known.get(name) === text);
+    if (this.last && isLast(this.last)) return this.last.program;
+    // Two of them at once may need more memory than there is.
+    this.last = null;
+    const program = this.made(world, texts);
+    this.last = { texts, program };
+    return program;
   }
 
   made(world, texts) {
