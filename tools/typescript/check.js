@@ -21,7 +21,7 @@ function toldOf(world, messages, options, baseline) {
 /** What the program and, where it is asked for, the compiler say of a folder. */
 async function messagesOf(world, options, context) {
   if (!options.verify || !world.skeletons.size) return world.messages;
-  const { verified } = require('./verifier.js');
+  const { verified } = require('./thread.js');
   context.progress.begin("TypeScript's compiler checks the skeletons");
   return [...world.messages, ...await verified(world, context)];
 }

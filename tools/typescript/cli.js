@@ -96,7 +96,7 @@ function writeDiff(texts, { out, paint, cwd }) {
 }
 
 async function fix([word], options, context) {
-  const { fix: fixed } = require('./fix.js');
+  const { fixed } = require('./thread.js');
   const { world, texts, count: types } = await fixed(folderOf(word, context), options, context);
   context.progress.end();
   if (options.dry) writeDiff(texts, context);

@@ -15,7 +15,7 @@ const from = (codes, source) => Object.fromEntries(codes.map((code) => [code, so
 const CODES = { ...from(PROGRAM, 'program'), ...from(OWN, 'own'), ...from(REFUSED, 'refused') };
 
 // Those that a written type may answer.
-const FIXABLE = new Set(['missing-explicit-return-type', 'missing-explicit-type', 'unsupported-default-export-expr']);
+const FIXABLE = new Set(['missing-explicit-return-type', 'missing-explicit-type', 'unsupported-default-export-expr', 'unsupported-destructuring']);
 
 // The errors of TypeScript's compiler, which are told by their numbers.
 const OF_COMPILER = /^typescript-\d+$/;

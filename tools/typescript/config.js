@@ -121,9 +121,9 @@ const ABSENT = { message: 'is not there', more: { hint: 'give the path of a file
 const NO_MODULE = { message: 'is no module, and is passed over', more: { level: 'Warning' } };
 
 /** What is wrong with an entry point, where its path is written. */
-function faultOf(text, wrong, dir, config, given) {
+function faultOf(text, wrong, { dir, config, given, isQuiet }) {
   const fault = { path: dir, code: 'no-entry-point', message: `the entry point ${text} ${wrong.message}`, ...wrong.more };
-  for (const file of given === undefined ? config.read : []) {
+  for (const file of given === undefined && !isQuiet ? config.read : []) {
     const source = readText(file).text;
     const offset = placeOfPath(file, source, text);
     if (offset !== undefined) return { ...fault, path: file, ...placeAt(source, offset), length: text.length + 2 };
@@ -132,9 +132,9 @@ function faultOf(text, wrong, dir, config, given) {
 }
 
 /** The written entry points that are modules, as `[key, path]`, what is wrong with the others, and which are taken in place of those that are written. */
-function modulesOf(dir, written, { config, given, files, aliases, errors }) {
+function modulesOf(dir, written, { config, given, files, aliases, errors, isQuiet }) {
   const [found, wrong, taken] = [[], [], []];
-  const refuse = (text, how) => wrong.push(faultOf(text, how, dir, config, given));
+  const refuse = (text, how) => wrong.push(faultOf(text, how, { dir, config, given, isQuiet }));
   for (const [key, text] of written.flatMap((it) => expanded(dir, it))) {
     const wanted = path.resolve(dir, text);
     const source = isInside(dir, wanted) ? aliases.sourceOf(dir, wanted) : null;
@@ -215,17 +215,25 @@ function importsOf(dir, config) {
 const DEPENDENCIES = ['dependencies', 'devDependencies', 'peerDependencies', 'optionalDependencies'];
 
 /** The names of the packages that a configuration depends on; those that have their types in a package of their own too. */
-function dependenciesOf(config) {
-  const names = DEPENDENCIES.flatMap((it) => (isMap(config[it]) ? Object.keys(config[it]) : []));
+function dependenciesOf(config, kinds = DEPENDENCIES) {
+  const names = kinds.flatMap((it) => (isMap(config[it]) ? Object.keys(config[it]) : []));
   const typed = names.filter((it) => it.startsWith('@types/')).map((it) => it.slice('@types/'.length));
   return [...names, ...typed, ...typed.map((it) => it.replace(/^(.+)__/, '@$1/'))];
+}
+
+// Those that the users of a package have too.
+const NEEDED = DEPENDENCIES.filter((it) => it !== 'devDependencies');
+
+/** The names of a map of imports that lead out of the folder. */
+function mappedOut(config) {
+  return Object.entries(importsOf('/', config)).filter(([, target]) => target === null).map(([name]) => name.replace(/\/$/, ''));
 }
 
 const VERSION = /^\d+\.\d+\.\d+(-[0-9A-Za-z.-]+)?(\+[0-9A-Za-z.-]+)?$/;
 
 /** The folders of a folder's packages: itself where it has entry points, and the members of its workspace, which have to lie within it. */
 function foldersOf(dir, config, options, { errors, faults }) {
-  const members = options.exports === undefined ? membersOf(dir, config) : [];
+  const members = options.members || (options.exports === undefined ? membersOf(dir, config) : []);
   const isThere = (folder) => fs.existsSync(folder);
   for (const folder of members) {
     if (!isInside(dir, folder)) errors.push({ path: folder, code: 'no-entry-point', message: 'this member of the workspace lies outside of the folder' });
@@ -252,7 +260,7 @@ function isNoPackage({ dir, exports }, root, config, { errors, faults }) {
 
 /**
  * The packages of a folder. `context` has `files` and `aliases`, and lists that are filled: what keeps a package from being read (`errors`), what is wrong with
- * one that is read (`faults`), and which entry points are taken in place of those that are written (`taken`).
+ * one that is read (`faults`), and which entry points are taken in place of those that are written (`taken`). Where it `isQuiet`, no places are looked for.
  */
 function packagesOf(dir, options, context) {
   const { files, errors } = context;
@@ -269,10 +277,11 @@ function packagesOf(dir, options, context) {
       dir: folder,
       imports: { ...importsOf(dir, config), ...importsOf(folder, own) },
       dependencies: new Set([...dependenciesOf(config), ...dependenciesOf(own)]),
+      needed: [...new Set([...mappedOut(config), ...mappedOut(own), ...dependenciesOf(own, NEEDED)])],
       exports: entryPoints(folder, own, given.exports, context),
     };
   });
   return found.filter((it) => !isNoPackage(it, dir, config, context));
 }
 
-module.exports = { packagesOf, readConfig };
+module.exports = { membersOf, packagesOf, readConfig };

@@ -3,32 +3,42 @@
 const path = require('path');
 const { analyse } = require('./analysis.js');
 const { FIXABLE } = require('./codes.js');
-const { Files } = require('./files.js');
+const { isInside } = require('./files.js');
 const { NotFixed, TypeWriter, applied, editsFor, importEdits } = require('./fix_types.js');
+const { Naming } = require('./naming.js');
+const { Surroundings } = require('./surroundings.js');
 const { ts } = require('./typescript.js');
 const { resolver } = require('./ways.js');
 
-const RELATIVE = /^\.{1,2}(\/|$)/;
 const ROUNDS = 10;
 // What the compiler says of something whose type is `any` since it finds none, as in a circle.
 const NO_TYPE = new Set([7005, 7006, 7008, 7010, 7011, 7016, 7018, 7019, 7022, 7023, 7024, 7031, 7034]);
 
-/** The options of the nearest tsconfig.json of a folder, as far as types depend on them. */
-function optionsOf(dir) {
+/** The options of the nearest tsconfig.json above a folder, inside of its workspace, as far as types depend on them. */
+function optionsOf(dir, workspace) {
   const file = ts.findConfigFile(dir, ts.sys.fileExists);
-  const config = file && path.dirname(file) === dir ? ts.readConfigFile(file, ts.sys.readFile).config || {} : {};
-  const { options } = ts.convertCompilerOptionsFromJson({ strict: true, ...config.compilerOptions }, dir);
-  const defaults = { target: ts.ScriptTarget.ESNext, module: ts.ModuleKind.ESNext, moduleResolution: ts.ModuleResolutionKind.NodeJs };
+  const top = workspace || dir;
+  const isNear = file && (path.dirname(file) === top || isInside(top, file));
+  const config = (isNear && ts.readConfigFile(file, ts.sys.readFile).config) || {};
+  // Which files it lists is not asked for.
+  const host = { ...ts.sys, readDirectory: () => [] };
+  const { options } = ts.parseJsonConfigFileContent({ ...config, files: [], include: [] }, host, isNear ? path.dirname(file) : dir, undefined, isNear ? file : undefined);
+  const written = Object.fromEntries(Object.entries(options).filter(([, value]) => value !== undefined));
+  const defaults = { strict: true, target: ts.ScriptTarget.ESNext, module: ts.ModuleKind.ESNext, moduleResolution: ts.ModuleResolutionKind.NodeJs };
   const own = { noEmit: true, declaration: true, composite: false, incremental: false, skipLibCheck: true, noImplicitAny: true, allowJs: false };
-  return { allowImportingTsExtensions: true, ...defaults, jsx: ts.JsxEmit.Preserve, resolveJsonModule: true, ...options, ...own };
+  return { allowImportingTsExtensions: true, ...defaults, jsx: ts.JsxEmit.Preserve, resolveJsonModule: true, ...written, ...own };
 }
 
-/** The compiler over the modules of a folder, with texts in place of those of the files, and the packages that are installed. */
+/** The compiler over the modules of a folder, with texts in place of those of the files, and the packages that are found. */
 class Project {
   constructor(dir) {
-    this.options = optionsOf(dir);
+    this.dir = dir;
+    this.surroundings = new Surroundings(dir);
+    this.options = optionsOf(dir, this.surroundings.workspace);
+    this.host = { ...ts.createCompilerHost(this.options, true), getCurrentDirectory: () => dir };
     this.libraries = new Map();
     this.sources = new Map();
+    this.found = new Map();
   }
 
   /** A text as a source file: that of the last program, where the text is the same. */
@@ -38,72 +48,79 @@ class Project {
     return this.sources.get(name);
   }
 
-  program(world, texts) {
-    const base = ts.createCompilerHost(this.options, true);
+  /** Where a text of a file leads out of the folder. */
+  outside(text, from) {
+    const key = `${path.dirname(from)}\n${text}`;
+    if (!this.found.has(key)) this.found.set(key, this.surroundings.resolve(text, from, this.options, this.host));
+    return this.found.get(key);
+  }
+
+  /** Where the texts of files lead, as `(text, from) -> module`. */
+  resolverOf(world, texts) {
     const resolve = resolver(world);
     const paths = new Map([...world.files.values()].map((it) => [it.specifier, it.path]));
     const specifiers = new Map([...paths].map(([specifier, file]) => [file, specifier]));
-    const sourceFile = (name, target) => {
-      if (texts.has(name)) return this.source(name, texts.get(name), target);
-      if (!this.libraries.has(name)) this.libraries.set(name, base.getSourceFile(name, target));
-      return this.libraries.get(name);
-    };
-    const module = (text, from) => {
+    return (text, from) => {
       const found = specifiers.has(from) ? paths.get(resolve(specifiers.get(from), text)) : undefined;
       if (found && texts.has(found)) return { resolvedFileName: found, extension: /\.d\.[cm]?ts$|\.[a-z]+$/.exec(found)[0], isExternalLibraryImport: false };
-      return ts.resolveModuleName(text, from, this.options, base).resolvedModule;
+      return this.outside(text, from);
     };
-    const host = { ...base, getSourceFile: sourceFile, resolveModuleNames: (names, from) => names.map((text) => module(text, from)) };
-    return ts.createProgram([...texts.keys()], this.options, host);
+  }
+
+  /** The program of some texts: the last one, where these are its texts. */
+  program(world, texts) {
+    const isLast = ({ texts: known }) => known.size === texts.size && [...texts].every(([name, text]) => known.get(name) === text);
+    if (this.last && isLast(this.last)) return this.last.program;
+    // Two of them at once may need more memory than there is.
+    this.last = null;
+    const program = this.made(world, texts);
+    this.last = { texts, program };
+    return program;
+  }
+
+  made(world, texts) {
+    const resolve = this.resolverOf(world, texts);
+    const getSourceFile = (name, target) => {
+      if (texts.has(name)) return this.source(name, texts.get(name), target);
+      if (!this.libraries.has(name)) this.libraries.set(name, this.host.getSourceFile(name, target));
+      return this.libraries.get(name);
+    };
+    const host = { ...this.host, getSourceFile, resolveModuleNames: (names, from) => names.map((text) => resolve(text, from)) };
+    const roots = [...texts.keys(), ...this.surroundings.nodeTypes(world.info.externals.map((it) => it.text))];
+    return ts.createProgram(roots, this.options, host);
   }
 }
 
-/** The errors of a file, as they are told. */
-function errorsOf(program, name) {
-  const file = program.getSourceFile(name);
-  const all = [...program.getSyntacticDiagnostics(file), ...program.getSemanticDiagnostics(file)];
-  return all.map((it) => `${it.code} ${ts.flattenDiagnosticMessageText(it.messageText, ' ')}`);
+/** The errors of some files, as they are told, with their codes and places. */
+function errorsOf(program, names) {
+  return names.flatMap((name) => {
+    const file = program.getSourceFile(name);
+    const all = [...program.getSyntacticDiagnostics(file), ...program.getSemanticDiagnostics(file)];
+    return all.map((it) => ({ name, code: it.code, start: it.start, text: `${name} ${it.code} ${ts.flattenDiagnosticMessageText(it.messageText, ' ')}` }));
+  });
 }
 
-// ---- names of modules
-
-/** How sources of a folder name others: with which ending, by what most of them have. */
-function endingOf(world) {
-  const counts = { '.ts': 0, '.js': 0, '': 0 };
-  for (const { tree } of world.info.modules) {
-    for (const { text } of tree.sources || []) if (RELATIVE.test(text)) counts[/\.[cm]?tsx?$/.test(text) ? '.ts' : /\.[cm]?jsx?$/.test(text) ? '.js' : ''] += 1;
+/** Known errors: those of a program, by what they say, and by their codes and places, which move with the edits of a file. */
+class KnownErrors {
+  constructor(errors) {
+    this.texts = new Set(errors.map((it) => it.text));
+    this.places = new Set(errors.map((it) => `${it.name} ${it.code} ${it.start}`));
   }
-  return Object.keys(counts).sort((a, b) => counts[b] - counts[a])[0];
+
+  /** Whether an error of the texts with some edits, `{start, end, text}` by file, was there without them. */
+  has(error, edits) {
+    return this.texts.has(error.text) || this.places.has(`${error.name} ${error.code} ${placeBefore(error.start, edits.get(error.name) || [])}`);
+  }
 }
 
-/** How a file names a module of the folder. */
-function relativeSource(from, to, ending) {
-  const relative = path.relative(path.dirname(from), to).split(path.sep).join('/');
-  const shown = relative.startsWith('.') ? relative : `./${relative}`;
-  if (ending === '.ts') return shown;
-  return shown.replace(/(\.d)?\.([cm]?)tsx?$/, ending === '.js' ? '.$2js' : '').replace(/\/index$/, ending === '' ? '' : '/index');
-}
-
-/** The package of a file that is installed, if that is the one that its name leads to. */
-function packageOf(file, from, options) {
-  const [, name] = /^.*\/node_modules\/((?:@[^/]+\/)?[^/]+)\//.exec(file) || [];
-  const text = name && name.replace(/^@types\/(.+)__/, '@$1/').replace(/^@types\//, '');
-  const { resolvedModule } = text ? ts.resolveModuleName(text, from, options, ts.sys) : {};
-  return resolvedModule && resolvedModule.resolvedFileName.replace(/(\.d)?\.[cm]?tsx?$/, '') === file ? text : null;
-}
-
-/** How a file names a module that the compiler names by its path or its name: as a file of the folder or as a package that the folder uses. Else null. */
-function sourceNamer(world, from, { ending, options }) {
-  const files = new Files(world.dir);
-  const known = new Set([...world.files.values()].map((it) => it.path));
-  const packages = new Set(world.info.externals.map((it) => it.text));
-  return (text) => {
-    const isPath = RELATIVE.test(text) || path.isAbsolute(text);
-    const found = isPath ? files.find(path.resolve(path.dirname(from), text)) : null;
-    if (found && known.has(found)) return relativeSource(from, found, ending);
-    const name = isPath ? packageOf(path.resolve(path.dirname(from), text), from, options) : text;
-    return name && (packages.has(name) || name.startsWith('node:')) ? name : null;
-  };
+/** Where a place of a text with edits lies in the one without. */
+function placeBefore(place, edits) {
+  let moved = 0;
+  for (const { start, end, text } of [...edits].sort((a, b) => a.start - b.start)) {
+    if (start + moved + text.length > place) break;
+    moved += text.length - (end - start);
+  }
+  return place - moved;
 }
 
 // ---- one round
@@ -115,8 +132,8 @@ function keyOf(message) {
 }
 
 /** The edits of one file for its messages: `{key, file, edits, imports}`. Why there is none for a message goes to `notes`. */
-function fileEdits({ program, file, messages, sourceOf, rejected, notes }) {
-  const writer = new TypeWriter(program.getTypeChecker(), file, sourceOf);
+function fileEdits({ program, file, messages, naming, rejected, notes }) {
+  const writer = new TypeWriter(program.getTypeChecker(), file, naming);
   const unknown = new Set(program.getSemanticDiagnostics(file).filter((it) => NO_TYPE.has(it.code)).map((it) => it.start));
   const made = [];
   for (const message of messages) {
@@ -134,14 +151,19 @@ function fileEdits({ program, file, messages, sourceOf, rejected, notes }) {
   return made;
 }
 
-/** The texts of the files that some edits change. */
-function changedTexts(made) {
+/** Some edits with the imports that they ask for, by their files. */
+function editsByFile(made) {
   const byFile = new Map();
   for (const each of made) byFile.set(each.file, [...(byFile.get(each.file) || []), each]);
-  return [...byFile].map(([file, some]) => {
+  return new Map([...byFile].map(([file, some]) => {
     const imports = new Map(some.flatMap((it) => [...it.imports]));
-    return [file.fileName, applied(file.text, [...importEdits(file, imports), ...some.flatMap((it) => it.edits)])];
-  });
+    return [file, [...importEdits(file, imports), ...some.flatMap((it) => it.edits)]];
+  }));
+}
+
+/** The texts of the files that some edits change. */
+function changedTexts(made) {
+  return [...editsByFile(made)].map(([file, edits]) => [file.fileName, applied(file.text, edits)]);
 }
 
 /** The messages that a type may answer, by the paths of their files. */
@@ -158,7 +180,7 @@ function fixable(world) {
 class Fixer {
   constructor(dir, options, context) {
     Object.assign(this, { dir, options, context });
-    this.texts = new Map();
+    this.texts = new Map(options.texts);
     this.rejected = new Set();
     this.notes = new Map();
     this.count = 0;
@@ -173,25 +195,26 @@ class Fixer {
     return new Map(world.info.modules.map((it) => [it.path, it.text]));
   }
 
-  /** The errors of all files, each with its file, as they are told. */
-  errors(world, texts) {
+  /** The edits that answer messages, by what the compiler infers. */
+  edits(world, texts, messages) {
     const program = this.project.program(world, texts);
-    return [...texts.keys()].flatMap((name) => errorsOf(program, name).map((text) => ({ name, text: `${name} ${text}` })));
+    const naming = new Naming(world, program, this.project.resolverOf(world, texts));
+    return [...messages].flatMap(([name, some]) => (
+      fileEdits({ program, file: program.getSourceFile(name), messages: some, naming, rejected: this.rejected, notes: this.notes })));
   }
 
   /** One round: the edits of all files that bring no error. Answers how many there are. */
   round(world) {
+    const messages = fixable(world);
+    if (!messages.size) return 0;
     const texts = this.textsOf(world);
-    if (!this.known) this.known = new Set(this.errors(world, texts).map((it) => it.text));
-    const program = this.project.program(world, texts);
-    const ending = endingOf(world);
-    const made = [...fixable(world)].flatMap(([name, messages]) => {
-      const sourceOf = sourceNamer(world, name, { ending, options: this.project.options });
-      return fileEdits({ program, file: program.getSourceFile(name), messages, sourceOf, rejected: this.rejected, notes: this.notes });
-    });
+    const names = [...texts.keys()];
+    const made = this.edits(world, texts, messages);
+    const known = new KnownErrors(made.length ? errorsOf(this.project.program(world, texts), names) : []);
     const wrongFiles = (some) => {
-      const found = this.errors(world, new Map([...texts, ...changedTexts(some)])).filter((it) => !this.known.has(it.text));
-      return new Set(found.map((it) => it.name));
+      const program = this.project.program(world, new Map([...texts, ...changedTexts(some)]));
+      const edits = new Map([...editsByFile(some)].map(([file, each]) => [file.fileName, each]));
+      return new Set(errorsOf(program, names).filter((it) => !known.has(it, edits)).map((it) => it.name));
     };
     const clean = new Set(this.cleanPart([], made, wrongFiles));
     const kept = made.filter((it) => clean.has(it));

@@ -6,8 +6,8 @@
 //
 // Of each seed a package of up to four modules is made: of modules of `fuzz_modules.js`, or of real modules of the FOLDERs with edits (empty bodies, types
 // dropped, members and items moved, twice there or gone). A module that the compiler's parser refuses is left out. Each command has to end with status 0 or 1,
-// but where a value is nested too deep; a tree that is printed has to be read back as the same, and so has each skeleton. What fails is told with its seed; the
-// package of one seed is made again by `fuzz.js 1 SEED`.
+// but where a value is nested too deep; a tree that is printed has to be read back as the same, and so has each skeleton; and a second `fix` has to change
+// nothing. What fails is told with its seed; the package of one seed is made again by `fuzz.js 1 SEED`.
 const fs = require('fs');
 const os = require('os');
 const path = require('path');
@@ -22,8 +22,8 @@ const { ts } = require('./typescript.js');
 
 const { SyntaxKind: K } = ts;
 const MODULES = 4;
-const COMMANDS = [['check', '.'], ['skeleton', '.'], ['input', '.'], ['report', '.', '../page.html'], ['diff', '.', '.']];
-// `--verify` takes as long as all others, and is asked of one package in so many.
+const COMMANDS = [['check', '.'], ['skeleton', '.'], ['skeleton', '--dts', '.'], ['input', '.'], ['report', '.', '../page.html'], ['diff', '.', '.']];
+// `--verify` and `fix` take as long as all others, and each is asked of one package in so many.
 const VERIFIED = 20;
 
 // ---- edits of real modules
@@ -155,7 +155,15 @@ async function wrong(seed, modules, folder) {
     const isStatus = status === 0 || status === 1 || (words[0] === 'diff' && (out + err).match(/has no skeletons to compare|^preview: /m));
     if (!isStatus) return `${words.join(' ')} ends with status ${status}: ${out.slice(-400)}${err.slice(-400)}`;
   }
-  return wrongSkeleton(folder);
+  return await wrongSkeleton(folder) || (seed % VERIFIED === 1 ? wrongTypes(folder) : null);
+}
+
+/** What is wrong with the types that are written into the package of a folder: a second run has to change nothing, and what has skeletons then is as it is without. */
+async function wrongTypes(folder) {
+  const first = await run(['fix', '.'], folder);
+  if (first.status > 1) return `fix ends with status ${first.status}: ${first.out.slice(-400)}${first.err.slice(-400)}`;
+  const again = await run(['fix', '--dry', '.'], folder);
+  return again.out ? `a second fix changes\n${again.out}` : wrongSkeleton(folder);
 }
 
 /** Tries so many seeds, tells what fails, and answers how many do. */

@@ -6,16 +6,30 @@ const { declarationFiles, declarationName } = require('./declaration_files');
 const { compared, errorsIn, normalise, surfaceOf } = require('./judge_surface');
 const { ts } = require('./typescript');
 
-const FLAGS = ts.TypeFormatFlags.NoTruncation | ts.TypeFormatFlags.UseAliasDefinedOutsideCurrentScope | ts.TypeFormatFlags.AllowUniqueESSymbolType;
+const { NoTruncation, AllowUniqueESSymbolType, UseAliasDefinedOutsideCurrentScope } = ts.TypeFormatFlags;
+const FLAGS = NoTruncation | AllowUniqueESSymbolType;
 
 /** A text of types with the members of unions in order. */
 function inOrder(text) {
   return text.split(/([;:,{}()[\]<>]|=>)/).map((it) => it.split(' | ').sort().join(' | ')).join('');
 }
 
-/** The types of a declaration, as the compiler resolves them: of a class member by member. */
-function typesOf(node, checker) {
-  const told = (it) => inOrder(normalise(checker.typeToString(checker.getTypeAtLocation(it), undefined, FLAGS)));
+/** A text of types in which type parameters of signatures beside each other have the names that are written: the compiler may call the second `T_1`. */
+function withWrittenNames(text, node) {
+  const names = new Set();
+  const visit = (at) => {
+    if (ts.isTypeParameterDeclaration(at)) names.add(at.name.text);
+    ts.forEachChild(at, visit);
+  };
+  visit(node);
+  const plain = (name) => name.replace(/_\d+$/, '');
+  return text.replace(/[\w$]+_\d+\b/g, (name) => (names.has(name) || names.has(plain(name)) ? plain(name) : name));
+}
+
+/** The types of a declaration, as the compiler resolves them: of a class member by member. From a `place` that sees no alias each is resolved too. */
+function typesOf(node, checker, place) {
+  const flags = place ? FLAGS : FLAGS | UseAliasDefinedOutsideCurrentScope;
+  const told = (it) => withWrittenNames(inOrder(normalise(checker.typeToString(checker.getTypeAtLocation(it), place, flags))), node);
   if (!ts.isClassDeclaration(node)) return told(node);
   const isPrivate = (it) => it.name && (ts.isPrivateIdentifier(it.name) || ts.getCombinedModifierFlags(it) & ts.ModifierFlags.Private);
   return node.members.map((it) => `${it.name ? it.name.getText() : ''} ${isPrivate(it) ? '' : told(it)}`).join('\n');
@@ -23,8 +37,9 @@ function typesOf(node, checker) {
 
 /** Whether a declaration has the same types in two surfaces. */
 function isAlike(key, one, other) {
-  const types = (surface) => (surface.nodes.get(key) || []).map((it) => typesOf(it, surface.checker)).sort().join('\n');
-  return types(one) === types(other);
+  const library = ({ program }) => program.getSourceFiles().find((it) => program.isSourceFileDefaultLibrary(it));
+  const types = (surface, place) => (surface.nodes.get(key) || []).map((it) => typesOf(it, surface.checker, place)).sort().join('\n');
+  return types(one) === types(other) || types(one, library(one)) === types(other, library(other));
 }
 
 /** What the compiler finds wrong in some files of a program, as it says it. */

@@ -40,6 +40,7 @@ class Reader {
   constructor(dir, options) {
     this.root = path.resolve(dir);
     this.options = options;
+    this.isQuiet = Boolean(options.isQuiet);
     this.files = new Files(this.root);
     this.aliases = new Aliases(this.root, this.files);
     this.errors = [];
@@ -246,6 +247,7 @@ function readPackage(dir, options = {}) {
     name: it.name,
     version: it.version,
     dir: it.dir,
+    needed: it.needed,
     exports: reader.entriesOf(it).map(([key, file]) => [key, `./${urlPath(it.dir, file)}`]),
     entryPoints: reader.entriesOf(it).map(([, file]) => urlOf(reader.root, file)),
     url: it.dir === reader.root ? 'file:///' : `${urlOf(reader.root, it.dir)}/`,
@@ -267,4 +269,10 @@ function readPackage(dir, options = {}) {
   };
 }
 
-module.exports = { readPackage };
+/** Where the texts of files of a workspace with these `members` lead inside of it, as `(from, text) -> path`, or null. */
+function resolverOf(dir, members) {
+  const reader = new Reader(dir, { isQuiet: true, members });
+  return (from, text) => reader.resolve(from, text);
+}
+
+module.exports = { readPackage, resolverOf };

@@ -7,13 +7,13 @@
 //
 // A package is a folder with a package.json and with TypeScript in it, outside of `node_modules` and of what tests are fed. With `--verify` the compiler checks
 // the skeletons too, and with `--lines` there is a line of JSON for each package. A status that is none of 0, 1 and 2, or a refusal without a message, is told,
-// and gives the status 1. With `--fix` the types that messages ask for are written into a copy of each package that has such messages: which are clean then,
-// and whether a second run changes anything.
+// and gives the status 1. With `--fix` the types that messages ask for are written into the texts of each package that has such messages, where it lies, but
+// into no file: how many are clean then, why the others are not, whether a second run changes anything, and what `--verify` finds.
 
 const fs = require('fs');
-const os = require('os');
 const path = require('path');
 const { main } = require('./cli.js');
+const { Progress } = require('./progress.js');
 
 const PASSED_OVER = /^(node_modules|fixtures?|__fixtures__|__tests__|tests?|e2e|examples?)$/;
 
@@ -48,41 +48,52 @@ async function check(dir, more) {
   return { status, messages: lines.filter((it) => it.code !== undefined), said };
 }
 
-const FIXED = new Set(['missing-explicit-return-type', 'missing-explicit-type', 'unsupported-default-export-expr']);
-const errorsIn = (messages) => messages.filter((it) => it.level === 'error');
+const errorsIn = (messages) => messages.filter((it) => it.level === 'Error');
 
-/** Writes types into a copy of a package: its errors before and after, and whether a second run changes something. Null where it asks for none. */
+/** Why a message is left, without the names and numbers of the one package. */
+function causeOf({ code, info = [] }) {
+  const [, note] = /^not fixed: (.*)$/.exec(info.find((it) => it.startsWith('not fixed: ')) || '') || [];
+  if (!note) return code;
+  return note.replace(/its type names \S+, which/, 'its type names N, which').replace(/has \d+ characters/, 'has N characters');
+}
+
+/** Writes types into the texts of a package, and none of its files: what is left, and what a second run and the compiler find then. Null where it asks for none. */
 async function fixed(dir) {
-  const before = await check(dir, []);
-  if (before.status !== 1 || !before.messages.some((it) => FIXED.has(it.code))) return null;
-  const work = fs.mkdtempSync(path.join(os.tmpdir(), 'sweep-'));
-  try {
-    const copy = path.join(work, path.basename(dir));
-    fs.cpSync(dir, copy, { recursive: true });
-    const { status, said } = await run(['fix'], copy);
-    const again = await run(['fix', '--dry'], copy);
-    const after = await check(copy, ['--verify']);
-    const left = errorsIn(after.messages).map((it) => [it.code, it.message]);
-    return { dir, status, said, before: errorsIn(before.messages).length, left, isSame: again.out === '' };
-  } finally {
-    fs.rmSync(work, { recursive: true, force: true });
-  }
+  const { analyse } = require('./analysis.js');
+  const { FIXABLE } = require('./codes.js');
+  const { fix } = require('./fix.js');
+  const { verified } = require('./thread.js');
+  const context = { cwd: dir, environment: process.env, progress: new Progress({ write() {} }, false) };
+  const before = await analyse(dir, {}, context);
+  if (!before.messages.some((it) => FIXABLE.has(it.code))) return null;
+  const { world, texts, count } = await fix(dir, {}, context);
+  const again = await fix(dir, { texts }, context);
+  const isSame = again.count === 0 && [...again.texts].every(([name, text]) => texts.get(name) === text);
+  const after = await analyse(dir, { texts }, context);
+  const others = world.broken.length ? [] : await verified(after, context);
+  return { dir, before: errorsIn(before.messages).length, count, left: errorsIn(world.messages), others: errorsIn(others), isSame };
 }
 
 async function sweepFixes(folders, words) {
-  const sums = { packages: 0, clean: 0, messages: 0, left: 0, changed: 0, wrong: 0 };
+  const causes = new Counts();
+  const sums = { packages: 0, clean: 0, messages: 0, types: 0, left: 0, changed: 0, wrong: 0, failed: 0 };
   for (const dir of folders.flatMap((it) => packagesBelow(path.resolve(it)))) {
-    const found = await fixed(dir);
-    if (!found) continue;
-    sums.packages += 1;
+    const found = await fixed(dir).catch((error) => ({ dir, failed: error.message }));
+    // What cannot be read is told without `--fix`.
+    if (!found || (found.failed && !(await check(dir, [])).messages.length)) continue;
+    sums.packages += found.failed ? 0 : 1;
+    if (found.failed) continue;
     sums.messages += found.before;
+    sums.types += found.count;
     sums.left += found.left.length;
     if (!found.left.length) sums.clean += 1;
     if (!found.isSame) sums.changed += 1;
-    if (![0, 1].includes(found.status)) sums.wrong += 1;
-    if (words.includes('--lines') || found.status > 1) console.log(JSON.stringify(found));
+    if (found.others.length) sums.wrong += 1;
+    for (const each of found.left) causes.add(causeOf(each), dir);
+    const told = (it) => [it.code, it.message, it.file, ...(it.info || []).filter((line) => line.startsWith('not fixed'))];
+    if (words.includes('--lines')) console.log(JSON.stringify({ ...found, left: found.left.map(told), others: found.others.map(told) }));
   }
-  console.log(JSON.stringify(sums));
+  console.log(`${JSON.stringify(sums)}\n\n${causes.table('Left')}`);
   return sums.wrong + sums.changed ? 1 : 0;
 }
 

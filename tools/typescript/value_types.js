@@ -36,6 +36,13 @@ function textOf(type) {
 
 const isPrimitive = (type) => Boolean(type.TsKeywordType || type.TsLitType);
 
+/** The types of the elements of an array type or a tuple; null of another type. */
+function elementTypes(type) {
+  if (type.TsTypeOperator && type.TsTypeOperator.op === 'ReadOnly') return elementTypes(type.TsTypeOperator.type_ann);
+  if (type.TsArrayType) return [type.TsArrayType.elem_type];
+  return type.TsTupleType ? type.TsTupleType.elem_types.map((it) => it.ty) : null;
+}
+
 /** The union of types of which none may take in another: of one type that type, of primitive ones each once. */
 function joined(types, span, why) {
   const byText = new Map(types.map((it) => [textOf(it), it]));
@@ -250,12 +257,25 @@ class ValueTypes {
   // ---- arrays and objects
 
   Array({ elems, span }, holder) {
-    const types = (elems || []).map((it) => {
-      if (!it || it.spread) throw new Untold(span, 'the array has a hole, or elements of another one');
-      return this.of(it.expr, holder === FROZEN ? FROZEN : WIDE);
+    const types = (elems || []).flatMap((it) => {
+      if (!it) throw new Untold(span, 'the array has a hole');
+      if (it.spread) return this.elementsOf(it.expr, holder);
+      return [this.of(it.expr, holder === FROZEN ? FROZEN : WIDE)];
     });
     if (holder !== FROZEN) return { TsArrayType: { span: NONE, elem_type: joined(types, span, 'the elements of the array have none or several types') } };
     return readonlyOf({ TsTupleType: { span: NONE, elem_types: types.map((ty) => ({ span: NONE, ty })) } });
+  }
+
+  /** The types of the elements that an array takes over from another one, where these are no names, which may stand for something else here. */
+  elementsOf(value, holder) {
+    const found = entityOf(value) ? this.scope.find(value) : { form: 'value', value, scope: this.scope };
+    const written = found.form === 'typed' ? found.type : null;
+    const type = found.form === 'value' && !found.nodes ? new ValueTypes(found.scope).of(found.value, CONSTANT) : written;
+    const elements = type && elementTypes(type);
+    if (holder === FROZEN || !elements || !elements.every(isPrimitive)) {
+      throw new Untold(print.variantOf(value)[1].span, 'the array has elements of another one, whose types its form does not say');
+    }
+    return elements;
   }
 
   Object({ props, span }, holder, value, held = holder === FROZEN ? FROZEN : WIDE) {

@@ -77,6 +77,7 @@ function holds(value, what) {
 // What is run of some packages besides.
 const MORE = {
   fixed: [['fix', '--dry']],
+  'fixed-workspace': [['fix', '--dry']],
   baseline: [['check', '--baseline', 'known.jsonl']],
   'workspace-large': [['check', '--verify']],
   'javascript-entry': [['check', '--max-warnings', '0']],
@@ -383,6 +384,62 @@ async function programs() {
   }));
 }
 
+/** Runs words in a process of its own that has some megabytes of memory, as Node tells it. */
+function runWithin(megabytes, words) {
+  const io = '{ cwd: process.cwd(), environment: process.env, out: process.stdout, err: process.stderr }';
+  const body = `require('v8').getHeapStatistics = () => ({ heap_size_limit: ${megabytes} << 20 });
+    require(${JSON.stringify(path.resolve(__dirname, '../cli.js'))}).main(${JSON.stringify(words)}, ${io}).then((status) => { process.exitCode = status; });`;
+  return childProcess.spawnSync(process.execPath, ['-e', body], { cwd: PACKAGES, encoding: 'utf8', input: '' });
+}
+
+/** Memory that runs out in the thread of the compiler. */
+async function memory() {
+  for (const [command, words] of [['check', ['check', '--verify', 'classes']], ['fix', ['fix', '--dry', 'fixed']]]) {
+    await test(`memory that runs out in ${command}`, () => {
+      const { status, stdout, stderr } = runWithin(16, words);
+      same(status, 3, `the status of\n${stdout}${stderr}\nthat`);
+      holds(stderr.includes('out of memory: TypeScript\'s compiler needs more than the 16 MB that Node has; `NODE_OPTIONS=--max-old-space-size=32`'), stderr);
+    });
+  }
+}
+
+/** Whether a program is there. */
+function isThere(program, words) {
+  return childProcess.spawnSync(program, words, { stdio: 'ignore' }).status === 0;
+}
+
+const TOP = path.resolve(__dirname, '../../..');
+
+/** The examples of the page for many packages and for the package to install, where what they need is there. */
+async function others() {
+  const page = readOr(PAGE, '');
+  if (!isThere('/usr/bin/python3', ['-c', 'import dask, distributed, psutil'])) console.log('not tried, since Dask is not there: many packages');
+  else {
+    await test('the example of many packages', () => withFolder((folder) => {
+      const [, words, last] = /\n {4}tools\/registry\/registry\.py --out results\.jsonl (.* \.\.)\n {4}(.*) s\n/.exec(page);
+      const all = words.split(' ').slice(0, -1);
+      const { status, stdout, stderr } = childProcess.spawnSync(path.join(TOP, 'tools/registry/registry.py'), ['--out', path.join(folder, 'results.jsonl'), ...all],
+        { cwd: TOP, encoding: 'utf8', input: '' });
+      same(`${stdout}${stderr}`.trim().split('\n').pop().replace(/[\d.]+ s$/, ''), last.replace(/[\d.]+$/, ''), 'its last line');
+      same(status, 0, 'the status');
+      same(fs.readFileSync(path.join(folder, 'results.jsonl'), 'utf8').trim().split('\n').length, all.length, 'its lines');
+    }));
+  }
+  if (!['dpkg-shlibdeps', 'dpkg-deb', 'strip'].every((it) => isThere(it, ['--version']))) console.log('not tried, since dpkg-dev is not there: the package to install');
+  else {
+    await test('the example of the package to install', () => withFolder((folder) => {
+      const { status, stdout, stderr } = childProcess.spawnSync(path.join(TOP, 'tools/debian/build.sh'), [folder], { encoding: 'utf8', input: '' });
+      same(status, 0, `the status of\n${stderr}\nthat`);
+      childProcess.execFileSync('dpkg-deb', ['-x', stdout.trim(), folder]);
+      const example = '/usr/share/doc/nagdrez/examples/package';
+      holds(page.includes(`    fast-check-ts check ${example}\n`), 'the page has it');
+      const environment = { ...process.env, FAST_CHECK: path.join(folder, 'usr/lib/nagdrez/fast-check'), XDG_CACHE_HOME: folder };
+      const said = childProcess.spawnSync(path.join(folder, 'usr/lib/nagdrez/fast-check-ts'), ['check', path.join(folder, example)], { env: environment, encoding: 'utf8', input: '' });
+      holds(/\n4 files, 1 message, .* s\n$/.test(said.stdout), `${said.stdout}${said.stderr}`);
+    }));
+  }
+}
+
 // ---- the page, and the compiler
 
 async function pages() {
@@ -432,7 +489,7 @@ async function declarationFiles() {
     same(text('c'), text('a'), 'the declaration file of a declaration file');
   }));
   await test('the examples of the page', () => {
-    const page = readOr(path.resolve(__dirname, '../../../docs/TYPESCRIPT.md'), '');
+    const page = readOr(PAGE, '');
     for (const [title, name] of [['Declaration files', 'dts'], ['A preview', 'preview']]) {
       const [, example] = /```ts\n([^]*?)```/.exec(page.slice(page.indexOf(`\n## ${title}\n`)));
       holds(readOr(expectedOf(name), '').includes(example), `the example of ${title} is what comes of ${name}`);
@@ -469,16 +526,29 @@ async function compilers() {
   }));
 }
 
+const PAGE = path.resolve(__dirname, '../../../docs/TYPESCRIPT.md');
+
+/** Whether the page shows what comes: each line of the change that stands below a title, in its order. */
+function isShown(title, place, out) {
+  const page = readOr(PAGE, '');
+  const section = page.slice(page.indexOf(`\n## ${title}\n`));
+  const shown = [...section.matchAll(/```diff\n([^]*?)```/g)][place][1].trimEnd().split('\n');
+  let at = 0;
+  for (const line of out.split('\n')) if (line === shown[at]) at += 1;
+  same(shown[at], undefined, `what the page shows in\n${out}\nand its line`);
+}
+
 /** Types that are written into a copy of a package: what is left is told, the rest is clean, and a second run changes nothing. */
 async function fixes() {
   await test('fix --dry writes nothing', async () => {
     const file = path.join(PACKAGES, 'fixed/mod.ts');
     const before = fs.readFileSync(file, 'utf8');
-    const { out } = await run(['fix', '--dry', 'fixed']);
+    const { out } = await run(['fix', '--dry', '.'], { cwd: path.dirname(file) });
     same(fs.readFileSync(file, 'utf8'), before, 'the source');
     holds(out.includes('\n+import type { Shape } from "./shapes.ts";\n'), out);
+    isShown('Types that are written', 0, out);
   });
-  for (const [name, wanted] of [['fixed', 1], ['missing-return-type', 0], ['workspace-messages', 0], ['default-export-value', 0], ['empty-bodies-untyped', 0]]) {
+  for (const [name, wanted] of [['fixed', 1], ['fixed-workspace', 1], ['missing-return-type', 0], ['workspace-messages', 0], ['default-export-value', 0], ['empty-bodies-untyped', 0]]) {
     await test(`fix of ${name}`, () => withFolder(async (folder) => {
       fs.cpSync(path.join(PACKAGES, name), folder, { recursive: true });
       const first = await run(['fix', '.'], { cwd: folder });
@@ -488,6 +558,44 @@ async function fixes() {
       same(again.out, '', 'what a second run changes');
     }));
   }
+}
+
+/** Types of what lies around a folder: in its workspace, and among the packages of the system. */
+async function fixesAround() {
+  const diffOf = async (dir) => (await run(['fix', '--dry', '.'], { cwd: dir })).out.replaceAll('packages/user/', '');
+  await test('fix of a member, and of its workspace', async () => {
+    const root = path.join(PACKAGES, 'fixed-workspace');
+    const own = await diffOf(path.join(root, 'packages/user'));
+    same(own, await diffOf(root), 'the change');
+    const wanted = ['import type { Core, Depth, Made } from "@test/kit";', 'const depth: Depth =', 'const _default: Core =', 'ask: typeof kit.hidden = kit.hidden;'];
+    for (const each of wanted) holds(own.includes(each), own);
+    for (const each of ['const other:', 'const hidden:', 'later():']) holds(!own.includes(each), own);
+    isShown('Types that are written', 1, own);
+  });
+  for (const [title, list] of [['pnpm', 'packages:\n  - "packages/*"\n'], ['a list without quotes', 'packages:\n\n# all\n- packages/*   # these\nother: 1\n']]) {
+    await test(`fix of a member of a workspace of pnpm: ${title}`, () => withFolder(async (folder) => {
+      fs.cpSync(path.join(PACKAGES, 'fixed-workspace'), folder, { recursive: true });
+      fs.writeFileSync(path.join(folder, 'package.json'), '{}');
+      holds(!(await diffOf(path.join(folder, 'packages/user'))).includes('Made'), 'no workspace is there');
+      fs.writeFileSync(path.join(folder, 'pnpm-workspace.yaml'), list);
+      holds((await diffOf(path.join(folder, 'packages/user'))).includes('const made: Made<number> ='), 'its members are found');
+    }));
+  }
+  await test('fix with packages of NODE_PATH', () => withFolder(async (folder) => {
+    const write = (file, text) => {
+      fs.mkdirSync(path.dirname(path.join(folder, file)), { recursive: true });
+      fs.writeFileSync(path.join(folder, file), text);
+    };
+    write('system/far/package.json', '{ "types": "a.d.ts" }');
+    write('system/far/a.d.ts', 'export interface Far { a: 1 }\nexport declare function far(): Far;');
+    write('system/@types/scoped__near/index.d.ts', 'export declare const near: string[];');
+    write('own/package.json', '{ "name": "own", "exports": "./mod.ts", "dependencies": { "far": "1", "@scoped/near": "1" } }');
+    write('own/mod.ts', 'import { far } from "far";\nimport { near } from "@scoped/near";\nexport const a = far();\nexport const b = near.map((it) => it);\n');
+    const asked = (environment) => childProcess.spawnSync(LAUNCHER, ['fix', '--dry', 'own'], { cwd: folder, encoding: 'utf8', env: { ...process.env, ...environment } });
+    same(asked({}).stdout, '', 'what is written without it');
+    const { stdout } = asked({ NODE_PATH: path.join(folder, 'system') });
+    for (const each of ['+import type { Far } from "far";\n', '+export const a: Far = far();\n', '+export const b: string[] = ']) holds(stdout.includes(each), stdout);
+  }));
 }
 
 /** Random modules, and those of the stored packages with edits. */
@@ -524,7 +632,7 @@ async function all(words) {
     return;
   }
   await storedPackages(names);
-  if (!asked.length) for (const part of [trees, () => everyDiagnostic(names), edits, revisions, commandLine, checks, oddFolders, faults, compilers, fixes, declarationFiles, fuzzed, programs, pages, verified]) await part();
+  if (!asked.length) for (const part of [trees, () => everyDiagnostic(names), edits, revisions, commandLine, checks, oddFolders, faults, compilers, fixes, fixesAround, declarationFiles, fuzzed, programs, memory, others, pages, verified]) await part();
   const not = names.filter((name) => !isCompared(name));
   if (not.length) console.log(`not compared under TypeScript ${ts.version}: ${not.join(', ')}`);
   console.log(`${passed} passed, ${failed.length} failed`);

@@ -9,6 +9,7 @@ export const length = told.length + 1, negative = !told;
 export const empty = [];
 export const several = [{ a: 1 }, { b: 2 }];
 export const copied = { ...told };
+export const taken = [...outside];
 export const either = told ? told : [told];
 export let unknown = outside;
 export const known = outside;

@@ -70,3 +70,5 @@ export namespace inner {
   }
 }
 export type Loaded = import("./options.ts").Options;
+export const small = ["a", "b"], pair = ["c", 1] as const;
+export const spread = ["z", ...small, ...pair];

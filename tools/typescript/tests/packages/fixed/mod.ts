@@ -25,3 +25,5 @@ export function tooLong() {
   };
 }
 export function untyped(value) { return 1; }
+export function classOf() { return class { area = 1; shape = makeShape(); }; }
+export function classInItself() { return class Node { next = new Map<string, Node>(); }; }
