@@ -13,7 +13,7 @@ from package_worlds import FLAGS, HOST, NAMESPACES, WorldText, with_ranges
 
 HERE = os.path.dirname(os.path.abspath(__file__))
 FLAGS = {**FLAGS, 'default_class': 'is_default_class_expr', 'exported': 'has_export_keyword'}
-NAMESPACE = {'value': 'Value', 'type': 'Type_'}
+NAMESPACE = {'value': 'Value', 'type': 'Type_', 'both': 'Both'}
 # the number of the symbol that asks, and the scope number of the names by which it does
 ASK, ASKING = 90, 9
 

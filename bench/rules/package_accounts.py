@@ -1,13 +1,14 @@
 """What a world's demands give, and whether what was found is what some account of demands gives.
 
 Which of several demands comes first may decide what is found: a name that is demanded whole is not followed again for a part of
-it, and of several referrers one is enough. So a world has several accounts. An account is a set of demands that all follow from
-the packages handed in, has these packages, and covers all that follows from its members, also by widening. `largest` looks for
-the largest account that gives nothing but what was found: there is an account that gives exactly that if and only if this one does.
+it, a symbol that was demanded in one namespace is followed in the other alone, and of several referrers one is enough. So a world
+has several accounts. An account is a set of demands that all follow from the packages handed in, has these packages, and covers
+all that follows from its members, also by widening. `largest` looks for the largest account that gives nothing but what was found:
+there is an account that gives exactly that if and only if this one does.
 """
 from collections import defaultdict
 
-from package_rules import ALL, NESTED, STAR, WHOLE_DEFAULT
+from package_rules import ALL, BOTH, NESTED, STAR, WHOLE_DEFAULT
 
 
 def demands_default(names):
@@ -59,7 +60,8 @@ class Cover:
             elif demand[0] == 'below':
                 self.below[demand[1:4]].add(demand[4:6])
             elif demand[0] == 'symbol':
-                (self.references if demand[5] == 'reference' else self.children).add(demand[1:5])
+                known = self.references if demand[5] == 'reference' else self.children
+                known.update((demand[1:4], n) for n in demand[4])
 
     def has(self, demand):
         if demand[0] == 'package':
@@ -68,7 +70,8 @@ class Cover:
             return self.names[demand[2]].holds(demand[3])
         if demand[0] == 'below':
             return self.below[demand[1:4]].holds(demand[4:6])
-        return demand[1:5] in self.references or (demand[5] == 'child' and demand[1:5] in self.children)
+        as_child = self.children if demand[5] == 'child' else ()
+        return all((demand[1:4], n) in self.references or (demand[1:4], n) in as_child for n in demand[4])
 
     def is_widened(self, url):
         """Beside a star and `default` of one module all names are demanded."""
@@ -95,6 +98,8 @@ class Closure:
             if demand[0] == 'module':
                 by_url[demand[2]].add(demand)
                 todo += self.widened(demand, by_url[demand[2]])
+            if demand[0] == 'symbol' and demand[4] == BOTH:
+                todo += [(*demand[:4], (n,), *demand[5:]) for n in BOTH]
 
     @staticmethod
     def widened(demand, others):

@@ -6,7 +6,7 @@ set of all demands that follow, in some steps, from the packages that are handed
 
     ('package', nv)                                  a package
     ('module', nv, url, names)                       names of a module, for a package: STAR, ALL, or (path, whole)
-    ('symbol', nv, url, id, namespace, how, referrer)  a symbol in a namespace, by 'reference' or as a 'child'
+    ('symbol', nv, url, id, namespaces, how, referrer)  a symbol in some of two namespaces, by 'reference' or as a 'child'
     ('below', nv, url, id, path, whole, referrer)    what a path of names leads to below a symbol
 
 The url of a demand of symbols is the module's own name. What a demand yields is a set of tuples as well:
@@ -85,7 +85,7 @@ class Module:
 
     def exported_namespaces(self, id):
         found = {n for decl in self.symbols[id].decls if decl.node.get('has_export_keyword') for n in decl.namespaces}
-        return found or BOTH
+        return tuple(n for n in BOTH if n in found) or BOTH
 
     def ranges(self):
         declared = [decl.range for symbol in self.symbols.values() for decl in symbol.decls]
@@ -227,7 +227,7 @@ class World:
         return follows, [own] + [('range', nv, module.url, range) for range in ranges]
 
     def by_reference(self, nv, module, id):
-        return [('symbol', nv, module.url, id, n, 'reference', module.own) for n in module.exported_namespaces(id)]
+        return [('symbol', nv, module.url, id, module.exported_namespaces(id), 'reference', module.own)]
 
     def of_star(self, nv, module, names):
         follows = []
@@ -262,7 +262,7 @@ class Inside:
         self.follows, self.yields = [], []
 
     def reference(self, id, namespaces, referrer):
-        self.follows += [('symbol', self.nv, self.module.url, id, n, 'reference', referrer) for n in namespaces]
+        self.follows.append(('symbol', self.nv, self.module.url, id, namespaces, 'reference', referrer))
 
     def path(self, id, names, whole, referrer):
         self.follows.append(('below', self.nv, self.module.url, id, tuple(names), whole, referrer))
@@ -284,26 +284,26 @@ class Inside:
         place = '%d-%d' % self.of.decls[0].range + ' of %d bytes' % len(self.module.text.encode())
         self.yields.append(('fault', self.nv, self.module.url, place, code, message))
 
-    def symbol(self, namespace, how, referrer):
+    def symbol(self, namespaces, how, referrer):
         if self.of.is_private:
             if referrer != self.of.parent:
                 self.fault('unsupported-private-member-reference', [], referrer)
             return
         for decl in self.of.decls:
-            if namespace in decl.namespaces:
+            if set(namespaces) & set(decl.namespaces):
                 self.public(decl.range)
                 if decl.implements:
                     self.public(decl.range, 'implementation')
                 else:
-                    self.declared(decl, namespace, referrer)
+                    self.declared(decl, namespaces, referrer)
         for child in [*self.of.exports.values(), *self.of.members]:
-            self.follows += [('symbol', self.nv, self.module.url, child, n, 'child', self.of.id) for n in BOTH]
+            self.follows.append(('symbol', self.nv, self.module.url, child, BOTH, 'child', self.of.id))
 
-    def declared(self, decl, namespace, referrer):
+    def declared(self, decl, namespaces, referrer):
         own = self.of.id
         if decl.kind == 'Target':
             if self.module.bound_to(decl.content) is not None:
-                self.reference(self.module.bound_to(decl.content), [namespace], own)
+                self.reference(self.module.bound_to(decl.content), namespaces, own)
         elif decl.kind == 'QualifiedTarget':
             if self.module.bound_to(decl.content[0]) is not None:
                 self.parts(self.module.bound_to(decl.content[0]), decl.content[1], own)
@@ -331,7 +331,7 @@ class Inside:
             if id is None:
                 continue
             if kind == 'Id':
-                self.reference(id, {'Value': [VALUE], 'Type_': [TYPE], 'Both': BOTH}[namespace], own)
+                self.reference(id, {'Value': (VALUE,), 'Type_': (TYPE,), 'Both': BOTH}[namespace], own)
             else:
                 self.parts(id, content[1], own)
 

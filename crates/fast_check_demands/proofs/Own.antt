@@ -11,7 +11,7 @@ use Rattle.fast_check_symbols.specs.declared.decl.SymbolDecl.{SymbolDecl}
 use Rattle.fast_check_symbols.specs.Entries.{last_that}
 use Rattle.fast_check_symbols.specs.Symbols.{symbol_of, has_id}
 use Rattle.fast_check_symbols.specs.Tables.{Tables, table_ranges}
-use Rattle.fast_check_demands.specs.declared.symbol_demands.demand.Namespace.{Namespace}
+use Rattle.fast_check_demands.specs.declared.symbol_demands.demand.Namespaces.{Namespaces}
 use Rattle.fast_check_demands.specs.symbol_demands.Demands.{Demand, Asked, by_reference, as_child, by_path}
 use Rattle.fast_check_demands.specs.symbol_demands.Decls.{binds, is_implementation}
 use Rattle.fast_check_demands.specs.Yields.{decl_ranges, stands_outside, ranges_at, export_ranges, property_ranges, symbol_ranges}
@@ -60,7 +60,7 @@ module _ (t : Tables) where
   own_filtered test s h = own_all (filter test s.decls.items)
       (each_filter (λ (x : SymbolDecl). Q x.range) test s.decls.items (own_decl s h))
 
-  own_symbol : (n : Namespace) (s : Symbol) → Contains t.symbols s → Each Q (symbol_ranges t n s)
+  own_symbol : (n : Namespaces) (s : Symbol) → Contains t.symbols s → Each Q (symbol_ranges t n s)
   own_symbol n s h = each_cond Q s.is_private_member [] (decl_ranges (filter (λ x. binds x n) s.decls.items) ++ property_ranges t n s)
       (each_nil Q)
       (each_append Q (decl_ranges (filter (λ x. binds x n) s.decls.items)) (property_ranges t n s) (own_filtered (λ x. binds x n) s h)
@@ -75,7 +75,7 @@ module _ (t : Tables) where
   own_ranges d = each_each_of Q (asked_ranges t d.asked) (symbol_of d.symbol t.symbols)
       (λ s e. own_asked d.asked s (last_inside (has_id d.symbol) t.symbols s e))
 
-  own_implementing : (n : Namespace) (s : Symbol) → Contains t.symbols s → Each Q (symbol_implementations n s)
+  own_implementing : (n : Namespaces) (s : Symbol) → Contains t.symbols s → Each Q (symbol_implementations n s)
   own_implementing n s h = each_cond Q s.is_private_member [] (decl_ranges (filter (λ x. binds x n && is_implementation x) s.decls.items))
       (each_nil Q)
       (own_filtered (λ x. binds x n && is_implementation x) s h)

@@ -7,14 +7,14 @@ use Rattle.fast_check_syntax.specs.declared.source.SourceRange.{SourceRange}
 use Rattle.fast_check_symbols.specs.declared.symbol.Symbol.{Symbol}
 use Rattle.fast_check_symbols.specs.declared.decl.SymbolDecl.{SymbolDecl}
 use Rattle.fast_check_symbols.specs.Tables.{Tables}
-use Rattle.fast_check_demands.specs.declared.symbol_demands.demand.Namespace.{Namespace}
+use Rattle.fast_check_demands.specs.declared.symbol_demands.demand.Namespaces.{Namespaces}
 use Rattle.fast_check_demands.specs.symbol_demands.Decls.{binds, is_implementation, is_function}
 use Rattle.fast_check_demands.specs.Yields.{decl_ranges, is_within, has_properties, stands_outside, export_ranges, property_ranges}
 use Rattle.fast_check_demands.specs.Yields.{symbol_ranges}
 use Rattle.fast_check_demands.proofs.Elements.{no_element, first, later, cases, in_map, of_map, in_flat, of_flat, in_filter, of_filter}
 use Rattle.fast_check_demands.proofs.Elements.{in_any, of_any, both}
 
-module _ (t : Tables) (n : Namespace) (s : Symbol) where
+module _ (t : Tables) (n : Namespaces) (s : Symbol) where
   abbrev bound : List SourceRange
   bound = decl_ranges (filter (λ x. binds x n) s.decls.items)
 

@@ -10,7 +10,7 @@ use Rattle.fast_check_symbols.specs.declared.decl.SymbolDecl.{SymbolDecl}
 use Rattle.fast_check_symbols.specs.Symbols.{symbol_of}
 use Rattle.fast_check_symbols.specs.Exports.{export_named}
 use Rattle.fast_check_symbols.specs.Tables.{Tables, table_ranges}
-use Rattle.fast_check_demands.specs.declared.symbol_demands.demand.Namespace.{Namespace}
+use Rattle.fast_check_demands.specs.declared.symbol_demands.demand.Namespaces.{Namespaces}
 use Rattle.fast_check_demands.specs.declared.fault.DemandFaultKind.{DemandFaultKind}
 use Rattle.fast_check_demands.specs.declared.fault.DemandFaultKind.TheVariants.{PrivateMember, NotFound, TooComplex}
 use Rattle.fast_check_demands.specs.declared.fault.SymbolFault.{SymbolFault}
@@ -33,11 +33,11 @@ is_outside None r = false
 is_outside (Some range) r = not (is_within range r)
 
 -- properties are assigned to a function that is bound in the namespace and does not implement overloads
-abbrev pub has_properties : Namespace → SymbolDecl → Bool
+abbrev pub has_properties : Namespaces → SymbolDecl → Bool
 has_properties n x = binds x n && (is_function x && not (is_implementation x))
 
 -- the properties of a function stand outside of one of its declarations
-abbrev pub stands_outside : Namespace → List SymbolDecl → SourceRange → Bool
+abbrev pub stands_outside : Namespaces → List SymbolDecl → SourceRange → Bool
 stands_outside n decls r = list_any (λ x. has_properties n x && not (is_within x.range r)) decls
 
 -- the declarations of what a symbol exports
@@ -48,12 +48,12 @@ abbrev pub export_ranges : Tables → List (Name × SymbolId) → List SourceRan
 export_ranges t exports = flat_map (λ e. ranges_at t e.1) exports
 
 -- they are among these
-abbrev pub property_ranges : Tables → Namespace → Symbol → List SourceRange
+abbrev pub property_ranges : Tables → Namespaces → Symbol → List SourceRange
 property_ranges t n s = filter (stands_outside n s.decls.items) (export_ranges t s.exports)
 
 -- each declaration that binds the name is public by its range, and a function with its properties; a private member
 -- makes nothing public
-abbrev pub symbol_ranges : Tables → Namespace → Symbol → List SourceRange
+abbrev pub symbol_ranges : Tables → Namespaces → Symbol → List SourceRange
 symbol_ranges t n s = cond s.is_private_member []
     (decl_ranges (filter (λ x. binds x n) s.decls.items) ++ property_ranges t n s)
 
@@ -86,7 +86,7 @@ pub record Joins {X : Type 0} (these old new : List X) : Type 0 where
 
 -- implementations of overloads
 
-abbrev pub symbol_implementations : Namespace → Symbol → List SourceRange
+abbrev pub symbol_implementations : Namespaces → Symbol → List SourceRange
 symbol_implementations n s = cond s.is_private_member []
     (decl_ranges (filter (λ x. binds x n && is_implementation x) s.decls.items))
 

@@ -11,7 +11,9 @@ ghost use Rattle.fast_check_demands.specs.Yields.{Adds};
 
 use crate::names::is_prototype;
 use crate::symbol_demands::symbols::{CheckedTables, SymbolDeclKind, SymbolDecls, SymbolId};
-use crate::symbol_demands::{Demands, Extent, SymbolDemand, bound, push_path, push_references};
+use crate::symbol_demands::{
+    Demands, Extent, Namespaces, SymbolDemand, bound, push_path, push_reference,
+};
 use std::alloc::AllocError;
 use std::slice;
 
@@ -143,7 +145,9 @@ fn push_whole_member(
     ensures { OnOk result (out.new ≡ out.old ++ member_names (demand_of demand.entry) [] extent member) }
 {
     match (extent, member) {
-        (Extent::Whole, Some(member)) => push_references(member, demand.referrer, out),
+        (Extent::Whole, Some(member)) => {
+            push_reference(member, Namespaces::Both, demand.referrer, out)
+        }
         _ => Ok(()),
     }
 }
@@ -179,7 +183,7 @@ fn push_class(
 {
     match extent {
         Extent::Touched => Ok(()),
-        Extent::Whole => push_references(demand.symbol, demand.referrer, out),
+        Extent::Whole => push_reference(demand.symbol, Namespaces::Both, demand.referrer, out),
     }
 }
 
@@ -199,7 +203,7 @@ fn push_export<'a>(
             if closed {
                 return Ok(());
             }
-            push_references(demand.symbol, demand.referrer, out)
+            push_reference(demand.symbol, Namespaces::Both, demand.referrer, out)
         }
     }
 }
@@ -214,7 +218,9 @@ fn push_export_part<'a>(
     ensures { OnOk result (out.new ≡ out.old ++ export_part_names (demand_of demand.entry) (path_of below.now) extent export) }
 {
     match extent {
-        Extent::Whole if below.is_empty() => push_references(export, demand.referrer, out),
+        Extent::Whole if below.is_empty() => {
+            push_reference(export, Namespaces::Both, demand.referrer, out)
+        }
         _ => push_path(export, below, extent, demand.referrer, out),
     }
 }

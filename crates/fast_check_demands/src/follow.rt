@@ -7,21 +7,21 @@ ghost use Rattle.fast_check_demands.specs.Yields.{Adds};
 
 use crate::aliases::push_path_demands;
 use crate::symbol_demands::symbols::CheckedTables;
-use crate::symbol_demands::{Ask, Demands, Namespace, SymbolDemand, push_symbol};
+use crate::symbol_demands::{Ask, Demands, Namespaces, SymbolDemand, push_symbol};
 use std::alloc::{AllocError, Global};
 
 fn push_symbol_of<'a>(
     tables: &'a CheckedTables,
     demand: SymbolDemand<'a>,
-    namespace: Namespace,
+    namespaces: Namespaces,
     out: &mut Demands<'a>,
 ) -> Result<(), AllocError>
-    ensures { OnOk result (out.new ≡ out.old ++ each_of (λ s. symbol_names tables.now (demand_of demand.entry) namespace s)
+    ensures { OnOk result (out.new ≡ out.old ++ each_of (λ s. symbol_names tables.now (demand_of demand.entry) namespaces s)
         (symbol_of demand.entry.symbol tables.now.symbols)) }
 {
     match tables.symbol(demand.symbol) {
         None => Ok(()),
-        Some(symbol) => push_symbol(tables, demand, namespace, symbol, out),
+        Some(symbol) => push_symbol(tables, demand, namespaces, symbol, out),
     }
 }
 
@@ -35,8 +35,8 @@ pub fn demands_of<'a>(
 {
     let mut out = Demands::new(alloc);
     match demand.ask {
-        Ask::Reference(namespace) | Ask::Child(namespace) => {
-            push_symbol_of(tables, demand, namespace, &mut out)?;
+        Ask::Reference(namespaces) | Ask::Child(namespaces) => {
+            push_symbol_of(tables, demand, namespaces, &mut out)?;
         }
         Ask::Path(names, extent) => {
             push_path_demands(tables, demand, names, extent, &mut out)?;

@@ -13,7 +13,7 @@ pub mod traces;
 pub mod worklists;
 
 pub use crate::symbol_demands::symbols::{CheckedTables, SymbolId};
-pub use crate::symbol_demands::{Ask, Demands, Extent, Namespace, SymbolDemand, binds};
+pub use crate::symbol_demands::{Ask, Demands, Extent, Namespaces, SymbolDemand, binds};
 pub use fast_check_syntax::SourceRange;
 pub use fault::{DemandFaultKind, SymbolFault, fault_of};
 pub use follow::demands_of;

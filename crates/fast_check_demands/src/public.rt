@@ -10,7 +10,7 @@ ghost use Rattle.fast_check_demands.specs.Yields.{property_ranges, symbol_ranges
 ghost use Rattle.fast_check_demands.specs.Yields.{symbol_implementations, asked_implementations, implementations};
 
 use crate::symbol_demands::symbols::{CheckedTables, Symbol, SymbolDecl, SymbolExports, SymbolId};
-use crate::symbol_demands::{Ask, Namespace, SymbolDemand, binds, is_function};
+use crate::symbol_demands::{Ask, Namespaces, SymbolDemand, binds, is_function};
 use fast_check_syntax::{SourcePos, SourceRange};
 use std::alloc::AllocError;
 
@@ -40,20 +40,20 @@ fn hidden_by_both(before: Option<SourceRange>, range: SourceRange) -> SourceRang
     }
 }
 
-/// Whether properties may be assigned to a declaration: to a function of the namespace that implements no overloads.
-fn has_properties(decl: &SymbolDecl, namespace: Namespace) -> bool
-    ensures { result ≡ has_properties namespace decl.now }
+/// Whether properties may be assigned to a declaration: to a function of the namespaces that implements no overloads.
+fn has_properties(decl: &SymbolDecl, namespaces: Namespaces) -> bool
+    ensures { result ≡ has_properties namespaces decl.now }
 {
-    binds(decl, namespace) && is_function(decl) && !decl.is_implementation()
+    binds(decl, namespaces) && is_function(decl) && !decl.is_implementation()
 }
 
 /// The range outside of which the properties of the functions among declarations stand: outside of one of these.
-fn hidden_properties(decls: &[SymbolDecl], namespace: Namespace) -> Option<SourceRange>
-    ensures { (r : SourceRange) → is_outside result r ≡ stands_outside namespace decls.now r }
+fn hidden_properties(decls: &[SymbolDecl], namespaces: Namespaces) -> Option<SourceRange>
+    ensures { (r : SourceRange) → is_outside result r ≡ stands_outside namespaces decls.now r }
 {
     let mut found = None;
     for decl in decls {
-        if has_properties(decl, namespace) {
+        if has_properties(decl, namespaces) {
             found = Some(hidden_by_both(found, decl.range));
         }
     }
@@ -123,27 +123,27 @@ fn push_exports(
 /// Pushes the properties of the functions among the declarations of a symbol.
 fn push_properties(
     tables: &CheckedTables,
-    namespace: Namespace,
+    namespaces: Namespaces,
     symbol: &Symbol,
     out: &mut Vec<SourceRange>,
 ) -> Result<(), AllocError>
-    ensures { OnOk result (out.new.items ≡ out.old.items ++ property_ranges tables.now namespace symbol.now) }
+    ensures { OnOk result (out.new.items ≡ out.old.items ++ property_ranges tables.now namespaces symbol.now) }
 {
-    match hidden_properties(symbol.decls.as_slice(), namespace) {
+    match hidden_properties(symbol.decls.as_slice(), namespaces) {
         None => Ok(()),
         Some(hidden) => push_exports(tables, hidden, &symbol.exports, out),
     }
 }
 
 fn push_bound(
-    namespace: Namespace,
+    namespaces: Namespaces,
     decls: &[SymbolDecl],
     out: &mut Vec<SourceRange>,
 ) -> Result<(), AllocError>
-    ensures { OnOk result (out.new.items ≡ out.old.items ++ decl_ranges (filter (λ x. binds_in x namespace) decls.now)) }
+    ensures { OnOk result (out.new.items ≡ out.old.items ++ decl_ranges (filter (λ x. binds_in x namespaces) decls.now)) }
 {
     for decl in decls {
-        if binds(decl, namespace) {
+        if binds(decl, namespaces) {
             out.push(decl.range)?;
         }
     }
@@ -152,17 +152,17 @@ fn push_bound(
 
 fn push_symbol(
     tables: &CheckedTables,
-    namespace: Namespace,
+    namespaces: Namespaces,
     symbol: &Symbol,
     out: &mut Vec<SourceRange>,
 ) -> Result<(), AllocError>
-    ensures { OnOk result (out.new.items ≡ out.old.items ++ symbol_ranges tables.now namespace symbol.now) }
+    ensures { OnOk result (out.new.items ≡ out.old.items ++ symbol_ranges tables.now namespaces symbol.now) }
 {
     if symbol.is_private_member {
         return Ok(());
     }
-    push_bound(namespace, symbol.decls.as_slice(), out)?;
-    push_properties(tables, namespace, symbol, out)
+    push_bound(namespaces, symbol.decls.as_slice(), out)?;
+    push_properties(tables, namespaces, symbol, out)
 }
 
 fn push_decls(decls: &[SymbolDecl], out: &mut Vec<SourceRange>) -> Result<(), AllocError>
@@ -183,8 +183,8 @@ fn push_asked(
     ensures { OnOk result (out.new.items ≡ out.old.items ++ asked_ranges tables.now (asked_of demand.entry.ask) symbol.now) }
 {
     match demand.ask {
-        Ask::Reference(namespace) | Ask::Child(namespace) => {
-            push_symbol(tables, namespace, symbol, out)
+        Ask::Reference(namespaces) | Ask::Child(namespaces) => {
+            push_symbol(tables, namespaces, symbol, out)
         }
         Ask::Path(_, _) => push_decls(symbol.decls.as_slice(), out),
     }
@@ -205,14 +205,14 @@ pub fn push_ranges(
 }
 
 fn push_implementing(
-    namespace: Namespace,
+    namespaces: Namespaces,
     decls: &[SymbolDecl],
     out: &mut Vec<SourceRange>,
 ) -> Result<(), AllocError>
-    ensures { OnOk result (out.new.items ≡ out.old.items ++ decl_ranges (filter (λ x. binds_in x namespace && implements x) decls.now)) }
+    ensures { OnOk result (out.new.items ≡ out.old.items ++ decl_ranges (filter (λ x. binds_in x namespaces && implements x) decls.now)) }
 {
     for decl in decls {
-        if binds(decl, namespace) && decl.is_implementation() {
+        if binds(decl, namespaces) && decl.is_implementation() {
             out.push(decl.range)?;
         }
     }
@@ -220,16 +220,16 @@ fn push_implementing(
 }
 
 fn push_symbol_implementations(
-    namespace: Namespace,
+    namespaces: Namespaces,
     symbol: &Symbol,
     out: &mut Vec<SourceRange>,
 ) -> Result<(), AllocError>
-    ensures { OnOk result (out.new.items ≡ out.old.items ++ symbol_implementations namespace symbol.now) }
+    ensures { OnOk result (out.new.items ≡ out.old.items ++ symbol_implementations namespaces symbol.now) }
 {
     if symbol.is_private_member || !symbol.decls.has_implementation() {
         return Ok(());
     }
-    push_implementing(namespace, symbol.decls.as_slice(), out)
+    push_implementing(namespaces, symbol.decls.as_slice(), out)
 }
 
 fn push_asked_implementations(
@@ -240,8 +240,8 @@ fn push_asked_implementations(
     ensures { OnOk result (out.new.items ≡ out.old.items ++ asked_implementations (asked_of demand.entry.ask) symbol.now) }
 {
     match demand.ask {
-        Ask::Reference(namespace) | Ask::Child(namespace) => {
-            push_symbol_implementations(namespace, symbol, out)
+        Ask::Reference(namespaces) | Ask::Child(namespaces) => {
+            push_symbol_implementations(namespaces, symbol, out)
         }
         Ask::Path(_, _) => Ok(()),
     }

@@ -1,4 +1,4 @@
-//! Demands of the symbols of a module, lists of them, and what follows where a symbol itself is demanded in a namespace.
+//! Demands of the symbols of a module, lists of them, and what follows where a symbol itself is demanded in a set of namespaces.
 
 mod bindings;
 mod children;
@@ -7,10 +7,10 @@ mod demand;
 mod dependencies;
 mod list;
 
-pub use crate::symbol_demands::bindings::{bound, push_path, push_references};
+pub use crate::symbol_demands::bindings::{bound, push_path, push_reference};
 pub use crate::symbol_demands::children::push_symbol;
 pub use crate::symbol_demands::decls::{binds, is_function};
-pub use crate::symbol_demands::demand::{Ask, Extent, Namespace, SymbolDemand};
+pub use crate::symbol_demands::demand::{Ask, Extent, Namespaces, SymbolDemand};
 pub use crate::symbol_demands::dependencies::is_same;
 pub use crate::symbol_demands::list::Demands;
 pub use fast_check_symbols as symbols;

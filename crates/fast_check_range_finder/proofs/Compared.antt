@@ -15,14 +15,14 @@ use Rattle.std.specs.Cmp.Lexicographic.{slice_cmp}
 use Rattle.std.proofs.lemmas.Bool.{cases_Bool, false≢true, or_left, eq-eqb}
 use Rattle.std.proofs.lemmas.List.{length-map}
 use Rattle.std.proofs.lemmas.Map.Text.{is_eq-slice_cmp}
-use Rattle.fast_check_demands.specs.contracts.symbol_demands.demand.NamespaceOrd.TheImpl as namespace_order
+use Rattle.fast_check_demands.specs.contracts.symbol_demands.demand.NamespacesOrd.TheImpl as namespace_order
 use Rattle.fast_check_demands.specs.contracts.symbol_demands.demand.ExtentOrd.TheImpl as extent_order
-use Rattle.fast_check_demands.specs.declared.symbol_demands.demand.Namespace.{Namespace}
-use Rattle.fast_check_demands.specs.declared.symbol_demands.demand.Namespace.TheVariants.{Value, Type_}
+use Rattle.fast_check_demands.specs.declared.symbol_demands.demand.Namespaces.{Namespaces}
+use Rattle.fast_check_demands.specs.declared.symbol_demands.demand.Namespaces.TheVariants.{Value, Type_, Both}
 use Rattle.fast_check_demands.specs.declared.symbol_demands.demand.Extent.{Extent}
 use Rattle.fast_check_demands.specs.declared.symbol_demands.demand.Extent.TheVariants.{Touched, Whole}
 use Rattle.fast_check_demands.specs.symbol_demands.Demands.{Demand}
-use Rattle.fast_check_demands.specs.Account.{same_namespace, same_extent, same_path, same, essence, alike, referred}
+use Rattle.fast_check_demands.specs.Account.{same_namespaces, same_extent, same_path, same, essence, alike, referred}
 use Rattle.fast_check_demands.proofs.Elements.{in_map as contains_map}
 use Rattle.fast_check_demands.proofs.worklists.Maps.{none_in, first_in, rest_in, split_in}
 use Rattle.fast_check_range_finder.specs.contracts.asked.AskedSymbolOrd.TheImpl as order
@@ -45,11 +45,16 @@ and_same a b c d e f = cc
 numbers_compare : (a b : ℕ) → is_eq (nat_cmp a b) ≡ (a == b)
 numbers_compare a b = search rules
 
-namespaces_compare : (a b : Namespace) → is_eq (namespace_order.cmp-value.it a b) ≡ same_namespace a b
+namespaces_compare : (a b : Namespaces) → is_eq (namespace_order.cmp-value.it a b) ≡ same_namespaces a b
 namespaces_compare Value Value = refl
 namespaces_compare Value Type_ = refl
+namespaces_compare Value Both = refl
 namespaces_compare Type_ Value = refl
 namespaces_compare Type_ Type_ = refl
+namespaces_compare Type_ Both = refl
+namespaces_compare Both Value = refl
+namespaces_compare Both Type_ = refl
+namespaces_compare Both Both = refl
 
 extents_compare : (a b : Extent) → is_eq (extent_order.cmp-value.it a b) ≡ same_extent a b
 extents_compare Touched Touched = refl
@@ -96,12 +101,12 @@ key s a = record { symbol = record { 0 = s }; asked = a }
 
 each_compare : (s t : ℕ) (a b : AskedAs) → is_eq (order.cmp-value.it (key s a) (key t b)) ≡ same (demand_at (key s a)) (demand_at (key t b))
 each_compare s t (Reference n) (Reference m) = then_equal (nat_cmp s t) (namespace_order.cmp-value.it n m) ∙
-    (and_same _ (s == t) _ (same_namespace n m) (numbers_compare s t) (namespaces_compare n m) ∙ once (s == t) (same_namespace n m))
+    (and_same _ (s == t) _ (same_namespaces n m) (numbers_compare s t) (namespaces_compare n m) ∙ once (s == t) (same_namespaces n m))
 each_compare s t (Reference n) (Child m) = then_equal (nat_cmp s t) _ ∙ and_same _ (s == t) _ false (numbers_compare s t) refl
 each_compare s t (Reference n) (ByPath l y u) = then_equal (nat_cmp s t) _ ∙ and_same _ (s == t) _ false (numbers_compare s t) refl
 each_compare s t (Child n) (Reference m) = then_equal (nat_cmp s t) _ ∙ and_same _ (s == t) _ false (numbers_compare s t) refl
 each_compare s t (Child n) (Child m) = then_equal (nat_cmp s t) (namespace_order.cmp-value.it n m) ∙
-    (and_same _ (s == t) _ (same_namespace n m) (numbers_compare s t) (namespaces_compare n m) ∙ once (s == t) (same_namespace n m))
+    (and_same _ (s == t) _ (same_namespaces n m) (numbers_compare s t) (namespaces_compare n m) ∙ once (s == t) (same_namespaces n m))
 each_compare s t (Child n) (ByPath l y u) = then_equal (nat_cmp s t) _ ∙ and_same _ (s == t) _ false (numbers_compare s t) refl
 each_compare s t (ByPath k x r) (Reference m) = then_equal (nat_cmp s t) _ ∙ and_same _ (s == t) _ false (numbers_compare s t) refl
 each_compare s t (ByPath k x r) (Child m) = then_equal (nat_cmp s t) _ ∙ and_same _ (s == t) _ false (numbers_compare s t) refl

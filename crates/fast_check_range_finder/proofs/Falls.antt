@@ -10,6 +10,7 @@ use Rattle.fast_check_lattice.specs.declared.lattice.imported_exports.ImportedEx
 use Rattle.fast_check_packages.specs.Package.{Nv}
 use Rattle.fast_check_lattice.specs.Imports.{NameDemand}
 use Rattle.fast_check_demands.specs.symbol_demands.Demands.{Demand as SymbolDemand}
+use Rattle.fast_check_demands.specs.Account.{parts}
 use Rattle.fast_check_demands.specs.worklists.Demands.{Text, same_nv, asked_by, Want, to_package, to_module, to_symbol, World, Demand}
 use Rattle.fast_check_range_finder.specs.Search.{Search, handled_at, MeetsSame, IsTaken, AsksPackage, IsMarked, AsksSymbol, AsksNames, WaitsFor, Asks, AsksAll}
 use Rattle.fast_check_range_finder.specs.Measure.{Universe, IsWithin, IsWantInside, IsUniverse, cost, total, rank, ranks, packages_left, symbols_left, left}
@@ -18,6 +19,7 @@ use Rattle.fast_check_range_finder.proofs.Lists.{any_from, any_more}
 use Rattle.fast_check_demands.proofs.worklists.Ranks.{cost_le, total_le, total_less}
 use Rattle.fast_check_range_finder.proofs.Added.{Gains, gains}
 use Rattle.fast_check_range_finder.proofs.Kept.{nv_itself, text_is}
+use Rattle.fast_check_range_finder.proofs.Parts.{part_within, some_part}
 
 cost_less : (x y : Bool) → x ≡ false → y ≡ true → cost y < cost x
 cost_less false true e f = omega arith
@@ -83,7 +85,7 @@ module _ (u : Universe) where
 
   -- a symbol
 
-  module _ (nv : Nv) (t : Text) (d : SymbolDemand) (a b : Search) (m : IsMarked nv t d a b) where
+  module _ (nv : Nv) (t : Text) (d n : SymbolDemand) (a b : Search) (m : IsMarked nv t d n a b) where
     each_le : (p : Nv) (v : Text) (e : SymbolDemand) → cost (b.symbols p v e) ≤ cost (a.symbols p v e)
     each_le p v e = cost_le (a.symbols p v e) (b.symbols p v e) (m.kept p v e)
 
@@ -95,25 +97,28 @@ module _ (u : Universe) where
     packages_le p = total_le (λ v. total (λ e. cost (a.symbols p v e)) u.symbols) (λ v. total (λ e. cost (b.symbols p v e)) u.symbols)
         u.own_texts (texts_le p)
 
-    symbol_less : Contains u.packages nv → Contains u.own_texts t → Contains u.symbols d → symbols_left u b < symbols_left u a
+    symbol_less : Contains u.packages nv → Contains u.own_texts t → (x : SymbolDemand) → Contains (parts n) x → Contains u.symbols x →
+        symbols_left u b < symbols_left u a
     unfolding symbols_left
-    symbol_less i j k =
+    symbol_less i j x c k =
         total_less (λ p. total (λ v. total (λ e. cost (a.symbols p v e)) u.symbols) u.own_texts)
         (λ p. total (λ v. total (λ e. cost (b.symbols p v e)) u.symbols) u.own_texts) u.packages nv packages_le i
         (total_less (λ v. total (λ e. cost (a.symbols nv v e)) u.symbols) (λ v. total (λ e. cost (b.symbols nv v e)) u.symbols) u.own_texts t
         (texts_le nv) j
-        (total_less (λ e. cost (a.symbols nv t e)) (λ e. cost (b.symbols nv t e)) u.symbols d (each_le nv t) k
-        (cost_less (a.symbols nv t d) (b.symbols nv t d) m.was m.now)))
+        (total_less (λ e. cost (a.symbols nv t e)) (λ e. cost (b.symbols nv t e)) u.symbols x (each_le nv t) k
+        (cost_less (a.symbols nv t x) (b.symbols nv t x) (m.was x c) (m.now x (part_within d n x m.within c)))))
 
   falls_symbol : (nv : Nv) (t : Text) (d : SymbolDemand) (a b : Search) → Contains u.packages nv → Contains u.own_texts t →
-      Contains u.symbols d → AsksSymbol nv t d a b → left u b ≤ left u a
+      ((x : SymbolDemand) → Contains (parts d) x → Contains u.symbols x) → AsksSymbol nv t d a b → left u b ≤ left u a
   unfolding left
   falls_symbol nv t d a b i j k asks =
       let r = ranks_same a b asks.handled in
       let p = packages_same a b asks.packages in
       ⊎_elim
       (λ same. let s = symbols_same a b same.1 in let c : length b.waiting ≡ length a.waiting = ap length same.2 in omega (arith, r, p, s, c))
-      (λ n. let s = symbol_less nv t d a b n.0 i j k in let c = n.1.count in omega (arith, r, p, s, c))
+      (λ n. let x = some_part n.0 in
+      let s = symbol_less nv t d n.0 a b n.1 i j x.0 x.1 (k x.0 (part_within d n.0 x.0 n.1.within x.1)) in
+      let c = n.2.count in omega (arith, r, p, s, c))
       asks.put
 
   -- names
@@ -176,7 +181,7 @@ module _ (u : Universe) where
     falls_one (to_module p t w) a b i asks =
         falls_names is p asks.0 asks.1 a b asks.4 (subst (Contains u.texts) (sym asks.2) i.1)
         (λ c h. i.2 c (sym (ap (λ (f : NameDemand → Bool). f c) asks.3) ∙ h)) asks.5
-    falls_one (to_symbol p t s) a b i asks = falls_symbol p t s a b i.0 i.1 i.2 asks
+    falls_one (to_symbol p t s) a b i asks = falls_symbol p t s a b i.0 i.1 (λ x c. is.narrowed s x i.2 c) asks
 
     pub falls_all : (ws : List Want) (a b : Search) → ((w : Want) → Contains ws w → IsWantInside u w) → AsksAll ws a b → left u b ≤ left u a
     falls_all [] a b i asks = let e : left u b ≡ left u a = ap (left u) asks in omega (arith, e)

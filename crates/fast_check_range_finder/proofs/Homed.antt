@@ -77,7 +77,7 @@ module _ (a b : Search) where
       (λ new. put_waits (of_package p) a.waiting b.waiting p refl new.2 e c) asks.put
   from_one (to_module p t w) asks e c = names_wait p (serialize asks.0) asks.5.new asks.5.waits e c
   from_one (to_symbol p t s) asks e c = ⊎_elim (λ was. same_waits a.waiting b.waiting p was.2 e c)
-      (λ new. put_waits (of_symbol p t s) a.waiting b.waiting p refl new.1 e c) asks.put
+      (λ new. put_waits (of_symbol p t new.0) a.waiting b.waiting p refl new.2 e c) asks.put
 
 -- by all
 

@@ -9,7 +9,7 @@ use Rattle.fast_check_lattice.specs.Names.{Name, Path, whole_path, has_whole}
 use Rattle.fast_check_lattice.specs.Imports.{default_name, NameDemand, names_but_default, each_name, subset_at, whole_at}
 use Rattle.fast_check_demands.specs.worklists.Demands.{asked_by, Want, to_package, to_module, to_symbol, Demand, of_package, of_module, of_symbol}
 use Rattle.fast_check_demands.specs.worklists.Demands.{World, Gives}
-use Rattle.fast_check_range_finder.specs.Account.{Chained, root, step, widen}
+use Rattle.fast_check_range_finder.specs.Account.{Chained, root, step, widen, narrow}
 use Rattle.fast_check_range_finder.specs.Measure.{Universe, IsWithin, IsInside, IsWantInside, IsUniverse}
 use Rattle.fast_check_demands.proofs.worklists.Single.{whole_covered}
 
@@ -59,3 +59,4 @@ module _ (world : World) (roots : List Nv) (u : Universe) (is : IsUniverse world
         i.1,
         ⊎_elim (default_within u.paths is.default is.empty c) (λ e. subst (IsWithin u.paths) (sym e) tt) w.to,
       )
+  inside d (narrow {p = p} {t = t} {d = c} {e = e} h n) = let i = inside (of_symbol p t c) h in (i.0, i.1, is.narrowed c e i.2 n)

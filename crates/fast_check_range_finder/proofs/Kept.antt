@@ -15,13 +15,14 @@ use Rattle.fast_check_lattice.specs.Imports.{default_name, imported, is_star, Na
 use Rattle.fast_check_demands.specs.symbol_demands.Demands.{Demand as SymbolDemand}
 use Rattle.fast_check_demands.specs.worklists.Demands.{Text, same_nv, asked_by, one, Want, to_package, to_module, to_symbol}
 use Rattle.fast_check_demands.specs.worklists.Demands.{Demand, of_package, of_module, of_symbol, World, Gives}
-use Rattle.fast_check_range_finder.specs.Account.{is_package, is_of, names_at, joined, meets, IsStarred, Chained, widen}
+use Rattle.fast_check_range_finder.specs.Account.{is_package, is_of, names_at, joined, meets, IsStarred, Chained, widen, narrow}
 use Rattle.fast_check_range_finder.specs.Search.{Search, handled_at, IsAsked, MeetsSame, IsPut, IsTaken, AsksPackage, IsMarked, AsksSymbol, AsksNames, WaitsFor, Asks}
 use Rattle.fast_check_range_finder.specs.Search.{AsksAll}
 use Rattle.fast_check_range_finder.specs.Turn.{members, HasStar, IsKept}
 use Rattle.fast_check_demands.proofs.worklists.Maps.{none_in, first_in, rest_in, split_in, some_is}
 use Rattle.fast_check_range_finder.proofs.Lists.{any_some, any_from, any_more, put_right}
 use Rattle.fast_check_demands.proofs.worklists.Single.{asked_in}
+use Rattle.fast_check_range_finder.proofs.Parts.{part_within}
 use Rattle.fast_check_range_finder.proofs.Added.{Gains, gains, IsWidenedFrom, default_of}
 
 pub nv_itself : (p : Nv) → same_nv p p ≡ true
@@ -45,7 +46,7 @@ same_asked : (a b : Search) → b.packages ≡ a.packages → b.handled ≡ a.ha
 same_asked a b p h s (of_package q) t = subst (λ (x : List Nv). list_any (same_nv q) x ≡ true) (sym p) t
 same_asked a b p h s (of_module nv u d) t =
     subst (λ (x : _). (y : ImportedExports) × (handled_at x u ≡ Some y) × IsBelow (one d) (imported y)) (sym h) t
-same_asked a b p h s (of_symbol nv u d) t = s nv u d ∙ t
+same_asked a b p h s (of_symbol nv u d) t = λ x c. s nv u x ∙ t x c
 
 more_star : (xs ys : List Demand) (t : Text) → IsWithinList xs ys → HasStar xs t → HasStar ys t
 more_star xs ys t g h = (h.0, h.1, g (of_module h.0 t h.1) h.2, h.3)
@@ -96,7 +97,7 @@ module _ (world : World) (roots : List Nv) (done : List Demand) where
         asks.put
     more_package p asks (of_module nv u d) t =
         subst (λ (x : _). (y : ImportedExports) × (handled_at x u ≡ Some y) × IsBelow (one d) (imported y)) (sym asks.handled) t
-    more_package p asks (of_symbol nv u d) t = asks.symbols nv u d ∙ t
+    more_package p asks (of_symbol nv u d) t = λ x c. asks.symbols nv u x ∙ t x c
 
     now_package : (p : Nv) → AsksPackage p a b → IsAsked b (of_package p)
     now_package p asks =
@@ -134,35 +135,43 @@ module _ (world : World) (roots : List Nv) (done : List Demand) where
     more_symbol nv t d asks (of_package q) h = subst (λ (x : List Nv). list_any (same_nv q) x ≡ true) (sym asks.packages) h
     more_symbol nv t d asks (of_module p u c) h =
         subst (λ (x : _). (y : ImportedExports) × (handled_at x u ≡ Some y) × IsBelow (one c) (imported y)) (sym asks.handled) h
-    more_symbol nv t d asks (of_symbol p u c) h =
-        ⊎_elim (λ same. same.1 p u c ∙ h) (λ n. n.0.kept p u c h) asks.put
+    more_symbol nv t d asks (of_symbol p u c) h = λ x i.
+        ⊎_elim (λ same. same.1 p u x ∙ h x i) (λ n. n.1.kept p u x (h x i)) asks.put
 
     now_symbol : (nv : Nv) (t : Text) (d : SymbolDemand) → AsksSymbol nv t d a b → IsAsked b (of_symbol nv t d)
-    now_symbol nv t d asks =
-        ⊎_elim (λ same. same.1 nv t d ∙ same.0) (λ n. n.0.now) asks.put
+    now_symbol nv t d asks = λ x i.
+        ⊎_elim (λ same. same.1 nv t x ∙ same.0 x i) (λ n. n.1.now x i) asks.put
 
     kept_symbol : (nv : Nv) (t : Text) (d : SymbolDemand) → Chained world roots (of_symbol nv t d) → AsksSymbol nv t d a b →
         IsKept world roots done b
     kept_symbol nv t d chain asks =
-        ⊎_elim (λ same. nothing_new asks.packages asks.handled same.1 same.2) (λ n. new n.0 (put_members (of_symbol nv t d) n.1)) asks.put
+        ⊎_elim (λ same. nothing_new asks.packages asks.handled same.1 same.2)
+        (λ n. new n.0 n.1 (put_members (of_symbol nv t n.0) n.2)) asks.put
       where
         old : (t : Text) (x : ImportedExports) → handled_at b.handled t ≡ Some x → handled_at a.handled t ≡ Some x
         old t x e = subst (λ (y : _). handled_at y t ≡ Some x) asks.handled e
 
-        new : IsMarked nv t d a b → IsPut (of_symbol nv t d) before after → IsKept world roots done b
-        new s m = record {
-          chained = λ e c. ⊎_elim (λ o. k.chained e o) (λ same. subst (Chained world roots) same chain) (m.sound e c);
+        new : (n : SymbolDemand) → IsMarked nv t d n a b → IsPut (of_symbol nv t n) before after → IsKept world roots done b
+        new n s m = record {
+          chained = λ e c. ⊎_elim (λ o. k.chained e o) (λ same. subst (Chained world roots) same chain_new) (m.sound e c);
           packages = λ q c. any_more (is_package q) before after m.kept
               (k.packages q (subst (λ (x : List Nv). list_any (same_nv q) x ≡ true) asks.packages c));
           symbols = λ p u c h.
               ⊎_elim (λ o. any_more (meets p u c) before after m.kept (k.symbols p u c o))
-              (λ n. any_from (meets p u c) after (of_symbol nv t d) m.here n) (s.only p u c h);
+              (λ met. any_from (meets p u c) after (of_symbol nv t n) m.here met) (s.only p u c h);
           some = λ u x e. any_more (is_of u) before after m.kept (k.some u x (old u x e));
           names = λ u x e part q g. any_more (λ y. names_at u y part q) before after m.kept (k.names u x (old u x e) part q g);
           stars = λ u x e i. more_star before after u m.kept (k.stars u x (old u x e) i);
-          below = λ e c. ⊎_elim (λ o. more_symbol nv t d asks e (k.below e o)) (λ same. subst (IsAsked b) same (now_symbol nv t d asks))
+          below = λ e c. ⊎_elim (λ o. more_symbol nv t d asks e (k.below e o)) (λ same. subst (IsAsked b) same now_new)
               (m.sound e c);
         }
+          where
+            chain_new : Chained world roots (of_symbol nv t n)
+            chain_new = ⊎_elim (λ same. subst (λ (x : SymbolDemand). Chained world roots (of_symbol nv t x)) (sym same) chain) (λ part. narrow chain part)
+                s.within
+
+            now_new : IsAsked b (of_symbol nv t n)
+            now_new x i = s.now x (part_within d n x s.within i)
 
     -- names
 
@@ -199,7 +208,7 @@ module _ (world : World) (roots : List Nv) (done : List Demand) where
       more_names : IsMore a b
       more_names (of_package q) h = subst (λ (x : List Nv). list_any (same_nv q) x ≡ true) (sym asks.packages) h
       more_names (of_module p u c) h = let m = more_at u h.0 h.1 in (m.0, m.1, λ part q i. m.2 part q (h.2 part q i))
-      more_names (of_symbol p u c) h = asks.symbols p u c ∙ h
+      more_names (of_symbol p u c) h = λ x i. asks.symbols p u x ∙ h x i
 
       now_names : (p : Nv) (c : NameDemand) → asked_by d c ≡ true → IsAsked b (of_module p t c)
       now_names p c h = (g.state, g.now_is, λ part q i. g.above_new part q (asked_in d c h part q i))

@@ -1,6 +1,7 @@
 mod Compared
 pub mod Lists
 pub mod Same
+pub mod Parts
 pub mod Inside
 pub mod Added
 pub mod Kept
@@ -32,6 +33,7 @@ pub mod Whole
 pub mod Noted
 pub mod Entered
 pub mod Taken
+mod Popped
 pub mod Owners
 pub mod PlaceKeys
 pub mod Within

@@ -22,13 +22,13 @@ use Rattle.fast_check_symbols.specs.Entries.{last_that}
 use Rattle.fast_check_symbols.specs.Symbols.{symbol_of, has_id, mentioned_by}
 use Rattle.fast_check_symbols.specs.Exports.{export_named}
 use Rattle.fast_check_symbols.specs.Tables.{Tables, symbol_of_swc, symbol_id_of}
-use Rattle.fast_check_demands.specs.declared.symbol_demands.demand.Namespace.{Namespace}
-use Rattle.fast_check_demands.specs.declared.symbol_demands.demand.Namespace.TheVariants.{Value, Type_}
+use Rattle.fast_check_demands.specs.declared.symbol_demands.demand.Namespaces.{Namespaces}
+use Rattle.fast_check_demands.specs.declared.symbol_demands.demand.Namespaces.TheVariants.{Both}
 use Rattle.fast_check_demands.specs.declared.symbol_demands.demand.Extent.{Extent}
 use Rattle.fast_check_demands.specs.declared.symbol_demands.demand.Extent.TheVariants.{Touched, Whole}
 use Rattle.fast_check_demands.specs.symbol_demands.Demands.{Demand, Asked, by_reference, as_child, by_path, same_symbol}
 use Rattle.fast_check_demands.specs.symbol_demands.Decls.{binds, is_implementation, has_alias, is_closed}
-use Rattle.fast_check_demands.specs.symbol_demands.Rules.{reference, child, qualified, references, children, references_in, named, each_of}
+use Rattle.fast_check_demands.specs.symbol_demands.Rules.{reference, child, qualified, namespaces_of, named, each_of}
 use Rattle.fast_check_demands.specs.symbol_demands.Rules.{bound, parent_at, parent_names, dep_names, deps_names, kind_names, decl_names}
 use Rattle.fast_check_demands.specs.symbol_demands.Rules.{exports_names, members_names, symbol_names, parts_names, alias_names, member_named}
 use Rattle.fast_check_demands.specs.symbol_demands.Rules.{symbol_is_named, member_names, whole_names, prototype_names, export_part_names, export_names}
@@ -101,21 +101,14 @@ module _ (t : Tables) (I : List SymbolId) (P : List Path)
       go : (o : Option SymbolId) → (s : Symbol) × (option_and_then (λ k. symbol_of k t.symbols) o ≡ Some s) × (s.id ≡ x) → Contains I x
       go o h = subst (λ (z : SymbolId). Contains I z) h.2 (table_id h.0 (at o h.0 h.1) h.0.id (first_in h.0.id (mentioned_by h.0)))
 
-  in_reference : (x : SymbolId) (n : Namespace) (r : SymbolId) → Contains I x → Contains I r → Q (reference x n r)
+  in_reference : (x : SymbolId) (n : Namespaces) (r : SymbolId) → Contains I x → Contains I r → Q (reference x n r)
   in_reference x n r h g = record { symbol = h; referrer = g; asked = tt }
 
-  in_references : (x r : SymbolId) → Contains I x → Contains I r → Each Q (references x r)
-  in_references x r h g = each_cons Q (reference x Value r) (reference x Type_ r ∷ []) (in_reference x Value r h g)
-      (each_one Q (reference x Type_ r) (in_reference x Type_ r h g))
+  in_whole_reference : (x r : SymbolId) → Contains I x → Contains I r → Each Q (reference x Both r ∷ [])
+  in_whole_reference x r h g = each_one Q (reference x Both r) (in_reference x Both r h g)
 
-  in_children : (x r : SymbolId) → Contains I x → Contains I r → Each Q (children x r)
-  in_children x r h g = each_cons Q (child x Value r) (child x Type_ r ∷ []) (record { symbol = h; referrer = g; asked = tt })
-      (each_one Q (child x Type_ r) (record { symbol = h; referrer = g; asked = tt }))
-
-  in_references_in : (n : ReferenceNamespace) (x r : SymbolId) → Contains I x → Contains I r → Each Q (references_in n x r)
-  in_references_in refs.Value x r h g = each_one Q (reference x Value r) (in_reference x Value r h g)
-  in_references_in refs.Type_ x r h g = each_one Q (reference x Type_ r) (in_reference x Type_ r h g)
-  in_references_in refs.Both x r h g = in_references x r h g
+  in_child : (x r : SymbolId) → Contains I x → Contains I r → Q (child x r)
+  in_child x r h g = record { symbol = h; referrer = g; asked = tt }
 
   in_qualified : (x : SymbolId) (p : Path) (e : Extent) (r : SymbolId) → Contains I x → Contains I r → Contains P p → Q (qualified x p e r)
   in_qualified x p e r h g k = record { symbol = h; referrer = g; asked = k }
@@ -131,18 +124,18 @@ module _ (t : Tables) (I : List SymbolId) (P : List Path)
   module _ (d : Demand) (i : Q d) where
     in_parent_at : (o : Option SymbolId) → ((x : SymbolId) → o ≡ Some x → Contains I x) → Each Q (parent_at d o)
     in_parent_at None h = each_nil Q
-    in_parent_at (Some x) h = each_cond Q (same_symbol x d.referrer) [] (references x d.symbol) (each_nil Q)
-        (in_references x d.symbol (h x refl) i.symbol)
+    in_parent_at (Some x) h = each_cond Q (same_symbol x d.referrer) [] (reference x Both d.symbol ∷ []) (each_nil Q)
+        (in_whole_reference x d.symbol (h x refl) i.symbol)
 
     in_dep : (n : ReferenceNamespace) (dep : SymbolDep) → ((p : Path) → Contains (dep_paths dep) p → Contains P p) →
         Each Q (dep_names t d.symbol n dep)
-    in_dep n (deps.Id id) h = each_each_of Q (λ x. references_in n x d.symbol) (bound t id)
-        (λ x e. in_references_in n x d.symbol (bound_id id x e) i.symbol)
+    in_dep n (deps.Id id) h = each_each_of Q (λ x. reference x (namespaces_of n) d.symbol ∷ []) (bound t id)
+        (λ x e. each_one Q (reference x (namespaces_of n) d.symbol) (in_reference x (namespaces_of n) d.symbol (bound_id id x e) i.symbol))
     in_dep n (deps.QualifiedId id parts) h = in_named_at id (path_of parts.items) d.symbol i.symbol
         (h (path_of parts.items) (first_in (path_of parts.items) []))
     in_dep n (deps.ImportType specifier parts) h = each_nil Q
 
-    in_kind : (n : Namespace) (parent : Option SymbolId) (k : SymbolDeclKind) → ((x : SymbolId) → parent ≡ Some x → Contains I x) →
+    in_kind : (n : Namespaces) (parent : Option SymbolId) (k : SymbolDeclKind) → ((x : SymbolId) → parent ≡ Some x → Contains I x) →
         ((p : Path) → Contains (kind_paths k) p → Contains P p) → Each Q (kind_names t d n parent k)
     in_kind n parent (Target id) f h = each_each_of Q (λ x. reference x n d.symbol ∷ []) (bound t id)
         (λ x e. each_one Q (reference x n d.symbol) (in_reference x n d.symbol (bound_id id x e) i.symbol))
@@ -188,10 +181,10 @@ module _ (t : Tables) (I : List SymbolId) (P : List Path)
           (Contains-append_right (values_of s.exports) s.members.items x h))
 
       in_exports : Each Q (exports_names d s.exports)
-      in_exports = each_flat Q (λ e. children e.1 d.symbol) s.exports
-          (λ e g. in_children e.1 d.symbol (export_id e.1 (in_map (λ y. y.1) s.exports e g)) i.symbol)
+      in_exports = each_map Q (λ e. child e.1 d.symbol) s.exports
+          (λ e g. in_child e.1 d.symbol (export_id e.1 (in_map (λ y. y.1) s.exports e g)) i.symbol)
 
-      in_symbol : (n : Namespace) → Each Q (symbol_names t d n s)
+      in_symbol : (n : Namespaces) → Each Q (symbol_names t d n s)
       in_symbol n =
           each_cond Q s.is_private_member [] (flat_map (decl_names t d n s.parent_id) s.decls.items ++ exports_names d s.exports ++
           members_names d s.members.items)
@@ -203,18 +196,18 @@ module _ (t : Tables) (I : List SymbolId) (P : List Path)
           (λ x g. each_cond Q (binds x n && not (is_implementation x)) (kind_names t d n s.parent_id x.kind) []
           (in_kind n s.parent_id x.kind parent_id (table_path s here x g)) (each_nil Q)))
           in_exports)
-          (each_flat Q (λ m. children m d.symbol) s.members.items (λ m g. in_children m d.symbol (member_id m g) i.symbol)))
+          (each_map Q (λ m. child m d.symbol) s.members.items (λ m g. in_child m d.symbol (member_id m g) i.symbol)))
 
       in_member : (below : Path) (e : Extent) (o : Option SymbolId) → ((x : SymbolId) → o ≡ Some x → Contains I x) →
           Each Q (member_names d below e o)
       in_member [] Whole None h = each_nil Q
-      in_member [] Whole (Some x) h = in_references x d.referrer (h x refl) i.referrer
+      in_member [] Whole (Some x) h = in_whole_reference x d.referrer (h x refl) i.referrer
       in_member [] Touched o h = each_nil Q
       in_member (n ∷ p) e o h = each_nil Q
 
       in_whole : (e : Extent) → Each Q (whole_names d e)
       in_whole Touched = each_nil Q
-      in_whole Whole = in_references d.symbol d.referrer i.symbol i.referrer
+      in_whole Whole = in_whole_reference d.symbol d.referrer i.symbol i.referrer
 
       in_prototype : (below : Path) (e : Extent) → Each Q (prototype_names t d below e s)
       in_prototype [] e = in_whole e
@@ -222,15 +215,15 @@ module _ (t : Tables) (I : List SymbolId) (P : List Path)
           (λ x h. member_id x (found_inside (λ m. symbol_is_named n (symbol_of m t.symbols)) s.members.items x h))
 
       in_part : (below : Path) (e : Extent) (x : SymbolId) → Contains P below → Contains I x → Each Q (export_part_names d below e x)
-      in_part [] Whole x a h = in_references x d.referrer h i.referrer
+      in_part [] Whole x a h = in_whole_reference x d.referrer h i.referrer
       in_part [] Touched x a h = each_one Q (qualified x [] Touched d.referrer) (in_qualified x [] Touched d.referrer h i.referrer a)
       in_part (n ∷ below) e x a h = each_one Q (qualified x (n ∷ below) e d.referrer)
           (in_qualified x (n ∷ below) e d.referrer h i.referrer a)
 
       in_export : (below : Path) (e : Extent) (closed : Bool) (o : Option SymbolId) → Contains P below →
           ((x : SymbolId) → o ≡ Some x → Contains I x) → Each Q (export_names d below e closed o)
-      in_export below e closed None a h = each_cond Q closed [] (references d.symbol d.referrer) (each_nil Q)
-          (in_references d.symbol d.referrer i.symbol i.referrer)
+      in_export below e closed None a h = each_cond Q closed [] (reference d.symbol Both d.referrer ∷ []) (each_nil Q)
+          (in_whole_reference d.symbol d.referrer i.symbol i.referrer)
       in_export below e closed (Some x) a h = in_part below e x a (h x refl)
 
       in_first : (p : Path) (e : Extent) → Contains P p → Each Q (first_names t d p e s)

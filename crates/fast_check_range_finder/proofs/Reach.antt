@@ -38,7 +38,7 @@ use Rattle.fast_check_range_finder.specs.Universe.{IsAmong}
 use Rattle.fast_check_range_finder.specs.Reach.{all_names, paths_up_to, symbol_paths, all_ids, targets, answers}
 use Rattle.fast_check_range_finder.specs.Reach.{entry_texts, outer_texts, all_packages, urls_in, reach}
 use Rattle.fast_check_range_finder.proofs.Paths.{fits_in, fits_empty, fits_more, empty_in, all_within, asked_within}
-use Rattle.fast_check_range_finder.proofs.Among.{in_demands, of_demands}
+use Rattle.fast_check_range_finder.proofs.Among.{in_demands, of_demands, narrowed_among}
 use Rattle.fast_check_range_finder.proofs.Written.{then_some, IsInfo, named_info, info_in, own_text_in, files_within, names_in, roots_within}
 
 -- what a used item depends on
@@ -229,4 +229,6 @@ module _ (k : Known) (stored roots_in : List Nv) (has_all : HasDependencies k.us
     default = fits_in A (suc L) (default_name ∷ []) (fits_more A default_name L [] (first_in default_name _) (fits_empty A L));
     empty = empty_in A (suc L);
     closed = λ d w i c. closed d i w c;
+    narrowed = λ d x i c. in_demands (all_ids k) (symbol_paths k) x
+        (narrowed_among (all_ids k) (symbol_paths k) d x (of_demands (all_ids k) (symbol_paths k) d i) c);
   }

@@ -4,12 +4,12 @@ use Rattle.std.specs.Str.{bytes_eq}
 use Rattle.std.specs.Cmp.Lexicographic.{bytes_decides}
 use Rattle.std.proofs.lemmas.Bool.{false≢true, eq-eqb, and_parts, and_from}
 use Rattle.fast_check_lattice.specs.Names.{Path}
-use Rattle.fast_check_demands.specs.declared.symbol_demands.demand.Namespace.{Namespace}
-use Rattle.fast_check_demands.specs.declared.symbol_demands.demand.Namespace.TheVariants.{Value, Type_}
+use Rattle.fast_check_demands.specs.declared.symbol_demands.demand.Namespaces.{Namespaces}
+use Rattle.fast_check_demands.specs.declared.symbol_demands.demand.Namespaces.TheVariants.{Value, Type_, Both}
 use Rattle.fast_check_demands.specs.declared.symbol_demands.demand.Extent.{Extent}
 use Rattle.fast_check_demands.specs.declared.symbol_demands.demand.Extent.TheVariants.{Touched, Whole}
 use Rattle.fast_check_demands.specs.symbol_demands.Demands.{Demand, Asked, by_reference, as_child, by_path}
-use Rattle.fast_check_demands.specs.Account.{same_namespace, same_extent, same_path, same_asked, same, alike, essence}
+use Rattle.fast_check_demands.specs.Account.{same_namespaces, same_extent, same_path, same_asked, same, alike, essence}
 
 pub same_paths : (p q : Path) → same_path p q ≡ true → p ≡ q
 same_paths [] [] h = refl
@@ -22,9 +22,10 @@ same_paths (x ∷ xs) (y ∷ ys) h =
     both : (x y : List ℕ) (xs ys : Path) → x ≡ y → xs ≡ ys → x ∷ xs ≡ y ∷ ys
     both x y xs ys e f = cc
 
-namespace_itself : (n : Namespace) → same_namespace n n ≡ true
+namespace_itself : (n : Namespaces) → same_namespaces n n ≡ true
 namespace_itself Value = refl
 namespace_itself Type_ = refl
+namespace_itself Both = refl
 
 extent_itself : (x : Extent) → same_extent x x ≡ true
 extent_itself Touched = refl

@@ -14,36 +14,20 @@ use Rattle.url.specs.Parts.{Parts, serialize}
 use Rattle.indexmap.specs.IndexMap.{set_value_at}
 use Rattle.fast_check_packages.specs.Package.{Nv, nv_of}
 use Rattle.fast_check_lattice.specs.declared.lattice.imported_exports.ImportedExports.{ImportedExports}
-use Rattle.fast_check_demands.specs.symbol_demands.Demands.{Demand as SymbolDemand, Asked, by_reference, as_child, by_path, demand_of}
-use Rattle.fast_check_symbols.specs.declared.symbol_id.SymbolId.{SymbolId}
-use Rattle.fast_check_demands.specs.Account.{alike, essence, referred, same, asker}
+use Rattle.fast_check_demands.specs.symbol_demands.Demands.{Demand as SymbolDemand}
+use Rattle.fast_check_demands.specs.Account.{parts}
 use Rattle.fast_check_demands.specs.worklists.Demands.{Text, same_nv, Demand, of_package, of_symbol, Want, to_symbol}
 use Rattle.fast_check_range_finder.specs.declared.demand.Place.{Place}
 use Rattle.fast_check_range_finder.specs.declared.demand.SymbolAt.{SymbolAt}
 use Rattle.fast_check_range_finder.specs.declared.finder.FollowedModule.{FollowedModule}
 use Rattle.fast_check_range_finder.specs.Account.{meets}
-use Rattle.fast_check_range_finder.specs.Asked.{covers, IsOneMore, AddsSymbol}
+use Rattle.fast_check_range_finder.specs.Asked.{covers, IsNew, AddsDemand}
 use Rattle.fast_check_range_finder.specs.Search.{Search, IsPut, MeetsSame, IsMarked, IsSymbolPut, AsksSymbol, AsksAll}
-use Rattle.fast_check_range_finder.specs.Finder.{Followed, Modules, place_nv, place_text, has_symbol, places, place_of, seen_at, symbol_at, symbols_at, search_in, AsksOne, AsksEach}
+use Rattle.fast_check_range_finder.specs.Finder.{Followed, Modules, place_nv, place_text, has_symbol, places, place_of, seen_at, symbol_at, symbols_at, search_in, put_at, AsksOne, AsksEach}
 use Rattle.fast_check_range_finder.proofs.Kept.{nv_itself, text_itself, text_is}
 use Rattle.fast_check_range_finder.proofs.Lists.{any_some, any_from, any_more, put_last, put_right}
-use Rattle.fast_check_range_finder.proofs.Same.{alike_itself}
+use Rattle.fast_check_range_finder.proofs.Parts.{covers_essence}
 use Rattle.fast_check_range_finder.proofs.Places.{nv_is, get_set, set_itself, set_twice, keys_set, any_set, any_of_set, any_set_same, one_entry}
-
--- what asks for the same thing
-asker_twice : (a : Asked) (s r : SymbolId) → asker a s (asker a s r) ≡ asker a s r
-asker_twice (by_reference n) s r = refl
-asker_twice (as_child n) s r = refl
-asker_twice (by_path p x) s r = refl
-
-essence_twice : (d : SymbolDemand) → essence (essence d) ≡ essence d
-essence_twice d = ap (λ r. record { symbol = d.symbol; asked = d.asked; referrer = r }) (asker_twice d.asked d.symbol d.referrer)
-
-covers_essence : (d e : SymbolDemand) → covers d (essence e) ≡ covers d e
-covers_essence d e = ap (λ (x : SymbolDemand). same (essence d) x || same (essence (referred d)) x) (essence_twice e)
-
-covers_itself : (d : SymbolDemand) → covers d d ≡ true
-covers_itself d = or_left (alike d d) (alike (referred d) d) (alike_itself d)
 
 -- one demand more
 pub each_more : (place : ℕ) (ds : List SymbolDemand) (d : SymbolDemand) (a b c : List SymbolDemand) (old mid new : List SymbolAt) →
@@ -53,8 +37,8 @@ each_more place [] d a b c old mid new w one = (
   new,
   (
     one.0,
-    subst (λ (xs : List SymbolDemand). AddsSymbol d one.0 xs c) w.0 one.1,
-    subst (λ (xs : List (ℕ × SymbolDemand)). map seen_at new ≡ cond one.0 (xs ++ (place, d) ∷ []) xs) w.1 one.2,
+    subst (λ (xs : List SymbolDemand). AddsDemand d one.0 xs c) w.0 one.1,
+    subst (λ (xs : List (ℕ × SymbolDemand)). map seen_at new ≡ put_at place one.0 xs) w.1 one.2,
   ),
   (refl, refl),
 )
@@ -117,7 +101,7 @@ module _ (eq : Place → Place → Bool) (laws : IsEquivalence eq) (tells : Tell
           some y x e = cc
       get_map (y ∷ ys) (suc i) x h = get_map ys i x h
 
-  module _ (d : SymbolDemand) (a b : List SymbolDemand) (w : IsOneMore d a b) where
+  module _ (d n : SymbolDemand) (a b : List SymbolDemand) (w : IsNew d n a b) where
     grown_test : (p : Nv) (t : Text) (x : SymbolDemand) → has_symbol p t x (entry a) ≡ true → has_symbol p t x (entry b) ≡ true
     grown_test p t x h =
         let parts = and_parts (same_nv p (place_nv e)) (bytes_eq t (place_text e) && list_any (covers x) a) h in
@@ -126,24 +110,26 @@ module _ (eq : Place → Place → Bool) (laws : IsEquivalence eq) (tells : Tell
         (and_from (bytes_eq t (place_text e)) (list_any (covers x) b) more.0 (any_more (covers x) a b w.kept more.1))
 
     new_test : (p : Nv) (t : Text) (x : SymbolDemand) → has_symbol p t x (entry b) ≡ true →
-        (has_symbol p t x (entry a) ≡ true) ⊎ (meets p t x (of_symbol (place_nv e) (place_text e) d) ≡ true)
+        (has_symbol p t x (entry a) ≡ true) ⊎ (meets p t x (of_symbol (place_nv e) (place_text e) n) ≡ true)
     new_test p t x h =
-        let parts = and_parts (same_nv p (place_nv e)) (bytes_eq t (place_text e) && list_any (covers x) b) h in
-        let more = and_parts (bytes_eq t (place_text e)) (list_any (covers x) b) parts.1 in
+        let these = and_parts (same_nv p (place_nv e)) (bytes_eq t (place_text e) && list_any (covers x) b) h in
+        let more = and_parts (bytes_eq t (place_text e)) (list_any (covers x) b) these.1 in
         let s = any_some (covers x) b more.1 in
         ⊎_elim
-        (λ old. inl (and_from (same_nv p (place_nv e)) (bytes_eq t (place_text e) && list_any (covers x) a) parts.0
+        (λ old. inl (and_from (same_nv p (place_nv e)) (bytes_eq t (place_text e) && list_any (covers x) a) these.0
         (and_from (bytes_eq t (place_text e)) (list_any (covers x) a) more.0 (any_from (covers x) a s.0 old s.2))))
-        (λ new. inr (and_from (same_nv p (place_nv e)) (bytes_eq t (place_text e) && covers x d) parts.0
-        (and_from (bytes_eq t (place_text e)) (covers x d) more.0
-        (sym (covers_essence x d) ∙ subst (λ (y : SymbolDemand). covers x y ≡ true) new s.2))))
+        (λ new. inr (and_from (same_nv p (place_nv e)) (bytes_eq t (place_text e) && list_any (covers x) (parts n)) these.0
+        (and_from (bytes_eq t (place_text e)) (list_any (covers x) (parts n)) more.0
+        (any_from (covers x) (parts n) new.0 new.1
+        (sym (covers_essence x new.0) ∙ subst (λ (y : SymbolDemand). covers x y ≡ true) new.2 s.2)))))
         (w.only s.0 s.1)
 
-    marked : (old new : List (ℕ × SymbolDemand)) → IsMarked (place_nv e) (place_text e) d (state a old) (state b new)
+    marked : (old new : List (ℕ × SymbolDemand)) → IsMarked (place_nv e) (place_text e) d n (state a old) (state b new)
     marked old new = record {
-      was = ⊎_elim (λ t. absurd (false≢true (sym w.was ∙ own_of d a t))) (λ f. f)
-          (cases_Bool (list_any (has_symbol (place_nv e) (place_text e) d) (with_asked a)));
-      now = meets_own d b (any_from (covers d) b (essence d) w.here (covers_essence d d ∙ covers_itself d));
+      within = w.within;
+      was = λ x c. ⊎_elim (λ t. absurd (false≢true (sym (w.was x c) ∙ own_of x a t))) (λ f. f)
+          (cases_Bool (list_any (has_symbol (place_nv e) (place_text e) x) (with_asked a)));
+      now = λ x c. meets_own x b (w.now x c);
       kept = λ p t x h. ⊎_elim
           (λ own. any_set (has_symbol p t x) ms place e (record e.1 { asked = b }) here (grown_test p t x own))
           (λ other. other)
@@ -176,22 +162,23 @@ module _ (eq : Place → Place → Bool) (laws : IsEquivalence eq) (tells : Tell
           ap (λ (xs : List Demand). flat_map (symbols_at (places (with_asked a))) old ++ xs) last)
 
   -- one demand
-  one_asked : (d : SymbolDemand) (is_new : Bool) (a b : List SymbolDemand) (old new : List (ℕ × SymbolDemand)) → AddsSymbol d is_new a b →
-      new ≡ cond is_new (old ++ (place, d) ∷ []) old → AsksSymbol (place_nv e) (place_text e) d (state a old) (state b new)
-  one_asked d true a b old new w is = record {
+  one_asked : (d : SymbolDemand) (fresh : Option SymbolDemand) (a b : List SymbolDemand) (old new : List (ℕ × SymbolDemand)) →
+      AddsDemand d fresh a b → new ≡ put_at place fresh old → AsksSymbol (place_nv e) (place_text e) d (state a old) (state b new)
+  one_asked d (Some n) a b old new w is = record {
     packages = refl;
     handled = refl;
     put = inr (
-      marked d a b w old new,
-      subst (λ (ys : List (ℕ × SymbolDemand)). IsPut (of_symbol (place_nv e) (place_text e) d) (state a old).waiting (state b ys).waiting) (sym is)
-          (waits d a b old),
+      n,
+      marked d n a b w old new,
+      subst (λ (ys : List (ℕ × SymbolDemand)). IsPut (of_symbol (place_nv e) (place_text e) n) (state a old).waiting (state b ys).waiting) (sym is)
+          (waits n a b old),
     );
   }
-  one_asked d false a b old new w is = record {
+  one_asked d None a b old new w is = record {
     packages = refl;
     handled = refl;
     put = inl (
-      meets_own d a w.0,
+      λ x c. meets_own x a (w.0 x c),
       λ p t x. ap (λ (xs : List SymbolDemand). list_any (has_symbol p t x) (with_asked xs)) w.1,
       ap (λ (xs : List SymbolDemand). (state xs new).waiting) w.1 ∙ ap (λ (ys : List (ℕ × SymbolDemand)). (state a ys).waiting) is,
     );

@@ -43,7 +43,7 @@ covered : (world : World) (roots : List Nv) (done : List Demand) (s : Search) �
     IsCovered (members done s) e
 covered world roots done s k (of_package p) h = k.packages p h
 covered world roots done s k (of_module nv t d) h = (k.some t h.0 h.1, λ part q i. k.names t h.0 h.1 part q (h.2 part q i))
-covered world roots done s k (of_symbol nv t d) h = k.symbols nv t d h
+covered world roots done s k (of_symbol nv t d) h = λ x c. k.symbols nv t x (h x c)
 
 covers_more : (xs ys : List Demand) → ((x : Demand) → Contains xs x → Contains ys x) → (e : Demand) → IsCovered xs e → IsCovered ys e
 covers_more xs ys g (of_package p) h = any_more (is_package p) xs ys g h
@@ -51,7 +51,7 @@ covers_more xs ys g (of_module nv t d) h = (
   any_more (is_of t) xs ys g h.0,
   λ part q i. any_more (λ x. names_at t x part q) xs ys g (h.1 part q i),
 )
-covers_more xs ys g (of_symbol nv t d) h = any_more (meets nv t d) xs ys g h
+covers_more xs ys g (of_symbol nv t d) h = λ x c. any_more (meets nv t x) xs ys g (h x c)
 
 -- `default` beside a star was asked with all names
 wide : (s : Search) (p q r : Nv) (t : Text) (a b c : NameDemand) → IsAsked s (of_module p t a) → IsAsked s (of_module q t b) →

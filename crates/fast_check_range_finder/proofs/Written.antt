@@ -27,19 +27,18 @@ use Rattle.fast_check_graph.specs.declared.root_symbol.AnyModuleInfo.{AnyModuleI
 use Rattle.fast_check_graph.specs.Modules.{is_typed_module}
 use Rattle.fast_check_graph.specs.Graph.{is_specifier}
 use Rattle.fast_check_graph.specs.Root.{specifier_of, module_named}
-use Rattle.fast_check_demands.specs.declared.symbol_demands.demand.Namespace.{Namespace}
-use Rattle.fast_check_demands.specs.declared.symbol_demands.demand.Namespace.TheVariants.{Value, Type_}
+use Rattle.fast_check_demands.specs.declared.symbol_demands.demand.Namespaces.{Namespaces}
 use Rattle.fast_check_demands.specs.declared.symbol_demands.demand.Extent.{Extent}
 use Rattle.fast_check_demands.specs.declared.symbol_demands.demand.Extent.TheVariants.{Touched, Whole}
 use Rattle.fast_check_demands.specs.symbol_demands.Demands.{Demand, Asked, by_reference, as_child, by_path}
 use Rattle.fast_check_demands.specs.symbol_demands.Decls.{binds, is_implementation}
-use Rattle.fast_check_demands.specs.symbol_demands.Rules.{names, reference, references, qualified}
+use Rattle.fast_check_demands.specs.symbol_demands.Rules.{names, reference, qualified}
 use Rattle.fast_check_demands.proofs.Elements.{later, in_map, in_flat}
 use Rattle.fast_check_demands.proofs.Each.{Each, each_nil, each_one, each_cons, each_flat, each_cond, each_each_of}
 use Rattle.fast_check_demands.specs.name_demands.Files.{FileDemand, wants, path_demand, import_demand, dep_files, kind_files}
 use Rattle.fast_check_demands.specs.name_demands.Files.{decl_files, symbol_files, alias_files, asked_files, files}
 use Rattle.fast_check_demands.specs.traces.Modules.{tables_in, own_export}
-use Rattle.fast_check_demands.specs.traces.Roots.{roots, is_exported_in, references_as, exported_as, export_whole, star_export, star_roots}
+use Rattle.fast_check_demands.specs.traces.Roots.{roots, exported_in, export_whole, star_export, star_roots}
 use Rattle.fast_check_demands.specs.traces.Roots.{path_roots}
 use Rattle.fast_check_demands.specs.worklists.Demands.{Text}
 use Rattle.fast_check_demands.proofs.worklists.Maps.{first_in, found_in}
@@ -228,7 +227,7 @@ module _ (k : Known) where
           (path_within (string_bytes name ∷ p) extent (fits_more A (string_bytes name) L p (name_fits x specifier name i e) f))
       alias_within p extent f x i (Definition _) e = each_nil FileWithin
 
-      symbol_within : (n : Namespace) → Each FileWithin (symbol_files n s)
+      symbol_within : (n : Namespaces) → Each FileWithin (symbol_files n s)
       symbol_within n = each_cond FileWithin s.is_private_member [] (flat_map (decl_files n) s.decls.items) (each_nil FileWithin)
           (each_flat FileWithin (decl_files n) s.decls.items
           (λ x i. each_cond FileWithin (binds x n && not (is_implementation x)) (kind_files x.kind) []
@@ -260,26 +259,11 @@ module _ (k : Known) where
     abbrev IsId : SymbolId → Type 0
     IsId = Contains (all_ids k)
 
-    reference_in : (s : SymbolId) (n : Namespace) → IsId s → SymbolIn (reference s n T.module_symbol)
+    reference_in : (s : SymbolId) (n : Namespaces) → IsId s → SymbolIn (reference s n T.module_symbol)
     reference_in s n h = record { symbol = h; referrer = module_id; asked = tt }
 
-    references_in : (s : SymbolId) → IsId s → Each SymbolIn (references s T.module_symbol)
-    references_in s h = each_cons SymbolIn (reference s Value T.module_symbol) (reference s Type_ T.module_symbol ∷ [])
-        (reference_in s Value h)
-        (each_one SymbolIn (reference s Type_ T.module_symbol) (reference_in s Type_ h))
-
-    exported_in : (b c : Bool) (s : SymbolId) → IsId s → Each SymbolIn (references_as b c s T.module_symbol)
-    exported_in true false s h = each_one SymbolIn (reference s Value T.module_symbol) (reference_in s Value h)
-    exported_in false true s h = each_one SymbolIn (reference s Type_ T.module_symbol) (reference_in s Type_ h)
-    exported_in true true s h = references_in s h
-    exported_in false false s h = references_in s h
-
-    whole_in : (x : SymbolId) → IsId x → Each SymbolIn (export_whole T x)
-    whole_in x h = go (symbol_of x T.symbols)
-      where
-        go : (o : Option Symbol) → Each SymbolIn (exported_as o x T.module_symbol)
-        go None = references_in x h
-        go (Some s) = exported_in (is_exported_in s.decls.items Value) (is_exported_in s.decls.items Type_) x h
+    whole_in : (x : SymbolId) → IsId x → Each SymbolIn (export_whole T x ∷ [])
+    whole_in x h = each_one SymbolIn (export_whole T x) (reference_in x (exported_in (symbol_of x T.symbols)) h)
 
     module_symbol_in : (s : Symbol) → symbol_of T.module_symbol T.symbols ≡ Some s → Contains T.symbols s
     module_symbol_in s e = last_inside (has_id T.module_symbol) T.symbols s e
@@ -287,7 +271,7 @@ module _ (k : Known) where
     star_in : (b : Bool) → Each SymbolIn (star_roots T b)
     star_in b = each_each_of SymbolIn (λ s. flat_map (star_export T b) s.exports) (symbol_of T.module_symbol T.symbols)
         (λ s e. each_flat SymbolIn (star_export T b) s.exports
-        (λ x i. each_cond SymbolIn (b || not (bytes_eq x.0 default_name)) (export_whole T x.1) []
+        (λ x i. each_cond SymbolIn (b || not (bytes_eq x.0 default_name)) (export_whole T x.1 ∷ []) []
         (whole_in x.1 (export_id s (module_symbol_in s e) x.1 (in_map (λ y. y.1) s.exports x i))) (each_nil SymbolIn)))
 
     own_export_in : (n : Name) (x : SymbolId) → own_export T n ≡ Some x → IsId x

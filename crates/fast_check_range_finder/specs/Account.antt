@@ -6,10 +6,10 @@ use Rattle.fast_check_packages.specs.Package.{Nv}
 use Rattle.fast_check_lattice.specs.Names.{NameSet, IsBelow}
 use Rattle.fast_check_lattice.specs.Imports.{NameDemand}
 use Rattle.fast_check_demands.specs.symbol_demands.Demands.{Demand as SymbolDemand}
-use Rattle.fast_check_demands.specs.Account.{alike, referred}
+use Rattle.fast_check_demands.specs.Account.{alike, referred, parts}
 use Rattle.fast_check_demands.specs.worklists.Demands.{Text, same_nv, one, Demand, of_package, of_module}
 use Rattle.fast_check_demands.specs.worklists.Demands.{of_symbol, World, Follows}
-pub use Rattle.fast_check_demands.specs.worklists.Account.{IsStarred, HasDefault, IsWidening, Chained, root, step, widen}
+pub use Rattle.fast_check_demands.specs.worklists.Account.{IsStarred, HasDefault, IsWidening, Chained, root, step, widen, narrow}
 
 abbrev pub Account : Type 0
 Account = List Demand
@@ -42,18 +42,22 @@ names_at t (of_symbol nv u s) part q = false
 abbrev pub joined : List Demand → Text → NameSet
 joined account t part q = list_any (λ x. names_at t x part q) account
 
--- the demand asks for this symbol of the module, by reference where it is asked for as a child
+-- e asks for what d asks for, or for it by reference where d asks for it as a child
+abbrev pub covers : SymbolDemand → SymbolDemand → Bool
+covers d e = alike d e || alike (referred d) e
+
+-- the demand asks for this symbol of the module, or for this path below it, in one namespace at least
 abbrev pub meets : Nv → Text → SymbolDemand → Demand → Bool
 meets nv t s (of_package p) = false
 meets nv t s (of_module p u d) = false
-meets nv t s (of_symbol p u e) = same_nv nv p && (bytes_eq t u && (alike s e || alike (referred s) e))
+meets nv t s (of_symbol p u e) = same_nv nv p && (bytes_eq t u && list_any (covers s) (parts e))
 
 -- A package is covered by itself; a demand of a module by those of its specifier together, if there is one; a demand of
--- a symbol by one of the same package, module and symbol.
+-- a symbol by those of the same package, module and symbol that together have its namespaces.
 abbrev pub IsCovered : Account → Demand → Type 0
 IsCovered account (of_package p) = IsTrue (list_any (is_package p) account)
 IsCovered account (of_module nv t d) = IsTrue (list_any (is_of t) account) × IsBelow (one d) (joined account t)
-IsCovered account (of_symbol nv t s) = IsTrue (list_any (meets nv t s) account)
+IsCovered account (of_symbol nv t s) = (x : SymbolDemand) → Contains (parts s) x → IsTrue (list_any (meets nv t x) account)
 
 pub record IsAccount (world : World) (roots : List Nv) (account : Account) : Type 0 where
   pub chained : (d : Demand) → Contains account d → Chained world roots d

@@ -32,7 +32,7 @@ use Rattle.fast_check_range_finder.specs.declared.demand.SymbolAt.{SymbolAt}
 use Rattle.fast_check_range_finder.specs.declared.demand.Dependency.{Dependency}
 use Rattle.fast_check_range_finder.specs.declared.finder.FollowedModule.{FollowedModule}
 use Rattle.fast_check_range_finder.specs.declared.finder.Finder.{Finder}
-use Rattle.fast_check_range_finder.specs.Asked.{covers, AddsSymbol}
+use Rattle.fast_check_range_finder.specs.Asked.{covers, AddsDemand}
 use Rattle.fast_check_range_finder.specs.Once.{AreOnce}
 use Rattle.fast_check_range_finder.specs.Search.{Search, AsksAll}
 use Rattle.fast_check_range_finder.specs.Turn.{AreSame, IsBegun, IsTurn}
@@ -112,10 +112,14 @@ yields_by entrances dependencies ms untyped = flat_map entered_yields entrances 
 abbrev pub yields_in : Finder → List Yield
 yields_in f = yields_by f.entrances.items f.dependencies.keys f.modules.entries f.untyped.items
 
--- one demand of a symbol of the module at a place is asked, and waits if it is new
+-- what waits at a place, last
+abbrev pub put_at : ℕ → Option SymbolDemand → List (ℕ × SymbolDemand) → List (ℕ × SymbolDemand)
+put_at place None waiting = waiting
+put_at place (Some d) waiting = waiting ++ (place, d) ∷ []
+
+-- one demand of a symbol of the module at a place is asked, and what of it is new waits
 abbrev pub AsksOne : ℕ → SymbolDemand → List SymbolDemand → List SymbolDemand → List SymbolAt → List SymbolAt → Type 0
-AsksOne place d a b old new = (is_new : Bool) × AddsSymbol d is_new a b ×
-    (map seen_at new ≡ cond is_new (map seen_at old ++ (place, d) ∷ []) (map seen_at old))
+AsksOne place d a b old new = (fresh : Option SymbolDemand) × AddsDemand d fresh a b × (map seen_at new ≡ put_at place fresh (map seen_at old))
 
 -- each of these
 abbrev pub AsksEach : ℕ → List SymbolDemand → List SymbolDemand → List SymbolDemand → List SymbolAt → List SymbolAt → Type 0

@@ -1,9 +1,23 @@
 -- Inner: no contract of a public call cites what stands here.
--- The items that are used where a cache may be lent.
-use Rattle.std.specs.Prelude.{Option, Some, None}
-use Rattle.fast_check_demands.specs.sources.Sources.{Used, none_used}
+-- All that is known where a caller lends a provider and, perhaps, a cache.
+use Rattle.std.specs.Prelude.{ℕ, List, Option, Some, None}
+use Rattle.url.specs.Parts.{Parts}
+use Rattle.fast_check_packages.specs.Package.{Nv}
+use Rattle.fast_check_cache.specs.Cache.{ItemView}
+use Rattle.fast_check_cache.specs.CachedPackages.{used_item}
+use Rattle.fast_check_demands.specs.worklists.Demands.{Text}
+use Rattle.fast_check_demands.specs.sources.Sources.{Used, none_used, Known, known, with_used}
+use Rattle.fast_check_range_finder.specs.declared.enter.FinderInput.{FinderInput}
 
 -- by the cache, if one is lent
 abbrev pub used_of : {C : Type 0} → Option C → (C → Used) → Used
 used_of None by = none_used
 used_of (Some c) by = by c
+
+-- the items that are used, by the hashes and items of a cache
+abbrev pub used_with : {C : Type 0} → FinderInput → Option C → (C → List ℕ → Nv → List Text → ℕ) → (C → ℕ → Option ItemView) → Used
+used_with i cache hash stored = used_of cache (λ c. used_item (hash c i.seed.now) (stored c) i.sources.graph.now)
+
+abbrev pub known_with : {C : Type 0} → FinderInput → (Nv → Parts) → (Text → Option Nv) → Option C →
+    (C → List ℕ → Nv → List Text → ℕ) → (C → ℕ → Option ItemView) → Known
+known_with i url_of nv_at cache hash stored = with_used (used_with i cache hash stored) (known i.sources url_of nv_at)

@@ -6,6 +6,7 @@ use Rattle.fast_check_packages.specs.Package.{Nv}
 use Rattle.fast_check_lattice.specs.Names.{Path}
 use Rattle.fast_check_lattice.specs.Imports.{default_name, NameDemand}
 use Rattle.fast_check_demands.specs.symbol_demands.Demands.{Demand as SymbolDemand}
+use Rattle.fast_check_demands.specs.Account.{parts}
 use Rattle.fast_check_demands.specs.worklists.Demands.{Text, same_nv, Want, to_package, to_module, to_symbol, Demand}
 use Rattle.fast_check_demands.specs.worklists.Demands.{of_package, of_module, of_symbol, World}
 use Rattle.fast_check_range_finder.specs.Search.{Search, handled_at}
@@ -36,6 +37,7 @@ pub record IsUniverse (world : World) (roots : List Nv) (u : Universe) : Type 0 
   pub default : Contains u.paths (default_name ∷ [])
   pub empty : Contains u.paths []
   pub closed : (d : Demand) (w : Want) → IsInside u d → Contains (world d) w → IsWantInside u w
+  pub narrowed : (d x : SymbolDemand) → Contains u.symbols d → Contains (parts d) x → Contains u.symbols x
 
 unfoldable pub ranks : Universe → Search → ℕ
 ranks u s = total (λ t. rank u.paths (handled_at s.handled t)) u.texts

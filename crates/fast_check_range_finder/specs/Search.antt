@@ -14,11 +14,12 @@ use Rattle.fast_check_lattice.specs.Traces.{is_module, Handles}
 use Rattle.fast_check_demands.specs.symbol_demands.Demands.{Demand as SymbolDemand}
 use Rattle.fast_check_demands.specs.worklists.Demands.{Text, same_nv, asked, asked_by, one, Want, to_package, to_module, to_symbol}
 use Rattle.fast_check_demands.specs.worklists.Demands.{Demand, of_package, of_module, of_symbol}
+use Rattle.fast_check_demands.specs.Account.{parts}
 use Rattle.fast_check_range_finder.specs.Account.{meets}
 pub use Rattle.fast_check_demands.specs.worklists.State.{has_path, was_told}
 
 -- the packages that were asked for, in the order in which they came; what was asked of each module; whether a demand of
--- a symbol is met by one that was asked for; and what waits
+-- a symbol in one namespace, or of a path, is met by one that was asked for; and what waits
 pub record Search : Type 0 where
   pub packages : List Nv
   pub handled : List (Parts × ImportedExports)
@@ -33,7 +34,7 @@ handled_at handled t = lookup (λ k. bytes_eq t (serialize k)) handled
 abbrev pub IsAsked : Search → Demand → Type 0
 IsAsked s (of_package p) = IsTrue (list_any (same_nv p) s.packages)
 IsAsked s (of_module nv t d) = (x : ImportedExports) × (handled_at s.handled t ≡ Some x) × IsBelow (one d) (imported x)
-IsAsked s (of_symbol nv t d) = IsTrue (s.symbols nv t d)
+IsAsked s (of_symbol nv t d) = (x : SymbolDemand) → Contains (parts d) x → IsTrue (s.symbols nv t x)
 
 -- the same demands of symbols are met
 abbrev pub MeetsSame : Search → Search → Type 0
@@ -67,18 +68,19 @@ pub record AsksPackage (p : Nv) (a b : Search) : Type 0 where
 
 -- symbols
 
--- one demand more was asked: it meets what it meets, and nothing else comes to be met
-pub record IsMarked (nv : Nv) (t : Text) (d : SymbolDemand) (a b : Search) : Type 0 where
-  pub was : a.symbols nv t d ≡ false
-  pub now : b.symbols nv t d ≡ true
-  pub kept : (p : Nv) (u : Text) (e : SymbolDemand) → IsTrue (a.symbols p u e) → IsTrue (b.symbols p u e)
-  pub only : (p : Nv) (u : Text) (e : SymbolDemand) → IsTrue (b.symbols p u e) →
-      IsTrue (a.symbols p u e) ⊎ IsTrue (meets p u e (of_symbol nv t d))
+-- one demand more was asked, of which e was not asked before: it meets what it meets, and nothing else comes to be met
+pub record IsMarked (nv : Nv) (t : Text) (d e : SymbolDemand) (a b : Search) : Type 0 where
+  pub within : (e ≡ d) ⊎ Contains (parts d) e
+  pub was : (x : SymbolDemand) → Contains (parts e) x → a.symbols nv t x ≡ false
+  pub now : IsAsked b (of_symbol nv t d)
+  pub kept : (p : Nv) (u : Text) (x : SymbolDemand) → IsTrue (a.symbols p u x) → IsTrue (b.symbols p u x)
+  pub only : (p : Nv) (u : Text) (x : SymbolDemand) → IsTrue (b.symbols p u x) →
+      IsTrue (a.symbols p u x) ⊎ IsTrue (meets p u x (of_symbol nv t e))
 
--- a demand of a symbol is met by one that was asked, or is asked and waits
+-- a demand of a symbol is met by what was asked, or what of it is new waits
 abbrev pub IsSymbolPut : Nv → Text → SymbolDemand → Search → Search → Type 0
-IsSymbolPut nv t d a b = (IsTrue (a.symbols nv t d) × MeetsSame a b × (b.waiting ≡ a.waiting)) ⊎
-    (IsMarked nv t d a b × IsPut (of_symbol nv t d) a.waiting b.waiting)
+IsSymbolPut nv t d a b = (IsAsked a (of_symbol nv t d) × MeetsSame a b × (b.waiting ≡ a.waiting)) ⊎
+    ((e : SymbolDemand) × IsMarked nv t d e a b × IsPut (of_symbol nv t e) a.waiting b.waiting)
 
 pub record AsksSymbol (nv : Nv) (t : Text) (d : SymbolDemand) (a b : Search) : Type 0 where
   pub packages : b.packages ≡ a.packages

@@ -7,7 +7,8 @@ use Rattle.fast_check_symbols.specs.declared.symbol_id.SymbolId.{SymbolId}
 use Rattle.fast_check_symbols.specs.declared.symbol.Symbol.{Symbol}
 use Rattle.fast_check_symbols.specs.Symbols.{mentioned_by}
 use Rattle.fast_check_symbols.specs.Tables.{Tables}
-use Rattle.fast_check_demands.specs.declared.symbol_demands.demand.Namespace.TheVariants.{Value, Type_}
+use Rattle.fast_check_demands.specs.declared.symbol_demands.demand.Namespaces.{Namespaces}
+use Rattle.fast_check_demands.specs.declared.symbol_demands.demand.Namespaces.TheVariants.{Value, Type_, Both}
 use Rattle.fast_check_demands.specs.declared.symbol_demands.demand.Extent.TheVariants.{Touched, Whole}
 use Rattle.fast_check_demands.specs.symbol_demands.Demands.{Demand, Asked, by_reference, as_child, by_path}
 
@@ -23,8 +24,11 @@ table_ids t = t.module_symbol ∷ flat_map symbol_ids t.symbols
 abbrev pub both_extents : Path → List Asked
 both_extents p = by_path p Touched ∷ by_path p Whole ∷ []
 
+abbrev pub in_namespaces : Namespaces → List Asked
+in_namespaces n = by_reference n ∷ as_child n ∷ []
+
 abbrev pub without_path : List Asked
-without_path = by_reference Value ∷ by_reference Type_ ∷ as_child Value ∷ as_child Type_ ∷ []
+without_path = in_namespaces Value ++ (in_namespaces Type_ ++ in_namespaces Both)
 
 abbrev pub asks : List Path → List Asked
 asks paths = without_path ++ flat_map both_extents paths

@@ -1,14 +1,14 @@
 //! The demands of a module's symbols that were asked for.
 
-ghost use Rattle.std.specs.Prelude.{◌≡◌, [], Some, IfOk, OnErr};
+ghost use Rattle.std.specs.Prelude.{◌≡◌, [], Some, IfOk, OnErr, option_map};
 ghost use Rattle.std.proofs.Common.{refl};
 ghost use Rattle.std.specs.List.{list_any};
-ghost use Rattle.fast_check_demands.specs.symbol_demands.Demands.{demand_of};
-ghost use Rattle.fast_check_demands.specs.Account.{essence, referred};
-ghost use Rattle.fast_check_range_finder.specs.Asked.{demand_at, covers, AddsSymbol};
+ghost use Rattle.fast_check_demands.specs.symbol_demands.Demands.{asked_of, demand_of};
+ghost use Rattle.fast_check_demands.specs.Account.{essence, referred, is_both, narrowed};
+ghost use Rattle.fast_check_range_finder.specs.Asked.{demand_at, covers, AddsSymbol, AddsDemand};
 ghost use Rattle.fast_check_range_finder.specs.NameOrder.{names_cmp, names_total, names_ties, names_po};
 
-use fast_check_demands::{Ask, Extent, Namespace, SymbolDemand, SymbolId};
+use fast_check_demands::{Ask, Extent, Namespaces, SymbolDemand, SymbolId};
 use std::alloc::{AllocError, Global};
 use std::cmp::Ordering;
 use std::collections::BTreeSet;
@@ -50,8 +50,8 @@ impl Ord for NamePath<'_> {
 /// How a symbol is asked for. By whom plays a part for a path alone.
 #[derive(Clone, Copy, PartialEq, Eq, PartialOrd, Ord)]
 pub enum AskedAs<'a> {
-    Reference(Namespace),
-    Child(Namespace),
+    Reference(Namespaces),
+    Child(Namespaces),
     Path(NamePath<'a>, Extent, SymbolId),
 }
 
@@ -67,8 +67,8 @@ fn key_of<'a>(demand: SymbolDemand<'a>) -> AskedSymbol<'a>
     ensures { demand_at result ≡ essence (demand_of demand.entry) }
 {
     let asked = match demand.ask {
-        Ask::Reference(namespace) => AskedAs::Reference(namespace),
-        Ask::Child(namespace) => AskedAs::Child(namespace),
+        Ask::Reference(namespaces) => AskedAs::Reference(namespaces),
+        Ask::Child(namespaces) => AskedAs::Child(namespaces),
         Ask::Path(names, extent) => AskedAs::Path(NamePath { names }, extent, demand.referrer),
     };
     AskedSymbol {
@@ -82,15 +82,37 @@ fn by_reference<'a>(demand: SymbolDemand<'a>) -> SymbolDemand<'a>
     ensures { demand_of result ≡ referred (demand_of demand.entry) }
 {
     match demand.ask {
-        Ask::Child(namespace) => SymbolDemand {
-            ask: Ask::Reference(namespace),
+        Ask::Child(namespaces) => SymbolDemand {
+            ask: Ask::Reference(namespaces),
             ..demand
         },
         Ask::Reference(_) | Ask::Path(_, _) => demand,
     }
 }
 
-/// The demands of a module's symbols that were asked for, each once.
+/// Whether something is asked for in both namespaces.
+fn is_both(ask: Ask<'_>) -> bool
+    ensures { result ≡ is_both (asked_of ask.entry) }
+{
+    match ask {
+        Ask::Reference(Namespaces::Both) | Ask::Child(Namespaces::Both) => true,
+        _ => false,
+    }
+}
+
+/// The same in these namespaces.
+fn narrowed<'a>(namespaces: Namespaces, demand: SymbolDemand<'a>) -> SymbolDemand<'a>
+    ensures { demand_of result ≡ narrowed namespaces (demand_of demand.entry) }
+{
+    let ask = match demand.ask {
+        Ask::Reference(_) => Ask::Reference(namespaces),
+        Ask::Child(_) => Ask::Child(namespaces),
+        Ask::Path(names, extent) => Ask::Path(names, extent),
+    };
+    SymbolDemand { ask, ..demand }
+}
+
+/// The demands of a module's symbols that were asked for, each once, in one namespace.
 #[derive(Drop)]
 pub struct AskedSymbols<'a> {
     keys: BTreeSet<AskedSymbol<'a>>,
@@ -123,8 +145,8 @@ impl<'a> AskedSymbols<'a> {
         self.keys.contains(&key_of(demand)) || self.keys.contains(&key_of(by_reference(demand)))
     }
 
-    /// Asks for what a demand asks for, and answers whether it is new.
-    pub fn add(&mut self, demand: SymbolDemand<'a>) -> Result<bool, AllocError>
+    /// Asks for what a demand asks for in one namespace or by a path, and answers whether it is new.
+    fn add_one(&mut self, demand: SymbolDemand<'a>) -> Result<bool, AllocError>
         ensures { IfOk result (λ is_new. AddsSymbol (demand_of demand.entry) is_new self.old self.new) }
     {
         if self.has(demand) {
@@ -132,5 +154,41 @@ impl<'a> AskedSymbols<'a> {
         }
         self.keys.insert(key_of(demand))?;
         Ok(true)
+    }
+
+    /// Asks for a demand in both namespaces, and answers what of it is new.
+    fn add_both(
+        &mut self,
+        demand: SymbolDemand<'a>,
+    ) -> Result<Option<SymbolDemand<'a>>, AllocError>
+        requires { is_both (asked_of demand.entry.ask) ≡ true }
+        ensures { IfOk result (λ new. AddsDemand (demand_of demand.entry) (option_map demand_of new) self.old self.new) }
+    {
+        let value = narrowed(Namespaces::Value, demand);
+        let type_ = narrowed(Namespaces::Type_, demand);
+        let is_value_new = self.add_one(value)?;
+        let is_type_new = self.add_one(type_)?;
+        Ok(match (is_value_new, is_type_new) {
+            (true, true) => Some(demand),
+            (true, false) => Some(value),
+            (false, true) => Some(type_),
+            (false, false) => None,
+        })
+    }
+
+    /// Asks for what a demand asks for, and answers what of it is new.
+    pub fn add(
+        &mut self,
+        demand: SymbolDemand<'a>,
+    ) -> Result<Option<SymbolDemand<'a>>, AllocError>
+        ensures { IfOk result (λ new. AddsDemand (demand_of demand.entry) (option_map demand_of new) self.old self.new) }
+    {
+        if is_both(demand.ask) {
+            return self.add_both(demand);
+        }
+        if self.add_one(demand)? {
+            return Ok(Some(demand));
+        }
+        Ok(None)
     }
 }

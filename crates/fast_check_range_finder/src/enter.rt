@@ -6,14 +6,13 @@ ghost use Rattle.fast_check_packages.specs.MembersIn.{members_in};
 ghost use Rattle.fast_check_graph.specs.declared.graph.ModuleGraph.{ModuleGraph as ModuleGraphSeen};
 ghost use Rattle.fast_check_graph.specs.declared.root_symbol.RootSymbol.{RootSymbol as RootSymbolSeen};
 ghost use Rattle.fast_check_cache.specs.Cache.{item_of};
-ghost use Rattle.fast_check_cache.specs.CachedPackages.{used_item};
 ghost use Rattle.fast_check_package_ranges.specs.findings.Yields.{kept};
 ghost use Rattle.fast_check_package_ranges.specs.entries.Entries.{entrance_seen, DiagnosesRefused};
 ghost use Rattle.fast_check_package_ranges.specs.entries.Kept.{AreKept};
 ghost use Rattle.fast_check_demands.specs.worklists.Demands.{of_package, to_package};
-ghost use Rattle.fast_check_demands.specs.sources.Sources.{known, with_used};
+ghost use Rattle.fast_check_demands.specs.sources.Sources.{known};
 ghost use Rattle.fast_check_range_finder.specs.Finder.{IsSound, CanEnter, Goes};
-ghost use Rattle.fast_check_range_finder.specs.Lent.{used_of};
+ghost use Rattle.fast_check_range_finder.specs.Lent.{used_with, known_with};
 ghost use Rattle.fast_check_range_finder.specs.Rules.{entry_want, unless_faulty, entered_wants, entry_wants, entrance_at, world};
 ghost use Rattle.fast_check_range_finder.specs.Yields.{entered_yields, entry_yields, gives};
 
@@ -136,7 +135,7 @@ impl<'a> Finder<'a> {
         entry_points: Rc<BTreeSet<Url>>,
     ) -> Result<(), AllocError>
         ensures { let i = input.entry in
-            let used = used_of cache.entry (λ c. used_item (hash_of c.now i.seed.now) (stored c.now) i.sources.graph.now) in
+            let used = used_with i cache.entry (λ c. hash_of c.now) (λ c. stored c.now) in
             let urls = entry_points.value.keys in
             OnOk result ((g : ModuleGraphSeen) (r : RootSymbolSeen) → IsSound g r self.old → CanEnter (nv_of nv.now) self.old
             → Goes g r (entered_wants i.sources.graph.now (nv_of nv.now) urls (used (nv_of nv.now) urls)) (entered_yields i.sources.graph.now (nv_of nv.now) urls (used (nv_of nv.now) urls))
@@ -159,7 +158,7 @@ impl<'a> Finder<'a> {
         entry_points: Option<Rc<BTreeSet<Url>>>,
     ) -> Result<(), AllocError>
         ensures { let i = input.entry in
-            let used = used_of cache.entry (λ c. used_item (hash_of c.now i.seed.now) (stored c.now) i.sources.graph.now) in
+            let used = used_with i cache.entry (λ c. hash_of c.now) (λ c. stored c.now) in
             let entrance = entrance_seen entry_points in
             OnOk result ((g : ModuleGraphSeen) (r : RootSymbolSeen) → IsSound g r self.old → CanEnter (nv_of nv.now) self.old
             → Goes g r (entry_wants i.sources.graph.now used (nv_of nv.now) entrance) (entry_yields i.sources.graph.now used (nv_of nv.now) entrance) self.old self.new) }
@@ -181,9 +180,7 @@ impl<'a> Finder<'a> {
         nv: &PackageNv,
         members: &mut MemberEntries,
     ) -> Result<(), BuildFault>
-        ensures entered { let i = input.entry in
-            let used = used_of cache.entry (λ c. used_item (hash_of c.now i.seed.now) (stored c.now) i.sources.graph.now) in
-            let k = with_used used (known i.sources (url_of provider.now) (nv_at provider.now)) in
+        ensures entered { let k = known_with input.entry (url_of provider.now) (nv_at provider.now) cache.entry (λ c. hash_of c.now) (λ c. stored c.now) in
             let d = of_package (nv_of nv.now) in
             OnOk result (AreKept k.workspace_members members.old → IsSound k.graph k.root_symbol self.old
             → CanEnter (nv_of nv.now) self.old → Goes k.graph k.root_symbol (world k d) (gives k d) self.old self.new) }

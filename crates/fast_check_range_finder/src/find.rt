@@ -5,13 +5,11 @@ ghost use Rattle.fast_check_packages.specs.Package.{nv_of};
 ghost use Rattle.fast_check_graph.specs.declared.graph.ModuleGraph.{ModuleGraph as ModuleGraphSeen};
 ghost use Rattle.fast_check_graph.specs.declared.root_symbol.RootSymbol.{RootSymbol as RootSymbolSeen};
 ghost use Rattle.fast_check_packages.specs.MembersIn.{members_in};
-ghost use Rattle.fast_check_cache.specs.CachedPackages.{used_item};
 ghost use Rattle.fast_check_package_ranges.specs.findings.Found.{found_yields};
 ghost use Rattle.fast_check_package_ranges.specs.entries.Kept.{AreKept};
-ghost use Rattle.fast_check_demands.specs.sources.Sources.{known, with_used};
 ghost use Rattle.fast_check_range_finder.specs.Account.{Account, HasHomes, IsAccount, IsYield};
 ghost use Rattle.fast_check_range_finder.specs.Finder.{IsSound, Begins, TurnsTo};
-ghost use Rattle.fast_check_range_finder.specs.Lent.{used_of};
+ghost use Rattle.fast_check_range_finder.specs.Lent.{known_with};
 ghost use Rattle.fast_check_range_finder.specs.Refusals.{IsRefusal, IsRefusedOf, JoinAll};
 ghost use Rattle.fast_check_range_finder.specs.Rules.{world};
 ghost use Rattle.fast_check_range_finder.specs.Yields.{gives};
@@ -50,15 +48,11 @@ impl<'a> Finder<'a> {
         requires sound { IsSound input.sources.graph.now input.sources.root_symbol.now self.old }
         requires no_symbols { self.old.symbols.items ≡ [] }
         requires no_names { self.old.names.items ≡ [] }
-        ensures turned { let i = input.entry in
-            let used = used_of cache.entry (λ c. used_item (hash_of c.now i.seed.now) (stored c.now) i.sources.graph.now) in
-            let k = with_used used (known i.sources (url_of provider.now) (nv_at provider.now)) in
+        ensures turned { let k = known_with input.entry (url_of provider.now) (nv_at provider.now) cache.entry (λ c. hash_of c.now) (λ c. stored c.now) in
             IfOk result (λ more. AreKept k.workspace_members members.old → TurnsTo k more self.old self.new) }
         ensures kept { let ours = members_in input.entry.sources.workspace_members.now in
             OnOk result (AreKept ours members.old → AreKept ours members.new) }
-        ensures refused { let i = input.entry in
-            let used = used_of cache.entry (λ c. used_item (hash_of c.now i.seed.now) (stored c.now) i.sources.graph.now) in
-            let k = with_used used (known i.sources (url_of provider.now) (nv_at provider.now)) in
+        ensures refused { let k = known_with input.entry (url_of provider.now) (nv_at provider.now) cache.entry (λ c. hash_of c.now) (λ c. stored c.now) in
             IfErr result (IsRefusedOf k (map nv_of self.old.packages)) }
     {
         if self.entered >= self.packages.len() {
@@ -69,71 +63,10 @@ impl<'a> Finder<'a> {
         self.enter(alloc, input, provider, cache, &nv, members)?;
         Ok(true)
     }
-
-    /// Follows names of a module, if any wait, and else enters the next package.
-    fn turn_names(
-        &mut self,
-        alloc: Global,
-        input: FinderInput<'a>,
-        provider: &dyn JsrUrlProvider,
-        cache: Option<&dyn FastCheckCache>,
-        members: &mut MemberEntries,
-    ) -> Result<bool, BuildFault>
-        requires sound { IsSound input.sources.graph.now input.sources.root_symbol.now self.old }
-        requires no_symbols { self.old.symbols.items ≡ [] }
-        ensures turned { let i = input.entry in
-            let used = used_of cache.entry (λ c. used_item (hash_of c.now i.seed.now) (stored c.now) i.sources.graph.now) in
-            let k = with_used used (known i.sources (url_of provider.now) (nv_at provider.now)) in
-            IfOk result (λ more. AreKept k.workspace_members members.old → TurnsTo k more self.old self.new) }
-        ensures kept { let ours = members_in input.entry.sources.workspace_members.now in
-            OnOk result (AreKept ours members.old → AreKept ours members.new) }
-        ensures refused { let i = input.entry in
-            let used = used_of cache.entry (λ c. used_item (hash_of c.now i.seed.now) (stored c.now) i.sources.graph.now) in
-            let k = with_used used (known i.sources (url_of provider.now) (nv_at provider.now)) in
-            IfErr result (IsRefusedOf k (map nv_of self.old.packages)) }
-    {
-        match self.names.pop() {
-            Some(at) => {
-                self.follow_names(alloc, input.sources, provider, at)?;
-                Ok(true)
-            }
-            None => self.enter_next(alloc, input, provider, cache, members),
-        }
-    }
-
-    /// Follows a demand, if any waits: those of symbols before names, and names before packages.
-    fn turn(
-        &mut self,
-        alloc: Global,
-        input: FinderInput<'a>,
-        provider: &dyn JsrUrlProvider,
-        cache: Option<&dyn FastCheckCache>,
-        members: &mut MemberEntries,
-    ) -> Result<bool, BuildFault>
-        requires sound { IsSound input.sources.graph.now input.sources.root_symbol.now self.old }
-        ensures turned { let i = input.entry in
-            let used = used_of cache.entry (λ c. used_item (hash_of c.now i.seed.now) (stored c.now) i.sources.graph.now) in
-            let k = with_used used (known i.sources (url_of provider.now) (nv_at provider.now)) in
-            IfOk result (λ more. AreKept k.workspace_members members.old → TurnsTo k more self.old self.new) }
-        ensures kept { let ours = members_in input.entry.sources.workspace_members.now in
-            OnOk result (AreKept ours members.old → AreKept ours members.new) }
-        ensures refused { let i = input.entry in
-            let used = used_of cache.entry (λ c. used_item (hash_of c.now i.seed.now) (stored c.now) i.sources.graph.now) in
-            let k = with_used used (known i.sources (url_of provider.now) (nv_at provider.now)) in
-            IfErr result (IsRefusedOf k (map nv_of self.old.packages)) }
-    {
-        match self.symbols.pop() {
-            Some(at) => {
-                self.follow_symbol(alloc, input.sources, provider, at)?;
-                Ok(true)
-            }
-            None => self.turn_names(alloc, input, provider, cache, members),
-        }
-    }
 }
 
 /// Follows the packages that are handed in, and all that follows from them, and answers what is found: what the demands of an account yield,
-/// neither more nor less.
+/// neither more nor less. In each turn a demand that waits is followed: those of symbols before names, and names before packages.
 ///
 /// A package whose item in the cache is used is followed to the dependencies of the item alone. The search ends on every cache.
 ///
@@ -146,18 +79,22 @@ pub fn find_all<'a>(
     cache: Option<&dyn FastCheckCache>,
     roots: &[PackageNv],
 ) -> Result<IndexMap<PackageNv, FoundPackage<'a>>, BuildFault>
-    ensures found { let i = input.entry in
-        let used = used_of cache.entry (λ c. used_item (hash_of c.now i.seed.now) (stored c.now) i.sources.graph.now) in
-        let k = with_used used (known i.sources (url_of provider.now) (nv_at provider.now)) in
+    ensures found { let k = known_with input.entry (url_of provider.now) (nv_at provider.now) cache.entry (λ c. hash_of c.now) (λ c. stored c.now) in
         IfOk result (λ found. (account : Account) × IsAccount (world k) (map nv_of roots.now) account
         × IsYield (gives k) account (found_yields found.entries) × JoinAll k account × HasHomes account) }
-    ensures refused { let i = input.entry in
-        let used = used_of cache.entry (λ c. used_item (hash_of c.now i.seed.now) (stored c.now) i.sources.graph.now) in
-        let k = with_used used (known i.sources (url_of provider.now) (nv_at provider.now)) in
+    ensures refused { let k = known_with input.entry (url_of provider.now) (nv_at provider.now) cache.entry (λ c. hash_of c.now) (λ c. stored c.now) in
         IfErr result (IsRefusal k (map nv_of roots.now)) }
 {
     let mut finder = begin(alloc, roots)?;
     let mut members = MemberEntries::new(alloc);
-    'turns: while finder.turn(alloc, input, provider, cache, &mut members)? {}
+    'turns: loop {
+        if let Some(at) = finder.symbols.pop() {
+            finder.follow_symbol(alloc, input.sources, provider, at)?;
+        } else if let Some(at) = finder.names.pop() {
+            finder.follow_names(alloc, input.sources, provider, at)?;
+        } else if !finder.enter_next(alloc, input, provider, cache, &mut members)? {
+            break;
+        }
+    }
     Ok(finder.into_found(alloc)?)
 }

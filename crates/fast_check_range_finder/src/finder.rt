@@ -77,7 +77,7 @@ impl<'a> FollowedModule<'a> {
     }
 }
 
-/// Asks for a demand of a symbol. If it is new, it waits.
+/// Asks for a demand of a symbol. What of it is new waits.
 fn ask_one<'a>(
     place: usize,
     demand: SymbolDemand<'a>,
@@ -86,7 +86,7 @@ fn ask_one<'a>(
 ) -> Result<(), AllocError>
     ensures { OnOk result (AsksOne place (demand_of demand.entry) asked.old asked.new symbols.old.items symbols.new.items) }
 {
-    if asked.add(demand)? {
+    if let Some(demand) = asked.add(demand)? {
         symbols.push(SymbolAt { place, demand })?;
     }
     Ok(())

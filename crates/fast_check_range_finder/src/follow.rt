@@ -6,7 +6,7 @@ ghost use Rattle.fast_check_packages.specs.Package.{nv_of};
 ghost use Rattle.fast_check_graph.specs.Root.{specifier_of};
 ghost use Rattle.fast_check_graph.specs.declared.graph.ModuleGraph.{ModuleGraph as ModuleGraphSeen};
 ghost use Rattle.fast_check_graph.specs.declared.root_symbol.RootSymbol.{RootSymbol as RootSymbolSeen};
-ghost use Rattle.fast_check_demands.specs.symbol_demands.Demands.{Demand as SymbolSeen, demand_of};
+ghost use Rattle.fast_check_demands.specs.symbol_demands.Demands.{demand_of};
 ghost use Rattle.fast_check_demands.specs.symbol_demands.Rules.{names};
 ghost use Rattle.fast_check_demands.specs.Yields.{ranges, implementations, faults, fault_seen};
 ghost use Rattle.fast_check_demands.specs.name_demands.Files.{names_of, files, file_demand_of};
@@ -19,7 +19,6 @@ ghost use Rattle.fast_check_demands.specs.sources.Sources.{known, named_at, trac
 ghost use Rattle.fast_check_demands.specs.sources.Wants.{file_at, behind, file_wants, left_wants};
 ghost use Rattle.fast_check_range_finder.specs.Finder.{Followed, place_nv, place_text, names_seen, traced_in, AsksEach, AreShown, Shows, IsSound, Goes};
 ghost use Rattle.fast_check_range_finder.specs.Rules.{own_text, world, names_wants};
-ghost use Rattle.fast_check_range_finder.specs.Turn.{AreSame};
 ghost use Rattle.fast_check_range_finder.specs.Yields.{dependencies, public_at, implementing_at, faults_at, names_yields, gives};
 
 use crate::demand::{NamesAt, SymbolAt};
@@ -57,30 +56,6 @@ fn add_yields<'a>(at: SymbolAt<'a>, followed: &mut FollowedModule<'a>) -> Result
         followed.found.faults.push(fault)?;
     }
     Ok(())
-}
-
-/// What a demand of a symbol gives, and what follows from it within the module.
-fn follow_in<'a>(
-    alloc: Global,
-    at: SymbolAt<'a>,
-    followed: &mut FollowedModule<'a>,
-    symbols: &mut Vec<SymbolAt<'a>>,
-) -> Result<(), AllocError>
-    ensures asks { OnOk result ((ds : List SymbolSeen) × AreSame ds (names (tables_in followed.old.found.info.now) (demand_of at.entry.demand))
-        × AsksEach at.entry.place ds followed.old.asked followed.new.asked symbols.old.items symbols.new.items) }
-    ensures ranges { OnOk result (followed.new.found.ranges.items
-        ≡ followed.old.found.ranges.items ++ ranges (tables_in followed.old.found.info.now) (demand_of at.entry.demand)) }
-    ensures implementations { OnOk result (followed.new.found.implementations.items
-        ≡ followed.old.found.implementations.items ++ implementations (tables_in followed.old.found.info.now) (demand_of at.entry.demand)) }
-    ensures faults { OnOk result (map fault_seen followed.new.found.faults.items
-        ≡ map fault_seen followed.old.found.faults.items ++ faults (tables_in followed.old.found.info.now) (demand_of at.entry.demand)) }
-    ensures info { OnOk result (followed.new.found.info ≡ followed.old.found.info) }
-    ensures index { OnOk result (followed.new.index ≡ followed.old.index) }
-    ensures shows_all { OnOk result (followed.new.shows_all ≡ followed.old.shows_all) }
-{
-    add_yields(at, followed)?;
-    let demands = demands_of(alloc, tables_of(followed.found.info), at.demand)?;
-    ask_each(at.place, &demands, &mut followed.asked, symbols)
 }
 
 /// Adds what names make public of the re-exports of all of a module. All of these are added once.
@@ -247,8 +222,10 @@ impl<'a> Finder<'a> {
         let Some(followed) = self.modules.get_index_mut(at.place) else {
             return Ok(FileWants::new(alloc));
         };
+        add_yields(at, followed)?;
         let tables = tables_of(followed.found.info);
-        follow_in(alloc, at, followed, &mut self.symbols)?;
+        let demands = demands_of(alloc, tables, at.demand)?;
+        ask_each(at.place, &demands, &mut followed.asked, &mut self.symbols)?;
         files_of(alloc, tables, at.demand)
     }
 

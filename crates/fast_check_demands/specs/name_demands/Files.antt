@@ -15,7 +15,7 @@ use Rattle.fast_check_symbols.specs.declared.node.SymbolDep.TheVariants as deps
 use Rattle.fast_check_symbols.specs.declared.node.SymbolNodeDep.{SymbolNodeDep}
 use Rattle.fast_check_symbols.specs.Symbols.{symbol_of}
 use Rattle.fast_check_symbols.specs.Tables.{Tables}
-use Rattle.fast_check_demands.specs.declared.symbol_demands.demand.Namespace.{Namespace}
+use Rattle.fast_check_demands.specs.declared.symbol_demands.demand.Namespaces.{Namespaces}
 use Rattle.fast_check_demands.specs.declared.symbol_demands.demand.Extent.{Extent}
 use Rattle.fast_check_demands.specs.declared.symbol_demands.demand.Extent.TheVariants.{Touched, Whole}
 use Rattle.fast_check_demands.specs.symbol_demands.Demands.{Demand, Asked, by_reference, as_child, by_path}
@@ -64,7 +64,7 @@ abbrev pub import_demand : Path → NameDemand
 import_demand [] = each_name
 import_demand (n ∷ p) = whole_at (n ∷ p)
 
--- a symbol in a namespace
+-- a symbol in a set of namespaces
 
 abbrev pub dep_files : SymbolDep → List FileDemand
 dep_files (deps.Id id) = []
@@ -81,12 +81,12 @@ kind_files (FileRef specifier name) = wants (string_bytes specifier) (reference_
 kind_files (Definition None) = []
 kind_files (Definition (Some node)) = deps_files node.deps.items
 
--- only a declaration that binds the name in the namespace counts, and the implementation of overloads asks for nothing
-abbrev pub decl_files : Namespace → SymbolDecl → List FileDemand
+-- only a declaration that binds the name in one of the namespaces counts, and the implementation of overloads asks for nothing
+abbrev pub decl_files : Namespaces → SymbolDecl → List FileDemand
 decl_files n x = cond (binds x n && not (is_implementation x)) (kind_files x.kind) []
 
 -- nor does a private member
-abbrev pub symbol_files : Namespace → Symbol → List FileDemand
+abbrev pub symbol_files : Namespaces → Symbol → List FileDemand
 symbol_files n s = cond s.is_private_member [] (flat_map (decl_files n) s.decls.items)
 
 -- a path below a symbol

@@ -25,8 +25,8 @@ use Rattle.fast_check_symbols.specs.Exports.{export_named}
 use Rattle.fast_check_symbols.specs.Members.{first_named}
 pub use Rattle.fast_check_symbols.specs.Members.{symbol_is_named}
 use Rattle.fast_check_symbols.specs.Tables.{Tables, symbol_of_swc}
-use Rattle.fast_check_demands.specs.declared.symbol_demands.demand.Namespace.{Namespace}
-use Rattle.fast_check_demands.specs.declared.symbol_demands.demand.Namespace.TheVariants.{Value, Type_}
+use Rattle.fast_check_demands.specs.declared.symbol_demands.demand.Namespaces.{Namespaces}
+use Rattle.fast_check_demands.specs.declared.symbol_demands.demand.Namespaces.TheVariants.{Value, Type_, Both}
 use Rattle.fast_check_demands.specs.declared.symbol_demands.demand.Extent.{Extent}
 use Rattle.fast_check_demands.specs.declared.symbol_demands.demand.Extent.TheVariants.{Touched, Whole}
 use Rattle.fast_check_demands.specs.symbol_demands.Demands.{Demand, Asked, by_reference, as_child, by_path, same_symbol}
@@ -34,26 +34,20 @@ use Rattle.fast_check_demands.specs.symbol_demands.Decls.{binds, is_implementati
 
 -- the forms of demands
 
-abbrev pub reference : SymbolId → Namespace → SymbolId → Demand
-reference symbol namespace referrer = record { symbol = symbol; asked = by_reference namespace; referrer = referrer }
+abbrev pub reference : SymbolId → Namespaces → SymbolId → Demand
+reference symbol namespaces referrer = record { symbol = symbol; asked = by_reference namespaces; referrer = referrer }
 
-abbrev pub child : SymbolId → Namespace → SymbolId → Demand
-child symbol namespace parent = record { symbol = symbol; asked = as_child namespace; referrer = parent }
+abbrev pub child : SymbolId → SymbolId → Demand
+child symbol parent = record { symbol = symbol; asked = as_child Both; referrer = parent }
 
 abbrev pub qualified : SymbolId → Path → Extent → SymbolId → Demand
 qualified symbol path extent referrer = record { symbol = symbol; asked = by_path path extent; referrer = referrer }
 
-abbrev pub references : SymbolId → SymbolId → List Demand
-references symbol referrer = reference symbol Value referrer ∷ reference symbol Type_ referrer ∷ []
-
-abbrev pub children : SymbolId → SymbolId → List Demand
-children symbol parent = child symbol Value parent ∷ child symbol Type_ parent ∷ []
-
--- in the namespaces that a reference is looked up in
-abbrev pub references_in : ReferenceNamespace → SymbolId → SymbolId → List Demand
-references_in refs.Value symbol referrer = reference symbol Value referrer ∷ []
-references_in refs.Type_ symbol referrer = reference symbol Type_ referrer ∷ []
-references_in refs.Both symbol referrer = references symbol referrer
+-- the namespaces that a reference is looked up in
+abbrev pub namespaces_of : ReferenceNamespace → Namespaces
+namespaces_of refs.Value = Value
+namespaces_of refs.Type_ = Type_
+namespaces_of refs.Both = Both
 
 -- by a qualified name: all of what its names lead to; without names, that the symbol is there
 abbrev pub named : SymbolId → Path → SymbolId → Demand
@@ -69,19 +63,19 @@ each_of f (Some x) = f x
 abbrev pub bound : Tables → Id → Option SymbolId
 bound t id = option_map (λ s. s.id) (symbol_of_swc t id)
 
--- a symbol in a namespace
+-- a symbol in a set of namespaces
 
 -- a member demands the symbol that lists it, unless that one asked
 abbrev pub parent_at : Demand → Option SymbolId → List Demand
 parent_at d None = []
-parent_at d (Some parent) = cond (same_symbol parent d.referrer) [] (references parent d.symbol)
+parent_at d (Some parent) = cond (same_symbol parent d.referrer) [] (reference parent Both d.symbol ∷ [])
 
 abbrev pub parent_names : Demand → Bool → Option SymbolId → List Demand
 parent_names d is_member parent = cond is_member (parent_at d parent) []
 
 -- a definition demands what its text refers to
 abbrev pub dep_names : Tables → SymbolId → ReferenceNamespace → SymbolDep → List Demand
-dep_names t referrer namespace (deps.Id id) = each_of (λ x. references_in namespace x referrer) (bound t id)
+dep_names t referrer namespace (deps.Id id) = each_of (λ x. reference x (namespaces_of namespace) referrer ∷ []) (bound t id)
 dep_names t referrer namespace (deps.QualifiedId id parts) =
     each_of (λ x. named x (path_of parts.items) referrer ∷ []) (bound t id)
 dep_names t referrer namespace (deps.ImportType specifier parts) = []
@@ -89,9 +83,9 @@ dep_names t referrer namespace (deps.ImportType specifier parts) = []
 abbrev pub deps_names : Tables → SymbolId → List SymbolNodeDep → List Demand
 deps_names t referrer listed = flat_map (λ x. dep_names t referrer x.namespace x.dep) listed
 
--- an alias demands its target in the same namespace, or the part of its target that it names; a member its parent, and
+-- an alias demands its target in the same namespaces, or the part of its target that it names; a member its parent, and
 -- a definition what it refers to
-abbrev pub kind_names : Tables → Demand → Namespace → Option SymbolId → SymbolDeclKind → List Demand
+abbrev pub kind_names : Tables → Demand → Namespaces → Option SymbolId → SymbolDeclKind → List Demand
 kind_names t d n parent (Target id) = each_of (λ x. reference x n d.symbol ∷ []) (bound t id)
 kind_names t d n parent (QualifiedTarget id parts) = each_of (λ x. named x (path_of parts.items) d.symbol ∷ [])
     (bound t id)
@@ -100,19 +94,19 @@ kind_names t d n parent (Definition None) = []
 kind_names t d n parent (Definition (Some node)) = parent_names d node.is_member parent ++
     deps_names t d.symbol node.deps.items
 
--- only a declaration that binds the name in the namespace counts, and the implementation of overloads names nothing
-abbrev pub decl_names : Tables → Demand → Namespace → Option SymbolId → SymbolDecl → List Demand
+-- only a declaration that binds the name in one of the namespaces counts, and the implementation of overloads names nothing
+abbrev pub decl_names : Tables → Demand → Namespaces → Option SymbolId → SymbolDecl → List Demand
 decl_names t d n parent x = cond (binds x n && not (is_implementation x)) (kind_names t d n parent x.kind) []
 
 -- a symbol demands its exports and its members as children, in both namespaces
 abbrev pub exports_names : Demand → List (Name × SymbolId) → List Demand
-exports_names d exports = flat_map (λ e. children e.1 d.symbol) exports
+exports_names d exports = map (λ e. child e.1 d.symbol) exports
 
 abbrev pub members_names : Demand → List SymbolId → List Demand
-members_names d members = flat_map (λ m. children m d.symbol) members
+members_names d members = map (λ m. child m d.symbol) members
 
 -- a private member names nothing
-abbrev pub symbol_names : Tables → Demand → Namespace → Symbol → List Demand
+abbrev pub symbol_names : Tables → Demand → Namespaces → Symbol → List Demand
 symbol_names t d n s = cond s.is_private_member []
     (flat_map (decl_names t d n s.parent_id) s.decls.items ++ exports_names d s.exports ++
     members_names d s.members.items)
@@ -136,12 +130,12 @@ member_named t name members = first_named t.symbols name members
 
 -- `prototype` of a class is the class, seen by its members; what goes below a member is too deep to be followed
 abbrev pub member_names : Demand → Path → Extent → Option SymbolId → List Demand
-member_names d [] Whole (Some member) = references member d.referrer
+member_names d [] Whole (Some member) = reference member Both d.referrer ∷ []
 member_names d _ _ _ = []
 
 abbrev pub whole_names : Demand → Extent → List Demand
 whole_names d Touched = []
-whole_names d Whole = references d.symbol d.referrer
+whole_names d Whole = reference d.symbol Both d.referrer ∷ []
 
 abbrev pub prototype_names : Tables → Demand → Path → Extent → Symbol → List Demand
 prototype_names t d [] extent s = whole_names d extent
@@ -150,12 +144,12 @@ prototype_names t d (name ∷ below) extent s = member_names d below extent (mem
 -- an export is demanded whole, or by the rest of the path. A name that is no export demands the symbol itself, unless
 -- the symbol has no more names than it lists
 abbrev pub export_part_names : Demand → Path → Extent → SymbolId → List Demand
-export_part_names d [] Whole x = references x d.referrer
+export_part_names d [] Whole x = reference x Both d.referrer ∷ []
 export_part_names d [] Touched x = qualified x [] Touched d.referrer ∷ []
 export_part_names d (name ∷ below) extent x = qualified x (name ∷ below) extent d.referrer ∷ []
 
 abbrev pub export_names : Demand → Path → Extent → Bool → Option SymbolId → List Demand
-export_names d below extent closed None = cond closed [] (references d.symbol d.referrer)
+export_names d below extent closed None = cond closed [] (reference d.symbol Both d.referrer ∷ [])
 export_names d below extent closed (Some x) = export_part_names d below extent x
 
 abbrev pub is_prototype : Name → List SymbolDecl → Bool

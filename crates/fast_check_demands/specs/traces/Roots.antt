@@ -10,38 +10,36 @@ use Rattle.fast_check_symbols.specs.declared.decl.SymbolDecl.{SymbolDecl}
 use Rattle.fast_check_symbols.specs.Decls.{decl_has_export_keyword}
 use Rattle.fast_check_symbols.specs.Symbols.{symbol_of}
 use Rattle.fast_check_modules.specs.symbols.Tables.{Tables}
-use Rattle.fast_check_demands.specs.declared.symbol_demands.demand.Namespace.{Namespace}
-use Rattle.fast_check_demands.specs.declared.symbol_demands.demand.Namespace.TheVariants.{Value, Type_}
+use Rattle.fast_check_demands.specs.declared.symbol_demands.demand.Namespaces.{Namespaces}
+use Rattle.fast_check_demands.specs.declared.symbol_demands.demand.Namespaces.TheVariants.{Value, Type_, Both}
 use Rattle.fast_check_demands.specs.declared.symbol_demands.demand.Extent.{Extent}
 use Rattle.fast_check_demands.specs.declared.symbol_demands.demand.Extent.TheVariants.{Touched, Whole}
 use Rattle.fast_check_demands.specs.symbol_demands.Demands.{Demand}
 use Rattle.fast_check_demands.specs.symbol_demands.Decls.{binds}
-use Rattle.fast_check_demands.specs.symbol_demands.Rules.{each_of, reference, references, qualified}
+use Rattle.fast_check_demands.specs.symbol_demands.Rules.{each_of, reference, qualified}
 use Rattle.fast_check_demands.specs.traces.Modules.{own_export}
 
 -- a declaration that stands behind the keyword `export` binds the name in the namespace
-abbrev pub is_exported_in : List SymbolDecl → Namespace → Bool
+abbrev pub is_exported_in : List SymbolDecl → Namespaces → Bool
 is_exported_in decls n = list_any (λ x. decl_has_export_keyword x && binds x n) decls
 
--- in the namespaces in which a symbol is exported; in both, where it is exported in none, as by `export { a }`
-abbrev pub references_as : Bool → Bool → SymbolId → SymbolId → List Demand
-references_as true false symbol referrer = reference symbol Value referrer ∷ []
-references_as false true symbol referrer = reference symbol Type_ referrer ∷ []
-references_as true true symbol referrer = references symbol referrer
-references_as false false symbol referrer = references symbol referrer
+-- the namespaces in which a symbol is exported: both, where it is exported in none, as by `export { a }`
+abbrev pub namespaces_with : Bool → Bool → Namespaces
+namespaces_with true false = Value
+namespaces_with false true = Type_
+namespaces_with _ _ = Both
 
-abbrev pub exported_as : Option Symbol → SymbolId → SymbolId → List Demand
-exported_as None symbol referrer = references symbol referrer
-exported_as (Some s) symbol referrer = references_as (is_exported_in s.decls.items Value)
-    (is_exported_in s.decls.items Type_) symbol referrer
+abbrev pub exported_in : Option Symbol → Namespaces
+exported_in None = Both
+exported_in (Some s) = namespaces_with (is_exported_in s.decls.items Value) (is_exported_in s.decls.items Type_)
 
 -- an export whole
-abbrev pub export_whole : Tables → SymbolId → List Demand
-export_whole t x = exported_as (symbol_of x t.symbols) x t.module_symbol
+abbrev pub export_whole : Tables → SymbolId → Demand
+export_whole t x = reference x (exported_in (symbol_of x t.symbols)) t.module_symbol
 
 -- each export, `default` only where it is meant
 abbrev pub star_export : Tables → Bool → Name × SymbolId → List Demand
-star_export t with_default e = cond (with_default || not (bytes_eq e.0 default_name)) (export_whole t e.1) []
+star_export t with_default e = cond (with_default || not (bytes_eq e.0 default_name)) (export_whole t e.1 ∷ []) []
 
 abbrev pub star_roots : Tables → Bool → List Demand
 star_roots t with_default = each_of (λ s. flat_map (star_export t with_default) s.exports)
@@ -49,7 +47,7 @@ star_roots t with_default = each_of (λ s. flat_map (star_export t with_default)
 
 -- what goes on below an export
 abbrev pub path_roots : Tables → SymbolId → Path → Extent → List Demand
-path_roots t x [] Whole = export_whole t x
+path_roots t x [] Whole = export_whole t x ∷ []
 path_roots t x [] Touched = qualified x [] Touched t.module_symbol ∷ []
 path_roots t x (n ∷ p) extent = qualified x (n ∷ p) extent t.module_symbol ∷ []
 

@@ -6,7 +6,9 @@ use Rattle.fast_check_packages.specs.Package.{Nv}
 use Rattle.fast_check_lattice.specs.Names.{Path}
 use Rattle.fast_check_lattice.specs.Imports.{default_name, NameDemand, names_but_default, each_name, subset_at}
 use Rattle.fast_check_lattice.specs.Imports.{whole_at}
-use Rattle.fast_check_demands.specs.worklists.Demands.{Text, asked_by, Demand, of_package, of_module}
+use Rattle.fast_check_demands.specs.symbol_demands.Demands.{Demand as SymbolDemand}
+use Rattle.fast_check_demands.specs.Account.{parts}
+use Rattle.fast_check_demands.specs.worklists.Demands.{Text, asked_by, Demand, of_package, of_module, of_symbol}
 use Rattle.fast_check_demands.specs.worklists.Demands.{World, Follows}
 
 abbrev pub IsStarred : NameDemand → Type 0
@@ -38,3 +40,5 @@ pub data Chained (world : World) (roots : List Nv) : Demand → Type 0 where
   widen : {p q r : Nv} {t : Text} {a b c : NameDemand} → Chained world roots (of_module p t a) →
       Chained world roots (of_module q t b) →
       IsWidening p q a b r c → Chained world roots (of_module r t c)
+  narrow : {p : Nv} {t : Text} {d e : SymbolDemand} → Chained world roots (of_symbol p t d) → Contains (parts d) e →
+      Chained world roots (of_symbol p t e)

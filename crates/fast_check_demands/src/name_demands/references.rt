@@ -7,7 +7,7 @@ ghost use Rattle.fast_check_demands.specs.name_demands.Files.{dep_files, deps_fi
 
 use crate::name_demands::list::FileWants;
 use crate::name_demands::want::{by_import, by_path_in_file, by_reference};
-use crate::{Ask, CheckedTables, Extent, Namespace, SymbolDemand, binds};
+use crate::{Ask, CheckedTables, Extent, Namespaces, SymbolDemand, binds};
 use fast_check_symbols::{
     Symbol, SymbolDecl, SymbolDeclKind, SymbolDecls, SymbolDep, SymbolNodeDep,
 };
@@ -48,13 +48,13 @@ fn push_kind<'a>(kind: &'a SymbolDeclKind, out: &mut FileWants<'a>) -> Result<()
 }
 
 fn push_decl<'a>(
-    namespace: Namespace,
+    namespaces: Namespaces,
     decl: &'a SymbolDecl,
     out: &mut FileWants<'a>,
 ) -> Result<(), AllocError>
-    ensures { OnOk result (out.new ≡ out.old ++ decl_files namespace decl.now) }
+    ensures { OnOk result (out.new ≡ out.old ++ decl_files namespaces decl.now) }
 {
-    if binds(decl, namespace) && !decl.is_implementation() {
+    if binds(decl, namespaces) && !decl.is_implementation() {
         push_kind(&decl.kind, out)
     } else {
         Ok(())
@@ -62,29 +62,29 @@ fn push_decl<'a>(
 }
 
 fn push_decls<'a>(
-    namespace: Namespace,
+    namespaces: Namespaces,
     decls: &'a [SymbolDecl],
     out: &mut FileWants<'a>,
 ) -> Result<(), AllocError>
-    ensures { OnOk result (out.new ≡ out.old ++ flat_map (decl_files namespace) decls.now) }
+    ensures { OnOk result (out.new ≡ out.old ++ flat_map (decl_files namespaces) decls.now) }
 {
     for decl in decls {
-        push_decl(namespace, decl, out)?;
+        push_decl(namespaces, decl, out)?;
     }
     Ok(())
 }
 
 fn push_symbol<'a>(
-    namespace: Namespace,
+    namespaces: Namespaces,
     symbol: &'a Symbol,
     out: &mut FileWants<'a>,
 ) -> Result<(), AllocError>
-    ensures { OnOk result (out.new ≡ out.old ++ symbol_files namespace symbol.now) }
+    ensures { OnOk result (out.new ≡ out.old ++ symbol_files namespaces symbol.now) }
 {
     if symbol.is_private_member {
         return Ok(());
     }
-    push_decls(namespace, symbol.decls.as_slice(), out)
+    push_decls(namespaces, symbol.decls.as_slice(), out)
 }
 
 fn push_alias<'a>(
@@ -142,7 +142,7 @@ fn push_asked<'a>(
     ensures { OnOk result (out.new ≡ out.old ++ asked_files (asked_of ask.entry) symbol.now) }
 {
     match ask {
-        Ask::Reference(namespace) | Ask::Child(namespace) => push_symbol(namespace, symbol, out),
+        Ask::Reference(namespaces) | Ask::Child(namespaces) => push_symbol(namespaces, symbol, out),
         Ask::Path(names, extent) => push_path(names, extent, &symbol.decls, out),
     }
 }

@@ -1,9 +1,9 @@
 //! Demands by the names that a module binds.
 ghost use Rattle.std.specs.Prelude.{◌≡◌, [], ◌∷◌, ◌++◌, OnOk};
 ghost use Rattle.fast_check_lattice.specs.Names.{path_of};
-ghost use Rattle.fast_check_demands.specs.symbol_demands.Rules.{bound, each_of, reference, child, references, children, references_in, qualified, named};
+ghost use Rattle.fast_check_demands.specs.symbol_demands.Rules.{bound, each_of, reference, child, namespaces_of, qualified, named};
 
-use crate::symbol_demands::demand::{Ask, Extent, Namespace, SymbolDemand};
+use crate::symbol_demands::demand::{Ask, Extent, Namespaces, SymbolDemand};
 use crate::symbol_demands::list::Demands;
 use fast_check_symbols::{CheckedTables, ReferenceNamespace, SymbolId};
 use fast_check_syntax::Id;
@@ -17,75 +17,46 @@ pub fn bound(tables: &CheckedTables, id: &Id) -> Option<SymbolId>
     Some(symbol.id)
 }
 
-/// Demands a symbol in a namespace.
+/// The namespaces that a reference is looked up in.
+pub fn namespaces_of(namespace: ReferenceNamespace) -> Namespaces
+    ensures { result ≡ namespaces_of namespace }
+{
+    match namespace {
+        ReferenceNamespace::Value => Namespaces::Value,
+        ReferenceNamespace::Type_ => Namespaces::Type_,
+        ReferenceNamespace::Both => Namespaces::Both,
+    }
+}
+
+/// Demands a symbol in a set of namespaces.
 pub fn push_reference(
     symbol: SymbolId,
-    namespace: Namespace,
+    namespaces: Namespaces,
     referrer: SymbolId,
     out: &mut Demands<'_>,
 ) -> Result<(), AllocError>
-    ensures { OnOk result (out.new ≡ out.old ++ reference symbol namespace referrer ∷ []) }
+    ensures { OnOk result (out.new ≡ out.old ++ reference symbol namespaces referrer ∷ []) }
 {
     out.push(SymbolDemand {
         symbol,
-        ask: Ask::Reference(namespace),
+        ask: Ask::Reference(namespaces),
         referrer,
     })
 }
 
-/// Demands a symbol in both namespaces.
-pub fn push_references(
+/// Demands a symbol as a child of another, in both namespaces.
+pub fn push_child(
     symbol: SymbolId,
-    referrer: SymbolId,
-    out: &mut Demands<'_>,
-) -> Result<(), AllocError>
-    ensures { OnOk result (out.new ≡ out.old ++ references symbol referrer) }
-{
-    push_reference(symbol, Namespace::Value, referrer, out)?;
-    push_reference(symbol, Namespace::Type_, referrer, out)
-}
-
-/// Demands a symbol in the namespaces that a reference is looked up in.
-pub fn push_references_in(
-    namespace: ReferenceNamespace,
-    symbol: SymbolId,
-    referrer: SymbolId,
-    out: &mut Demands<'_>,
-) -> Result<(), AllocError>
-    ensures { OnOk result (out.new ≡ out.old ++ references_in namespace symbol referrer) }
-{
-    match namespace {
-        ReferenceNamespace::Value => push_reference(symbol, Namespace::Value, referrer, out),
-        ReferenceNamespace::Type_ => push_reference(symbol, Namespace::Type_, referrer, out),
-        ReferenceNamespace::Both => push_references(symbol, referrer, out),
-    }
-}
-
-fn push_child(
-    symbol: SymbolId,
-    namespace: Namespace,
     parent: SymbolId,
     out: &mut Demands<'_>,
 ) -> Result<(), AllocError>
-    ensures { OnOk result (out.new ≡ out.old ++ child symbol namespace parent ∷ []) }
+    ensures { OnOk result (out.new ≡ out.old ++ child symbol parent ∷ []) }
 {
     out.push(SymbolDemand {
         symbol,
-        ask: Ask::Child(namespace),
+        ask: Ask::Child(Namespaces::Both),
         referrer: parent,
     })
-}
-
-/// Demands a symbol as a child of another, in both namespaces.
-pub fn push_children(
-    symbol: SymbolId,
-    parent: SymbolId,
-    out: &mut Demands<'_>,
-) -> Result<(), AllocError>
-    ensures { OnOk result (out.new ≡ out.old ++ children symbol parent) }
-{
-    push_child(symbol, Namespace::Value, parent, out)?;
-    push_child(symbol, Namespace::Type_, parent, out)
 }
 
 /// Demands what a path below a symbol leads to.

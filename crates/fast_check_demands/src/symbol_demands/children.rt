@@ -1,13 +1,13 @@
 //! Demands of the children of a symbol: its exports, its members and what its declarations bind.
-ghost use Rattle.std.specs.Prelude.{◌≡◌, ◌++◌, option_map, OnOk};
+ghost use Rattle.std.specs.Prelude.{◌≡◌, [], ◌∷◌, ◌++◌, option_map, OnOk};
 ghost use Rattle.fast_check_symbols.specs.Exports.{seen_export};
 ghost use Rattle.std.specs.List.{flat_map};
 ghost use Rattle.fast_check_demands.specs.symbol_demands.Demands.{demand_of};
-ghost use Rattle.fast_check_demands.specs.symbol_demands.Rules.{each_of, children, decl_names, exports_names, members_names, symbol_names};
+ghost use Rattle.fast_check_demands.specs.symbol_demands.Rules.{each_of, child, decl_names, exports_names, members_names, symbol_names};
 
-use crate::symbol_demands::bindings::push_children;
+use crate::symbol_demands::bindings::push_child;
 use crate::symbol_demands::decls::binds;
-use crate::symbol_demands::demand::{Namespace, SymbolDemand};
+use crate::symbol_demands::demand::{Namespaces, SymbolDemand};
 use crate::symbol_demands::dependencies::push_kind;
 use crate::symbol_demands::list::Demands;
 use fast_check_symbols::{CheckedTables, Symbol, SymbolDecl, SymbolExports, SymbolId};
@@ -16,15 +16,15 @@ use std::alloc::AllocError;
 fn push_decl<'a>(
     tables: &CheckedTables,
     demand: SymbolDemand<'_>,
-    namespace: Namespace,
+    namespaces: Namespaces,
     parent: Option<SymbolId>,
     decl: &'a SymbolDecl,
     out: &mut Demands<'a>,
 ) -> Result<(), AllocError>
-    ensures { OnOk result (out.new ≡ out.old ++ decl_names tables.now (demand_of demand.entry) namespace parent decl.now) }
+    ensures { OnOk result (out.new ≡ out.old ++ decl_names tables.now (demand_of demand.entry) namespaces parent decl.now) }
 {
-    if binds(decl, namespace) && !decl.is_implementation() {
-        push_kind(tables, demand, namespace, parent, &decl.kind, out)
+    if binds(decl, namespaces) && !decl.is_implementation() {
+        push_kind(tables, demand, namespaces, parent, &decl.kind, out)
     } else {
         Ok(())
     }
@@ -33,15 +33,15 @@ fn push_decl<'a>(
 fn push_decls<'a>(
     tables: &CheckedTables,
     demand: SymbolDemand<'_>,
-    namespace: Namespace,
+    namespaces: Namespaces,
     parent: Option<SymbolId>,
     decls: &'a [SymbolDecl],
     out: &mut Demands<'a>,
 ) -> Result<(), AllocError>
-    ensures { OnOk result (out.new ≡ out.old ++ flat_map (decl_names tables.now (demand_of demand.entry) namespace parent) decls.now) }
+    ensures { OnOk result (out.new ≡ out.old ++ flat_map (decl_names tables.now (demand_of demand.entry) namespaces parent) decls.now) }
 {
     for decl in decls {
-        push_decl(tables, demand, namespace, parent, decl, out)?;
+        push_decl(tables, demand, namespaces, parent, decl, out)?;
     }
     Ok(())
 }
@@ -51,11 +51,11 @@ fn push_export(
     export: Option<(&str, SymbolId)>,
     out: &mut Demands<'_>,
 ) -> Result<(), AllocError>
-    ensures { OnOk result (out.new ≡ out.old ++ each_of (λ e. children e.1 demand.entry.symbol) (option_map seen_export export.entry)) }
+    ensures { OnOk result (out.new ≡ out.old ++ each_of (λ e. child e.1 demand.entry.symbol ∷ []) (option_map seen_export export.entry)) }
 {
     match export {
         None => Ok(()),
-        Some((_, export)) => push_children(export, demand.symbol, out),
+        Some((_, export)) => push_child(export, demand.symbol, out),
     }
 }
 
@@ -80,7 +80,7 @@ fn push_members(
     ensures { OnOk result (out.new ≡ out.old ++ members_names (demand_of demand.entry) members.now) }
 {
     for member in members {
-        push_children(*member, demand.symbol, out)?;
+        push_child(*member, demand.symbol, out)?;
     }
     Ok(())
 }
@@ -89,11 +89,11 @@ fn push_members(
 pub fn push_symbol<'a>(
     tables: &CheckedTables,
     demand: SymbolDemand<'_>,
-    namespace: Namespace,
+    namespaces: Namespaces,
     symbol: &'a Symbol,
     out: &mut Demands<'a>,
 ) -> Result<(), AllocError>
-    ensures { OnOk result (out.new ≡ out.old ++ symbol_names tables.now (demand_of demand.entry) namespace symbol.now) }
+    ensures { OnOk result (out.new ≡ out.old ++ symbol_names tables.now (demand_of demand.entry) namespaces symbol.now) }
 {
     if symbol.is_private_member {
         return Ok(());
@@ -101,7 +101,7 @@ pub fn push_symbol<'a>(
     push_decls(
         tables,
         demand,
-        namespace,
+        namespaces,
         symbol.parent_id,
         symbol.decls.as_slice(),
         out,

@@ -2,16 +2,17 @@
 ghost use Rattle.std.specs.Prelude.{◌≡◌};
 ghost use Rattle.fast_check_demands.specs.symbol_demands.Decls.{binds, is_function};
 
-use crate::symbol_demands::demand::Namespace;
+use crate::symbol_demands::demand::Namespaces;
 use fast_check_symbols::{SymbolDecl, SymbolDeclKind};
 
-/// Whether a declaration binds its name in a namespace.
-pub fn binds(decl: &SymbolDecl, namespace: Namespace) -> bool
-    ensures { result ≡ binds decl.now namespace }
+/// Whether a declaration binds its name in one of these namespaces.
+pub fn binds(decl: &SymbolDecl, namespaces: Namespaces) -> bool
+    ensures { result ≡ binds decl.now namespaces }
 {
-    match namespace {
-        Namespace::Value => decl.value,
-        Namespace::Type_ => decl.type_,
+    match namespaces {
+        Namespaces::Value => decl.value,
+        Namespaces::Type_ => decl.type_,
+        Namespaces::Both => decl.value || decl.type_,
     }
 }
 

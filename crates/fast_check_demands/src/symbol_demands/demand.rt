@@ -1,11 +1,12 @@
 //! A demand of a symbol of a module.
 use fast_check_symbols::SymbolId;
 
-/// One of TypeScript's two namespaces.
+/// A set of TypeScript's two namespaces that is not empty.
 #[derive(Clone, Copy, PartialEq, Eq, PartialOrd, Ord)]
-pub enum Namespace {
+pub enum Namespaces {
     Value,
     Type_,
+    Both,
 }
 
 /// How much is demanded of what a path leads to.
@@ -20,10 +21,10 @@ pub enum Extent {
 /// What is demanded of a symbol.
 #[derive(Clone, Copy, PartialEq, Eq, PartialOrd, Ord)]
 pub enum Ask<'a> {
-    /// The symbol in a namespace, since something refers to it.
-    Reference(Namespace),
-    /// The symbol in a namespace, since the symbol that lists it is demanded.
-    Child(Namespace),
+    /// The symbol in these namespaces, since something refers to it.
+    Reference(Namespaces),
+    /// The symbol in these namespaces, since the symbol that lists it is demanded.
+    Child(Namespaces),
     /// What a path of names leads to, each name looked up below the one before.
     Path(&'a [String], Extent),
 }

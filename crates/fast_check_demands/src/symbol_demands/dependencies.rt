@@ -1,44 +1,30 @@
 //! Demands of what the public face of a declaration depends on.
 ghost use Rattle.std.specs.Prelude.{◌≡◌, ◌∷◌, [], ◌++◌, OnOk};
 ghost use Rattle.fast_check_demands.specs.symbol_demands.Demands.{demand_of, same_symbol};
-ghost use Rattle.fast_check_demands.specs.symbol_demands.Rules.{each_of, reference, references_in, parent_at, parent_names, dep_names, deps_names, kind_names};
+ghost use Rattle.fast_check_demands.specs.symbol_demands.Rules.{each_of, reference, namespaces_of, parent_at, parent_names, dep_names, deps_names, kind_names};
 
 use crate::symbol_demands::bindings::{
-    bound, push_named_at, push_reference, push_references, push_references_in,
+    bound, namespaces_of, push_named_at, push_reference,
 };
-use crate::symbol_demands::demand::{Namespace, SymbolDemand};
+use crate::symbol_demands::demand::{Namespaces, SymbolDemand};
 use crate::symbol_demands::list::Demands;
 use fast_check_symbols::{
-    CheckedTables, ReferenceNamespace, SymbolDeclKind, SymbolDep, SymbolId, SymbolNode,
+    CheckedTables, SymbolDeclKind, SymbolDep, SymbolId, SymbolNode,
     SymbolNodeDep,
 };
 use std::alloc::AllocError;
 
 fn push_reference_at(
     symbol: Option<SymbolId>,
-    namespace: Namespace,
+    namespaces: Namespaces,
     referrer: SymbolId,
     out: &mut Demands<'_>,
 ) -> Result<(), AllocError>
-    ensures { OnOk result (out.new ≡ out.old ++ each_of (λ x. reference x namespace referrer ∷ []) symbol) }
+    ensures { OnOk result (out.new ≡ out.old ++ each_of (λ x. reference x namespaces referrer ∷ []) symbol) }
 {
     match symbol {
         None => Ok(()),
-        Some(symbol) => push_reference(symbol, namespace, referrer, out),
-    }
-}
-
-fn push_references_at(
-    symbol: Option<SymbolId>,
-    namespace: ReferenceNamespace,
-    referrer: SymbolId,
-    out: &mut Demands<'_>,
-) -> Result<(), AllocError>
-    ensures { OnOk result (out.new ≡ out.old ++ each_of (λ x. references_in namespace x referrer) symbol) }
-{
-    match symbol {
-        None => Ok(()),
-        Some(symbol) => push_references_in(namespace, symbol, referrer, out),
+        Some(symbol) => push_reference(symbol, namespaces, referrer, out),
     }
 }
 
@@ -51,7 +37,10 @@ fn push_dep<'a>(
     ensures { OnOk result (out.new ≡ out.old ++ dep_names tables.now referrer dep.now.namespace dep.now.dep) }
 {
     match &dep.dep {
-        SymbolDep::Id(id) => push_references_at(bound(tables, id), dep.namespace, referrer, out),
+        SymbolDep::Id(id) => {
+            let namespaces = namespaces_of(dep.namespace);
+            push_reference_at(bound(tables, id), namespaces, referrer, out)
+        }
         SymbolDep::QualifiedId(id, parts) => {
             push_named_at(bound(tables, id), parts.as_slice(), referrer, out)
         }
@@ -86,7 +75,7 @@ fn push_parent_at(
             if is_same(parent, demand.referrer) {
                 return Ok(());
             }
-            push_references(parent, demand.symbol, out)
+            push_reference(parent, Namespaces::Both, demand.symbol, out)
         }
     }
 }
@@ -127,20 +116,20 @@ fn push_node<'a>(
     push_deps(tables, demand.symbol, node.deps.as_slice(), out)
 }
 
-/// What a declaration of a symbol demands, where the symbol is demanded in a namespace.
+/// What a declaration of a symbol demands, where the symbol is demanded in these namespaces.
 pub fn push_kind<'a>(
     tables: &CheckedTables,
     demand: SymbolDemand<'_>,
-    namespace: Namespace,
+    namespaces: Namespaces,
     parent: Option<SymbolId>,
     kind: &'a SymbolDeclKind,
     out: &mut Demands<'a>,
 ) -> Result<(), AllocError>
-    ensures { OnOk result (out.new ≡ out.old ++ kind_names tables.now (demand_of demand.entry) namespace parent kind.now) }
+    ensures { OnOk result (out.new ≡ out.old ++ kind_names tables.now (demand_of demand.entry) namespaces parent kind.now) }
 {
     match kind {
         SymbolDeclKind::Target(id) => {
-            push_reference_at(bound(tables, id), namespace, demand.symbol, out)
+            push_reference_at(bound(tables, id), namespaces, demand.symbol, out)
         }
         SymbolDeclKind::QualifiedTarget(id, parts) => {
             push_named_at(bound(tables, id), parts.as_slice(), demand.symbol, out)

@@ -5,73 +5,29 @@ ghost use Rattle.std.specs.List.{flat_map};
 ghost use Rattle.fast_check_lattice.specs.Names.{path_of};
 ghost use Rattle.fast_check_symbols.specs.Exports.{seen_export};
 ghost use Rattle.fast_check_demands.specs.name_demands.Files.{names_of, path_demand};
-ghost use Rattle.fast_check_demands.specs.symbol_demands.Rules.{each_of, reference};
-ghost use Rattle.fast_check_demands.specs.traces.Roots.{is_exported_in, references_as, exported_as, export_whole, star_export, star_roots, path_roots, roots};
+ghost use Rattle.fast_check_demands.specs.symbol_demands.Rules.{each_of};
+ghost use Rattle.fast_check_demands.specs.traces.Roots.{is_exported_in, namespaces_with, exported_in, export_whole, star_export, star_roots, path_roots, roots};
 
 use crate::name_demands::NameDemand;
 use crate::traces::modules::own_export;
-use crate::{Ask, CheckedTables, Demands, Extent, Namespace, SymbolDemand};
-use fast_check_symbols::{Symbol, SymbolDecls, SymbolExports, SymbolId};
+use crate::{Ask, CheckedTables, Demands, Extent, Namespaces, SymbolDemand};
+use fast_check_symbols::{Symbol, SymbolExports, SymbolId};
 use std::alloc::{AllocError, Global};
 
-fn is_exported_in(decls: &SymbolDecls, namespace: Namespace) -> bool
-    ensures { result ≡ is_exported_in decls.now.items namespace }
+/// The namespaces in which a symbol is exported, and both where no declaration has the keyword `export`.
+fn exported_in(symbol: Option<&Symbol>) -> Namespaces
+    ensures { result ≡ exported_in (option_copied symbol.entry) }
 {
-    match namespace {
-        Namespace::Value => decls.is_exported_value(),
-        Namespace::Type_ => decls.is_exported_type(),
-    }
-}
-
-fn push_reference(
-    tables: &CheckedTables,
-    symbol: SymbolId,
-    namespace: Namespace,
-    out: &mut Demands<'_>,
-) -> Result<(), AllocError>
-    ensures { OnOk result (out.new ≡ out.old ++ reference symbol namespace tables.now.module_symbol ∷ []) }
-{
-    out.push(SymbolDemand {
-        symbol,
-        ask: Ask::Reference(namespace),
-        referrer: tables.module_symbol(),
-    })
-}
-
-fn push_references_as(
-    tables: &CheckedTables,
-    symbol: SymbolId,
-    as_value: bool,
-    as_type: bool,
-    out: &mut Demands<'_>,
-) -> Result<(), AllocError>
-    ensures { OnOk result (out.new ≡ out.old ++ references_as as_value as_type symbol tables.now.module_symbol) }
-{
-    match (as_value, as_type) {
-        (true, false) => push_reference(tables, symbol, Namespace::Value, out),
-        (false, true) => push_reference(tables, symbol, Namespace::Type_, out),
-        _ => {
-            push_reference(tables, symbol, Namespace::Value, out)?;
-            push_reference(tables, symbol, Namespace::Type_, out)
-        }
-    }
-}
-
-fn push_exported(
-    tables: &CheckedTables,
-    id: SymbolId,
-    symbol: Option<&Symbol>,
-    out: &mut Demands<'_>,
-) -> Result<(), AllocError>
-    ensures { OnOk result (out.new ≡ out.old ++ exported_as (option_copied symbol.entry) id tables.now.module_symbol) }
-{
-    match symbol {
-        None => push_references_as(tables, id, true, true, out),
-        Some(symbol) => {
-            let as_value = is_exported_in(&symbol.decls, Namespace::Value);
-            let as_type = is_exported_in(&symbol.decls, Namespace::Type_);
-            push_references_as(tables, id, as_value, as_type, out)
-        }
+    let Some(symbol) = symbol else {
+        return Namespaces::Both;
+    };
+    match (
+        symbol.decls.is_exported_value(),
+        symbol.decls.is_exported_type(),
+    ) {
+        (true, false) => Namespaces::Value,
+        (false, true) => Namespaces::Type_,
+        _ => Namespaces::Both,
     }
 }
 
@@ -80,9 +36,13 @@ fn push_export_whole(
     export: SymbolId,
     out: &mut Demands<'_>,
 ) -> Result<(), AllocError>
-    ensures { OnOk result (out.new ≡ out.old ++ export_whole tables.now export) }
+    ensures { OnOk result (out.new ≡ out.old ++ export_whole tables.now export ∷ []) }
 {
-    push_exported(tables, export, tables.symbol(export), out)
+    out.push(SymbolDemand {
+        symbol: export,
+        ask: Ask::Reference(exported_in(tables.symbol(export))),
+        referrer: tables.module_symbol(),
+    })
 }
 
 fn push_star_export(

@@ -6,4 +6,4 @@ use Rattle.fast_check_demands.proofs.public.push_implementing.Given as goal
 
 abbrev pub invariant-loop-decl : goal.invariant-loop-decl
 invariant-loop-decl l = l.out.items ≡ l.initial.out.items ++ decl_ranges
-    (filter (λ x. binds x l.namespace && is_implementation x) (take l.decl-index l.decls))
+    (filter (λ x. binds x l.namespaces && is_implementation x) (take l.decl-index l.decls))

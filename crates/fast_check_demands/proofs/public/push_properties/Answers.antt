@@ -6,14 +6,14 @@ use Rattle.fast_check_demands.proofs.public.push_properties.Goals as goal
 
 pub returns-in-None : goal.returns-in-None
 returns-in-None c = sym (append-nil c.args.out.now.items) ∙ ap (λ xs. c.args.out.now.items ++ xs)
-    (filter_none (stands_outside c.args.namespace c.args.symbol.now.decls.items)
-    (λ r. c.in-None.ensures r ∙ ap (λ ds. stands_outside c.args.namespace ds r) c.as_slice.ensures)
+    (filter_none (stands_outside c.args.namespaces c.args.symbol.now.decls.items)
+    (λ r. c.in-None.ensures r ∙ ap (λ ds. stands_outside c.args.namespaces ds r) c.as_slice.ensures)
     (export_ranges c.args.tables.now c.args.symbol.now.exports))
 
 pub returns-in-Some : goal.returns-in-Some
 returns-in-Some c = on_ok_weaker c.push_exports.result
     (λ e. e ∙ ap (λ xs. c.args.out.now.items ++ xs)
-    (filter_alike (λ r. not (is_within c.in-Some.hidden r)) (stands_outside c.args.namespace c.args.symbol.now.decls.items)
-    (λ r. c.in-Some.ensures r ∙ ap (λ ds. stands_outside c.args.namespace ds r) c.as_slice.ensures)
+    (filter_alike (λ r. not (is_within c.in-Some.hidden r)) (stands_outside c.args.namespaces c.args.symbol.now.decls.items)
+    (λ r. c.in-Some.ensures r ∙ ap (λ ds. stands_outside c.args.namespaces ds r) c.as_slice.ensures)
     (export_ranges c.args.tables.now c.args.symbol.now.exports)))
     c.push_exports.ensures

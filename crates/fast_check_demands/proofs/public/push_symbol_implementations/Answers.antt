@@ -19,7 +19,7 @@ if_none false xs e = e
 
 pub returns-then-symbol : goal.returns-then-symbol
 returns-then-symbol c =
-    let n = c.args.namespace in
+    let n = c.args.namespaces in
     let s = c.args.symbol.now in
     elim c.then-symbol.branch [
       | then-symbol-via-then-symbol w ↦ nothing_more c.args.out.now.items _ (if_private s.is_private_member _ w.if-symbol.true)

@@ -5,5 +5,5 @@ use Rattle.fast_check_demands.specs.symbol_demands.Rules.{decl_names}
 use Rattle.fast_check_demands.proofs.symbol_demands.children.push_decls.Given as goal
 
 abbrev pub invariant-loop-decl : goal.invariant-loop-decl
-invariant-loop-decl l = l.out ≡ l.initial.out ++ flat_map (decl_names l.tables (demand_of l.demand) l.namespace l.parent)
+invariant-loop-decl l = l.out ≡ l.initial.out ++ flat_map (decl_names l.tables (demand_of l.demand) l.namespaces l.parent)
     (take l.decl-index l.decls)

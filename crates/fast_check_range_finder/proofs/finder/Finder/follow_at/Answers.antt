@@ -1,10 +1,10 @@
-use Rattle.std.proofs.Common.{◌≡◌, ◌∙◌, sym, ap, refl, subst, Option, Some, List, ◌++◌, map}
+use Rattle.std.proofs.Common.{◌≡◌, ◌∙◌, sym, ap, refl, subst, Option, Some, List, [], ◌++◌, map}
 use Rattle.std.specs.Prelude.{slice_get}
 use Rattle.std.proofs.lemmas.Result.{IfOk-weaker}
 use Rattle.indexmap.specs.IndexMap.{with_value_at}
 use Rattle.fast_check_demands.specs.symbol_demands.Demands.{Demand as SymbolDemand, demand_of}
 use Rattle.fast_check_demands.specs.symbol_demands.Rules.{names}
-use Rattle.fast_check_demands.specs.Yields.{ranges, implementations, faults}
+use Rattle.fast_check_demands.specs.Yields.{Adds, ranges, implementations, faults}
 use Rattle.fast_check_modules.specs.symbols.Tables.{Tables}
 use Rattle.fast_check_demands.specs.name_demands.Files.{FileDemand, files}
 use Rattle.fast_check_demands.specs.traces.Modules.{tables_in, own_tables}
@@ -13,10 +13,11 @@ use Rattle.fast_check_demands.proofs.worklists.Maps.{some_is}
 use Rattle.fast_check_range_finder.specs.declared.finder.Finder.{Finder}
 use Rattle.fast_check_range_finder.specs.declared.finder.FollowedModule.{FollowedModule}
 use Rattle.fast_check_range_finder.specs.contracts.demand.PlacePartialEq.TheImpl as place_eq
-use Rattle.fast_check_range_finder.specs.Finder.{Followed, place_nv, traced_in, Goes}
+use Rattle.fast_check_range_finder.specs.Finder.{Followed, place_nv, traced_in, AsksEach, Goes}
 use Rattle.fast_check_range_finder.specs.Rules.{own_text}
 use Rattle.fast_check_range_finder.specs.Yields.{public_at, implementing_at, faults_at}
 use Rattle.fast_check_range_finder.proofs.PlaceKeys.{tells_places}
+use Rattle.fast_check_range_finder.proofs.Steps.{same_added}
 use Rattle.fast_check_range_finder.proofs.Within.{get_value, symbol_within}
 use Rattle.fast_check_range_finder.proofs.finder.Finder.follow_at.Goals as goal
 
@@ -26,20 +27,26 @@ returns c = IfOk-weaker c.files_of.result _ _
     let f = c.args.self.now in
     let s = demand_of c.args.at.demand in
     let x = c.in-Some.followed.now in
-    let m = c.follow_in.new.followed in
-    let b : Finder = record f { modules = with_value_at f.modules c.args.at.place m; symbols = c.follow_in.new.symbols } in
+    let y = c.add_yields.new.followed in
+    let w = c.in_ok-add_yields.ensures in
+    let m : FollowedModule = record y { asked = c.ask_each.new.asked } in
+    let b : Finder = record f { modules = with_value_at f.modules c.args.at.place m; symbols = c.ask_each.new.symbols } in
+    let ds = c.in_ok-demands.demands in
+    let tables = c.tables_of-tables.ensures ∙ ap (λ i. tables_in i.now) w.info in
     let same : e.1 ≡ x = some_is e.1 x (sym (get_value f.modules.entries c.args.at.place e here) ∙ sym c.in-Some.ensures.value) in
     let here_x : slice_get f.modules.entries c.args.at.place ≡ Some (e.0, x) = here ∙ ap (λ (y : FollowedModule). Some (e.0, y)) same in
-    let asks = c.in_ok-follow_in.ensures.asks in
     subst (λ (y : FollowedModule). let t = traced_in g r y.found.info.now in
     (out ≡ files (own_tables t) s) × Goes g r (map (to_symbol (place_nv e) (own_text t)) (names (own_tables t) s))
     (public_at (place_nv e) t (ranges (own_tables t) s) ++ (implementing_at (place_nv e) t (implementations (own_tables t) s)
     ++ faults_at (place_nv e) t (faults (own_tables t) s))) f b) (sym same) (
-      is ∙ ap (λ (t : Tables). files t s) c.tables_of-tables.ensures,
+      is ∙ ap (λ (t : Tables). files t s) tables,
       symbol_within g r f b sound c.args.at.place (e.0, x) here_x m
           (record { modules = refl; packages = refl; entered = refl; handled = refl; names = refl; entrances = refl; dependencies = refl; untyped = refl })
-          place_eq.eq-value.it tells_places c.get_index_mut.ensures.unique (ap (λ i. i.now) c.in_ok-follow_in.ensures.info) s asks.0 asks.1 asks.2
-          c.in_ok-follow_in.ensures.ranges c.in_ok-follow_in.ensures.implementations c.in_ok-follow_in.ensures.faults c.in_ok-follow_in.ensures.index
-          c.in_ok-follow_in.ensures.shows_all,
+          place_eq.eq-value.it tells_places c.get_index_mut.ensures.unique (ap (λ i. i.now) w.info) s ds
+          (same_added (names (tables_in x.found.info.now) s) ds
+          (subst (λ (t : Tables). Adds (names t s) [] ds) tables c.in_ok-demands.ensures))
+          (subst (λ (a : List SymbolDemand). AsksEach c.args.at.place ds a c.ask_each.new.asked f.symbols.items c.ask_each.new.symbols.items)
+          w.asked c.in_ok-ask_each.ensures)
+          w.ranges w.implementations w.faults w.index w.shows_all,
     ))
     c.files_of.ensures

@@ -3,7 +3,7 @@ use Rattle.std.specs.List.{list_any}
 use Rattle.fast_check_demands.specs.symbol_demands.Demands.{Demand, demand_of}
 use Rattle.fast_check_range_finder.specs.Asked.{demand_at, covers, IsOneMore}
 use Rattle.fast_check_range_finder.proofs.Compared.{one_more}
-use Rattle.fast_check_range_finder.proofs.asked.AskedSymbols.add.Goals as goal
+use Rattle.fast_check_range_finder.proofs.asked.AskedSymbols.add_one.Goals as goal
 
 pub returns : goal.returns
 returns c =

@@ -1,0 +1,58 @@
+-- A turn: what waits last is taken and followed.
+use Rattle.std.proofs.Common.{◌≡◌, ◌∙◌, sym, ap, refl, subst, true, List, [], ◌∷◌, ◌++◌, Some, map, slice_get}
+use Rattle.std.specs.List.{Contains}
+use Rattle.std.proofs.lemmas.List.{append-nil, map-append}
+use Rattle.std.proofs.lemmas.List.Elements.{Contains-push, Contains-append_left}
+use Rattle.fast_check_packages.specs.Package.{nv_of}
+use Rattle.fast_check_lattice.specs.Traces.{handled}
+use Rattle.fast_check_demands.specs.symbol_demands.Demands.{demand_of}
+use Rattle.fast_check_demands.specs.worklists.Demands.{of_symbol}
+use Rattle.fast_check_demands.specs.sources.Sources.{Known}
+use Rattle.fast_check_range_finder.specs.declared.demand.NamesAt.{NamesAt}
+use Rattle.fast_check_range_finder.specs.declared.demand.SymbolAt.{SymbolAt}
+use Rattle.fast_check_range_finder.specs.declared.finder.Finder.{Finder}
+use Rattle.fast_check_range_finder.specs.Finder.{Followed, place_nv, place_text, names_seen, seen_at, search_of, IsSound, Goes, Turns, TurnsTo}
+use Rattle.fast_check_range_finder.specs.Rules.{world}
+use Rattle.fast_check_range_finder.specs.Search.{IsTaken}
+use Rattle.fast_check_range_finder.specs.Yields.{gives}
+use Rattle.fast_check_range_finder.specs.Finder.{yields_in}
+use Rattle.fast_check_range_finder.proofs.Noted.{search_same}
+use Rattle.fast_check_range_finder.proofs.Taken.{get_some, symbol_taken, names_taken, turns_from, turns_by}
+
+module _ (k : Known) (f mid b : Finder) (sound : IsSound k.graph k.root_symbol f) where
+  -- a symbol waits
+  module _ (same : mid ≡ record f { symbols = mid.symbols }) (at : SymbolAt) (items : f.symbols.items ≡ mid.symbols.items ++ at ∷ []) where
+    pub sound_popped : IsSound k.graph k.root_symbol mid
+    sound_popped = subst (IsSound k.graph k.root_symbol) (sym same) (record {
+      modules = sound.modules;
+      symbols = λ x h. sound.symbols x (subst (λ (xs : List SymbolAt). Contains xs x) (sym items) (Contains-append_left mid.symbols.items (at ∷ []) x h));
+      once = sound.once;
+    })
+
+    pub turn_of_symbol :
+        ((e : Followed) → slice_get mid.modules.entries at.place ≡ Some e → IsSound k.graph k.root_symbol mid →
+        let d = of_symbol (place_nv e) (place_text e) (demand_of at.demand) in Goes k.graph k.root_symbol (world k d) (gives k d) mid b) →
+        Turns k f b
+    turn_of_symbol follows =
+        let rest = mid.symbols.items in
+        let s = get_some f.modules.entries at.place
+        (sound.symbols at (subst (λ (xs : List SymbolAt). Contains xs at) (sym items) (Contains-push rest at))) in
+        let d = of_symbol (place_nv s.0) (place_text s.0) (demand_of at.demand) in
+        turns_by k d f mid b
+        (subst (λ (x : Finder). IsTaken d (search_of f) (search_of x)) (sym same)
+        (symbol_taken (map nv_of f.packages) f.entered (handled f.handled) f.modules.entries (map names_seen f.names.items)
+        (map seen_at f.symbols.items) (map seen_at rest) at.place (demand_of at.demand) s.0 s.1
+        (ap (map seen_at) items ∙ map-append seen_at rest (at ∷ []))))
+        (ap yields_in same)
+        (follows s.0 (subst (λ (x : Finder). slice_get x.modules.entries at.place ≡ Some s.0) (sym same) s.1) sound_popped)
+
+  -- names wait
+  pub turn_of_names : mid ≡ record f { names = mid.names } → (at : NamesAt) → f.names.items ≡ mid.names.items ++ at ∷ [] →
+      Goes k.graph k.root_symbol (world k (names_seen at)) (gives k (names_seen at)) mid b → Turns k f b
+  turn_of_names same at items follows =
+      let rest = mid.names.items in
+      turns_by k (names_seen at) f mid b
+      (subst (λ (x : Finder). IsTaken (names_seen at) (search_of f) (search_of x)) (sym same)
+      (names_taken (map nv_of f.packages) f.entered (handled f.handled) f.modules.entries (map names_seen f.names.items) (map names_seen rest)
+      (map seen_at f.symbols.items) (names_seen at) (ap (map names_seen) items ∙ map-append names_seen rest (at ∷ []))))
+      (ap yields_in same) follows
