@@ -1,5 +1,5 @@
 -- The demands that are made of given ids and paths, as a list.
-use Rattle.std.proofs.Common.{◌≡◌, refl, sym, ap, subst, Bool, true, false, cond, List, [], ◌∷◌, ◌++◌, ⊎_elim, arith}
+use Rattle.std.proofs.Common.{◌≡◌, refl, ap, subst, Bool, cond, List, [], ◌∷◌, ◌++◌, ⊎_elim, arith}
 use Rattle.std.specs.List.{Contains, flat_map}
 use Rattle.std.proofs.lemmas.List.Elements.{Contains-append_right}
 use Rattle.fast_check_lattice.specs.Names.{Path}

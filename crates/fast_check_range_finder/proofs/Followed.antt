@@ -1,6 +1,6 @@
 -- A module is followed further: what is asked of its symbols, and what is found of it.
 use Rattle.std.proofs.Common.{◌≡◌, ◌∙◌, sym, ap, refl, subst, ℕ, zero, suc, ◌<◌, Bool, true, ◌&&◌, List, [], ◌∷◌, Some, None, map}
-use Rattle.std.proofs.Common.{slice_get, length, ⊎_elim, ◌⊎◌, arith}
+use Rattle.std.proofs.Common.{slice_get, length, ⊎_elim, arith}
 use Rattle.std.specs.List.{flat_map, Contains, IsDistinct}
 use Rattle.std.specs.Map.{keys_of}
 use Rattle.std.specs.Str.{bytes_eq}

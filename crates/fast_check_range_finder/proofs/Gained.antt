@@ -1,6 +1,6 @@
 -- What was found grows, where a module is followed further; and what is kept of modules stays right.
-use Rattle.std.proofs.Common.{◌≡◌, ◌∙◌, sym, ap, refl, subst, ℕ, zero, suc, ◌<◌, Bool, true, List, [], ◌∷◌, ◌++◌, Some, map}
-use Rattle.std.proofs.Common.{slice_get, ⊎_elim, inl, inr, ◌⊎◌, cond, false}
+use Rattle.std.proofs.Common.{◌≡◌, ◌∙◌, sym, ap, refl, subst, ℕ, zero, suc, ◌<◌, List, [], ◌∷◌, ◌++◌, Some, map}
+use Rattle.std.proofs.Common.{slice_get, ⊎_elim, inl, inr, ◌⊎◌, Option, None}
 use Rattle.std.specs.List.{flat_map, Contains}
 use Rattle.std.proofs.lemmas.List.{map-append}
 use Rattle.std.proofs.lemmas.List.Concat.{flat_map-append}
@@ -28,7 +28,7 @@ use Rattle.fast_check_package_ranges.specs.declared.findings.found.FoundModule.{
 use Rattle.fast_check_package_ranges.specs.findings.Yields.{Yield, recorded, public, implementing}
 use Rattle.fast_check_demands.proofs.worklists.Maps.{first_in, rest_in, split_in}
 use Rattle.fast_check_range_finder.specs.declared.demand.SymbolAt.{SymbolAt}
-use Rattle.fast_check_range_finder.specs.Finder.{seen_at, traced_in, AsksEach}
+use Rattle.fast_check_range_finder.specs.Finder.{seen_at, traced_in, put_at, AsksEach}
 use Rattle.fast_check_range_finder.specs.Rules.{own_text}
 use Rattle.fast_check_range_finder.specs.Yields.{text_of, source_in, public_at, implementing_at, fault_yields, faults_at}
 use Rattle.fast_check_range_finder.proofs.Places.{no_entry, some_entry}
@@ -162,11 +162,10 @@ module _ (n place : ℕ) (within : place < n) where
       let o = of_map seen_at old (seen_at x) (subst (λ (l : List (ℕ × SymbolDemand)). Contains l (seen_at x)) is (in_map seen_at new x c)) in
       subst (λ (p : ℕ × SymbolDemand). p.0 < n) o.2 (h o.0 o.1)
 
-  seen_within : (old new : List SymbolAt) (d : SymbolDemand) (is_new : Bool) →
-      map seen_at new ≡ cond is_new (map seen_at old ++ (place, d) ∷ []) (map seen_at old) →
+  seen_within : (old new : List SymbolAt) (fresh : Option SymbolDemand) → map seen_at new ≡ put_at place fresh (map seen_at old) →
       AreWithin old → AreWithin new
-  seen_within old new d false is h = same_within old new is h
-  seen_within old new d true is h = λ x c. ⊎_elim
+  seen_within old new None is h = same_within old new is h
+  seen_within old new (Some d) is h = λ x c. ⊎_elim
       (λ before. let o = of_map seen_at old (seen_at x) before in subst (λ (p : ℕ × SymbolDemand). p.0 < n) o.2 (h o.0 o.1))
       (λ now. subst (λ (p : ℕ × SymbolDemand). p.0 < n) now within)
       (Contains-push_cases (map seen_at old) (place, d) (seen_at x)
@@ -175,4 +174,4 @@ module _ (n place : ℕ) (within : place < n) where
   pub each_within : (ds a b : List SymbolDemand) (old new : List SymbolAt) → AsksEach place ds a b old new → AreWithin old → AreWithin new
   each_within [] a b old new w h = same_within old new w.1 h
   each_within (d ∷ ds) a b old new w h =
-      each_within ds w.0 b w.1 new w.3 (seen_within old w.1 d w.2.0 w.2.2 h)
+      each_within ds w.0 b w.1 new w.3 (seen_within old w.1 w.2.0 w.2.2 h)

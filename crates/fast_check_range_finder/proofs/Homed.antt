@@ -1,5 +1,5 @@
 -- The package of each demand was asked for.
-use Rattle.std.proofs.Common.{◌≡◌, ◌∙◌, sym, ap, refl, subst, Bool, true, List, [], ◌∷◌, ◌++◌, Option, Some, None, ◌⊎◌, inl, inr, ⊎_elim, IsTrue}
+use Rattle.std.proofs.Common.{◌≡◌, ◌∙◌, sym, ap, refl, subst, true, List, [], ◌∷◌, ◌++◌, Option, Some, None, ◌⊎◌, inl, inr, ⊎_elim, IsTrue}
 use Rattle.std.specs.List.{list_any, Contains}
 use Rattle.std.specs.Cmp.{eq_by_cmp_equiv}
 use Rattle.std.proofs.lemmas.List.Elements.{Contains-push_cases, Contains-append_left, Contains-append_right, Contains-append_cases}
@@ -12,7 +12,7 @@ use Rattle.fast_check_demands.specs.worklists.Demands.{of_symbol}
 use Rattle.fast_check_demands.proofs.worklists.Maps.{none_in, first_in, rest_in, split_in}
 use Rattle.fast_check_demands.specs.sources.Sources.{Known}
 use Rattle.fast_check_range_finder.specs.Account.{package_of, is_package}
-use Rattle.fast_check_range_finder.specs.Search.{Search, IsPut, AsksPackage, AsksSymbol, WaitsFor, Asks, AsksAll}
+use Rattle.fast_check_range_finder.specs.Search.{Search, IsPut, AsksPackage, WaitsFor, Asks, AsksAll}
 use Rattle.fast_check_range_finder.specs.Turn.{IsTurn, IsBegun, members, IsKept}
 use Rattle.fast_check_range_finder.specs.Rules.{world}
 use Rattle.fast_check_range_finder.proofs.Lists.{any_some, any_from, any_more}

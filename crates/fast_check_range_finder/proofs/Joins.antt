@@ -1,6 +1,6 @@
 -- Lists to which others are joined.
 use Rattle.std.proofs.Common.{subst, sym, ap, ◌∙◌, List, [], ◌∷◌, ◌++◌, append-nil, inl, inr, ⊎_elim}
-use Rattle.std.specs.List.{Contains, flat_map}
+use Rattle.std.specs.List.{flat_map}
 use Rattle.std.proofs.lemmas.List.Concat.{flat_map-append}
 use Rattle.std.proofs.lemmas.List.Elements.{Contains-append_left, Contains-append_right, Contains-append_cases}
 use Rattle.fast_check_demands.proofs.Elements.{no_element}

@@ -1,5 +1,5 @@
 -- The loop from its begin to its end.
-use Rattle.std.proofs.Common.{◌≡◌, sym, refl, subst, ℕ, ◌<◌, Bool, true, false, List, [], ◌∷◌, ◌++◌, map, ⊎_elim}
+use Rattle.std.proofs.Common.{◌≡◌, sym, refl, subst, ◌<◌, true, List, [], ◌∷◌, ◌++◌, map, ⊎_elim}
 use Rattle.std.specs.List.{Contains}
 use Rattle.fast_check_packages.specs.Package.{Nv}
 use Rattle.fast_check_packages.specs.declared.package.PackageNv.{PackageNv}

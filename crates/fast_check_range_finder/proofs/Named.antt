@@ -15,7 +15,6 @@ use Rattle.fast_check_symbols.specs.declared.decl.SymbolDecl.{SymbolDecl}
 use Rattle.fast_check_symbols.specs.declared.decl.SymbolDeclKind.{SymbolDeclKind}
 use Rattle.fast_check_symbols.specs.declared.decl.SymbolDeclKind.TheVariants.{Target, QualifiedTarget, FileRef, Definition}
 use Rattle.fast_check_symbols.specs.declared.node.ReferenceNamespace.{ReferenceNamespace}
-use Rattle.fast_check_symbols.specs.declared.node.ReferenceNamespace.TheVariants as refs
 use Rattle.fast_check_symbols.specs.declared.node.SymbolDep.{SymbolDep}
 use Rattle.fast_check_symbols.specs.declared.node.SymbolDep.TheVariants as deps
 use Rattle.fast_check_symbols.specs.Entries.{last_that}

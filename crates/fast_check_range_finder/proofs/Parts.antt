@@ -4,7 +4,7 @@ use Rattle.std.specs.List.{list_any, Contains}
 use Rattle.std.proofs.lemmas.Bool.{false≢true, cases_Bool, or_left}
 use Rattle.fast_check_symbols.specs.declared.symbol_id.SymbolId.{SymbolId}
 use Rattle.fast_check_demands.specs.declared.symbol_demands.demand.Namespaces.{Namespaces}
-use Rattle.fast_check_demands.specs.declared.symbol_demands.demand.Namespaces.TheVariants.{Value, Type_, Both}
+use Rattle.fast_check_demands.specs.declared.symbol_demands.demand.Namespaces.TheVariants.{Value, Type_}
 use Rattle.fast_check_demands.specs.symbol_demands.Demands.{Demand, Asked, by_reference, as_child, by_path}
 use Rattle.fast_check_demands.specs.Account.{alike, essence, referred, same, asker, is_both, asked_within, narrowed, parts}
 use Rattle.fast_check_demands.proofs.worklists.Maps.{none_in, first_in, rest_in, split_in}
@@ -70,8 +70,11 @@ part_within d e x w h = ⊎_elim (λ same. subst (λ (y : Demand). Contains (par
 -- and there is one
 pub some_part : (d : Demand) → (x : Demand) × Contains (parts d) x
 some_part d = ⊎_elim
-    (λ t. (narrowed Value d, subst (λ (ps : List Demand). Contains ps (narrowed Value d)) (sym (both_parts d t))
-    (first_in (narrowed Value d) (narrowed Type_ d ∷ []))))
+    (λ t. (
+      narrowed Value d,
+      subst (λ (ps : List Demand). Contains ps (narrowed Value d)) (sym (both_parts d t))
+          (first_in (narrowed Value d) (narrowed Type_ d ∷ [])),
+    ))
     (λ f. (d, subst (λ (ps : List Demand). Contains ps d) (sym (single_parts d f)) (first_in d [])))
     (cases_Bool (is_both d.asked))
 

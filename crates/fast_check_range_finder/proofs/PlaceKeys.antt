@@ -1,5 +1,5 @@
 -- Places are told by package and text.
-use Rattle.std.proofs.Common.{◌≡◌, ◌∙◌, sym, ap, refl, ℕ, zero, suc, ◌+◌, ◌<◌, Bool, true, false, not, cond, ◌&&◌, List, [], ◌∷◌, ◌++◌, Option, Some, None}
+use Rattle.std.proofs.Common.{◌≡◌, ◌∙◌, sym, ap, refl, ℕ, suc, ◌+◌, ◌<◌, Bool, true, false, not, cond, ◌&&◌, List, [], ◌∷◌, ◌++◌, Option, Some, None}
 use Rattle.std.proofs.Common.{slice_get, position, length, is_some, arith}
 use Rattle.std.specs.Prelude.{nat_lt}
 use Rattle.std.specs.List.{position_or_len}
@@ -7,10 +7,7 @@ use Rattle.std.specs.Map.{keys_of}
 use Rattle.std.proofs.lemmas.Bool.{false≢true, ltb-true}
 use Rattle.std.specs.Str.{bytes_eq}
 use Rattle.url.specs.Parts.{serialize}
-use Rattle.fast_check_packages.specs.Package.{nv_of}
 use Rattle.fast_check_packages.specs.PackageOrder.{nv_ties}
-use Rattle.fast_check_demands.specs.worklists.Demands.{same_nv}
-use Rattle.fast_check_range_finder.specs.declared.demand.Place.{Place}
 use Rattle.fast_check_range_finder.specs.contracts.demand.PlacePartialEq.TheImpl as place_eq
 use Rattle.fast_check_range_finder.proofs.Places.{no_entry, some_entry}
 use Rattle.fast_check_range_finder.proofs.SymbolsAsked.{TellsPlaces}

@@ -1,6 +1,6 @@
 -- A module comes to have a place: nothing is asked by that, and that it is recorded is found.
 use Rattle.std.proofs.Common.{◌≡◌, ◌∙◌, sym, ap, refl, subst, ℕ, zero, suc, ◌<◌, Bool, true, false, ◌&&◌, ◌||◌, List, [], ◌∷◌, ◌++◌, Option, Some, None, map}
-use Rattle.std.proofs.Common.{slice_get, option_to_list, length, drop, ⊎_elim, inl, ◌⊎◌, arith, length-append}
+use Rattle.std.proofs.Common.{slice_get, option_to_list, length, drop, ⊎_elim, inl, arith, length-append}
 use Rattle.std.specs.Prelude.{IfSome}
 use Rattle.std.proofs.Math.Path.{fun_ext}
 use Rattle.std.specs.List.{flat_map, list_any, Contains}

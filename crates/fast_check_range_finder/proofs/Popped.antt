@@ -1,5 +1,5 @@
 -- A turn: what waits last is taken and followed.
-use Rattle.std.proofs.Common.{◌≡◌, ◌∙◌, sym, ap, refl, subst, true, List, [], ◌∷◌, ◌++◌, Some, map, slice_get}
+use Rattle.std.proofs.Common.{◌≡◌, ◌∙◌, sym, ap, subst, Bool, List, [], ◌∷◌, ◌++◌, Some, map, slice_get}
 use Rattle.std.specs.List.{Contains}
 use Rattle.std.proofs.lemmas.List.{append-nil, map-append}
 use Rattle.std.proofs.lemmas.List.Elements.{Contains-push, Contains-append_left}
@@ -11,12 +11,11 @@ use Rattle.fast_check_demands.specs.sources.Sources.{Known}
 use Rattle.fast_check_range_finder.specs.declared.demand.NamesAt.{NamesAt}
 use Rattle.fast_check_range_finder.specs.declared.demand.SymbolAt.{SymbolAt}
 use Rattle.fast_check_range_finder.specs.declared.finder.Finder.{Finder}
-use Rattle.fast_check_range_finder.specs.Finder.{Followed, place_nv, place_text, names_seen, seen_at, search_of, IsSound, Goes, Turns, TurnsTo}
+use Rattle.fast_check_range_finder.specs.Finder.{Followed, place_nv, place_text, names_seen, seen_at, search_in, search_of, IsSound, Goes, Turns, TurnsTo}
 use Rattle.fast_check_range_finder.specs.Rules.{world}
 use Rattle.fast_check_range_finder.specs.Search.{IsTaken}
 use Rattle.fast_check_range_finder.specs.Yields.{gives}
 use Rattle.fast_check_range_finder.specs.Finder.{yields_in}
-use Rattle.fast_check_range_finder.proofs.Noted.{search_same}
 use Rattle.fast_check_range_finder.proofs.Taken.{get_some, symbol_taken, names_taken, turns_from, turns_by}
 
 module _ (k : Known) (f mid b : Finder) (sound : IsSound k.graph k.root_symbol f) where
@@ -46,13 +45,27 @@ module _ (k : Known) (f mid b : Finder) (sound : IsSound k.graph k.root_symbol f
         (ap yields_in same)
         (follows s.0 (subst (λ (x : Finder). slice_get x.modules.entries at.place ≡ Some s.0) (sym same) s.1) sound_popped)
 
-  -- names wait
-  pub turn_of_names : mid ≡ record f { names = mid.names } → (at : NamesAt) → f.names.items ≡ mid.names.items ++ at ∷ [] →
-      Goes k.graph k.root_symbol (world k (names_seen at)) (gives k (names_seen at)) mid b → Turns k f b
-  turn_of_names same at items follows =
-      let rest = mid.names.items in
-      turns_by k (names_seen at) f mid b
-      (subst (λ (x : Finder). IsTaken (names_seen at) (search_of f) (search_of x)) (sym same)
-      (names_taken (map nv_of f.packages) f.entered (handled f.handled) f.modules.entries (map names_seen f.names.items) (map names_seen rest)
-      (map seen_at f.symbols.items) (names_seen at) (ap (map names_seen) items ∙ map-append names_seen rest (at ∷ []))))
-      (ap yields_in same) follows
+-- names wait
+pub turn_of_names : (k : Known) (f mid b : Finder) → mid ≡ record f { names = mid.names } → (at : NamesAt) →
+    f.names.items ≡ mid.names.items ++ at ∷ [] → Goes k.graph k.root_symbol (world k (names_seen at)) (gives k (names_seen at)) mid b →
+    Turns k f b
+turn_of_names k f mid b same at items follows =
+    let rest = mid.names.items in
+    turns_by k (names_seen at) f mid b
+    (subst (λ (x : Finder). IsTaken (names_seen at) (search_of f) (search_of x)) (sym same)
+    (names_taken (map nv_of f.packages) f.entered (handled f.handled) f.modules.entries (map names_seen f.names.items) (map names_seen rest)
+    (map seen_at f.symbols.items) (names_seen at) (ap (map names_seen) items ∙ map-append names_seen rest (at ∷ []))))
+    (ap yields_in same) follows
+
+-- no symbol waits, or no name
+pub past_symbols : (k : Known) (f mid b : Finder) → mid ≡ record f { symbols = mid.symbols } → f.symbols.items ≡ mid.symbols.items ++ [] →
+    (more : Bool) → TurnsTo k more mid b → TurnsTo k more f b
+past_symbols k f mid b same items more t = turns_from k f mid b
+    (ap search_of same ∙ ap (λ (xs : List SymbolAt). search_in (map nv_of f.packages) f.entered (handled f.handled) (map names_seen f.names.items)
+    f.modules.entries (map seen_at xs)) (sym (items ∙ append-nil mid.symbols.items))) (ap yields_in same) more t
+
+pub past_names : (k : Known) (f mid b : Finder) → mid ≡ record f { names = mid.names } → f.names.items ≡ mid.names.items ++ [] →
+    (more : Bool) → TurnsTo k more mid b → TurnsTo k more f b
+past_names k f mid b same items more t = turns_from k f mid b
+    (ap search_of same ∙ ap (λ (xs : List NamesAt). search_in (map nv_of f.packages) f.entered (handled f.handled) (map names_seen xs)
+    f.modules.entries (map seen_at f.symbols.items)) (sym (items ∙ append-nil mid.names.items))) (ap yields_in same) more t

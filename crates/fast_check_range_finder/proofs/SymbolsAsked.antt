@@ -1,13 +1,12 @@
 -- Demands of the symbols of one module are asked, one behind another.
-use Rattle.std.proofs.Common.{◌≡◌, ◌∙◌, sym, ap, refl, subst, ℕ, zero, suc, Bool, true, false, cond, ◌&&◌, ◌||◌, List, [], ◌∷◌, ◌++◌, Option, Some, None}
+use Rattle.std.proofs.Common.{◌≡◌, ◌∙◌, sym, ap, refl, subst, ℕ, zero, suc, Bool, true, ◌&&◌, List, [], ◌∷◌, ◌++◌, Option, Some, None}
 use Rattle.std.proofs.Common.{slice_get, option_to_list, map, drop, ⊎_elim, inl, inr, ◌⊎◌}
 use Rattle.std.proofs.Math.Path.{fun_ext}
-use Rattle.std.specs.Prelude.{IsTrue}
-use Rattle.std.specs.List.{list_any, flat_map, Contains, IsDistinct}
+use Rattle.std.specs.List.{list_any, flat_map, IsDistinct}
 use Rattle.std.specs.Map.{keys_of}
 use Rattle.std.specs.Str.{bytes_eq}
 use Rattle.std.specs.Cmp.{IsEquivalence}
-use Rattle.std.proofs.lemmas.Bool.{false≢true, cases_Bool, and_parts, and_from, or_left, or_right, or_cases}
+use Rattle.std.proofs.lemmas.Bool.{false≢true, cases_Bool, and_parts, and_from}
 use Rattle.std.proofs.lemmas.List.{append-nil}
 use Rattle.std.proofs.lemmas.List.Concat.{flat_map-append}
 use Rattle.url.specs.Parts.{Parts, serialize}
@@ -16,18 +15,18 @@ use Rattle.fast_check_packages.specs.Package.{Nv, nv_of}
 use Rattle.fast_check_lattice.specs.declared.lattice.imported_exports.ImportedExports.{ImportedExports}
 use Rattle.fast_check_demands.specs.symbol_demands.Demands.{Demand as SymbolDemand}
 use Rattle.fast_check_demands.specs.Account.{parts}
-use Rattle.fast_check_demands.specs.worklists.Demands.{Text, same_nv, Demand, of_package, of_symbol, Want, to_symbol}
+use Rattle.fast_check_demands.specs.worklists.Demands.{Text, same_nv, Demand, of_package, of_symbol, to_symbol}
 use Rattle.fast_check_range_finder.specs.declared.demand.Place.{Place}
 use Rattle.fast_check_range_finder.specs.declared.demand.SymbolAt.{SymbolAt}
 use Rattle.fast_check_range_finder.specs.declared.finder.FollowedModule.{FollowedModule}
 use Rattle.fast_check_range_finder.specs.Account.{meets}
 use Rattle.fast_check_range_finder.specs.Asked.{covers, IsNew, AddsDemand}
-use Rattle.fast_check_range_finder.specs.Search.{Search, IsPut, MeetsSame, IsMarked, IsSymbolPut, AsksSymbol, AsksAll}
+use Rattle.fast_check_range_finder.specs.Search.{Search, IsPut, IsMarked, AsksSymbol, AsksAll}
 use Rattle.fast_check_range_finder.specs.Finder.{Followed, Modules, place_nv, place_text, has_symbol, places, place_of, seen_at, symbol_at, symbols_at, search_in, put_at, AsksOne, AsksEach}
-use Rattle.fast_check_range_finder.proofs.Kept.{nv_itself, text_itself, text_is}
+use Rattle.fast_check_range_finder.proofs.Kept.{nv_itself, text_itself}
 use Rattle.fast_check_range_finder.proofs.Lists.{any_some, any_from, any_more, put_last, put_right}
 use Rattle.fast_check_range_finder.proofs.Parts.{covers_essence}
-use Rattle.fast_check_range_finder.proofs.Places.{nv_is, get_set, set_itself, set_twice, keys_set, any_set, any_of_set, any_set_same, one_entry}
+use Rattle.fast_check_range_finder.proofs.Places.{get_set, set_itself, keys_set, any_set, any_of_set, any_set_same, one_entry}
 
 -- one demand more
 pub each_more : (place : ℕ) (ds : List SymbolDemand) (d : SymbolDemand) (a b c : List SymbolDemand) (old mid new : List SymbolAt) →

@@ -1,6 +1,6 @@
 -- Packages and names that are asked, and wait if they are new.
 use Rattle.std.proofs.Common.{◌≡◌, ◌∙◌, sym, ap, ap₂, refl, subst, ℕ, ◌≤◌, Bool, true, false, cond, List, [], ◌∷◌, ◌++◌, ◌&&◌, Some, None, map, zero, suc}
-use Rattle.std.proofs.Common.{length, drop, ⊎_elim, inl, inr, ◌⊎◌, arith}
+use Rattle.std.proofs.Common.{length, drop, ⊎_elim, inl, inr, arith}
 use Rattle.std.specs.List.{list_any, Contains}
 use Rattle.std.specs.BTreeSet.{insert_key}
 use Rattle.std.specs.declared.cmp.Ordering.TheVariants.{Equal}

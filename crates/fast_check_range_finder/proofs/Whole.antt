@@ -23,11 +23,11 @@ use Rattle.fast_check_demands.specs.traces.Wants.{Want as ModuleWant, re_export_
 use Rattle.fast_check_package_ranges.specs.findings.Findings.{faulty_module}
 use Rattle.fast_check_package_ranges.specs.findings.Yields.{Yield, recorded, untyped_module}
 use Rattle.fast_check_demands.specs.worklists.Demands.{Text, of_symbol, of_module, Want, to_symbol}
-use Rattle.fast_check_demands.specs.sources.Sources.{Known, named_at, traced_as, node_at, typed_info, info_at, module_at, is_untyped, untyped_at}
+use Rattle.fast_check_demands.specs.sources.Sources.{Known, named_at, traced_as, node_at, typed_info, info_at, is_untyped, untyped_at}
 use Rattle.fast_check_demands.specs.sources.Wants.{file_wants, left_wants}
 use Rattle.fast_check_range_finder.specs.declared.finder.Finder.{Finder}
 use Rattle.fast_check_range_finder.specs.Finder.{Followed, place_nv, place_text, IsModuleOf, Goes}
-use Rattle.fast_check_range_finder.specs.Rules.{own_text, module_of, names_wants, symbol_wants, world}
+use Rattle.fast_check_range_finder.specs.Rules.{own_text, names_wants, symbol_wants, world}
 use Rattle.fast_check_range_finder.specs.Yields.{dependency_of, dependencies, public_at, implementing_at, faults_at, names_yields, symbol_yields, untyped_yields, gives}
 use Rattle.fast_check_range_finder.proofs.Steps.{goes_then}
 

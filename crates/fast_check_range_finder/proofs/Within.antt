@@ -1,14 +1,12 @@
 -- What is asked and found within a module that is followed further.
-use Rattle.std.proofs.Common.{◌≡◌, ◌∙◌, sym, ap, refl, subst, ℕ, zero, suc, Bool, true, List, [], ◌∷◌, ◌++◌, Option, Some, None, map, slice_get}
+use Rattle.std.proofs.Common.{◌≡◌, ◌∙◌, sym, ap, subst, ℕ, zero, suc, Bool, List, [], ◌∷◌, ◌++◌, Option, Some, map, slice_get}
 use Rattle.std.specs.Prelude.{IfSome, IfOk, OnOk}
 use Rattle.std.proofs.Common.{Result, Ok, Err}
 use Rattle.std.specs.List.{Contains, IsDistinct}
 use Rattle.std.specs.Map.{keys_of, values_of}
 use Rattle.std.proofs.lemmas.List.Elements.{Contains-append_left}
 use Rattle.url.specs.Parts.{serialize}
-use Rattle.indexmap.specs.IndexMap.{set_value_at}
 use Rattle.fast_check_syntax.specs.declared.source.SourceRange.{SourceRange}
-use Rattle.fast_check_packages.specs.Package.{Nv}
 use Rattle.fast_check_graph.specs.Root.{specifier_of}
 use Rattle.fast_check_graph.specs.declared.graph.ModuleGraph.{ModuleGraph}
 use Rattle.fast_check_graph.specs.declared.root_symbol.AnyModuleInfo.{AnyModuleInfo}
@@ -16,7 +14,7 @@ use Rattle.fast_check_graph.specs.declared.root_symbol.RootSymbol.{RootSymbol}
 use Rattle.fast_check_lattice.specs.Imports.{NameDemand}
 use Rattle.fast_check_demands.specs.symbol_demands.Demands.{Demand as SymbolDemand}
 use Rattle.fast_check_demands.specs.symbol_demands.Rules.{names}
-use Rattle.fast_check_demands.specs.Yields.{Joins, Fault, ranges, implementations, faults, fault_seen}
+use Rattle.fast_check_demands.specs.Yields.{Joins, ranges, implementations, faults, fault_seen}
 use Rattle.fast_check_demands.specs.declared.fault.SymbolFault.{SymbolFault}
 use Rattle.fast_check_demands.specs.declared.traces.modules.TracedModule.{TracedModule}
 use Rattle.fast_check_demands.specs.traces.Modules.{tables_in, own_tables}
@@ -24,12 +22,9 @@ use Rattle.fast_check_demands.specs.traces.Origins.{IsIndexOf}
 use Rattle.fast_check_demands.specs.traces.Roots.{roots}
 use Rattle.fast_check_demands.specs.traces.Wants.{node_ranges, re_export_ranges}
 use Rattle.fast_check_demands.specs.declared.traces.origins.ReExportIndex.{ReExportIndex}
-use Rattle.fast_check_package_ranges.specs.findings.Found.{module_yields}
 use Rattle.fast_check_package_ranges.specs.findings.Yields.{Yield}
-use Rattle.fast_check_demands.specs.worklists.Demands.{Text, Want, to_symbol}
-use Rattle.fast_check_demands.specs.sources.Sources.{named_at}
+use Rattle.fast_check_demands.specs.worklists.Demands.{Text, to_symbol}
 use Rattle.fast_check_range_finder.specs.declared.demand.Place.{Place}
-use Rattle.fast_check_range_finder.specs.declared.demand.SymbolAt.{SymbolAt}
 use Rattle.fast_check_range_finder.specs.declared.finder.Finder.{Finder}
 use Rattle.fast_check_range_finder.specs.declared.finder.FollowedModule.{FollowedModule}
 use Rattle.fast_check_range_finder.specs.Turn.{AreSame}

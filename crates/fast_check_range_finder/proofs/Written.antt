@@ -34,7 +34,7 @@ use Rattle.fast_check_demands.specs.symbol_demands.Demands.{Demand, Asked, by_re
 use Rattle.fast_check_demands.specs.symbol_demands.Decls.{binds, is_implementation}
 use Rattle.fast_check_demands.specs.symbol_demands.Rules.{names, reference, qualified}
 use Rattle.fast_check_demands.proofs.Elements.{later, in_map, in_flat}
-use Rattle.fast_check_demands.proofs.Each.{Each, each_nil, each_one, each_cons, each_flat, each_cond, each_each_of}
+use Rattle.fast_check_demands.proofs.Each.{Each, each_nil, each_one, each_flat, each_cond, each_each_of}
 use Rattle.fast_check_demands.specs.name_demands.Files.{FileDemand, wants, path_demand, import_demand, dep_files, kind_files}
 use Rattle.fast_check_demands.specs.name_demands.Files.{decl_files, symbol_files, alias_files, asked_files, files}
 use Rattle.fast_check_demands.specs.traces.Modules.{tables_in, own_export}

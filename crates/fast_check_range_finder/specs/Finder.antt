@@ -1,6 +1,6 @@
 -- Inner: no contract of a public call cites what stands here.
 -- The state of the loop, as what was asked, what of it waits, and what was found.
-use Rattle.std.specs.Prelude.{◌≡◌, ◌⊎◌, ℕ, ◌<◌, ◌≤◌, Bool, None, true, false, cond, ◌&&◌, List, [], ◌∷◌, ◌++◌, Option, Some, map, length, drop, slice_get, option_to_list, IfSome}
+use Rattle.std.specs.Prelude.{◌≡◌, ◌⊎◌, ℕ, ◌<◌, Bool, None, true, false, ◌&&◌, List, [], ◌∷◌, ◌++◌, Option, Some, map, length, drop, slice_get, option_to_list, IfSome}
 use Rattle.std.specs.List.{list_any, flat_map, Contains}
 use Rattle.std.specs.Map.{keys_of}
 use Rattle.std.specs.Str.{bytes_eq}

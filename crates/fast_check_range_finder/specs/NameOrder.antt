@@ -1,6 +1,6 @@
 -- Inner: no contract of a public call cites what stands here.
 -- The order of paths of names: by their lengths, and then by their names. It is total, and only equal paths tie.
-use Rattle.std.proofs.Common.{◌≡◌, ◌∙◌, sym, ap, refl, ℕ, suc, Bool, true, false, ◌==◌, ◌&&◌, List, [], ◌∷◌, Some, length, String}
+use Rattle.std.proofs.Common.{◌≡◌, ◌∙◌, ap, refl, suc, Bool, true, false, ◌==◌, ◌&&◌, List, [], ◌∷◌, Some, length, String}
 use Rattle.std.specs.declared.alloc.Global.{Global}
 use Rattle.std.specs.declared.cmp.Ordering.{Ordering}
 use Rattle.std.specs.Ordering.{nat_cmp, eq_by_cmp, on, then_cmp}

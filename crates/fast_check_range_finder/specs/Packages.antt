@@ -1,6 +1,6 @@
 -- Inner: no contract of a public call cites what stands here.
 -- What was found, as it is collected by package.
-use Rattle.std.specs.Prelude.{◌≡◌, ◌⊎◌, ℕ, ◌<◌, ◌≤◌, List, [], ◌∷◌, ◌++◌, Some, None, map, length, take, slice_get}
+use Rattle.std.specs.Prelude.{◌≡◌, ◌⊎◌, ℕ, ◌<◌, List, [], ◌∷◌, ◌++◌, Some, None, map, length, slice_get}
 use Rattle.std.specs.List.{flat_map, Contains}
 use Rattle.fast_check_packages.specs.Package.{Nv, nv_of}
 use Rattle.fast_check_packages.specs.declared.package.PackageNv.{PackageNv}
@@ -10,7 +10,6 @@ use Rattle.fast_check_package_ranges.specs.findings.Yields.{Yield}
 use Rattle.fast_check_package_ranges.specs.declared.findings.found.Entrance.{Entrance}
 use Rattle.fast_check_package_ranges.specs.declared.findings.found.FoundPackage.{FoundPackage}
 use Rattle.fast_check_range_finder.specs.Finder.{entered_yields, entered_nv}
-use Rattle.fast_check_range_finder.specs.Once.{AreApart}
 
 abbrev pub Found : Type 0
 Found = List (PackageNv × FoundPackage)

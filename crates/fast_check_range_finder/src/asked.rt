@@ -1,6 +1,6 @@
 //! The demands of a module's symbols that were asked for.
 
-ghost use Rattle.std.specs.Prelude.{◌≡◌, [], Some, IfOk, OnErr, option_map};
+ghost use Rattle.std.specs.Prelude.{◌≡◌, [], Some, true, IfOk, OnErr, option_map};
 ghost use Rattle.std.proofs.Common.{refl};
 ghost use Rattle.std.specs.List.{list_any};
 ghost use Rattle.fast_check_demands.specs.symbol_demands.Demands.{asked_of, demand_of};
@@ -157,11 +157,8 @@ impl<'a> AskedSymbols<'a> {
     }
 
     /// Asks for a demand in both namespaces, and answers what of it is new.
-    fn add_both(
-        &mut self,
-        demand: SymbolDemand<'a>,
-    ) -> Result<Option<SymbolDemand<'a>>, AllocError>
-        requires { is_both (asked_of demand.entry.ask) ≡ true }
+    fn add_both(&mut self, demand: SymbolDemand<'a>) -> Result<Option<SymbolDemand<'a>>, AllocError>
+        requires { is_both (asked_of demand.ask) ≡ true }
         ensures { IfOk result (λ new. AddsDemand (demand_of demand.entry) (option_map demand_of new) self.old self.new) }
     {
         let value = narrowed(Namespaces::Value, demand);
@@ -177,10 +174,7 @@ impl<'a> AskedSymbols<'a> {
     }
 
     /// Asks for what a demand asks for, and answers what of it is new.
-    pub fn add(
-        &mut self,
-        demand: SymbolDemand<'a>,
-    ) -> Result<Option<SymbolDemand<'a>>, AllocError>
+    pub fn add(&mut self, demand: SymbolDemand<'a>) -> Result<Option<SymbolDemand<'a>>, AllocError>
         ensures { IfOk result (λ new. AddsDemand (demand_of demand.entry) (option_map demand_of new) self.old self.new) }
     {
         if is_both(demand.ask) {

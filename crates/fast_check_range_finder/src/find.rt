@@ -88,12 +88,16 @@ pub fn find_all<'a>(
     let mut finder = begin(alloc, roots)?;
     let mut members = MemberEntries::new(alloc);
     'turns: loop {
-        if let Some(at) = finder.symbols.pop() {
-            finder.follow_symbol(alloc, input.sources, provider, at)?;
-        } else if let Some(at) = finder.names.pop() {
-            finder.follow_names(alloc, input.sources, provider, at)?;
-        } else if !finder.enter_next(alloc, input, provider, cache, &mut members)? {
-            break;
+        match finder.symbols.pop() {
+            Some(at) => finder.follow_symbol(alloc, input.sources, provider, at)?,
+            None => match finder.names.pop() {
+                Some(at) => finder.follow_names(alloc, input.sources, provider, at)?,
+                None => {
+                    if !finder.enter_next(alloc, input, provider, cache, &mut members)? {
+                        break;
+                    }
+                }
+            },
         }
     }
     Ok(finder.into_found(alloc)?)

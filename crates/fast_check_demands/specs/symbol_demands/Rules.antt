@@ -2,7 +2,7 @@
 --
 -- A demand names the demands of a list. An identifier that no symbol of the module is bound to names nothing. What a
 -- declaration refers to in another file follows from the demand in that file, and is no matter of the module.
-use Rattle.std.specs.Prelude.{Bool, false, cond, not, ◌&&◌, List, [], ◌∷◌, ◌++◌, map, Option, Some, None, option_map}
+use Rattle.std.specs.Prelude.{Bool, cond, not, ◌&&◌, List, [], ◌∷◌, ◌++◌, map, Option, Some, None, option_map}
 use Rattle.std.specs.Prelude.{codes, String, string_bytes}
 use Rattle.std.specs.List.{flat_map}
 use Rattle.std.specs.Str.{bytes_eq}

@@ -3,14 +3,11 @@ ghost use Rattle.std.specs.Prelude.{◌≡◌, ◌∷◌, [], ◌++◌, OnOk};
 ghost use Rattle.fast_check_demands.specs.symbol_demands.Demands.{demand_of, same_symbol};
 ghost use Rattle.fast_check_demands.specs.symbol_demands.Rules.{each_of, reference, namespaces_of, parent_at, parent_names, dep_names, deps_names, kind_names};
 
-use crate::symbol_demands::bindings::{
-    bound, namespaces_of, push_named_at, push_reference,
-};
+use crate::symbol_demands::bindings::{bound, namespaces_of, push_named_at, push_reference};
 use crate::symbol_demands::demand::{Namespaces, SymbolDemand};
 use crate::symbol_demands::list::Demands;
 use fast_check_symbols::{
-    CheckedTables, SymbolDeclKind, SymbolDep, SymbolId, SymbolNode,
-    SymbolNodeDep,
+    CheckedTables, SymbolDeclKind, SymbolDep, SymbolId, SymbolNode, SymbolNodeDep,
 };
 use std::alloc::AllocError;
 

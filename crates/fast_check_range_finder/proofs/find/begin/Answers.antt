@@ -1,6 +1,6 @@
 use Rattle.std.proofs.Common.{◌≡◌, ◌∙◌, ◌+◌, sym, ap, subst, [], ◌∷◌, ◌++◌, map, take, List}
 use Rattle.std.proofs.lemmas.List.{take_more, take_all, map-append}
-use Rattle.fast_check_packages.specs.Package.{Nv, nv_of}
+use Rattle.fast_check_packages.specs.Package.{nv_of}
 use Rattle.fast_check_packages.specs.declared.package.PackageNv.{PackageNv}
 use Rattle.fast_check_demands.specs.worklists.Demands.{Want, to_package}
 use Rattle.fast_check_range_finder.specs.Finder.{Goes}

@@ -1,4 +1,4 @@
-use Rattle.std.proofs.Common.{List, [], map, take}
+use Rattle.std.proofs.Common.{[], map, take}
 use Rattle.fast_check_packages.specs.Package.{nv_of}
 use Rattle.fast_check_graph.specs.declared.graph.ModuleGraph.{ModuleGraph}
 use Rattle.fast_check_graph.specs.declared.root_symbol.RootSymbol.{RootSymbol}

@@ -1,6 +1,6 @@
-use Rattle.std.proofs.Common.{◌≡◌, ◌∙◌, sym, ap, refl, subst, List, [], ◌∷◌, ◌++◌, Some, inl, inr, is_some}
+use Rattle.std.proofs.Common.{◌∙◌, sym, ap, refl, [], ◌∷◌, ◌++◌, inl, inr, is_some}
 use Rattle.std.specs.Prelude.{slice_get}
-use Rattle.url.specs.Parts.{Parts, serialize}
+use Rattle.url.specs.Parts.{serialize}
 use Rattle.indexmap.proofs.CallerLemmas.{insert_entry-new}
 use Rattle.fast_check_range_finder.specs.declared.demand.Place.{Place}
 use Rattle.fast_check_range_finder.specs.contracts.demand.PlacePartialEq.TheImpl as place_eq

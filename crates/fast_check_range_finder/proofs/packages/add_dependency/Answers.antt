@@ -1,8 +1,7 @@
-use Rattle.std.proofs.Common.{refl, List, [], ◌∷◌}
+use Rattle.std.proofs.Common.{refl, [], ◌∷◌}
 use Rattle.fast_check_packages.specs.Package.{nv_of}
 use Rattle.fast_check_package_ranges.specs.declared.findings.found.FoundPackage.{FoundPackage}
 use Rattle.fast_check_range_finder.specs.Finder.{depends}
-use Rattle.fast_check_range_finder.specs.Packages.{Adds}
 use Rattle.fast_check_range_finder.proofs.Collected.{not_there, still_there, add_dependency, adds_then, adds_numbered}
 use Rattle.fast_check_range_finder.proofs.packages.add_dependency.Goals as goal
 

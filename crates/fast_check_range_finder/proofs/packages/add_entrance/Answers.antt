@@ -1,5 +1,4 @@
 use Rattle.std.proofs.Common.{refl, Some}
-use Rattle.fast_check_packages.specs.Package.{nv_of}
 use Rattle.fast_check_package_ranges.specs.declared.findings.found.FoundPackage.{FoundPackage}
 use Rattle.fast_check_range_finder.proofs.Collected.{not_there, entered_more}
 use Rattle.fast_check_range_finder.proofs.packages.add_entrance.Goals as goal

@@ -1,4 +1,4 @@
-use Rattle.std.proofs.Common.{◌≡◌, ◌++◌, List}
+use Rattle.std.proofs.Common.{◌≡◌, ◌++◌}
 use Rattle.std.specs.List.{flat_map}
 use Rattle.fast_check_range_finder.specs.Finder.{Modules, followed_yields}
 use Rattle.fast_check_range_finder.specs.Packages.{Adds}

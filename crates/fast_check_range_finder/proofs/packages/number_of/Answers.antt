@@ -1,4 +1,4 @@
-use Rattle.std.proofs.Common.{◌∙◌, sym}
+use Rattle.std.proofs.Common.{◌∙◌}
 use Rattle.indexmap.proofs.CallerLemmas.{insert_entry-new}
 use Rattle.fast_check_packages.specs.contracts.package.PackageNvPartialEq.TheImpl as package_eq
 use Rattle.fast_check_range_finder.proofs.Collected.{no_such, numbered_here, numbered_last}

@@ -1,7 +1,7 @@
-use Rattle.std.proofs.Common.{◌≡◌, ◌∙◌, sym, ap, [], ◌∷◌, Option, Some, None, option_map}
+use Rattle.std.proofs.Common.{◌∙◌, sym, ap, [], ◌∷◌, option_map}
 use Rattle.std.proofs.lemmas.Result.{on_ok_weaker}
 use Rattle.url.specs.Parts.{serialize}
-use Rattle.fast_check_packages.specs.Package.{Nv, nv_of}
+use Rattle.fast_check_packages.specs.Package.{nv_of}
 use Rattle.fast_check_package_ranges.specs.findings.Yields.{dependency}
 use Rattle.fast_check_demands.specs.name_demands.Files.{names_of}
 use Rattle.fast_check_demands.specs.worklists.Demands.{asked_by, to_package, to_module}

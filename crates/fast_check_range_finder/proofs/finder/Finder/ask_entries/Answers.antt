@@ -1,4 +1,4 @@
-use Rattle.std.proofs.Common.{◌≡◌, ◌∙◌, sym, ap, refl, [], ◌∷◌, ◌++◌, map, List, rules}
+use Rattle.std.proofs.Common.{◌≡◌, ◌∙◌, sym, ap, [], ◌∷◌, ◌++◌, map, List, rules}
 use Rattle.std.proofs.lemmas.List.{append_assoc}
 use Rattle.url.specs.Parts.{Parts}
 use Rattle.fast_check_packages.specs.Package.{nv_of}

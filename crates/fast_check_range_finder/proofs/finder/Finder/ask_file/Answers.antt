@@ -1,4 +1,4 @@
-use Rattle.std.proofs.Common.{◌≡◌, ◌∙◌, sym, ap, None, option_map}
+use Rattle.std.proofs.Common.{◌∙◌, sym, ap, option_map}
 use Rattle.url.specs.Parts.{serialize}
 use Rattle.fast_check_packages.specs.Package.{nv_of}
 use Rattle.fast_check_demands.specs.name_demands.Files.{names_of}

@@ -1,11 +1,9 @@
-use Rattle.std.proofs.Common.{◌≡◌, ◌∙◌, sym, ap, refl, subst, [], ◌∷◌, ◌++◌, map, Option, Some, None, option_map, List}
-use Rattle.url.specs.Parts.{Parts, serialize}
-use Rattle.fast_check_packages.specs.Package.{Nv, nv_of}
+use Rattle.std.proofs.Common.{sym, refl, subst, map, Option, Some, None, option_map, List}
+use Rattle.fast_check_packages.specs.Package.{nv_of}
 use Rattle.fast_check_lattice.specs.Traces.{handled}
-use Rattle.fast_check_lattice.specs.Imports.{NameDemand}
 use Rattle.fast_check_demands.specs.name_demands.Files.{names_of}
 use Rattle.fast_check_demands.specs.declared.name_demands.want.NameDemand.{NameDemand as Single}
-use Rattle.fast_check_demands.specs.worklists.Demands.{Demand, of_module}
+use Rattle.fast_check_demands.specs.worklists.Demands.{Demand}
 use Rattle.fast_check_range_finder.specs.declared.demand.NamesAt.{NamesAt}
 use Rattle.fast_check_range_finder.specs.declared.finder.Finder.{Finder}
 use Rattle.fast_check_range_finder.specs.Search.{AddsNames, AsksNames}

@@ -5,7 +5,7 @@ use Rattle.std.proofs.lemmas.List.{append-nil}
 use Rattle.url.specs.Parts.{Parts, serialize}
 use Rattle.fast_check_packages.specs.Package.{Nv, nv_of}
 use Rattle.fast_check_package_ranges.specs.entries.Entries.{all_faults}
-use Rattle.fast_check_package_ranges.specs.findings.Yields.{Yield, known_package, entry_point}
+use Rattle.fast_check_package_ranges.specs.findings.Yields.{known_package, entry_point}
 use Rattle.fast_check_package_ranges.specs.declared.findings.found.EntryFault.{EntryFault}
 use Rattle.fast_check_package_ranges.specs.declared.findings.found.Entrance.TheVariants.{Entered}
 use Rattle.fast_check_demands.specs.worklists.Demands.{Want}

@@ -1,4 +1,4 @@
-use Rattle.std.proofs.Common.{◌≡◌, ◌∙◌, sym, ap, refl, subst, [], ◌∷◌, ◌++◌, List, map}
+use Rattle.std.proofs.Common.{sym, refl, subst, [], ◌∷◌, ◌++◌, List, map}
 use Rattle.std.proofs.lemmas.List.{append-nil}
 use Rattle.fast_check_packages.specs.Package.{Nv, nv_of}
 use Rattle.fast_check_cache.specs.Cache.{item_of}

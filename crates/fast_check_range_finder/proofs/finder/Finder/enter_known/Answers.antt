@@ -1,4 +1,4 @@
-use Rattle.std.proofs.Common.{◌≡◌, ◌∙◌, sym, ap, refl, subst, Option, Some, None, option_map, List, rules}
+use Rattle.std.proofs.Common.{◌≡◌, ◌∙◌, sym, ap, subst, Option, option_map, rules}
 use Rattle.std.specs.Result.{OnOk}
 use Rattle.std.specs.BTreeSet.{BTreeSet}
 use Rattle.url.specs.Parts.{Parts}

@@ -1,19 +1,15 @@
-use Rattle.std.proofs.Common.{◌≡◌, ◌∙◌, ◌+◌, ◌<◌, sym, ap, refl, subst, [], ◌∷◌, ◌++◌, Some, List, map, length, drop, arith}
+use Rattle.std.proofs.Common.{◌≡◌, ◌∙◌, ◌+◌, ◌<◌, sym, ap, refl, Some, map, length, arith}
 use Rattle.std.specs.Prelude.{slice_get}
-use Rattle.std.specs.List.{flat_map}
-use Rattle.std.proofs.lemmas.List.{length-map, get_or-map, drop_all}
+use Rattle.std.proofs.lemmas.List.{length-map, get_or-map}
 use Rattle.std.proofs.lemmas.Option.{slice_get_read}
-use Rattle.fast_check_packages.specs.Package.{Nv, nv_of}
-use Rattle.fast_check_packages.specs.declared.package.PackageNv.{PackageNv}
+use Rattle.fast_check_packages.specs.Package.{nv_of}
 use Rattle.fast_check_cache.specs.CachedPackages.{used_item}
 use Rattle.fast_check_package_ranges.proofs.entries.Passed.{passed_on}
 use Rattle.fast_check_lattice.specs.Traces.{handled}
-use Rattle.fast_check_demands.specs.worklists.Demands.{Demand, of_package}
+use Rattle.fast_check_demands.specs.worklists.Demands.{of_package}
 use Rattle.fast_check_demands.specs.sources.Sources.{known, with_used}
-use Rattle.fast_check_range_finder.specs.declared.demand.NamesAt.{NamesAt}
-use Rattle.fast_check_range_finder.specs.declared.demand.SymbolAt.{SymbolAt}
 use Rattle.fast_check_range_finder.specs.declared.finder.Finder.{Finder}
-use Rattle.fast_check_range_finder.specs.Finder.{names_seen, seen_at, entered_nv, places, symbols_at}
+use Rattle.fast_check_range_finder.specs.Finder.{names_seen, seen_at, entered_nv}
 use Rattle.fast_check_range_finder.specs.Lent.{used_of}
 use Rattle.fast_check_range_finder.specs.Refusals.{IsRefusedOf}
 use Rattle.fast_check_range_finder.proofs.Once.{once_passed, once_entered}

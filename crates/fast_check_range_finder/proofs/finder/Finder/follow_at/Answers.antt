@@ -1,4 +1,4 @@
-use Rattle.std.proofs.Common.{◌≡◌, ◌∙◌, sym, ap, refl, subst, Option, Some, List, [], ◌++◌, map}
+use Rattle.std.proofs.Common.{◌≡◌, ◌∙◌, sym, ap, refl, subst, Some, List, [], ◌++◌, map}
 use Rattle.std.specs.Prelude.{slice_get}
 use Rattle.std.proofs.lemmas.Result.{IfOk-weaker}
 use Rattle.indexmap.specs.IndexMap.{with_value_at}
@@ -6,14 +6,14 @@ use Rattle.fast_check_demands.specs.symbol_demands.Demands.{Demand as SymbolDema
 use Rattle.fast_check_demands.specs.symbol_demands.Rules.{names}
 use Rattle.fast_check_demands.specs.Yields.{Adds, ranges, implementations, faults}
 use Rattle.fast_check_modules.specs.symbols.Tables.{Tables}
-use Rattle.fast_check_demands.specs.name_demands.Files.{FileDemand, files}
+use Rattle.fast_check_demands.specs.name_demands.Files.{files}
 use Rattle.fast_check_demands.specs.traces.Modules.{tables_in, own_tables}
 use Rattle.fast_check_demands.specs.worklists.Demands.{to_symbol}
 use Rattle.fast_check_demands.proofs.worklists.Maps.{some_is}
 use Rattle.fast_check_range_finder.specs.declared.finder.Finder.{Finder}
 use Rattle.fast_check_range_finder.specs.declared.finder.FollowedModule.{FollowedModule}
 use Rattle.fast_check_range_finder.specs.contracts.demand.PlacePartialEq.TheImpl as place_eq
-use Rattle.fast_check_range_finder.specs.Finder.{Followed, place_nv, traced_in, AsksEach, Goes}
+use Rattle.fast_check_range_finder.specs.Finder.{place_nv, traced_in, AsksEach, Goes}
 use Rattle.fast_check_range_finder.specs.Rules.{own_text}
 use Rattle.fast_check_range_finder.specs.Yields.{public_at, implementing_at, faults_at}
 use Rattle.fast_check_range_finder.proofs.PlaceKeys.{tells_places}

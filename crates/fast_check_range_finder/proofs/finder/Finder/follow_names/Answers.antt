@@ -1,4 +1,4 @@
-use Rattle.std.proofs.Common.{◌≡◌, ◌∙◌, sym, ap, refl, subst, Bool, cond, [], ◌∷◌, List, Some, None}
+use Rattle.std.proofs.Common.{◌∙◌, sym, ap, refl, subst, Bool, cond, []}
 use Rattle.std.specs.Option.{option_copied}
 use Rattle.std.proofs.lemmas.Result.{on_ok_weaker}
 use Rattle.url.specs.Parts.{serialize}

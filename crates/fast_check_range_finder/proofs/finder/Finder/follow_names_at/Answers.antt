@@ -1,4 +1,4 @@
-use Rattle.std.proofs.Common.{◌≡◌, ◌∙◌, sym, ap, refl, subst, Option, Some, List, map}
+use Rattle.std.proofs.Common.{◌≡◌, ◌∙◌, sym, ap, refl, subst, Some, map}
 use Rattle.std.specs.Prelude.{slice_get}
 use Rattle.indexmap.specs.IndexMap.{with_value_at}
 use Rattle.fast_check_demands.specs.name_demands.Files.{names_of}
@@ -10,7 +10,7 @@ use Rattle.fast_check_demands.proofs.worklists.Maps.{some_is}
 use Rattle.fast_check_range_finder.specs.declared.finder.Finder.{Finder}
 use Rattle.fast_check_range_finder.specs.declared.finder.FollowedModule.{FollowedModule}
 use Rattle.fast_check_range_finder.specs.contracts.demand.PlacePartialEq.TheImpl as place_eq
-use Rattle.fast_check_range_finder.specs.Finder.{Followed, place_nv, traced_in, Goes}
+use Rattle.fast_check_range_finder.specs.Finder.{place_nv, traced_in, Goes}
 use Rattle.fast_check_range_finder.specs.Rules.{own_text}
 use Rattle.fast_check_range_finder.specs.Yields.{public_at}
 use Rattle.fast_check_range_finder.proofs.Gained.{get_in}

@@ -1,9 +1,9 @@
-use Rattle.std.proofs.Common.{◌≡◌, ◌∙◌, ◌+◌, sym, ap, refl, subst, [], ◌∷◌, ◌++◌, map, take, List, Option, Some}
+use Rattle.std.proofs.Common.{◌≡◌, ◌∙◌, ◌+◌, sym, ap, subst, [], ◌∷◌, ◌++◌, map, take, List}
 use Rattle.std.specs.List.{flat_map}
 use Rattle.std.specs.Prelude.{option_map}
 use Rattle.std.specs.Map.Iter.{deref_pair}
 use Rattle.std.proofs.lemmas.List.{take_more, take_all, map-append}
-use Rattle.fast_check_packages.specs.Package.{Nv, nv_of}
+use Rattle.fast_check_packages.specs.Package.{nv_of}
 use Rattle.fast_check_demands.specs.symbol_demands.Demands.{demand_of}
 use Rattle.fast_check_demands.specs.name_demands.Files.{FileDemand, file_demand_of}
 use Rattle.fast_check_demands.specs.declared.name_demands.want.FileWant.{FileWant}

@@ -1,7 +1,6 @@
-use Rattle.std.proofs.Common.{◌≡◌, ◌∙◌, sym, ap, refl, subst, ℕ, List, [], map}
+use Rattle.std.proofs.Common.{ap, refl, subst, List, [], map}
 use Rattle.std.specs.List.{Contains}
-use Rattle.fast_check_packages.specs.Package.{Nv, nv_of}
-use Rattle.fast_check_packages.specs.declared.package.PackageNv.{PackageNv}
+use Rattle.fast_check_packages.specs.Package.{nv_of}
 use Rattle.fast_check_demands.proofs.worklists.Maps.{none_in}
 use Rattle.fast_check_range_finder.specs.declared.demand.SymbolAt.{SymbolAt}
 use Rattle.fast_check_range_finder.specs.Finder.{Modules, entered_nv}
