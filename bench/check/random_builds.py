@@ -166,8 +166,8 @@ def told_by(finder, world):
 
 
 # the page of a diagnostic, as the program's definition of it says
-with open(os.path.join(TOP, "crates/fast_check_diagnostics/specs/Diagnostic.antt")) as file:
-    PAGES = file.read().split('docs_url = codes "')[1].split('"')[0]
+with open(os.path.join(TOP, "crates/fast_check_diagnostics/specs/Report.antt")) as file:
+    PAGES = file.read().split('docs_url = Some (codes "')[1].split('"')[0]
 
 
 def write(folder, count, seed):

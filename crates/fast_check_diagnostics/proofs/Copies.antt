@@ -1,19 +1,28 @@
 -- What copies a diagnostic, and what holds of the kinds that no arm names.
-use Rattle.std.proofs.Common.{◌≡◌, ◌⊎◌, inl, inr, ap, refl, subst, sym, Result, IfOk, MatchResult}
+use Rattle.std.proofs.Common.{◌≡◌, ◌⊎◌, [], ◌∷◌, inl, inr, ap, refl, subst, sym, Result, IfOk, MatchResult}
+use Rattle.std.specs.Prelude.{String, string_bytes}
+use Rattle.std.specs.Global.{Global}
 use Rattle.std.proofs.lemmas.Result.{MatchResult-weaker}
 use Rattle.url.specs.Parts.{Parts}
-use Rattle.fast_check_diagnostics.specs.Diagnostic.{subject_of}
+use Rattle.fast_check_diagnostics.specs.Diagnostic.{report_of}
 use Rattle.fast_check_diagnostics.specs.Subject.{Subject, Part, Whole}
 use Rattle.fast_check_diagnostics.specs.declared.diagnostics.range.FastCheckDiagnosticRange.{FastCheckDiagnosticRange}
 use Rattle.fast_check_diagnostics.specs.declared.diagnostics.FastCheckDiagnostic.{FastCheckDiagnostic}
 use Rattle.fast_check_diagnostics.specs.declared.diagnostics.FastCheckDiagnostic.TheVariants as kinds
-use Rattle.fast_check_diagnostics.specs.DiagnosticCopy.{IsDiagnosticCopy, with_names, with_range, with_specifier}
+use Rattle.fast_check_diagnostics.specs.DiagnosticCopy.{IsDiagnosticCopy, texts_in, flags_in, with_names, with_range, with_specifier}
 
 -- what copies a diagnostic copies each that is found to be it, and so does each that is found to be the copy
 pub copies_found : {found known made copy : FastCheckDiagnostic}
     → found ≡ known → copy ≡ made → IsDiagnosticCopy known made → IsDiagnosticCopy found copy
 copies_found {found} {known} {made} {copy} is copy_is copied =
     subst (λ d. IsDiagnosticCopy d copy) (sym is) (subst (IsDiagnosticCopy known) (sym copy_is) copied)
+
+pub emit_copied : {d : FastCheckDiagnostic} (specifier copy : Parts) (inner made : String Global)
+    → d ≡ kinds.Emit specifier inner → copy ≡ specifier → string_bytes made ≡ string_bytes inner
+    → IsDiagnosticCopy d (kinds.Emit copy made)
+unfolding report_of texts_in flags_in
+emit_copied specifier copy inner made is module_copied text_copied =
+    copies_found {made = kinds.Emit copy made} is refl (refl, module_copied, (λ i. text_copied i ∷ []), refl)
 
 -- the last of the kinds that hold a place and two names
 pub other_names : (d : FastCheckDiagnostic) (range first second : _)
@@ -100,8 +109,8 @@ pub range_kept : (d : FastCheckDiagnostic) (range : FastCheckDiagnosticRange)
     → ((range first second : _) → d ≡ kinds.UnsupportedComplexReference range first second → ⊥)
     → ((range first second : _) → d ≡ kinds.UnsupportedExpandoProperty range first second → ⊥)
     → ((range first second : _) → d ≡ kinds.UnsupportedPrivateMemberReference range first second → ⊥)
-    → subject_of d ≡ Part range → with_range d range ≡ d
-unfolding subject_of with_range
+    → (report_of d).subject ≡ Part range → with_range d range ≡ d
+unfolding report_of with_range
 range_kept (kinds.NotFoundReference a b c) _ none _ _ _ _ = absurd (none a b c refl)
 range_kept (kinds.UnsupportedComplexReference a b c) _ _ none _ _ _ = absurd (none a b c refl)
 range_kept (kinds.UnsupportedExpandoProperty a b c) _ _ _ none _ _ = absurd (none a b c refl)
@@ -134,8 +143,8 @@ is_whole (Whole _) = Unit
 -- a diagnostic without text is itself of its own module
 pub specifier_kept : (d : FastCheckDiagnostic) (specifier : Parts)
     → ((specifier inner : _) → d ≡ kinds.Emit specifier inner → ⊥)
-    → subject_of d ≡ Whole specifier → with_specifier d specifier ≡ d
-unfolding subject_of with_specifier
+    → (report_of d).subject ≡ Whole specifier → with_specifier d specifier ≡ d
+unfolding report_of with_specifier
 specifier_kept (kinds.Emit a b) _ none _ = absurd (none a b refl)
 specifier_kept (kinds.UnsupportedNestedJavaScript _) specifier _ e =
     sym (ap (λ whole. kinds.UnsupportedNestedJavaScript (specifier_or specifier whole)) e)

@@ -1,7 +1,6 @@
--- The faults that leave a module without skeleton, and what a reader is told of each.
-use Rattle.std.specs.Prelude.{ℕ, Bool, true, false, List, [], ◌∷◌, ◌++◌, Option, Some, None, option_map, codes}
+-- What is reported of each diagnostic: one table, with a row for each kind.
+use Rattle.std.specs.Prelude.{ℕ, Bool, true, false, List, [], ◌∷◌, ◌++◌, Option, Some, None, codes}
 use Rattle.std.specs.String.{string_bytes}
-use Rattle.std.specs.Rc.{rc_str_bytes}
 use Rattle.url.specs.Parts.{Parts, serialize}
 use Rattle.fast_check_diagnostics.specs.declared.diagnostics.range.FastCheckDiagnosticRange.{FastCheckDiagnosticRange}
 use Rattle.fast_check_diagnostics.specs.declared.diagnostics.FastCheckDiagnostic.{FastCheckDiagnostic}
@@ -27,50 +26,10 @@ use Rattle.fast_check_diagnostics.specs.declared.diagnostics.FastCheckDiagnostic
   ExportNotFound,
   Cached,
 }
-use Rattle.fast_check_diagnostics.specs.declared.diagnostics.view.DiagnosticLevel.{DiagnosticLevel}
 use Rattle.fast_check_diagnostics.specs.declared.diagnostics.view.DiagnosticLevel.TheVariants.{Error, Warning}
-use Rattle.fast_check_diagnostics.specs.DiagnosticView.{DiagnosticView, Snippet, Location, AtPosition, AtModule}
-use Rattle.fast_check_diagnostics.specs.Subject.{Subject, Part, Whole}
-use Rattle.fast_check_diagnostics.specs.KindTexts.{KindTexts}
-
--- what it speaks of
-unfoldable pub subject_of : FastCheckDiagnostic → Subject
-subject_of (NotFoundReference range _ _) = Part range
-subject_of (MissingExplicitType range) = Part range
-subject_of (MissingExplicitReturnType range _ _) = Part range
-subject_of (UnsupportedAmbientModule range) = Part range
-subject_of (UnsupportedComplexReference range _ _) = Part range
-subject_of (UnsupportedDefaultExportExpr range) = Part range
-subject_of (UnsupportedDestructuring range) = Part range
-subject_of (UnsupportedExpandoProperty range _ _) = Part range
-subject_of (UnsupportedGlobalModule range) = Part range
-subject_of (UnsupportedRequire range) = Part range
-subject_of (UnsupportedPrivateMemberReference range _ _) = Part range
-subject_of (UnsupportedSuperClassExpr range) = Part range
-subject_of (UnsupportedTsExportAssignment range) = Part range
-subject_of (UnsupportedTsNamespaceExport range) = Part range
-subject_of (UnsupportedUsing range) = Part range
-subject_of (UnsupportedNestedJavaScript specifier) = Whole specifier
-subject_of (UnsupportedJavaScriptEntrypoint specifier) = Whole specifier
-subject_of (Emit specifier _) = Whole specifier
-subject_of (ExportNotFound specifier) = Whole specifier
-subject_of (Cached specifier) = Whole specifier
-
--- the part of the source text that it speaks of, if any
-abbrev pub range_of_subject : Subject → Option FastCheckDiagnosticRange
-range_of_subject (Part range) = Some range
-range_of_subject (Whole _) = None
-
-abbrev pub range_of : FastCheckDiagnostic → Option FastCheckDiagnosticRange
-range_of d = range_of_subject (subject_of d)
-
--- the module that it speaks of
-abbrev pub specifier_of_subject : Subject → Parts
-specifier_of_subject (Part range) = range.specifier
-specifier_of_subject (Whole specifier) = specifier
-
-abbrev pub specifier_of : FastCheckDiagnostic → Parts
-specifier_of d = specifier_of_subject (subject_of d)
+use Rattle.fast_check_diagnostics.specs.DiagnosticView.{DiagnosticView}
+use Rattle.fast_check_diagnostics.specs.Subject.{Part, Whole, specifier_of_subject, range_of_subject}
+use Rattle.fast_check_diagnostics.specs.Report.{Report, row, view_at}
 
 -- texts that several kinds share
 
@@ -91,253 +50,127 @@ declare_or_rewrite = codes "add a type declaration (d.ts) for the JavaScript mod
 abbrev pub is_reference : List ℕ
 is_reference = codes "this is the reference"
 
--- what is told of all diagnostics of its kind: code, message, range description, hint and lines (None and empty where
--- they go by what the diagnostic holds)
-unfoldable pub texts_of : FastCheckDiagnostic → KindTexts
-texts_of (NotFoundReference _ _ _) = record {
-  code = codes "not-found-reference";
-  message = [];
-  range_description = Some is_reference;
-  hint = Some (codes "fix the reference to point to a symbol that exists");
-  info = may_be_a_bug ∷ [];
-}
-texts_of (MissingExplicitType _) = record {
-  code = codes "missing-explicit-type";
-  message = codes "missing explicit type in the public API";
-  range_description = Some (codes "this symbol is missing an explicit type");
-  hint = Some (codes "add an explicit type annotation to the symbol");
-  info = codes "all symbols in the public API must have an explicit type" ∷ [];
-}
-texts_of (MissingExplicitReturnType _ _ _) = record {
-  code = codes "missing-explicit-return-type";
-  message = codes "missing explicit return type in the public API";
-  range_description = Some (codes "this function is missing an explicit return type");
-  hint = None;
-  info = [];
-}
-texts_of (UnsupportedAmbientModule _) = record {
-  code = codes "unsupported-ambient-module";
-  message = codes "found an ambient module, which is a global augmentation, which are not unsupported";
-  range_description = None;
-  hint = Some (codes "remove the ambient module declaration");
-  info = codes "ambient modules are not supported because they can modify the types of a module from outside of that module" ∷ [];
-}
-texts_of (UnsupportedComplexReference _ _ _) = record {
-  code = codes "unsupported-complex-reference";
-  message = [];
-  range_description = Some is_reference;
-  hint = Some (codes "extract the shared type to a type alias and reference the type alias instead");
-  info = codes "the reference was too complex to be resolved by fast check" ∷ [];
-}
-texts_of (UnsupportedDefaultExportExpr _) = record {
-  code = codes "unsupported-default-export-expr";
-  message = codes "default export expression was too complex";
-  range_description = None;
-  hint = Some (codes "add an 'as' clause with an explicit type after the expression, or extract to a variable");
-  info = codes "fast check was unable to infer the type of the default export expression" ∷ [];
-}
-texts_of (UnsupportedDestructuring _) = record {
-  code = codes "unsupported-destructuring";
-  message = codes "found destructuring, which is not supported in the public API";
-  range_description = None;
-  hint = Some (codes "separate each destructured symbol into its own export statement");
-  info = codes "destructuring can not be inferred by fast check" ∷ [];
-}
-texts_of (UnsupportedExpandoProperty _ _ _) = record {
-  code = codes "unsupported-expando-property";
-  message = [];
-  range_description = None;
-  hint = None;
-  info = codes "expando properties get converted to a namespace and the reference conflicts with a namespace export" ∷
-      [];
-}
-texts_of (UnsupportedGlobalModule _) = record {
-  code = codes "unsupported-global-module";
-  message = codes "found global augmentations, which are not supported";
-  range_description = None;
-  hint = Some (codes "remove the 'global' augmentation");
-  info = codes "global augmentations are not supported because they can modify global types, which can affect other modules type checking" ∷ [];
-}
-texts_of (UnsupportedRequire _) = record {
-  code = codes "unsupported-require";
-  message = codes "require statements are a CommonJS feature, which are not supported in ES modules";
-  range_description = None;
-  hint = Some (codes "use an import statement instead");
-  info = codes "CommonJS features such as require are not supported in ES modules" ∷ [];
-}
-texts_of (UnsupportedPrivateMemberReference _ _ _) = record {
-  code = codes "unsupported-private-member-reference";
-  message = [];
-  range_description = Some is_reference;
-  hint = Some (codes "extract the type of the private member to a type alias and reference the type alias instead");
-  info = codes "private members can not be referenced from public API members" ∷
-      codes "this is because fast check removes private members from the types" ∷ [];
-}
-texts_of (UnsupportedSuperClassExpr _) = record {
-  code = codes "unsupported-super-class-expr";
-  message = codes "super class expression was too complex";
-  range_description = Some (codes "this is the superclass expression");
-  hint = Some (codes "extract the superclass expression into a variable");
-  info = codes "fast check was unable to infer the type of the superclass expression" ∷ [];
-}
-texts_of (UnsupportedTsExportAssignment _) = record {
-  code = codes "unsupported-ts-export-assignment";
-  message = codes "export assignments are a Common JS feature, which are not supported in ES modules";
-  range_description = None;
-  hint = Some (codes "use an export statement instead");
-  info = codes "CommonJS features such as export assignments are not supported in ES modules" ∷ [];
-}
-texts_of (UnsupportedTsNamespaceExport _) = record {
-  code = codes "unsupported-ts-namespace-export";
-  message = codes "found namespace export, which is a global augmentation, which are not unsupported";
-  range_description = None;
-  hint = Some (codes "remove the namespace export");
-  info = codes "namespace exports are not supported because they can modify the types of a module from outside of that module" ∷ [];
-}
-texts_of (UnsupportedUsing _) = record {
-  code = codes "unsupported-using";
-  message = codes "using declarations are not supproted in the public API";
-  range_description = None;
-  hint = Some (codes "use 'const' instead of 'using'");
-  info = codes "using declarations have unclear semantics in the public API" ∷
-      codes "they are thus not supported in the public API" ∷ [];
-}
-texts_of (UnsupportedNestedJavaScript _) = record {
-  code = codes "unsupported-nested-javascript";
-  message = codes "referenced a JavaScript module without type declarations from a TypeScript module";
-  range_description = None;
-  hint = Some declare_or_rewrite;
-  info = needs_inference ∷
-      codes "fast check avoids type inference, so referencing a JavaScript file with no type declarations is not supported" ∷ [];
-}
-texts_of (UnsupportedJavaScriptEntrypoint _) = record {
-  code = codes "unsupported-javascript-entrypoint";
-  message = codes "used a JavaScript module without type declarations as an entrypoint";
-  range_description = None;
-  hint = Some declare_or_rewrite;
-  info = needs_inference ∷
-      codes "fast check avoids type inference, so JavaScript entrypoints should be avoided" ∷ [];
-}
-texts_of (Emit _ _) = record {
-  code = codes "emit";
-  message = [];
-  range_description = None;
-  hint = Some may_be_a_bug;
-  info = may_be_a_bug ∷ [];
-}
-texts_of (ExportNotFound _) = record {
-  code = codes "export-not-found";
-  message = [];
-  range_description = None;
-  hint = Some is_a_bug;
-  info = is_a_bug ∷ [];
-}
-texts_of (Cached _) = record {
-  code = codes "cached";
-  message = codes "diagnostic was cached";
-  range_description = None;
-  hint = Some is_a_bug;
-  info = is_a_bug ∷ [];
-}
+-- of a function without return type: is it definitely void or never, and is it asynchronous?
 
--- the name of its kind, in lower case with hyphens
-abbrev pub code_of : FastCheckDiagnostic → List ℕ
-code_of d = (texts_of d).code
-
--- what that part of the source text is to the reader
-abbrev pub range_description_of : FastCheckDiagnostic → Option (List ℕ)
-range_description_of d = (texts_of d).range_description
-
--- how grave it is
-unfoldable pub level_of : FastCheckDiagnostic → DiagnosticLevel
-level_of (UnsupportedJavaScriptEntrypoint _) = Warning
-level_of _ = Error
-
--- what is wrong
-unfoldable pub message_of : FastCheckDiagnostic → List ℕ
-message_of (NotFoundReference _ name referrer) =
-    codes "could not resolve '" ++
-    (string_bytes name ++ (codes "' referenced from '" ++ (string_bytes referrer ++ codes "'")))
-message_of (UnsupportedComplexReference _ name referrer) =
-    codes "the reference '" ++
-    (string_bytes name ++ (codes "' from '" ++ (string_bytes referrer ++ codes "' was too complex")))
-message_of (UnsupportedExpandoProperty _ object_name reference_name) =
-    codes "expando property referencing '" ++
-    (string_bytes reference_name ++ (codes "' conflicts with '" ++ (string_bytes object_name ++
-    (codes "." ++ (string_bytes reference_name ++ codes "'")))))
-message_of (UnsupportedPrivateMemberReference _ name referrer) =
-    codes "public API member (" ++ (string_bytes referrer ++
-    (codes ") is referencing or transitively referencing a class private member (" ++ (string_bytes name ++ codes ")")))
-message_of (Emit _ inner) = codes "failed to emit fast check module: " ++ string_bytes inner
-message_of (ExportNotFound specifier) = codes "export not found: " ++ serialize specifier
-message_of d = (texts_of d).message
-
--- what can be done about a function without return type: is it definitely void or never, and is it asynchronous?
 abbrev pub hint_of_return_type : Bool → Bool → List ℕ
 hint_of_return_type true _ = codes "add an explicit return type of 'void' or 'never' to the function"
 hint_of_return_type false true =
     codes "add an explicit return type of 'Promise<void>' or 'Promise<never>' to the function"
 hint_of_return_type false false = codes "add an explicit return type to the function"
 
--- what can be done about an expando property whose value mentions a name that another one has
-abbrev pub hint_of_expando : List ℕ → List ℕ
-hint_of_expando name = codes "rename '" ++ (name ++
-    codes "' to something else to avoid conflicts or create a temporary variable with a different name to use in the expando property reference")
-
--- what can be done about it
-unfoldable pub hint_of : FastCheckDiagnostic → Option (List ℕ)
-hint_of (MissingExplicitReturnType _ is_definitely_void_or_never is_async) =
-    Some (hint_of_return_type is_definitely_void_or_never is_async)
-hint_of (UnsupportedExpandoProperty _ _ reference_name) = Some (hint_of_expando (string_bytes reference_name))
-hint_of d = (texts_of d).hint
-
--- what types there are for a function that returns no value: is it asynchronous?
 abbrev pub types_without_value : Bool → List ℕ
 types_without_value true =
     codes "async function expressions without a return statement can have a return type of either 'Promise<void>' or 'Promise<never>'"
 types_without_value false =
     codes "function expressions without a return statement can have a return type of either 'void' or 'never'"
 
--- lines that say more of a function without return type: is it definitely void or never, and is it asynchronous?
 abbrev pub info_of_return_type : Bool → Bool → List (List ℕ)
 info_of_return_type false _ = codes "all functions in the public API must have an explicit return type" ∷ []
 info_of_return_type true is_async = codes "all functions in the public API must have an explicit return type" ∷
     types_without_value is_async ∷
     codes "this function has no return statements, so a return type could not be inferred automatically" ∷ []
 
--- lines that say more
-unfoldable pub info_of : FastCheckDiagnostic → List (List ℕ)
-info_of (MissingExplicitReturnType _ is_definitely_void_or_never is_async) =
-    info_of_return_type is_definitely_void_or_never is_async
-info_of d = (texts_of d).info
+-- The table: what a diagnostic speaks of, how grave it is, the name of its kind, what is wrong, what the range is to
+-- the reader, what can be done about it, and lines that say more.
+unfoldable pub report_of : FastCheckDiagnostic → Report
+report_of (NotFoundReference range name referrer) = row (Part range) Error (codes "not-found-reference")
+    (codes "could not resolve '" ++
+    (string_bytes name ++ (codes "' referenced from '" ++ (string_bytes referrer ++ codes "'"))))
+    (Some is_reference) (Some (codes "fix the reference to point to a symbol that exists")) (may_be_a_bug ∷ [])
+report_of (MissingExplicitType range) = row (Part range) Error (codes "missing-explicit-type")
+    (codes "missing explicit type in the public API") (Some (codes "this symbol is missing an explicit type"))
+    (Some (codes "add an explicit type annotation to the symbol"))
+    (codes "all symbols in the public API must have an explicit type" ∷ [])
+report_of (MissingExplicitReturnType range is_definitely_void_or_never is_async) =
+    row (Part range) Error (codes "missing-explicit-return-type")
+    (codes "missing explicit return type in the public API")
+    (Some (codes "this function is missing an explicit return type"))
+    (Some (hint_of_return_type is_definitely_void_or_never is_async))
+    (info_of_return_type is_definitely_void_or_never is_async)
+report_of (UnsupportedAmbientModule range) = row (Part range) Error (codes "unsupported-ambient-module")
+    (codes "found an ambient module, which is a global augmentation, which are not unsupported") None
+    (Some (codes "remove the ambient module declaration"))
+    (codes "ambient modules are not supported because they can modify the types of a module from outside of that module" ∷ [])
+report_of (UnsupportedComplexReference range name referrer) =
+    row (Part range) Error (codes "unsupported-complex-reference")
+    (codes "the reference '" ++
+    (string_bytes name ++ (codes "' from '" ++ (string_bytes referrer ++ codes "' was too complex"))))
+    (Some is_reference)
+    (Some (codes "extract the shared type to a type alias and reference the type alias instead"))
+    (codes "the reference was too complex to be resolved by fast check" ∷ [])
+report_of (UnsupportedDefaultExportExpr range) = row (Part range) Error (codes "unsupported-default-export-expr")
+    (codes "default export expression was too complex") None
+    (Some (codes "add an 'as' clause with an explicit type after the expression, or extract to a variable"))
+    (codes "fast check was unable to infer the type of the default export expression" ∷ [])
+report_of (UnsupportedDestructuring range) = row (Part range) Error (codes "unsupported-destructuring")
+    (codes "found destructuring, which is not supported in the public API") None
+    (Some (codes "separate each destructured symbol into its own export statement"))
+    (codes "destructuring can not be inferred by fast check" ∷ [])
+report_of (UnsupportedExpandoProperty range object_name reference_name) =
+    row (Part range) Error (codes "unsupported-expando-property")
+    (codes "expando property referencing '" ++ (string_bytes reference_name ++ (codes "' conflicts with '" ++
+    (string_bytes object_name ++ (codes "." ++ (string_bytes reference_name ++ codes "'")))))) None
+    (Some (codes "rename '" ++ (string_bytes reference_name ++
+    codes "' to something else to avoid conflicts or create a temporary variable with a different name to use in the expando property reference")))
+    (codes "expando properties get converted to a namespace and the reference conflicts with a namespace export" ∷ [])
+report_of (UnsupportedGlobalModule range) = row (Part range) Error (codes "unsupported-global-module")
+    (codes "found global augmentations, which are not supported") None
+    (Some (codes "remove the 'global' augmentation"))
+    (codes "global augmentations are not supported because they can modify global types, which can affect other modules type checking" ∷ [])
+report_of (UnsupportedRequire range) = row (Part range) Error (codes "unsupported-require")
+    (codes "require statements are a CommonJS feature, which are not supported in ES modules") None
+    (Some (codes "use an import statement instead"))
+    (codes "CommonJS features such as require are not supported in ES modules" ∷ [])
+report_of (UnsupportedPrivateMemberReference range name referrer) =
+    row (Part range) Error (codes "unsupported-private-member-reference")
+    (codes "public API member (" ++ (string_bytes referrer ++
+    (codes ") is referencing or transitively referencing a class private member (" ++ (string_bytes name ++ codes ")"))))
+    (Some is_reference)
+    (Some (codes "extract the type of the private member to a type alias and reference the type alias instead"))
+    (codes "private members can not be referenced from public API members" ∷
+    codes "this is because fast check removes private members from the types" ∷ [])
+report_of (UnsupportedSuperClassExpr range) = row (Part range) Error (codes "unsupported-super-class-expr")
+    (codes "super class expression was too complex") (Some (codes "this is the superclass expression"))
+    (Some (codes "extract the superclass expression into a variable"))
+    (codes "fast check was unable to infer the type of the superclass expression" ∷ [])
+report_of (UnsupportedTsExportAssignment range) = row (Part range) Error (codes "unsupported-ts-export-assignment")
+    (codes "export assignments are a Common JS feature, which are not supported in ES modules") None
+    (Some (codes "use an export statement instead"))
+    (codes "CommonJS features such as export assignments are not supported in ES modules" ∷ [])
+report_of (UnsupportedTsNamespaceExport range) = row (Part range) Error (codes "unsupported-ts-namespace-export")
+    (codes "found namespace export, which is a global augmentation, which are not unsupported") None
+    (Some (codes "remove the namespace export"))
+    (codes "namespace exports are not supported because they can modify the types of a module from outside of that module" ∷ [])
+report_of (UnsupportedUsing range) = row (Part range) Error (codes "unsupported-using")
+    (codes "using declarations are not supproted in the public API") None
+    (Some (codes "use 'const' instead of 'using'"))
+    (codes "using declarations have unclear semantics in the public API" ∷
+    codes "they are thus not supported in the public API" ∷ [])
+report_of (UnsupportedNestedJavaScript specifier) =
+    row (Whole specifier) Error (codes "unsupported-nested-javascript")
+    (codes "referenced a JavaScript module without type declarations from a TypeScript module") None
+    (Some declare_or_rewrite)
+    (needs_inference ∷
+    codes "fast check avoids type inference, so referencing a JavaScript file with no type declarations is not supported" ∷ [])
+report_of (UnsupportedJavaScriptEntrypoint specifier) =
+    row (Whole specifier) Warning (codes "unsupported-javascript-entrypoint")
+    (codes "used a JavaScript module without type declarations as an entrypoint") None (Some declare_or_rewrite)
+    (needs_inference ∷ codes "fast check avoids type inference, so JavaScript entrypoints should be avoided" ∷ [])
+report_of (Emit specifier inner) = row (Whole specifier) Error (codes "emit")
+    (codes "failed to emit fast check module: " ++ string_bytes inner) None (Some may_be_a_bug) (may_be_a_bug ∷ [])
+report_of (ExportNotFound specifier) = row (Whole specifier) Error (codes "export-not-found")
+    (codes "export not found: " ++ serialize specifier) None (Some is_a_bug) (is_a_bug ∷ [])
+report_of (Cached specifier) = row (Whole specifier) Error (codes "cached") (codes "diagnostic was cached") None
+    (Some is_a_bug) (is_a_bug ∷ [])
 
--- where the pages that explain the kinds stand, and the page of each: the name of its kind follows
-abbrev pub docs_url : List ℕ
-docs_url = codes "https://jsr.io/go/slow-type-"
+-- the module, and the part of its source text, that it speaks of, if any
 
-abbrev pub docs_url_of : FastCheckDiagnostic → Option (List ℕ)
-docs_url_of d = Some (docs_url ++ code_of d)
+abbrev pub specifier_of : FastCheckDiagnostic → Parts
+specifier_of d = specifier_of_subject (report_of d).subject
 
--- it stands at the start of its range, or at its module where it has none
-abbrev pub location_at : Parts → Option FastCheckDiagnosticRange → Location
-location_at specifier (Some range) = AtPosition specifier (rc_str_bytes range.text_info) range.range.start.0
-location_at specifier None = AtModule specifier
+abbrev pub range_of : FastCheckDiagnostic → Option FastCheckDiagnosticRange
+range_of d = range_of_subject (report_of d).subject
 
--- its range is shown in the source text, with the description
-abbrev pub snippet_at : Option (List ℕ) → FastCheckDiagnosticRange → Snippet
-snippet_at description range =
-    record { text = rc_str_bytes range.text_info; range = range.range; description = description }
-
--- all that is told of it: no mended source text is offered
+-- all that a reader gets of it
 abbrev pub view_of : FastCheckDiagnostic → DiagnosticView
-view_of d = record {
-  level = level_of d;
-  code = code_of d;
-  message = message_of d;
-  location = location_at (specifier_of d) (range_of d);
-  snippet = option_map (snippet_at (range_description_of d)) (range_of d);
-  hint = hint_of d;
-  snippet_fixed = None;
-  info = info_of d;
-  docs_url = docs_url_of d;
-}
+view_of d = view_at (report_of d)

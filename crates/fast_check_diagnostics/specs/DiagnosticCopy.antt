@@ -1,55 +1,41 @@
 -- What a copy of a diagnostic is.
-use Rattle.std.specs.Prelude.{◌≡◌, String, string_bytes}
+use Rattle.std.specs.Prelude.{◌≡◌, ℕ, Bool, false, List, [], ◌∷◌, String, string_bytes}
 use Rattle.std.specs.Global.{Global}
 use Rattle.url.specs.Parts.{Parts}
 use Rattle.fast_check_diagnostics.specs.declared.diagnostics.range.FastCheckDiagnosticRange.{FastCheckDiagnosticRange}
 use Rattle.fast_check_diagnostics.specs.declared.diagnostics.FastCheckDiagnostic.{FastCheckDiagnostic}
 use Rattle.fast_check_diagnostics.specs.declared.diagnostics.FastCheckDiagnostic.TheVariants as kinds
 use Rattle.fast_check_diagnostics.specs.DiagnosticRange.{IsCopy}
+use Rattle.fast_check_diagnostics.specs.Subject.{Subject, Part, Whole}
+use Rattle.fast_check_diagnostics.specs.Diagnostic.{report_of}
 
--- a copy is of the same kind, and its parts are those of the first: places are copies, texts have the same bytes, all
--- else is equal
-unfoldable pub IsDiagnosticCopy : FastCheckDiagnostic → FastCheckDiagnostic → Type 0
-IsDiagnosticCopy (kinds.NotFoundReference range name referrer) (kinds.NotFoundReference copy name_copy referrer_copy) =
-    IsCopy range copy × (string_bytes name_copy ≡ string_bytes name) ×
-    (string_bytes referrer_copy ≡ string_bytes referrer)
-IsDiagnosticCopy (kinds.MissingExplicitType range) (kinds.MissingExplicitType copy) = IsCopy range copy
-IsDiagnosticCopy (kinds.MissingExplicitReturnType range definite is_async)
-    (kinds.MissingExplicitReturnType copy definite_copy is_async_copy) =
-    IsCopy range copy × (definite_copy ≡ definite) × (is_async_copy ≡ is_async)
-IsDiagnosticCopy (kinds.UnsupportedAmbientModule range) (kinds.UnsupportedAmbientModule copy) = IsCopy range copy
-IsDiagnosticCopy (kinds.UnsupportedComplexReference range name referrer)
-    (kinds.UnsupportedComplexReference copy name_copy referrer_copy) =
-    IsCopy range copy × (string_bytes name_copy ≡ string_bytes name) ×
-    (string_bytes referrer_copy ≡ string_bytes referrer)
-IsDiagnosticCopy (kinds.UnsupportedDefaultExportExpr range) (kinds.UnsupportedDefaultExportExpr copy) =
-    IsCopy range copy
-IsDiagnosticCopy (kinds.UnsupportedDestructuring range) (kinds.UnsupportedDestructuring copy) = IsCopy range copy
-IsDiagnosticCopy (kinds.UnsupportedExpandoProperty range object reference)
-    (kinds.UnsupportedExpandoProperty copy object_copy reference_copy) =
-    IsCopy range copy × (string_bytes object_copy ≡ string_bytes object) ×
-    (string_bytes reference_copy ≡ string_bytes reference)
-IsDiagnosticCopy (kinds.UnsupportedGlobalModule range) (kinds.UnsupportedGlobalModule copy) = IsCopy range copy
-IsDiagnosticCopy (kinds.UnsupportedRequire range) (kinds.UnsupportedRequire copy) = IsCopy range copy
-IsDiagnosticCopy (kinds.UnsupportedPrivateMemberReference range name referrer)
-    (kinds.UnsupportedPrivateMemberReference copy name_copy referrer_copy) =
-    IsCopy range copy × (string_bytes name_copy ≡ string_bytes name) ×
-    (string_bytes referrer_copy ≡ string_bytes referrer)
-IsDiagnosticCopy (kinds.UnsupportedSuperClassExpr range) (kinds.UnsupportedSuperClassExpr copy) = IsCopy range copy
-IsDiagnosticCopy (kinds.UnsupportedTsExportAssignment range) (kinds.UnsupportedTsExportAssignment copy) =
-    IsCopy range copy
-IsDiagnosticCopy (kinds.UnsupportedTsNamespaceExport range) (kinds.UnsupportedTsNamespaceExport copy) =
-    IsCopy range copy
-IsDiagnosticCopy (kinds.UnsupportedUsing range) (kinds.UnsupportedUsing copy) = IsCopy range copy
-IsDiagnosticCopy (kinds.UnsupportedNestedJavaScript specifier) (kinds.UnsupportedNestedJavaScript copy) =
-    copy ≡ specifier
-IsDiagnosticCopy (kinds.UnsupportedJavaScriptEntrypoint specifier) (kinds.UnsupportedJavaScriptEntrypoint copy) =
-    copy ≡ specifier
-IsDiagnosticCopy (kinds.Emit specifier inner) (kinds.Emit copy inner_copy) = (copy ≡ specifier) ×
-    (string_bytes inner_copy ≡ string_bytes inner)
-IsDiagnosticCopy (kinds.ExportNotFound specifier) (kinds.ExportNotFound copy) = copy ≡ specifier
-IsDiagnosticCopy (kinds.Cached specifier) (kinds.Cached copy) = copy ≡ specifier
-IsDiagnosticCopy _ _ = ⊥
+-- a copy of a place or of a module
+abbrev pub IsSubjectCopy : Subject → Subject → Type 0
+IsSubjectCopy (Part range) (Part copy) = IsCopy range copy
+IsSubjectCopy (Whole specifier) (Whole copy) = copy ≡ specifier
+IsSubjectCopy _ _ = ⊥
+
+-- the texts that a diagnostic holds
+unfoldable pub texts_in : FastCheckDiagnostic → List (List ℕ)
+texts_in (kinds.NotFoundReference _ name referrer) = string_bytes name ∷ string_bytes referrer ∷ []
+texts_in (kinds.UnsupportedComplexReference _ name referrer) = string_bytes name ∷ string_bytes referrer ∷ []
+texts_in (kinds.UnsupportedExpandoProperty _ object reference) = string_bytes object ∷ string_bytes reference ∷ []
+texts_in (kinds.UnsupportedPrivateMemberReference _ name referrer) = string_bytes name ∷ string_bytes referrer ∷ []
+texts_in (kinds.Emit _ inner) = string_bytes inner ∷ []
+texts_in _ = []
+
+-- whether it is of a function that is definitely void or never, and of one that is asynchronous
+unfoldable pub flags_in : FastCheckDiagnostic → Bool × Bool
+flags_in (kinds.MissingExplicitReturnType _ is_definitely_void_or_never is_async) =
+    (is_definitely_void_or_never, is_async)
+flags_in _ = (false, false)
+
+-- a copy is of the same kind, by the name of the kind, and so are its flags; its place or module is a copy, and its
+-- texts have the same bytes
+abbrev pub IsDiagnosticCopy : FastCheckDiagnostic → FastCheckDiagnostic → Type 0
+IsDiagnosticCopy d copy =
+    ((report_of copy).code ≡ (report_of d).code) × IsSubjectCopy (report_of d).subject (report_of copy).subject ×
+    (texts_in copy ≡ texts_in d) × (flags_in copy ≡ flags_in d)
 
 -- the diagnostic of the same kind that holds this place and these names, for the kinds that hold a place and two names
 unfoldable pub with_names : FastCheckDiagnostic → FastCheckDiagnosticRange → String Global → String Global →

@@ -1,8 +1,9 @@
 pub mod PublicRanges
 pub mod DiagnosticRange
-pub mod DiagnosticCopy
 pub mod DiagnosticView
 pub mod Subject
-pub mod KindTexts
+pub mod Report
 pub mod Diagnostic
+pub mod DiagnosticCopy
+pub mod KindTexts
 pub mod parsed_source

@@ -132,9 +132,9 @@ enum Subject<'a> {
 }
 
 impl FastCheckDiagnostic {
-    ghost use Rattle.fast_check_diagnostics.specs.KindTexts.{shown_texts};
+    ghost use Rattle.fast_check_diagnostics.specs.KindTexts.{shown_texts, texts_of};
     ghost use Rattle.fast_check_diagnostics.specs.Subject.{shown_subject};
-    ghost use Rattle.fast_check_diagnostics.specs.Diagnostic.{specifier_of, range_of, range_description_of, texts_of, subject_of};
+    ghost use Rattle.fast_check_diagnostics.specs.Diagnostic.{specifier_of, range_of, report_of};
 
     /// The module that it speaks of.
     pub fn specifier(&self) -> &Url
@@ -158,13 +158,13 @@ impl FastCheckDiagnostic {
 
     /// What that part of the source text is to the reader. None where nothing is to be said, or where there is no such part.
     pub fn range_description(&self) -> Option<&'static str>
-        ensures { option_copied result ≡ range_description_of self.now }
+        ensures { option_copied result ≡ (report_of self.now).range_description }
     {
         self.texts().range_description
     }
 
     fn subject(&self) -> Subject<'_>
-        ensures { shown_subject result ≡ subject_of self.now }
+        ensures { shown_subject result ≡ (report_of self.now).subject }
     {
         match self {
             Self::NotFoundReference { range, .. }
@@ -221,9 +221,9 @@ impl FastCheckDiagnostic {
 }
 
 impl fmt::Display for FastCheckDiagnostic {
-    ghost use Rattle.fast_check_diagnostics.specs.Diagnostic.{message_of};
+    ghost use Rattle.fast_check_diagnostics.specs.Diagnostic.{report_of};
 
-    ghost output = { λ diagnostic. Some (message_of diagnostic) };
+    ghost output = { λ diagnostic. Some (report_of diagnostic).message };
 
     fn fmt<W: fmt::Write>(&self, f: &mut fmt::Formatter<W>) -> fmt::Result {
         match self {

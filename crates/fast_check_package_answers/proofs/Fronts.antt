@@ -16,7 +16,7 @@ use Rattle.fast_check_transform_module.specs.Transform.{faults}
 use Rattle.fast_check_package_answers.specs.PackageFaults.{PublicModule, PackageFault, met, found, faults_in_tree, found_or, module_faults}
 use Rattle.fast_check_package_answers.specs.PackageFaults.{first_list, package_faults}
 use Rattle.fast_check_package_answers.specs.PackageAnswer.{IsFrontAlone}
-use Rattle.fast_check_package_answers.proofs.Lists.{front_empty}
+use Rattle.fast_check_signatures.proofs.Choices.{no_left}
 
 -- a front of a list, which is empty where the list is
 record IsFront (front all : List PackageFault) : Type 0 where
@@ -68,5 +68,5 @@ front_alone graph root modules =
     let h = in_package graph root modules in record {
       rest = h.rest;
       front = h.joined;
-      same_refused = (h.empty, λ e. front_empty _ h.rest (sym h.joined ∙ e));
+      same_refused = (h.empty, λ e. no_left _ h.rest (sym h.joined ∙ e));
     }

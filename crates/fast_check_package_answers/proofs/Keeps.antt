@@ -5,7 +5,7 @@ use Rattle.std.proofs.Common.{Bool, ◌∙◌, sym, ap, subst}
 use Rattle.url.specs.Parts.{Parts}
 use Rattle.fast_check_signatures.specs.declared.fault.Fault.{Fault}
 use Rattle.fast_check_modules.specs.EsModule.{EsModule}
-use Rattle.fast_check_modules.specs.diagnostics.Diagnostic.{specifier_of, subject_of}
+use Rattle.fast_check_modules.specs.diagnostics.Diagnostic.{specifier_of, report_of}
 use Rattle.fast_check_modules.specs.diagnostics.declared.diagnostics.FastCheckDiagnostic.{FastCheckDiagnostic}
 use Rattle.fast_check_modules.specs.diagnostics.declared.diagnostics.FastCheckDiagnostic.TheVariants as kinds
 use Rattle.fast_check_packages.specs.Package.{nv_of}
@@ -22,7 +22,7 @@ use Rattle.fast_check_package_answers.proofs.Turns.{all_shown}
 
 -- a fault is told of its own module
 diagnosed_at : (info : EsModule) (fault : Fault) (d : FastCheckDiagnostic) → IsDiagnosticOf info fault d → specifier_of d ≡ info.specifier
-unfolding subject_of
+unfolding report_of
 diagnosed_at info fault (kinds.MissingExplicitType place) h = h.1.specifier
 diagnosed_at info fault (kinds.MissingExplicitReturnType place void async) h = h.1.specifier
 diagnosed_at info fault (kinds.UnsupportedDestructuring place) h = h.1.specifier

@@ -1,14 +1,16 @@
 -- The modules before the first with something wrong.
-use Rattle.std.specs.Prelude.{◌≡◌, ◌≢◌, ℕ, ◌==◌, Bool, true, false, ◌&&◌, List, [], ◌∷◌, ◌++◌, length, map, refl}
+use Rattle.std.specs.Prelude.{◌≡◌, ◌≢◌, ◌==◌, Bool, true, false, ◌&&◌, List, [], ◌∷◌, ◌++◌, length, map, refl}
 use Rattle.std.specs.List.{flat_map, list_all, take_while}
 use Rattle.std.proofs.Common.{◌∙◌, sym, ap, cond}
+use Rattle.std.proofs.lemmas.Bool.{and_parts, and_from}
 use Rattle.std.proofs.lemmas.List.Sums.{take_while-cons}
 use Rattle.std.proofs.lemmas.List.{append-nil}
 use Rattle.fast_check_graph.specs.declared.graph.ModuleGraph.{ModuleGraph}
 use Rattle.fast_check_graph.specs.declared.root_symbol.RootSymbol.{RootSymbol}
 use Rattle.fast_check_package_answers.specs.PackageFaults.{PublicModule, PackageFault, first_list, module_faults, package_faults, is_sound}
 use Rattle.fast_check_package_answers.specs.PackageFaults.{sound_front}
-use Rattle.fast_check_package_answers.proofs.Lists.{front_empty, back_empty, empty_test, test_empty, full_test}
+use Rattle.fast_check_signatures.proofs.Choices.{no_left, no_right}
+use Rattle.fast_check_package_answers.proofs.Lists.{empty_test, test_empty, full_test}
 
 -- ---- fronts of lists
 
@@ -18,28 +20,16 @@ while_true p x xs e = take_while-cons p x xs ∙ ap (λ b. cond b (x ∷ take_wh
 while_false : {A : Type 0} (p : A → Bool) (x : A) (xs : List A) → p x ≡ false → take_while p (x ∷ xs) ≡ []
 while_false p x xs e = take_while-cons p x xs ∙ ap (λ b. cond b (x ∷ take_while p xs) []) e
 
-both_left : (a b : Bool) → (a && b) ≡ true → a ≡ true
-both_left true b e = refl
-both_left false b e = cc
-
-both_right : (a b : Bool) → (a && b) ≡ true → b ≡ true
-both_right true b e = e
-both_right false b e = cc
-
-both_true : (a b : Bool) → a ≡ true → b ≡ true → (a && b) ≡ true
-both_true true b e h = h
-both_true false b e h = cc
-
 while_front : {A : Type 0} (p : A → Bool) (xs ys : List A) → list_all p xs ≡ true → take_while p (xs ++ ys) ≡ xs ++ take_while p ys
 while_front p [] ys e = refl
 while_front p (x ∷ xs) ys e =
-    while_true p x (xs ++ ys) (both_left (p x) (list_all p xs) e)
-    ∙ ap (λ zs. x ∷ zs) (while_front p xs ys (both_right (p x) (list_all p xs) e))
+    while_true p x (xs ++ ys) (and_parts (p x) (list_all p xs) e).0
+    ∙ ap (λ zs. x ∷ zs) (while_front p xs ys (and_parts (p x) (list_all p xs) e).1)
 
 while_all : {A : Type 0} (p : A → Bool) (xs : List A) → list_all p xs ≡ true → take_while p xs ≡ xs
 while_all p [] e = refl
 while_all p (x ∷ xs) e =
-    while_true p x xs (both_left (p x) (list_all p xs) e) ∙ ap (λ zs. x ∷ zs) (while_all p xs (both_right (p x) (list_all p xs) e))
+    while_true p x xs (and_parts (p x) (list_all p xs) e).0 ∙ ap (λ zs. x ∷ zs) (while_all p xs (and_parts (p x) (list_all p xs) e).1)
 
 one_stop : {A : Type 0} (p : A → Bool) (x : A) (xs ys : List A) (b : Bool) → p x ≡ b →
     (list_all p xs ≡ false → take_while p (xs ++ ys) ≡ take_while p xs) → (b && list_all p xs) ≡ false →
@@ -64,26 +54,26 @@ sound f m = length (f m) == 0
 sound_joined : (f : PublicModule → List PackageFault) (ms : List PublicModule) → flat_map f ms ≡ [] → list_all (sound f) ms ≡ true
 sound_joined f [] e = refl
 sound_joined f (m ∷ ms) e =
-    both_true (sound f m) (list_all (sound f) ms) (empty_test (f m) (front_empty (f m) (flat_map f ms) e))
-    (sound_joined f ms (back_empty (f m) (flat_map f ms) e))
+    and_from (sound f m) (list_all (sound f) ms) (empty_test (f m) (no_left (f m) (flat_map f ms) e))
+    (sound_joined f ms (no_right (f m) (flat_map f ms) e))
 
 sound_first : (f : PublicModule → List PackageFault) (ms : List PublicModule) → first_list (map f ms) ≡ [] → list_all (sound f) ms ≡ true
 sound_first f [] e = refl
 sound_first f (m ∷ ms) e =
     let h = first_empty (f m) (map f ms) e in
-    both_true (sound f m) (list_all (sound f) ms) (empty_test (f m) h.0) (sound_first f ms h.1)
+    and_from (sound f m) (list_all (sound f) ms) (empty_test (f m) h.0) (sound_first f ms h.1)
 
 joined_sound : (f : PublicModule → List PackageFault) (ms : List PublicModule) → list_all (sound f) ms ≡ true → flat_map f ms ≡ []
 joined_sound f [] e = refl
 joined_sound f (m ∷ ms) e =
-    ap (λ rs. rs ++ flat_map f ms) (test_empty (f m) (both_left (sound f m) (list_all (sound f) ms) e))
-    ∙ joined_sound f ms (both_right (sound f m) (list_all (sound f) ms) e)
+    ap (λ rs. rs ++ flat_map f ms) (test_empty (f m) (and_parts (sound f m) (list_all (sound f) ms) e).0)
+    ∙ joined_sound f ms (and_parts (sound f m) (list_all (sound f) ms) e).1
 
 first_sound : (f : PublicModule → List PackageFault) (ms : List PublicModule) → list_all (sound f) ms ≡ true → first_list (map f ms) ≡ []
 first_sound f [] e = refl
 first_sound f (m ∷ ms) e =
-    ap (λ rs. first_list (rs ∷ map f ms)) (test_empty (f m) (both_left (sound f m) (list_all (sound f) ms) e))
-    ∙ first_sound f ms (both_right (sound f m) (list_all (sound f) ms) e)
+    ap (λ rs. first_list (rs ∷ map f ms)) (test_empty (f m) (and_parts (sound f m) (list_all (sound f) ms) e).0)
+    ∙ first_sound f ms (and_parts (sound f m) (list_all (sound f) ms) e).1
 
 all_sound : (first : Bool) (graph : ModuleGraph) (root : RootSymbol) (ms : List PublicModule) → package_faults first graph root ms ≡ [] →
     list_all (is_sound first graph root) ms ≡ true

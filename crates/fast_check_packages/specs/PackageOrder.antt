@@ -1,3 +1,4 @@
+-- Inner: no contract of a public call cites what stands here.
 -- The order of packages is total, and only equal packages tie.
 use Rattle.std.proofs.Common.{◌≡◌, ◌∙◌, Bool, ◌&&◌, Some, ap}
 use Rattle.std.specs.Ordering.{nat_cmp, eq_by_cmp, ordering_then, is_eq}

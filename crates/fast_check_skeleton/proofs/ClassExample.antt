@@ -33,7 +33,8 @@ use Rattle.fast_check_skeleton.specs.Hidden.{AgreeHidden, SameFunctionDecl, Same
 use Rattle.fast_check_skeleton.specs.Hidden as h
 use Rattle.fast_check_skeleton.specs.Visible.{items_of}
 use Rattle.fast_check_skeleton.specs.Skeleton.{skeleton_of}
-use Rattle.fast_check_skeleton.specs.ClassExample.{void_function, function_f, method_m, class_of_members, class_c, static_block}
+use Rattle.fast_check_skeleton.specs.HiddenChanges.{void_function}
+use Rattle.fast_check_skeleton.specs.ClassExample.{function_f, method_m, class_of_members, class_c, static_block}
 use Rattle.fast_check_skeleton.specs.ClassExample.{empty_statement, parameter, module_of, first, second, no_places, no_classes, all_public}
 use Rattle.fast_check_skeleton.specs.ClassExample.{property_m, ClassExample}
 use Rattle.fast_check_skeleton.proofs.TypedFunctions.{absent}

@@ -1,31 +1,21 @@
 -- The two modules of the example with hidden changes of all kinds agree.
-use Rattle.std.specs.Prelude.{◌≡◌, ℕ, true, false, Some, List, [], ◌∷◌, refl}
+use Rattle.std.specs.Prelude.{◌≡◌, ℕ, false, List, [], ◌∷◌, refl}
 use Rattle.std.specs.List.{list_any}
-use Rattle.std.proofs.Common.{inl, ap, ◌∙◌, sym, subst₂}
+use Rattle.std.proofs.Common.{inl, sym, subst₂}
 use Rattle.fast_check_syntax.specs.declared.kind.Kind.TheVariants as kinds
-use Rattle.fast_check_syntax.specs.declared.kind.Word.TheVariants as words
 use Rattle.fast_check_syntax.specs.declared.source.SourceRange.{SourceRange}
 use Rattle.fast_check_syntax.specs.declared.tree.Tree.{Tree, Absent}
 use Rattle.fast_check_syntax.specs.Shape.{none_range, list, parts}
 use Rattle.fast_check_syntax.proofs.Made.{kind_of_node, parts_node, part_node, is_absent_node, flag_of_flag, range_of_range}
-use Rattle.fast_check_syntax.proofs.Moved.{node_moved, absent_moved, range_moved, none_moved, context_moved, text_moved, flag_moved}
-use Rattle.fast_check_syntax.proofs.Moved.{word_moved}
 use Rattle.fast_check_class_forms.specs.Classes.{Class-body}
 use Rattle.fast_check_class_forms.specs.Functions.{Function-params, Param-span, param}
 use Rattle.fast_check_expression_forms.specs.Operators.{AssignExpr-right}
-use Rattle.fast_check_expression_forms.specs.Patterns.{AssignPat-right}
 use Rattle.fast_check_program_forms.specs.Literals.{number}
-use Rattle.fast_check_program_forms.specs.Names.{binding_ident}
 use Rattle.fast_check_statement_forms.specs.Declarations.{ClassDecl-class, FnDecl-function}
 use Rattle.fast_check_statement_forms.specs.Statements.{ExprStmt-expr}
-use Rattle.fast_check_swc_helpers.specs.declared.literal_type.DeclMutabilityKind.TheVariants.{Mutable}
-use Rattle.fast_check_swc_helpers.specs.Builders.{new_ident, ts_keyword_type}
-use Rattle.fast_check_swc_helpers.specs.InferredType.{inferred_type}
-use Rattle.fast_check_swc_helpers.proofs.InferredTypes.{inferred_out}
+use Rattle.fast_check_swc_helpers.specs.Builders.{new_ident}
 use Rattle.fast_check_modules.specs.Expandos.{is_expando_assignment}
-use Rattle.fast_check_signatures.specs.Expressions.{is_refused}
 use Rattle.fast_check_signatures.specs.Members.{is_hash_named}
-use Rattle.fast_check_signatures.specs.NewNodes.{no_scope}
 use Rattle.fast_check_skeleton.specs.SameClasses.{SameMembers, SameClassHead, SameClass}
 use Rattle.fast_check_skeleton.specs.SameClasses as s
 use Rattle.fast_check_skeleton.specs.SameValues.{SameExpr, SameFunction, SameParams, SamePat}
@@ -34,11 +24,12 @@ use Rattle.fast_check_skeleton.specs.Hidden.{AgreeHidden, SameFunctionDecl, Same
 use Rattle.fast_check_skeleton.specs.Hidden as h
 use Rattle.fast_check_skeleton.specs.SameAssignments.{SameAssignment}
 use Rattle.fast_check_skeleton.specs.SameAssignments as forms
-use Rattle.fast_check_skeleton.specs.ClassExample.{void_function, empty_statement, no_places, no_classes, all_public}
-use Rattle.fast_check_skeleton.specs.HiddenChangesExample.{name_a, name_n, name_p, number_type, numbers_type, pattern, typed_default}
-use Rattle.fast_check_skeleton.specs.HiddenChangesExample.{shown_default, parameters, function_of, decorated, class_of, decorator}
-use Rattle.fast_check_skeleton.specs.HiddenChangesExample.{assignment_z, assigned_z, call, sequence, first, second, HiddenChangesExample}
-use Rattle.fast_check_skeleton.proofs.ClassExample.{is_renaming, Same, SamePlace, new_same, same_absent, same_none, same_ident, at_places}
+use Rattle.fast_check_skeleton.specs.HiddenChanges.{void_function, call, sequence, HiddenChanges}
+use Rattle.fast_check_skeleton.specs.ClassExample.{empty_statement, no_places, no_classes, all_public}
+use Rattle.fast_check_skeleton.specs.HiddenChangesExample.{name_a, parameters, function_of, decorated, class_of, decorator}
+use Rattle.fast_check_skeleton.specs.HiddenChangesExample.{assignment_z, assigned_z, first, second, HiddenChangesExample}
+use Rattle.fast_check_skeleton.proofs.HiddenChanges.{hides_changes}
+use Rattle.fast_check_skeleton.proofs.ClassExample.{is_renaming, SamePlace, same_absent, same_none, same_ident, at_places}
 use Rattle.fast_check_skeleton.proofs.ClassExample.{in_scopes, are_same, function_head, function_return, f, members, first_members}
 use Rattle.fast_check_skeleton.proofs.ClassExample.{second_members, neither_hashed, items_made}
 use Rattle.fast_check_skeleton.proofs.ExpandoExample.{both_assigned}
@@ -47,56 +38,23 @@ use Rattle.fast_check_skeleton.proofs.ModuleExample.{text_of_text}
 
 -- ---- parameters
 
-same_number : Same (ts_keyword_type words.TsNumberKeyword) (ts_keyword_type words.TsNumberKeyword)
-same_number = new_same (ts_keyword_type words.TsNumberKeyword) (λ m ok. simp (node_moved, range_moved, none_moved m ok, word_moved))
-
-same_numbers : Same numbers_type numbers_type
-same_numbers = new_same numbers_type (λ m ok. simp (node_moved, range_moved, none_moved m ok, word_moved))
-
-same_typed : Same (binding_ident name_n number_type) (binding_ident name_n number_type)
-same_typed = new_same (binding_ident name_n number_type)
-    (λ m ok. simp (node_moved, range_moved, none_moved m ok, context_moved, text_moved, flag_moved, word_moved, ok.scope_zero))
-
-same_untyped : Same (binding_ident name_p Absent) (binding_ident name_p Absent)
-same_untyped = new_same (binding_ident name_p Absent)
-    (λ m ok. simp (node_moved, range_moved, none_moved m ok, context_moved, text_moved, flag_moved, absent_moved, ok.scope_zero))
-
 abbrev SamePat' : Tree → Tree → Type 0
 SamePat' = SamePat no_places no_classes no_classes
 
-patterns : (es ds : List Tree) → SamePat' (pattern es) (pattern ds)
-patterns es ds = v.SamePat.emptied (v.SameEmptied.array (record { left = kind_of_node _ _; right = kind_of_node _ _ })
-    (at_places _ _ (simp (part_node, range_of_range)) (simp (part_node, range_of_range))) (simp (part_node, flag_of_flag))
-    (are_same _ _ numbers_type (part_node _ _ _) (part_node _ _ _) same_numbers))
-
-typed_defaults : (x y : List ℕ) → SamePat' (typed_default x) (typed_default y)
-typed_defaults x y = v.SamePat.typed_default (record { left = kind_of_node _ _; right = kind_of_node _ _ })
-    (record { left = simp (part_node, kind_of_node); right = simp (part_node, kind_of_node) })
-    (are_same _ _ (binding_ident name_n number_type) (part_node _ _ _) (part_node _ _ _) same_typed) (simp (part_node, is_absent_node))
-
-shows : (x : List ℕ) → inferred_type Mutable no_scope (AssignPat-right (shown_default x)) ≡ Some (ts_keyword_type words.TsNumberKeyword)
-shows x = ap (inferred_type Mutable no_scope) (part_node _ _ _) ∙ (inferred_out Mutable no_scope (number _ x) ∙ simp kind_of_node)
-
-shown_defaults : (x y : List ℕ) → SamePat' (shown_default x) (shown_default y)
-shown_defaults x y = v.SamePat.shown_default (record { left = kind_of_node _ _; right = kind_of_node _ _ })
-    (record { left = simp (part_node, kind_of_node); right = simp (part_node, kind_of_node) })
-    (are_same _ _ (binding_ident name_p Absent) (part_node _ _ _) (part_node _ _ _) same_untyped) (record {
-      left = ts_keyword_type words.TsNumberKeyword;
-      right = ts_keyword_type words.TsNumberKeyword;
-      left_is = shows x;
-      right_is = shows y;
-      types = same_number;
-    })
+-- what is hidden under each renaming
+hidden : HiddenChanges no_places no_classes no_classes f f
+hidden = hides_changes no_places is_renaming no_classes no_classes f f
 
 placed : (pat pat' : Tree) → SamePlace (Param-span (param none_range (list []) pat)) (Param-span (param none_range (list []) pat'))
 placed pat pat' = at_places _ _ (simp (part_node, range_of_range)) (simp (part_node, range_of_range))
 
 all_parameters : (es ds : List Tree) (x y : List ℕ) → SameParams no_places no_classes no_classes (parameters es x) (parameters ds y)
 all_parameters es ds x y =
-    v.SameParams.next_param (placed _ _) (subst₂ SamePat' (sym (part_node _ _ _)) (sym (part_node _ _ _)) (patterns es ds))
-    (v.SameParams.next_param (placed _ _) (subst₂ SamePat' (sym (part_node _ _ _)) (sym (part_node _ _ _)) (typed_defaults x y))
+    v.SameParams.next_param (placed _ _) (subst₂ SamePat' (sym (part_node _ _ _)) (sym (part_node _ _ _)) (hidden.elements es ds))
     (v.SameParams.next_param (placed _ _)
-    (subst₂ SamePat' (sym (part_node _ _ _)) (sym (part_node _ _ _)) (shown_defaults x y)) v.SameParams.no_params))
+    (subst₂ SamePat' (sym (part_node _ _ _)) (sym (part_node _ _ _)) (hidden.typed_defaults (number none_range x) (number none_range y)))
+    (v.SameParams.next_param (placed _ _)
+    (subst₂ SamePat' (sym (part_node _ _ _)) (sym (part_node _ _ _)) (hidden.shown_defaults x y)) v.SameParams.no_params))
 
 -- ---- the function
 
@@ -171,12 +129,6 @@ class_items cs ds = h.SameItem.decl (h.SameDecl.class (class_decls cs ds first_m
 
 -- ---- the values that may not stay
 
-call_refused : is_refused no_classes call ≡ true
-call_refused = simp (kind_of_node, part_node)
-
-sequence_refused : is_refused no_classes sequence ≡ true
-sequence_refused = simp kind_of_node
-
 right_made : (value : Tree) → AssignExpr-right (assignment_z value) ≡ value
 right_made value = part_node _ _ _
 
@@ -189,7 +141,7 @@ assignments = record {
   is_public = refl;
   form = forms.SameForm.other (no_expando call) (no_expando sequence);
   right = subst₂ (SameExpr no_places no_classes no_classes) (sym (right_made call)) (sym (right_made sequence))
-      (v.SameExpr.refused call_refused sequence_refused);
+      hidden.refused;
   right_range = at_places _ _ (simp (part_node, kind_of_node, range_of_range)) (simp (part_node, kind_of_node, range_of_range));
 }
 

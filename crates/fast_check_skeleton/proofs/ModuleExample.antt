@@ -19,7 +19,8 @@ use Rattle.fast_check_skeleton.specs.SameDefaults as d
 use Rattle.fast_check_skeleton.specs.SameLinks.{SamePublic, SameSource, SameImport}
 use Rattle.fast_check_skeleton.specs.SameLinks as l
 use Rattle.fast_check_skeleton.specs.Skeleton.{skeleton_of}
-use Rattle.fast_check_skeleton.specs.ClassExample.{void_function, empty_statement, no_places, no_classes}
+use Rattle.fast_check_skeleton.specs.HiddenChanges.{void_function}
+use Rattle.fast_check_skeleton.specs.ClassExample.{empty_statement, no_places, no_classes}
 use Rattle.fast_check_skeleton.specs.ModuleExample as e
 use Rattle.fast_check_skeleton.specs.ModuleExample.{written_source, import_of, default_function, first, second, around, answered}
 use Rattle.fast_check_skeleton.specs.ModuleExample.{ModuleExample}

@@ -35,7 +35,8 @@ use Rattle.fast_check_skeleton.specs.Hidden.{IsSilent, AgreeHidden, SameFunction
 use Rattle.fast_check_skeleton.specs.Hidden as h
 use Rattle.fast_check_skeleton.specs.SameAssignments.{SameExpando, SameAssignment}
 use Rattle.fast_check_skeleton.specs.SameAssignments as forms
-use Rattle.fast_check_skeleton.specs.ClassExample.{void_function, function_f, empty_statement, no_places, no_classes}
+use Rattle.fast_check_skeleton.specs.HiddenChanges.{void_function}
+use Rattle.fast_check_skeleton.specs.ClassExample.{function_f, empty_statement, no_places, no_classes}
 use Rattle.fast_check_skeleton.specs.ExpandoExample.{target, assignment, assigned}
 use Rattle.fast_check_skeleton.specs.SilentAssignmentExample.{name_b, name_c, silent, first, second, exporting_b, around}
 use Rattle.fast_check_skeleton.specs.SilentAssignmentExample.{SilentAssignmentExample}

@@ -11,26 +11,21 @@ use Rattle.fast_check_syntax.specs.declared.tree.Tree.{Tree, Absent}
 use Rattle.fast_check_syntax.specs.Shape.{none_range, node, list}
 use Rattle.fast_check_syntax.specs.Moves.{Renaming, IsRenaming}
 use Rattle.fast_check_class_forms.specs.Classes.{class}
-use Rattle.fast_check_class_forms.specs.Functions.{function, param}
+use Rattle.fast_check_class_forms.specs.Functions.{param}
 use Rattle.fast_check_class_forms.specs.Methods.{class_method}
 use Rattle.fast_check_program_forms.specs.Names.{binding_ident}
 use Rattle.fast_check_program_forms.specs.Programs.{module'}
 use Rattle.fast_check_statement_forms.specs.Declarations.{class_decl, fn_decl}
-use Rattle.fast_check_swc_helpers.specs.Builders.{new_ident, ts_keyword_type, type_ann, any_type_ann}
+use Rattle.fast_check_swc_helpers.specs.Builders.{new_ident, any_type_ann}
 use Rattle.fast_check_signatures.specs.Answers.{declared_property}
 use Rattle.fast_check_signatures.specs.Bindings.{Bindings}
 use Rattle.fast_check_signatures.specs.NewNodes.{no_scope, new_block, ident_name}
 use Rattle.fast_check_skeleton.specs.Example.{at}
+use Rattle.fast_check_skeleton.specs.HiddenChanges.{void_function}
 use Rattle.fast_check_expandos.specs.Objects.{no_objects}
 use Rattle.fast_check_skeleton.specs.Surroundings.{Surroundings}
 use Rattle.fast_check_skeleton.specs.Hidden.{AgreeHidden}
 use Rattle.fast_check_skeleton.specs.Skeleton.{skeleton_of}
-
--- `(params): void { stmts }`
-abbrev pub void_function : List Tree → List Tree → Tree
-void_function params stmts =
-    function none_range (list params) (list []) no_scope (new_block stmts) false false Absent
-    (type_ann (ts_keyword_type words.TsVoidKeyword))
 
 -- `function f(): void { stmts }`
 abbrev pub function_f : List Tree → Tree

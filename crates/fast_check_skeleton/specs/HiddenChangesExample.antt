@@ -8,58 +8,30 @@
 -- that may not stay. What agrees stands at the place of no text. The static block begins at 7.
 use Rattle.std.specs.Prelude.{ℕ, false, List, [], ◌∷◌, codes}
 use Rattle.fast_check_syntax.specs.declared.kind.Kind.TheVariants as kinds
-use Rattle.fast_check_syntax.specs.declared.kind.Word.TheVariants as words
 use Rattle.fast_check_syntax.specs.declared.tree.Tree as tree
 use Rattle.fast_check_syntax.specs.declared.tree.Tree.{Tree, Absent}
 use Rattle.fast_check_syntax.specs.Shape.{none_range, node, list}
 use Rattle.fast_check_syntax.specs.Moves.{IsRenaming}
 use Rattle.fast_check_class_forms.specs.Classes.{class}
 use Rattle.fast_check_class_forms.specs.Functions.{param}
-use Rattle.fast_check_expression_forms.specs.Calls.{call_expr}
-use Rattle.fast_check_expression_forms.specs.Patterns.{array_pat, assign_pat}
 use Rattle.fast_check_program_forms.specs.Literals.{number}
 use Rattle.fast_check_program_forms.specs.Names.{binding_ident}
 use Rattle.fast_check_statement_forms.specs.Declarations.{class_decl, fn_decl}
-use Rattle.fast_check_swc_helpers.specs.Builders.{new_ident, ts_keyword_type, type_ann}
-use Rattle.fast_check_signatures.specs.NewNodes.{no_scope, ts_array_type}
-use Rattle.fast_check_skeleton.specs.ClassExample.{void_function, method_m, static_block, empty_statement, parameter}
+use Rattle.fast_check_swc_helpers.specs.Builders.{new_ident}
+use Rattle.fast_check_signatures.specs.NewNodes.{no_scope}
+use Rattle.fast_check_skeleton.specs.HiddenChanges.{void_function, pattern, typed_default, shown_default, call, sequence}
+use Rattle.fast_check_skeleton.specs.ClassExample.{method_m, static_block, empty_statement, parameter}
 use Rattle.fast_check_skeleton.specs.ClassExample.{module_of, no_places, all_public}
 use Rattle.fast_check_skeleton.specs.ExpandoExample.{x_value, y_value, assigned}
 use Rattle.fast_check_skeleton.specs.Hidden.{AgreeHidden}
 
--- `a`, `h`, `n` and `p`
+-- `a`, and `[elements]: number[], n: number = value, p = value`
 abbrev pub name_a : Tree
 name_a = binding_ident (new_ident (97 ∷ [])) Absent
 
-abbrev pub name_h : Tree
-name_h = new_ident (104 ∷ [])
-
-abbrev pub name_n : Tree
-name_n = new_ident (110 ∷ [])
-
-abbrev pub name_p : Tree
-name_p = new_ident (112 ∷ [])
-
--- `: number` and `: number[]`
-abbrev pub number_type : Tree
-number_type = type_ann (ts_keyword_type words.TsNumberKeyword)
-
-abbrev pub numbers_type : Tree
-numbers_type = type_ann (ts_array_type none_range (ts_keyword_type words.TsNumberKeyword))
-
--- `[elements]: number[]`, `n: number = value` and `p = value`
-abbrev pub pattern : List Tree → Tree
-pattern elements = array_pat none_range (list elements) false numbers_type
-
-abbrev pub typed_default : List ℕ → Tree
-typed_default value = assign_pat none_range (binding_ident name_n number_type) (number none_range value)
-
-abbrev pub shown_default : List ℕ → Tree
-shown_default value = assign_pat none_range (binding_ident name_p Absent) (number none_range value)
-
 abbrev pub parameters : List Tree → List ℕ → List Tree
 parameters elements value =
-    param none_range (list []) (pattern elements) ∷ param none_range (list []) (typed_default value) ∷
+    param none_range (list []) (pattern elements) ∷ param none_range (list []) (typed_default (number none_range value)) ∷
     param none_range (list []) (shown_default value) ∷ []
 
 -- `function f(parameters): void { stmts }`
@@ -86,13 +58,6 @@ assignment_z value =
 
 abbrev pub assigned_z : Tree → Tree
 assigned_z value = node kinds.ExprStmt (tree.Range none_range ∷ assignment_z value ∷ [])
-
--- `h()` and `h, h`
-abbrev pub call : Tree
-call = call_expr none_range no_scope name_h (list []) Absent
-
-abbrev pub sequence : Tree
-sequence = node kinds.SeqExpr (tree.Range none_range ∷ list (name_h ∷ name_h ∷ []) ∷ [])
 
 abbrev pub first : Tree
 first =

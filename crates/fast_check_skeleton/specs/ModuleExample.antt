@@ -13,7 +13,8 @@ use Rattle.fast_check_expression_forms.specs.Expressions.{fn_expr}
 use Rattle.fast_check_program_forms.specs.Literals.{str}
 use Rattle.fast_check_program_forms.specs.ModuleDecls.{import_decl, export_default_decl}
 use Rattle.fast_check_swc_helpers.specs.Builders.{new_ident}
-use Rattle.fast_check_skeleton.specs.ClassExample.{void_function, empty_statement, module_of, no_places, no_classes}
+use Rattle.fast_check_skeleton.specs.HiddenChanges.{void_function}
+use Rattle.fast_check_skeleton.specs.ClassExample.{empty_statement, module_of, no_places, no_classes}
 use Rattle.fast_check_skeleton.specs.Example.{at}
 use Rattle.fast_check_skeleton.specs.Hidden.{AgreeHidden}
 use Rattle.fast_check_skeleton.specs.SameLinks.{SameSource}

@@ -3,7 +3,8 @@ use Rattle.std.specs.Prelude.{◌≡◌, Option, Some, None}
 use Rattle.std.proofs.Common.{ap, ◌∙◌, sym, subst}
 use Rattle.fast_check_modules.specs.diagnostics.declared.diagnostics.range.FastCheckDiagnosticRange.{FastCheckDiagnosticRange}
 use Rattle.fast_check_signatures.specs.declared.fault.FaultKind.{FaultKind}
-use Rattle.fast_check_transformer.specs.Compared.{SamePlace, Diagnosed}
+use Rattle.fast_check_transformer.specs.Compared.{SamePlace}
+use Rattle.fast_check_transform_module.specs.transform_faults.Diagnostics.{Diagnosed}
 use Rattle.fast_check_transformer.specs.Apart.{Compares}
 
 -- what is told of some kind at some places

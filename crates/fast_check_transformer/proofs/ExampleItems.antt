@@ -1,35 +1,28 @@
 -- Items of which the examples are made agree in surroundings with one public test, whatever is known of names and of objects.
-use Rattle.std.specs.Prelude.{◌≡◌, ℕ, Bool, true, false, Option, Some, List, [], ◌∷◌, refl}
+use Rattle.std.specs.Prelude.{◌≡◌, ℕ, Bool, false, Option, List, [], ◌∷◌, refl}
 use Rattle.std.specs.List.{list_any}
 use Rattle.std.proofs.Common.{arith, ap, ◌∙◌, sym, subst, subst₂}
 use Rattle.fast_check_syntax.specs.declared.kind.Word.TheVariants as words
 use Rattle.fast_check_syntax.specs.declared.source.SourceRange.{SourceRange}
-use Rattle.fast_check_syntax.specs.declared.source.SyntaxContext.{SyntaxContext}
 use Rattle.fast_check_syntax.specs.declared.tree.Tree as tree
 use Rattle.fast_check_syntax.specs.declared.tree.Tree.{Tree, Absent}
 use Rattle.fast_check_syntax.specs.Shape.{none_range, list, parts, has_word}
 use Rattle.fast_check_syntax.specs.Moves.{IsPair}
 use Rattle.fast_check_syntax.proofs.Made.{kind_of_node, parts_node, part_node, is_absent_node, flag_of_flag, range_of_range}
-use Rattle.fast_check_syntax.proofs.Moved.{node_moved, absent_moved, range_moved, none_moved, context_moved, text_moved, flag_moved}
+use Rattle.fast_check_syntax.proofs.Moved.{node_moved, range_moved, none_moved, text_moved}
 use Rattle.fast_check_syntax.proofs.Moved.{word_moved}
 use Rattle.fast_check_class_forms.specs.Classes.{Class-body}
 use Rattle.fast_check_class_forms.specs.Functions.{Function-params, Param-span, param}
 use Rattle.fast_check_expression_forms.specs.Operators.{AssignExpr-span, AssignExpr-right}
-use Rattle.fast_check_expression_forms.specs.Patterns.{AssignPat-right}
 use Rattle.fast_check_program_forms.specs.Literals.{number}
 use Rattle.fast_check_program_forms.specs.ModuleDecls.{ExportDecl-decl}
-use Rattle.fast_check_program_forms.specs.Names.{binding_ident}
 use Rattle.fast_check_swc_helpers.specs.ranges.Ranges.{range_of_node}
 use Rattle.fast_check_statement_forms.specs.Declarations.{ClassDecl-class, FnDecl-function, VarDecl-kind, VarDecl-decls, fn_decl}
 use Rattle.fast_check_statement_forms.specs.Statements.{ExprStmt-expr}
-use Rattle.fast_check_swc_helpers.specs.declared.literal_type.DeclMutabilityKind.TheVariants.{Mutable}
-use Rattle.fast_check_swc_helpers.specs.Builders.{new_ident, ts_keyword_type}
-use Rattle.fast_check_swc_helpers.specs.InferredType.{inferred_type}
-use Rattle.fast_check_swc_helpers.proofs.InferredTypes.{inferred_out}
+use Rattle.fast_check_swc_helpers.specs.Builders.{new_ident, type_ann}
 use Rattle.fast_check_modules.specs.Expandos.{is_expando_assignment}
 use Rattle.fast_check_skeleton.specs.signatures.Bindings.{Bindings}
 use Rattle.fast_check_skeleton.specs.signatures.Classes.{private_method_head}
-use Rattle.fast_check_skeleton.specs.signatures.Expressions.{is_refused}
 use Rattle.fast_check_skeleton.specs.signatures.Members.{is_hash_named}
 use Rattle.fast_check_skeleton.specs.signatures.NewNodes.{ident_name}
 use Rattle.fast_check_expandos.specs.Assignments.{mentioned_by}
@@ -47,14 +40,14 @@ use Rattle.fast_check_skeleton.specs.SameAssignments.{SameObject, SameExported, 
 use Rattle.fast_check_skeleton.specs.SameAssignments as forms
 use Rattle.fast_check_skeleton.specs.SameLinks as l
 use Rattle.fast_check_skeleton.specs.Example.{at}
-use Rattle.fast_check_skeleton.specs.ClassExample.{void_function, method_m, static_block, parameter, no_places}
+use Rattle.fast_check_skeleton.specs.ClassExample.{method_m, static_block, parameter, no_places}
 use Rattle.fast_check_skeleton.specs.ExpandoExample.{as_number, target, assignment, assigned}
-use Rattle.fast_check_skeleton.specs.HiddenChangesExample.{name_n, name_p, number_type, numbers_type, pattern, typed_default, shown_default}
-use Rattle.fast_check_skeleton.specs.HiddenChangesExample.{parameters}
-use Rattle.fast_check_skeleton.specs.HiddenChangesExample.{decorated, class_of, assignment_z, assigned_z, call, sequence}
+use Rattle.fast_check_skeleton.specs.HiddenChanges.{number_type, void_function, call, sequence, HiddenChanges}
+use Rattle.fast_check_skeleton.specs.HiddenChangesExample.{parameters, decorated, class_of, assignment_z, assigned_z}
+use Rattle.fast_check_skeleton.proofs.HiddenChanges.{hides_changes}
 use Rattle.fast_check_skeleton.specs.PrivateClassExample.{class_h, declarator_x, statement_x, export_x, one}
 use Rattle.fast_check_skeleton.proofs.ClassExample.{Same, SamePlace, new_same, same_absent, same_none, same_ident, at_places, in_scopes}
-use Rattle.fast_check_skeleton.proofs.ClassExample.{are_same}
+use Rattle.fast_check_skeleton.proofs.ClassExample.{are_same, is_renaming}
 use Rattle.fast_check_skeleton.proofs.ClassExample.{function_head, function_return, f, first_members, second_members, neither_hashed}
 use Rattle.fast_check_skeleton.proofs.ClassExample.{word_read}
 use Rattle.fast_check_skeleton.proofs.ExpandoExample.{same_target, left_made, right_made, assignment_made, is_one}
@@ -107,14 +100,8 @@ z_span value = simp (part_node, range_of_range)
 
 -- ---- trees that agree with themselves
 
-same_number : Same (ts_keyword_type words.TsNumberKeyword) (ts_keyword_type words.TsNumberKeyword)
-same_number = new_same (ts_keyword_type words.TsNumberKeyword) (λ m ok. simp (node_moved, range_moved, none_moved m ok, word_moved))
-
-same_annotation : Same number_type number_type
-same_annotation = new_same number_type (λ m ok. simp (node_moved, range_moved, none_moved m ok, word_moved))
-
-same_numbers : Same numbers_type numbers_type
-same_numbers = new_same numbers_type (λ m ok. simp (node_moved, range_moved, none_moved m ok, word_moved))
+same_annotation : Same (type_ann number_type) (type_ann number_type)
+same_annotation = new_same (type_ann number_type) (λ m ok. simp (node_moved, range_moved, none_moved m ok, word_moved))
 
 same_word : (w : _) → Same (tree.Word w) (tree.Word w)
 same_word w = new_same (tree.Word w) (λ m ok. word_moved m w)
@@ -122,53 +109,25 @@ same_word w = new_same (tree.Word w) (λ m ok. word_moved m w)
 same_name : (text : List ℕ) → Same (ident_name none_range text) (ident_name none_range text)
 same_name text = new_same (ident_name none_range text) (λ m ok. simp (node_moved, range_moved, none_moved m ok, text_moved))
 
-same_typed : Same (binding_ident name_n number_type) (binding_ident name_n number_type)
-same_typed = new_same (binding_ident name_n number_type)
-    (λ m ok. simp (node_moved, range_moved, none_moved m ok, context_moved, text_moved, flag_moved, word_moved, ok.scope_zero))
-
-same_untyped : Same (binding_ident name_p Absent) (binding_ident name_p Absent)
-same_untyped = new_same (binding_ident name_p Absent)
-    (λ m ok. simp (node_moved, range_moved, none_moved m ok, context_moved, text_moved, flag_moved, absent_moved, ok.scope_zero))
-
 -- ---- values, functions and classes
 
 module _ (c d : Bindings) where
   abbrev Pats : Tree → Tree → Type 0
   Pats = SamePat no_places c d
 
-  patterns : (es ds : List Tree) → Pats (pattern es) (pattern ds)
-  patterns es ds = v.SamePat.emptied (v.SameEmptied.array (record { left = kind_of_node _ _; right = kind_of_node _ _ })
-      (at_places _ _ (simp (part_node, range_of_range)) (simp (part_node, range_of_range))) (simp (part_node, flag_of_flag))
-      (are_same _ _ numbers_type (part_node _ _ _) (part_node _ _ _) same_numbers))
-
-  typed_defaults : (x y : List ℕ) → Pats (typed_default x) (typed_default y)
-  typed_defaults x y = v.SamePat.typed_default (record { left = kind_of_node _ _; right = kind_of_node _ _ })
-      (record { left = simp (part_node, kind_of_node); right = simp (part_node, kind_of_node) })
-      (are_same _ _ (binding_ident name_n number_type) (part_node _ _ _) (part_node _ _ _) same_typed) (simp (part_node, is_absent_node))
-
-  shows : (scope : SyntaxContext) (x : List ℕ) →
-      inferred_type Mutable scope (AssignPat-right (shown_default x)) ≡ Some (ts_keyword_type words.TsNumberKeyword)
-  shows scope x = ap (inferred_type Mutable scope) (part_node _ _ _) ∙ (inferred_out Mutable scope (number _ x) ∙ simp kind_of_node)
-
-  shown_defaults : (x y : List ℕ) → Pats (shown_default x) (shown_default y)
-  shown_defaults x y = v.SamePat.shown_default (record { left = kind_of_node _ _; right = kind_of_node _ _ })
-      (record { left = simp (part_node, kind_of_node); right = simp (part_node, kind_of_node) })
-      (are_same _ _ (binding_ident name_p Absent) (part_node _ _ _) (part_node _ _ _) same_untyped) (record {
-        left = ts_keyword_type words.TsNumberKeyword;
-        right = ts_keyword_type words.TsNumberKeyword;
-        left_is = shows c.unresolved x;
-        right_is = shows d.unresolved y;
-        types = same_number;
-      })
+  -- what is hidden under each renaming
+  hidden : HiddenChanges no_places c d f f
+  hidden = hides_changes no_places is_renaming c d f f
 
   placed : (pat pat' : Tree) → SamePlace (Param-span (param none_range (list []) pat)) (Param-span (param none_range (list []) pat'))
   placed pat pat' = at_places _ _ (simp (part_node, range_of_range)) (simp (part_node, range_of_range))
 
   pub all_parameters : (es ds : List Tree) (x y : List ℕ) → SameParams no_places c d (parameters es x) (parameters ds y)
   all_parameters es ds x y =
-      v.SameParams.next_param (placed _ _) (subst₂ Pats (sym (part_node _ _ _)) (sym (part_node _ _ _)) (patterns es ds))
-      (v.SameParams.next_param (placed _ _) (subst₂ Pats (sym (part_node _ _ _)) (sym (part_node _ _ _)) (typed_defaults x y))
-      (v.SameParams.next_param (placed _ _) (subst₂ Pats (sym (part_node _ _ _)) (sym (part_node _ _ _)) (shown_defaults x y))
+      v.SameParams.next_param (placed _ _) (subst₂ Pats (sym (part_node _ _ _)) (sym (part_node _ _ _)) (hidden.elements es ds))
+      (v.SameParams.next_param (placed _ _)
+      (subst₂ Pats (sym (part_node _ _ _)) (sym (part_node _ _ _)) (hidden.typed_defaults (number none_range x) (number none_range y)))
+      (v.SameParams.next_param (placed _ _) (subst₂ Pats (sym (part_node _ _ _)) (sym (part_node _ _ _)) (hidden.shown_defaults x y))
       v.SameParams.no_params))
 
   params_made : (ps ss : List Tree) → parts (Function-params (void_function ps ss)) ≡ ps
@@ -187,15 +146,7 @@ module _ (c d : Bindings) where
 
   -- any operands
   pub operands : (x y : Tree) → SameExpr no_places c d (as_number x) (as_number y)
-  operands x y = v.SameExpr.as_type (record { left = kind_of_node _ _; right = kind_of_node _ _ })
-      (at_places _ _ (simp (part_node, range_of_range)) (simp (part_node, range_of_range)))
-      (are_same _ _ (ts_keyword_type words.TsNumberKeyword) (part_node _ _ _) (part_node _ _ _) same_number)
-
-  call_refused : is_refused c call ≡ true
-  call_refused = simp (kind_of_node, part_node)
-
-  sequence_refused : is_refused d sequence ≡ true
-  sequence_refused = simp kind_of_node
+  operands x y = hidden.operands x y
 
   method_heads : (ps qs : List Tree) →
       SamePropertyHead no_places c d f f (private_method_head (method_m ps)) (private_method_head (method_m qs))
@@ -256,7 +207,7 @@ module _ (public : SourceRange → Bool) (c d : Bindings) (x y : List ℕ → Op
     names = record { left = simp (part_node, kind_of_node); right = simp (part_node, kind_of_node) };
     ident = are_same _ _ (new_ident (120 ∷ [])) (simp part_node) (simp part_node) (same_ident (120 ∷ []));
     definite = refl;
-    type = are_same _ _ number_type (simp part_node) (simp part_node) same_annotation;
+    type = are_same _ _ (type_ann number_type) (simp part_node) (simp part_node) same_annotation;
   }
 
   statements : SameStatement no_places a b (statement_x one) (statement_x one)
@@ -366,7 +317,7 @@ module _ (public : SourceRange → Bool) (c d : Bindings) (x y : List ℕ → Op
     is_public = both_public _ _ (z_span call) (z_span sequence);
     form = forms.SameForm.other (no_expando call) (no_expando sequence);
     right = subst₂ (SameExpr no_places c d) (sym (z_right call)) (sym (z_right sequence))
-        (v.SameExpr.refused (call_refused c d) (sequence_refused c d));
+        (hidden c d).refused;
     right_range = at_places _ _ (simp (part_node, kind_of_node, range_of_range)) (simp (part_node, kind_of_node, range_of_range));
   }
 

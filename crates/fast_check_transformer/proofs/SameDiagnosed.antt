@@ -21,7 +21,8 @@ use Rattle.fast_check_skeleton.specs.Worlds.{SameFault}
 use Rattle.fast_check_syntax.specs.Moves.{Renaming}
 use Rattle.fast_check_syntax.specs.Same.{SameRange, Each}
 use Rattle.fast_check_transform_module.specs.transform_faults.Diagnostics.{IsPlaceOf, IsDiagnosticOf, AreDiagnosticsOf, diagnosed}
-use Rattle.fast_check_transformer.specs.Compared.{SamePlace, diagnosed_by, SameDiagnostic}
+use Rattle.fast_check_transform_module.specs.transform_faults.Diagnostics.{diagnosed_by}
+use Rattle.fast_check_transformer.specs.Compared.{SamePlace, SameDiagnostic}
 
 -- a diagnostic tells its fault, at a place of the module
 record Diagnoses (info : EsModule) (f : Fault) (d : FastCheckDiagnostic) : Type 0 where

@@ -1,5 +1,6 @@
 -- What is told of the faults that a transform meets: each as a diagnostic of its kind at its place, in their order.
-use Rattle.std.specs.Prelude.{◌≡◌, ℕ, Bool, List, [], ◌∷◌, take, if◌then◌else◌, string_bytes}
+use Rattle.std.specs.Prelude.{◌≡◌, ℕ, Bool, List, [], ◌∷◌, Option, Some, None, MatchOption, take, if◌then◌else◌}
+use Rattle.std.specs.Prelude.{string_bytes}
 use Rattle.std.specs.Rc.{rc_str_bytes}
 use Rattle.fast_check_syntax.specs.declared.source.SourceRange.{SourceRange}
 use Rattle.fast_check_modules.specs.EsModule.{EsModule}
@@ -22,6 +23,7 @@ use Rattle.fast_check_modules.specs.diagnostics.declared.diagnostics.FastCheckDi
   UnsupportedExpandoProperty,
 }
 use Rattle.fast_check_signatures.specs.declared.fault.Fault.{Fault}
+use Rattle.fast_check_signatures.specs.declared.fault.FaultKind.{FaultKind}
 use Rattle.fast_check_signatures.specs.declared.fault.FaultKind.TheVariants as kinds
 
 -- what is told of the faults: all of them, or the first alone
@@ -40,35 +42,32 @@ IsExpandoProperty place object reference (UnsupportedExpandoProperty p o r) = (p
     ((string_bytes o ≡ object) × (string_bytes r ≡ reference))
 IsExpandoProperty place object reference _ = ⊥
 
--- a fault of a module, as a diagnostic of its kind at its place
+-- a kind of fault with its flags and names, and its place
+abbrev pub Diagnosed : Type 0
+Diagnosed = FaultKind × FastCheckDiagnosticRange
+
+-- what a diagnostic of a transform reports
+abbrev pub diagnosed_by : FastCheckDiagnostic → Option Diagnosed
+diagnosed_by (MissingExplicitType place) = Some (kinds.MissingExplicitType, place)
+diagnosed_by (MissingExplicitReturnType place is_definitely_void_or_never is_async) =
+    Some (kinds.MissingExplicitReturnType is_definitely_void_or_never is_async, place)
+diagnosed_by (UnsupportedDestructuring place) = Some (kinds.UnsupportedDestructuring, place)
+diagnosed_by (UnsupportedSuperClassExpr place) = Some (kinds.UnsupportedSuperClassExpr, place)
+diagnosed_by (UnsupportedDefaultExportExpr place) = Some (kinds.UnsupportedDefaultExportExpr, place)
+diagnosed_by (UnsupportedUsing place) = Some (kinds.UnsupportedUsing, place)
+diagnosed_by (UnsupportedRequire place) = Some (kinds.UnsupportedRequire, place)
+diagnosed_by (UnsupportedTsExportAssignment place) = Some (kinds.UnsupportedTsExportAssignment, place)
+diagnosed_by (UnsupportedTsNamespaceExport place) = Some (kinds.UnsupportedTsNamespaceExport, place)
+diagnosed_by (UnsupportedGlobalModule place) = Some (kinds.UnsupportedGlobalModule, place)
+diagnosed_by (UnsupportedAmbientModule place) = Some (kinds.UnsupportedAmbientModule, place)
+diagnosed_by (UnsupportedExpandoProperty place object reference) =
+    Some (kinds.UnsupportedExpandoProperty (string_bytes object) (string_bytes reference), place)
+diagnosed_by _ = None
+
+-- a fault of a module, as a diagnostic of its kind, with its flags and names, at its place
 abbrev pub IsDiagnosticOf : EsModule → Fault → FastCheckDiagnostic → Type 0
-IsDiagnosticOf info fault (MissingExplicitType place) = (fault.kind ≡ kinds.MissingExplicitType) ×
-    IsPlaceOf info fault.range place
-IsDiagnosticOf info fault (MissingExplicitReturnType place is_definitely_void_or_never is_async) =
-    (fault.kind ≡ kinds.MissingExplicitReturnType is_definitely_void_or_never is_async) ×
-    IsPlaceOf info fault.range place
-IsDiagnosticOf info fault (UnsupportedDestructuring place) = (fault.kind ≡ kinds.UnsupportedDestructuring) ×
-    IsPlaceOf info fault.range place
-IsDiagnosticOf info fault (UnsupportedSuperClassExpr place) = (fault.kind ≡ kinds.UnsupportedSuperClassExpr) ×
-    IsPlaceOf info fault.range place
-IsDiagnosticOf info fault (UnsupportedDefaultExportExpr place) = (fault.kind ≡ kinds.UnsupportedDefaultExportExpr) ×
-    IsPlaceOf info fault.range place
-IsDiagnosticOf info fault (UnsupportedUsing place) = (fault.kind ≡ kinds.UnsupportedUsing) ×
-    IsPlaceOf info fault.range place
-IsDiagnosticOf info fault (UnsupportedRequire place) = (fault.kind ≡ kinds.UnsupportedRequire) ×
-    IsPlaceOf info fault.range place
-IsDiagnosticOf info fault (UnsupportedTsExportAssignment place) = (fault.kind ≡ kinds.UnsupportedTsExportAssignment) ×
-    IsPlaceOf info fault.range place
-IsDiagnosticOf info fault (UnsupportedTsNamespaceExport place) = (fault.kind ≡ kinds.UnsupportedTsNamespaceExport) ×
-    IsPlaceOf info fault.range place
-IsDiagnosticOf info fault (UnsupportedGlobalModule place) = (fault.kind ≡ kinds.UnsupportedGlobalModule) ×
-    IsPlaceOf info fault.range place
-IsDiagnosticOf info fault (UnsupportedAmbientModule place) = (fault.kind ≡ kinds.UnsupportedAmbientModule) ×
-    IsPlaceOf info fault.range place
-IsDiagnosticOf info fault (UnsupportedExpandoProperty place object reference) =
-    (fault.kind ≡ kinds.UnsupportedExpandoProperty (string_bytes object) (string_bytes reference)) ×
-    IsPlaceOf info fault.range place
-IsDiagnosticOf _ _ _ = ⊥
+IsDiagnosticOf info fault d =
+    MatchOption (diagnosed_by d) ⊥ (λ x. (fault.kind ≡ x.0) × IsPlaceOf info fault.range x.1)
 
 -- faults one by one as diagnostics
 abbrev pub AreDiagnosticsOf : EsModule → List Fault → List FastCheckDiagnostic → Type 0

@@ -1,6 +1,7 @@
-use Rattle.std.proofs.Common.{ap}
+use Rattle.std.proofs.Common.{ap, refl}
 use Rattle.fast_check_diagnostics.specs.declared.diagnostics.FastCheckDiagnostic.{FastCheckDiagnostic}
-use Rattle.fast_check_diagnostics.specs.DiagnosticCopy.{IsDiagnosticCopy, with_specifier}
+use Rattle.fast_check_diagnostics.specs.Diagnostic.{report_of}
+use Rattle.fast_check_diagnostics.specs.DiagnosticCopy.{texts_in, flags_in, with_specifier}
 use Rattle.fast_check_diagnostics.proofs.Copies.{copies_found, other_specifiers}
 use Rattle.fast_check_diagnostics.proofs.diagnostics.FastCheckDiagnostic.copy_with_specifier.Goals as goal
 use Rattle.fast_check_diagnostics.proofs.diagnostics.FastCheckDiagnostic.copy_with_specifier.Goals.{in-UnsupportedNestedJavaScript}
@@ -12,16 +13,16 @@ abbrev wanted : goal.Joined-self → FastCheckDiagnostic → FastCheckDiagnostic
 wanted c d = with_specifier d c.args.specifier.now
 
 pub returns : goal.returns
-unfolding IsDiagnosticCopy with_specifier
+unfolding report_of texts_in flags_in with_specifier
 returns c =
     let copied = c.in_ok-specifier.ensures.cases in elim c.match-self.branch [
-      | in-UnsupportedNestedJavaScript w ↦ copies_found (ap (wanted c) w.in-UnsupportedNestedJavaScript.is) w.result-is copied
-      | in-UnsupportedJavaScriptEntrypoint w ↦ copies_found (ap (wanted c) w.in-UnsupportedJavaScriptEntrypoint.is) w.result-is copied
-      | in-ExportNotFound w ↦ copies_found (ap (wanted c) w.in-ExportNotFound.is) w.result-is copied
+      | in-UnsupportedNestedJavaScript w ↦ copies_found (ap (wanted c) w.in-UnsupportedNestedJavaScript.is) w.result-is (refl, copied, refl, refl)
+      | in-UnsupportedJavaScriptEntrypoint w ↦ copies_found (ap (wanted c) w.in-UnsupportedJavaScriptEntrypoint.is) w.result-is (refl, copied, refl, refl)
+      | in-ExportNotFound w ↦ copies_found (ap (wanted c) w.in-ExportNotFound.is) w.result-is (refl, copied, refl, refl)
       | in_default w ↦
           let n = w.in_default in
           let last =
           other_specifiers c.args.self.now c.args.specifier.now n.not-UnsupportedNestedJavaScript n.not-UnsupportedJavaScriptEntrypoint
           n.not-ExportNotFound in
-          copies_found last w.result-is copied
+          copies_found last w.result-is (refl, copied, refl, refl)
     ]

@@ -1,7 +1,6 @@
-use Rattle.std.proofs.Common.{ap, refl, sym, ◌∙◌}
-use Rattle.fast_check_diagnostics.specs.DiagnosticCopy.{IsDiagnosticCopy}
+use Rattle.std.proofs.Common.{ap, sym, ◌∙◌}
 use Rattle.fast_check_diagnostics.specs.Subject.{shown_subject}
-use Rattle.fast_check_diagnostics.proofs.Copies.{answers_copy, copies_found, names_kept, range_kept, specifier_kept}
+use Rattle.fast_check_diagnostics.proofs.Copies.{answers_copy, emit_copied, names_kept, range_kept, specifier_kept}
 use Rattle.fast_check_diagnostics.proofs.diagnostics.copies.FastCheckDiagnosticClone.clone.Goals as goal
 
 pub returns-in-NotFoundReference : goal.returns-in-NotFoundReference
@@ -9,9 +8,8 @@ returns-in-NotFoundReference c =
     record { cases = answers_copy c.copy_with_names.result (names_kept c.in-NotFoundReference.is) c.copy_with_names.ensures }
 
 pub returns-in_ok-clone-in-Emit : goal.returns-in_ok-clone-in-Emit
-unfolding IsDiagnosticCopy
 returns-in_ok-clone-in-Emit c =
-    record { cases = copies_found c.in-Emit.is refl (c.in_ok-clone-in-Emit.ensures.cases, c.in_ok-inner-in-Emit.ensures.cases) }
+    record { cases = emit_copied _ _ _ _ c.in-Emit.is c.in_ok-clone-in-Emit.ensures.cases c.in_ok-inner-in-Emit.ensures.cases }
 
 pub returns-in-Range : goal.returns-in-Range
 returns-in-Range c =

@@ -1,10 +1,10 @@
 use Rattle.std.proofs.Common.{rules}
-use Rattle.fast_check_diagnostics.specs.Diagnostic.{info_of}
+use Rattle.fast_check_diagnostics.specs.Diagnostic.{report_of}
 use Rattle.fast_check_diagnostics.proofs.OtherKinds.{other_info}
 use Rattle.fast_check_diagnostics.proofs.diagnostics.shown.FastCheckDiagnosticDiagnostic.info.Goals as goal
 
 pub returns-in-MissingExplicitReturnType : goal.returns-in-MissingExplicitReturnType
-unfolding info_of
+unfolding report_of
 returns-in-MissingExplicitReturnType c = search rules
 
 pub returns-in_default : goal.returns-in_default
