@@ -2,7 +2,7 @@
 // How the files of a folder name what other modules export: by a path inside of the same package, else by the name of a package that its users have too.
 const { builtinModules } = require('module');
 const path = require('path');
-const { Files } = require('./files.js');
+const { Files, isInside } = require('./files.js');
 const { ts } = require('./typescript.js');
 
 const RELATIVE = /^\.{1,2}(\/|$)/;
@@ -32,7 +32,8 @@ class Naming {
     this.checker = program.getTypeChecker();
     this.ending = endingOf(world);
     this.files = new Files(world.dir);
-    this.known = new Set([...world.files.values()].map((it) => it.path));
+    const own = program.getSourceFiles().map((it) => it.fileName).filter((it) => isInside(world.dir, it) && !it.includes('/node_modules/'));
+    this.known = new Set([...own, ...[...world.files.values()].map((it) => it.path)]);
     this.byStem = new Map(program.getSourceFiles().map((it) => [it.fileName.replace(ENDING, ''), it]));
     this.exported = new Map();
     this.packages = new Map();
