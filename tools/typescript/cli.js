@@ -89,9 +89,10 @@ async function skeleton([word, out], options, context) {
 /** The changes of texts as a unified diff. */
 function writeDiff(texts, { out, paint, cwd }) {
   const { unified } = require('./difference.js');
-  const { readText } = require('./files.js');
+  const { markOf, readText } = require('./files.js');
   for (const [file, text] of [...texts].sort(([a], [b]) => (a < b ? -1 : 1))) {
-    for (const line of unified(path.relative(cwd, file), readText(file).text, text)) out.write(`${paint(COLOURS[line[0]] || 'bold', line)}\n`);
+    const mark = markOf(file);
+    for (const line of unified(path.relative(cwd, file), mark + readText(file).text, mark + text)) out.write(`${paint(COLOURS[line[0]] || 'bold', line)}\n`);
   }
 }
 

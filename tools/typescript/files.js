@@ -86,12 +86,17 @@ function readText(file) {
   return { text: text.slice(mark), wrong: wrong < 0 ? wrong : wrong - mark };
 }
 
+/** The mark of byte order that a file of UTF-8 begins with, or nothing. */
+function markOf(file) {
+  return bytesOf(file).toString('utf8', 0, 3) === MARK ? MARK : '';
+}
+
 /** Writes another text to a file that is there, read as its bytes were: in UTF-8 or UTF-16, with their mark of byte order where they have one. */
 function rewriteText(file, text) {
   const bytes = bytesOf(file);
   const { isBig, isLittle } = orderOf(bytes);
-  const isMarked = isBig || isLittle || bytes.toString('utf8', 0, 3) === MARK;
-  const made = Buffer.from(isMarked ? MARK + text : text, isBig || isLittle ? 'utf16le' : 'utf8');
+  const mark = isBig || isLittle ? MARK : markOf(file);
+  const made = Buffer.from(mark + text, isBig || isLittle ? 'utf16le' : 'utf8');
   fs.writeFileSync(file, isBig ? made.swap16() : made);
 }
 
@@ -191,4 +196,4 @@ function selfTypes(text) {
   return null;
 }
 
-module.exports = { Files, isInside, makeFolder, readJson, readText, rewriteText, mediaTypeOf, isDeclarationFile, isJavaScript, namedTypes, selfTypes };
+module.exports = { Files, isInside, makeFolder, markOf, readJson, readText, rewriteText, mediaTypeOf, isDeclarationFile, isJavaScript, namedTypes, selfTypes };

@@ -1,5 +1,6 @@
 'use strict';
 // What `fix` makes of the bytes, lines and comments of sources, and of types that the compiler has not.
+const childProcess = require('child_process');
 const fs = require('fs');
 const path = require('path');
 const { write } = require('./odd.js');
@@ -26,6 +27,7 @@ const SOURCES = [
   ['a line for a shell', `#!/usr/bin/env node\n${CALL}`, `#!/usr/bin/env node\n${IMPORT}${WRITTEN}`],
   ['comments on what follows', `// A licence\n\n// @ts-ignore\n// Why\n${CALL}`, `// A licence\n\n${IMPORT}// @ts-ignore\n// Why\n${WRITTEN}`],
   ['a comment on the whole file', `// deno-lint-ignore-file\n${CALL}`, `// deno-lint-ignore-file\n${IMPORT}${WRITTEN}`],
+  ['a text whose last line has no end', `${PLAIN}export default Math.max(1)`, `${TYPED}const _default: number = Math.max(1);\nexport default _default;`],
   ['a circle', 'function b() { return a(); }\nexport function a() { return b(); }\nconst o = { k: b() };\nexport class C { c = [o.k]; }\n', null, 'not fixed: its type comes of b, which is in a circle'],
   ['a part of a circle', 'export function f() { return { a: 1, f }; }\n', null, 'not fixed: its type has itself in it'],
   ['a module that is not found', 'export const made = import("./nowhere.ts");\n', null, 'not fixed: its type comes of the module ./nowhere.ts, which is not found'],
@@ -36,6 +38,8 @@ const SOURCES = [
 function tests({ run, withFolder, same, holds }) {
   return SOURCES.map(([name, text, wanted, told, first = '']) => [`fix of ${name}`, () => withFolder(async (folder) => {
     write(folder, { 'mod.ts': text, 'made.ts': MADE });
+    const before = Buffer.from(text);
+    const shown = (await run(['fix', '--dry', '.'], { cwd: folder })).out;
     const { status, out, err } = await run(['fix', '.'], { cwd: folder });
     same(status, told ? 1 : 0, `the status of\n${out}${err}\nthat`);
     holds(!told || out.includes(told), out);
@@ -43,6 +47,12 @@ function tests({ run, withFolder, same, holds }) {
     const all = wanted === null ? text : first && typeof wanted === 'string' ? first + wanted : wanted;
     same(bytes(fs.readFileSync(path.join(folder, 'mod.ts'))), bytes(all), 'the source');
     same((await run(['fix', '--dry', '.'], { cwd: folder })).out, '', 'what a second run changes');
+    // Git takes UTF-16 for no text.
+    if (wanted === null || typeof text !== 'string') return;
+    fs.writeFileSync(path.join(folder, 'mod.ts'), before);
+    const { status: applied, stderr } = childProcess.spawnSync('git', ['apply', '-'], { cwd: folder, input: shown, encoding: 'utf8' });
+    same(`${applied}${stderr}`, '0', 'what git says of the diff');
+    same(bytes(fs.readFileSync(path.join(folder, 'mod.ts'))), bytes(all), 'the source with the diff');
   })]);
 }
 
