@@ -26,6 +26,8 @@ const SOURCES = [
   ['a directive', `"use client"; // first\n${CALL}`, `"use client";\n${IMPORT.trim()} // first\n${WRITTEN}`],
   ['a line for a shell', `#!/usr/bin/env node\n${CALL}`, `#!/usr/bin/env node\n${IMPORT}${WRITTEN}`],
   ['comments on what follows', `// A licence\n\n// @ts-ignore\n// Why\n${CALL}`, `// A licence\n\n${IMPORT}// @ts-ignore\n// Why\n${WRITTEN}`],
+  ['a module by the JavaScript that it becomes', CALL.replace('.ts', '.js'), IMPORT.replace('.ts', '.js') + WRITTEN.replace('.ts', '.js')],
+  ['a module without an ending', CALL.replace('.ts', ''), IMPORT.replace('.ts', '') + WRITTEN.replace('.ts', '')],
   ['a comment on the whole file', `// deno-lint-ignore-file\n${CALL}`, `// deno-lint-ignore-file\n${IMPORT}${WRITTEN}`],
   ['a text whose last line has no end', `${PLAIN}export default Math.max(1)`, `${TYPED}const _default: number = Math.max(1);\nexport default _default;`],
   ['a circle', 'function b() { return a(); }\nexport function a() { return b(); }\nconst o = { k: b() };\nexport class C { c = [o.k]; }\n', null, 'not fixed: its type comes of b, which is in a circle'],
