@@ -75,6 +75,17 @@ class Aliases {
     return names.find((it) => this.files.isFile(it)) || null;
   }
 
+  /** The files that the compiler would write for a source of a folder, in JavaScript and as a declaration file; none where `outDir` is not said. */
+  builtOf(dir, source) {
+    const { outDir, rootDir } = this.aliasesOf(path.join(dir, NAME));
+    const [ending, kind] = /(?<!\.d)\.([cm]?)tsx?$/.exec(source) || [];
+    const folders = rootDir === null ? [path.join(dir, 'src'), dir] : [rootDir];
+    const folder = folders.find((it) => !path.relative(it, source).startsWith('..'));
+    if (outDir === null || outDir === dir || ending === undefined || folder === undefined) return [];
+    const stem = path.join(outDir, path.relative(folder, source).slice(0, -ending.length));
+    return [`${stem}.${kind}js`, `${stem}.d.${kind}ts`];
+  }
+
   /** The aliases of a project: those of its own file, else of the first project that it only refers to. */
   project(file) {
     const own = this.aliasesOf(file);

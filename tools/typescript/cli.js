@@ -89,18 +89,20 @@ async function skeleton([word, out], options, context) {
 /** The changes of texts as a unified diff. */
 function writeDiff(texts, { out, paint, cwd }) {
   const { unified } = require('./difference.js');
-  const { readText } = require('./files.js');
+  const { markOf, readText } = require('./files.js');
   for (const [file, text] of [...texts].sort(([a], [b]) => (a < b ? -1 : 1))) {
-    for (const line of unified(path.relative(cwd, file), readText(file).text, text)) out.write(`${paint(COLOURS[line[0]] || 'bold', line)}\n`);
+    const mark = markOf(file);
+    for (const line of unified(path.relative(cwd, file), mark + readText(file).text, mark + text)) out.write(`${paint(COLOURS[line[0]] || 'bold', line)}\n`);
   }
 }
 
 async function fix([word], options, context) {
+  const { rewriteText } = require('./files.js');
   const { fixed } = require('./thread.js');
   const { world, texts, count: types } = await fixed(folderOf(word, context), options, context);
   context.progress.end();
   if (options.dry) writeDiff(texts, context);
-  else for (const [file, text] of texts) fs.writeFileSync(file, text);
+  else for (const [file, text] of texts) rewriteText(file, text);
   const told = messagesOf(world);
   writeMessages(told, options, options.dry ? { out: context.err, paint: context.paintErrors } : context);
   const { count, seconds } = require('./formats.js');

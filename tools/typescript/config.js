@@ -106,18 +106,20 @@ function filesBelow(dir, found = []) {
   return found;
 }
 
-/** An entry with `*` in its path stands for each file that fits. */
-function expanded(dir, [key, written]) {
+/** An entry with `*` in its path stands for each file that fits, and where there is none, for each that the compiler would write. */
+function expanded(dir, [key, written], aliases) {
   if (!written.includes('*')) return [[key, written]];
   const [before, after] = written.replace(/^\.\//, '').split('*');
-  return filesBelow(dir)
-    .map((it) => path.relative(dir, it))
-    .filter((it) => it.startsWith(before) && it.endsWith(after) && it.length > before.length + after.length && mediaTypeOf(it) !== 'Unknown')
-    .sort()
-    .map((it) => [key.replace('*', it.slice(before.length, it.length - after.length)), `./${it}`]);
+  const isFitting = (it) => it.startsWith(before) && it.endsWith(after) && it.length > before.length + after.length && mediaTypeOf(it) !== 'Unknown';
+  const fitting = (files) => files.map((it) => path.relative(dir, it)).filter(isFitting).sort();
+  const files = filesBelow(dir);
+  const found = fitting(files);
+  const all = found.length ? found : fitting(files.flatMap((it) => aliases.builtOf(dir, it)));
+  return all.map((it) => [key.replace('*', () => it.slice(before.length, it.length - after.length)), `./${it}`]);
 }
 
 const ABSENT = { message: 'is not there', more: { hint: 'give the path of a file that is there' } };
+const NO_FILE = { message: 'fits no file', more: { level: 'Warning' } };
 const NO_MODULE = { message: 'is no module, and is passed over', more: { level: 'Warning' } };
 
 /** What is wrong with an entry point, where its path is written. */
@@ -135,7 +137,9 @@ function faultOf(text, wrong, { dir, config, given, isQuiet }) {
 function modulesOf(dir, written, { config, given, files, aliases, errors, isQuiet }) {
   const [found, wrong, taken] = [[], [], []];
   const refuse = (text, how) => wrong.push(faultOf(text, how, { dir, config, given, isQuiet }));
-  for (const [key, text] of written.flatMap((it) => expanded(dir, it))) {
+  const each = written.map((it) => [it, expanded(dir, it, aliases)]);
+  for (const [[, text], some] of each) if (!some.length) refuse(text, NO_FILE);
+  for (const [key, text] of each.flatMap(([, some]) => some)) {
     const wanted = path.resolve(dir, text);
     const source = isInside(dir, wanted) ? aliases.sourceOf(dir, wanted) : null;
     const file = source || files.find(wanted);

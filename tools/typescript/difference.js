@@ -3,8 +3,10 @@
 
 /** The lines that two texts share in order, by the longest common subsequence: `[kind, line]` with kind ' ', '-' or '+'. */
 function lineDifference(before, after) {
-  const a = before.split('\n');
-  const b = after.split('\n');
+  return differenceOf(before.split('\n'), after.split('\n'));
+}
+
+function differenceOf(a, b) {
   let head = 0;
   while (head < a.length && head < b.length && a[head] === b[head]) head++;
   let tail = 0;
@@ -63,9 +65,16 @@ function parts(lines) {
   return found;
 }
 
-/** The lines of a unified diff of a file. */
+/** The lines of a text, of which the last one says where no line break stands behind it. */
+function endedLines(text) {
+  const lines = text.split('\n');
+  const last = lines.pop();
+  return last === '' ? lines : [...lines, `${last}\n\\ No newline at end of file`];
+}
+
+/** The lines of a unified diff of a file, as `git apply` takes it. */
 function unified(name, before, after) {
-  const lines = lineDifference(before, after);
+  const lines = differenceOf(endedLines(before), endedLines(after));
   const count = (part, kind) => part.filter(([each]) => each !== kind).length;
   const out = [`--- a/${name}`, `+++ b/${name}`];
   for (const { start, end } of parts(lines)) {

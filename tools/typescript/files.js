@@ -65,18 +65,39 @@ function bytesOf(file) {
   }
 }
 
+const MARK = '\ufeff';
+
+/** How some bytes are read: as UTF-16 with its mark, the higher byte first (`isBig`) or last (`isLittle`), else as UTF-8. */
+function orderOf([first, second]) {
+  return { isBig: first === 0xfe && second === 0xff, isLittle: first === 0xff && second === 0xfe };
+}
+
 /** The text of a file without its mark of byte order, and where it is no text (`wrong`, else -1). Beside UTF-8 the compiler reads UTF-16 with its mark. */
 function readText(file) {
   const bytes = bytesOf(file);
-  const isBig = bytes[0] === 0xfe && bytes[1] === 0xff;
-  if (isBig || (bytes[0] === 0xff && bytes[1] === 0xfe)) {
+  const { isBig, isLittle } = orderOf(bytes);
+  if (isBig || isLittle) {
     const even = bytes.subarray(2, bytes.length - (bytes.length % 2));
     return { text: (isBig ? Buffer.from(even).swap16() : even).toString('utf16le'), wrong: -1 };
   }
   const text = bytes.toString();
-  const mark = text.startsWith('\ufeff') ? 1 : 0;
+  const mark = text.startsWith(MARK) ? 1 : 0;
   const wrong = firstWrong(bytes, text);
   return { text: text.slice(mark), wrong: wrong < 0 ? wrong : wrong - mark };
+}
+
+/** The mark of byte order that a file of UTF-8 begins with, or nothing. */
+function markOf(file) {
+  return bytesOf(file).toString('utf8', 0, 3) === MARK ? MARK : '';
+}
+
+/** Writes another text to a file that is there, read as its bytes were: in UTF-8 or UTF-16, with their mark of byte order where they have one. */
+function rewriteText(file, text) {
+  const bytes = bytesOf(file);
+  const { isBig, isLittle } = orderOf(bytes);
+  const mark = isBig || isLittle ? MARK : markOf(file);
+  const made = Buffer.from(mark + text, isBig || isLittle ? 'utf16le' : 'utf8');
+  fs.writeFileSync(file, isBig ? made.swap16() : made);
 }
 
 /** The object in a text of JSON, which may have comments and commas that end a list: `{config, error}`, as the compiler reads it. */
@@ -175,4 +196,4 @@ function selfTypes(text) {
   return null;
 }
 
-module.exports = { Files, isInside, makeFolder, readJson, readText, mediaTypeOf, isDeclarationFile, isJavaScript, namedTypes, selfTypes };
+module.exports = { Files, isInside, makeFolder, markOf, readJson, readText, rewriteText, mediaTypeOf, isDeclarationFile, isJavaScript, namedTypes, selfTypes };

@@ -3,7 +3,7 @@
 const path = require('path');
 const { analyse } = require('./analysis.js');
 const { FIXABLE } = require('./codes.js');
-const { isInside } = require('./files.js');
+const { Files, isInside, isJavaScript, mediaTypeOf } = require('./files.js');
 const { NotFixed, TypeWriter, applied, editsFor, importEdits } = require('./fix_types.js');
 const { Naming } = require('./naming.js');
 const { Surroundings } = require('./surroundings.js');
@@ -11,8 +11,12 @@ const { ts } = require('./typescript.js');
 const { resolver } = require('./ways.js');
 
 const ROUNDS = 10;
+const RELATIVE = /^\.{1,2}(\/|$)/;
+const ENDING = /(\.d)?\.[cm]?tsx?$/;
 // What the compiler says of something whose type is `any` since it finds none, as in a circle.
 const NO_TYPE = new Set([7005, 7006, 7008, 7010, 7011, 7016, 7018, 7019, 7022, 7023, 7024, 7031, 7034]);
+// Of them, what it says of a circle.
+const CIRCLE = new Set([7022, 7023, 7024]);
 
 /** The options of the nearest tsconfig.json above a folder, inside of its workspace, as far as types depend on them. */
 function optionsOf(dir, workspace) {
@@ -33,6 +37,7 @@ function optionsOf(dir, workspace) {
 class Project {
   constructor(dir) {
     this.dir = dir;
+    this.files = new Files(dir);
     this.surroundings = new Surroundings(dir);
     this.options = optionsOf(dir, this.surroundings.workspace);
     this.host = { ...ts.createCompilerHost(this.options, true), getCurrentDirectory: () => dir };
@@ -48,10 +53,17 @@ class Project {
     return this.sources.get(name);
   }
 
-  /** Where a text of a file leads out of the folder. */
+  /** A module of the folder that no other one asks for but by `import(..)`, whose ending the compiler may not read. */
+  beside(text, from) {
+    const file = RELATIVE.test(text) ? this.files.find(path.resolve(path.dirname(from), text)) : null;
+    if (file === null || isJavaScript(mediaTypeOf(file)) || !ENDING.test(file) || this.files.refusal(file)) return undefined;
+    return { resolvedFileName: file, extension: ENDING.exec(file)[0], isExternalLibraryImport: false };
+  }
+
+  /** Where a text of a file leads that is of no module of the folder which was read. */
   outside(text, from) {
     const key = `${path.dirname(from)}\n${text}`;
-    if (!this.found.has(key)) this.found.set(key, this.surroundings.resolve(text, from, this.options, this.host));
+    if (!this.found.has(key)) this.found.set(key, this.surroundings.resolve(text, from, this.options, this.host) || this.beside(text, from));
     return this.found.get(key);
   }
 
@@ -132,8 +144,8 @@ function keyOf(message) {
 }
 
 /** The edits of one file for its messages: `{key, file, edits, imports}`. Why there is none for a message goes to `notes`. */
-function fileEdits({ program, file, messages, naming, rejected, notes }) {
-  const writer = new TypeWriter(program.getTypeChecker(), file, naming);
+function fileEdits({ program, file, messages, naming, circles, rejected, notes }) {
+  const writer = new TypeWriter(program.getTypeChecker(), file, naming, circles);
   const unknown = new Set(program.getSemanticDiagnostics(file).filter((it) => NO_TYPE.has(it.code)).map((it) => it.start));
   const made = [];
   for (const message of messages) {
@@ -199,8 +211,10 @@ class Fixer {
   edits(world, texts, messages) {
     const program = this.project.program(world, texts);
     const naming = new Naming(world, program, this.project.resolverOf(world, texts));
+    const circles = new Set(errorsOf(program, [...texts.keys()]).filter((it) => CIRCLE.has(it.code)).map((it) => `${it.name} ${it.start}`));
+    const { rejected, notes } = this;
     return [...messages].flatMap(([name, some]) => (
-      fileEdits({ program, file: program.getSourceFile(name), messages: some, naming, rejected: this.rejected, notes: this.notes })));
+      fileEdits({ program, file: program.getSourceFile(name), messages: some, naming, circles, rejected, notes })));
   }
 
   /** One round: the edits of all files that bring no error. Answers how many there are. */

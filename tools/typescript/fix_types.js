@@ -19,6 +19,9 @@ const DEFAULT = '_default';
 /** Why a type is not written. */
 class NotFixed extends Error {}
 
+/** It is not written, nor by the name of a value: the compiler has none. */
+class NoType extends NotFixed {}
+
 // ---- what a message points to
 
 function isTypable(node) {
@@ -121,6 +124,17 @@ function classOf({ symbol }) {
   return declaration && ts.isClassExpression(declaration) ? declaration : null;
 }
 
+/** Whether `any` stands in a type. */
+function hasAny(node) {
+  return node.kind === K.AnyKeyword || Boolean(ts.forEachChild(node, hasAny));
+}
+
+/** What a declaration takes its type from. */
+function valueOf(node) {
+  if (ts.isBindingElement(node)) return valueOf(node.parent.parent);
+  return node.initializer || node.body || node.expression;
+}
+
 /** The parts of types that are written out where no name stands for them, seen from a node. */
 class Parts {
   constructor(checker, node) {
@@ -155,6 +169,14 @@ class Parts {
     return this.isNew(type, around) && this.of(type).some((it) => this.hasCircle(it, inside));
   }
 
+  /** Whether a type is in its own parts with no name around it: where it comes again, the compiler writes `any`. */
+  hasOwn(type, around = []) {
+    if (around.includes(type)) return true;
+    this.count += 1;
+    const isWritten = isAnonymous(type) && !type.aliasSymbol;
+    return this.count <= MOST_PARTS && this.of(type).some((it) => this.hasOwn(it, isWritten ? [...around, type] : around));
+  }
+
   of(type) {
     const { checker, node } = this;
     const named = [...(type.aliasTypeArguments || []), ...(type.types || [])];
@@ -172,10 +194,9 @@ class Parts {
 
 /** Writes the types of one file: what is taken there, and what has to be imported. `naming` says how the file names what other modules export. */
 class TypeWriter {
-  constructor(checker, file, naming) {
-    this.checker = checker;
-    this.file = file;
-    this.naming = naming;
+  /** `circles` are the places of names that the compiler finds no type for, since they are in a circle, as `file place`. */
+  constructor(checker, file, naming, circles) {
+    Object.assign(this, { checker, file, naming, circles });
     this.taken = identifiersOf(file);
     this.imports = new Map();
     this.used = new Map();
@@ -227,8 +248,36 @@ class TypeWriter {
     });
   }
 
-  text(node, place) {
+  /**
+   * Why the compiler has no type for a part of a value: a name in a circle, or a module that is not found, in the value or in what the type of a name there
+   * comes of.
+   */
+  gapIn(node, seen = new Set()) {
+    if (ts.isCallExpression(node) && node.expression.kind === K.ImportKeyword) {
+      const [source] = node.arguments;
+      if (source && ts.isStringLiteralLike(source) && !this.checker.getSymbolAtLocation(source)) return `the module ${source.text}, which is not found`;
+    }
+    if (node.kind !== K.Identifier) return ts.forEachChild(node, (it) => this.gapIn(it, seen));
+    const found = this.checker.getSymbolAtLocation(node);
+    const { valueDeclaration: at } = (found && this.naming.behind(found)) || {};
+    if (!at || !at.name || seen.has(at) || seen.size > MOST_PARTS) return undefined;
+    seen.add(at);
+    if (this.circles.has(`${at.getSourceFile().fileName} ${at.name.getStart()}`)) return `${node.text}, which is in a circle`;
+    const value = at.type ? undefined : valueOf(at);
+    return value && this.gapIn(value, seen);
+  }
+
+  /** Refuses `any` that the compiler takes for what it has no type for. */
+  refuseGap(type, place) {
+    const value = valueOf(place);
+    const gap = value && this.gapIn(value);
+    if (gap) throw new NoType(`its type comes of ${gap}`);
+    if (new Parts(this.checker, place).hasOwn(type)) throw new NoType('its type has itself in it: give it a name');
+  }
+
+  text(node, place, type) {
     if (!node) throw new NotFixed('the compiler has no type for it');
+    if (hasAny(node)) this.refuseGap(type, place);
     if (isLong(node)) throw new NotFixed(`its type has more than ${LONGEST} characters: give it a name`);
     const printer = ts.createPrinter({ removeComments: true });
     const text = printer.printNode(ts.EmitHint.Unspecified, this.named(node, place), this.file).replace(/\n\s*/g, ' ');
@@ -236,9 +285,9 @@ class TypeWriter {
     return text;
   }
 
-  /** The first text that can be written. `nodeOf(flags)` is the type as the compiler writes it. */
-  written(nodeOf, place) {
-    const [first, ...others] = WAYS.map((flags) => () => this.text(nodeOf(flags), place));
+  /** The first text of a type that can be written. `nodeOf(flags)` is the type as the compiler writes it. */
+  written(type, nodeOf, place) {
+    const [first, ...others] = WAYS.map((flags) => () => this.text(nodeOf(flags), place, type));
     const before = this.used;
     try {
       this.used = new Map(before);
@@ -262,10 +311,10 @@ class TypeWriter {
   typeText(type, node, name) {
     this.known(type, node);
     try {
-      return this.written((flags) => this.checker.typeToTypeNode(type, node, flags), node);
+      return this.written(type, (flags) => this.checker.typeToTypeNode(type, node, flags), node);
     } catch (error) {
       // What cannot be named or is too long may be the type of a value that has a name.
-      if (!(error instanceof NotFixed) || !name) throw error;
+      if (!(error instanceof NotFixed) || error instanceof NoType || !name) throw error;
       return `typeof ${name}`;
     }
   }
@@ -273,14 +322,20 @@ class TypeWriter {
   /** The return type of a function; a predicate stays one. */
   returnText(node) {
     const signature = this.checker.getSignatureFromDeclaration(node);
-    this.known(this.checker.getReturnTypeOfSignature(signature), node);
-    return this.written((flags) => this.checker.signatureToSignatureDeclaration(signature, K.FunctionDeclaration, node, flags).type, node);
+    const type = this.known(this.checker.getReturnTypeOfSignature(signature), node);
+    return this.written(type, (flags) => this.checker.signatureToSignatureDeclaration(signature, K.FunctionDeclaration, node, flags).type, node);
   }
 }
 
 // ---- edits: `{start, end, text}`
 
 const insert = (place, text) => ({ start: place, end: place, text });
+
+/** How the first line of a text ends. */
+function lineBreakOf(text) {
+  const [found] = /\r\n?|\n/.exec(text) || ['\n'];
+  return found;
+}
 
 function returnEdits(writer, node) {
   const found = functionOf(node);
@@ -310,7 +365,7 @@ function defaultEdits(writer, start) {
   const type = writer.typeText(checker.getWidenedType(checker.getTypeAtLocation(node.expression)), node, nameOf(node.expression, file));
   const before = { start: node.getStart(file), end: node.expression.getStart(file), text: `const ${DEFAULT}: ${type} = ` };
   const isClosed = file.text[node.end - 1] === ';';
-  return [before, insert(node.end, `${isClosed ? '' : ';'}\nexport default ${DEFAULT};`)];
+  return [before, insert(node.end, `${isClosed ? '' : ';'}${lineBreakOf(file.text)}export default ${DEFAULT};`)];
 }
 
 /** The variable whose pattern has a name at a place. */
@@ -357,15 +412,29 @@ function editsFor(writer, code, start, end) {
   return { edits: editsAt(writer, code, start, end), imports: writer.used };
 }
 
-/** The edit that imports names: behind the last import of a file, else before its first statement. */
+// A comment that says something of the line below it, as `// eslint-disable-next-line`.
+const OF_NEXT = /(^|[^\w])(ts-(ignore|expect-error)|disable-next-line|(fast-check|deno-lint|deno-fmt|prettier|biome)-ignore)(?!-)/;
+
+/** Where a statement begins with the comments that say something of it. */
+function startOf(statement, file) {
+  let start = statement.getStart(file, true);
+  for (const { pos, end } of (ts.getLeadingCommentRanges(file.text, statement.pos) || []).reverse()) {
+    if (end <= start && OF_NEXT.test(file.text.slice(pos, end))) start = pos;
+  }
+  return start;
+}
+
+/** The edit that imports names: behind the last import of a file, or the directives that it begins with, else before its first statement. */
 function importEdits(file, imports) {
   if (!imports.size) return [];
   const bySource = new Map();
   for (const [local, { source, name }] of imports) bySource.set(source, [...(bySource.get(source) || []), name === local ? name : `${name} as ${local}`]);
   const lines = [...bySource].map(([source, names]) => `import type { ${names.sort().join(', ')} } from "${source}";`);
-  const others = file.statements.filter((it) => it.kind === K.ImportDeclaration);
-  if (others.length) return [insert(others[others.length - 1].end, lines.map((it) => `\n${it}`).join(''))];
-  return [insert(file.statements[0].getStart(file, true), `${lines.join('\n')}\n`)];
+  const lineBreak = lineBreakOf(file.text);
+  const first = file.statements.findIndex((it) => !ts.isPrologueDirective(it));
+  const others = file.statements.filter((it, place) => it.kind === K.ImportDeclaration || place < first);
+  if (others.length) return [insert(others[others.length - 1].end, lines.map((it) => `${lineBreak}${it}`).join(''))];
+  return [insert(startOf(file.statements[0], file), lines.map((it) => `${it}${lineBreak}`).join(''))];
 }
 
 /** A text with edits, from the last to the first. */

@@ -138,7 +138,8 @@ function plainly(node) {
     if (MEMBERS.has(at.kind) && isPrivate(at)) return withoutType(at);
     if (ts.isParameter(at) && at.name.kind !== K.Identifier) return inside(namedParameter(at));
     if (at.kind === K.ParenthesizedType) return visit(at.type);
-    // Literals by their values, however they are written.
+    // Names and literals by what they stand for, however they are written.
+    if (at.kind === K.Identifier) return ts.factory.createIdentifier(at.text);
     if (at.kind === K.StringLiteral) return ts.factory.createStringLiteral(at.text);
     if (at.kind === K.NumericLiteral) return ts.factory.createNumericLiteral(at.text);
     if (at.kind === K.ModuleBlock) return ts.factory.createModuleBlock(at.statements.flatMap(eachVariable).map(visit));
@@ -216,7 +217,7 @@ class Surface {
   keyOf(node) {
     const names = [];
     for (let at = node; at && at.kind !== K.SourceFile; at = at.parent) {
-      if (at.name && at.kind !== K.ModuleBlock) names.unshift(at.name.getText ? at.name.getText() : '');
+      if (at.name && at.kind !== K.ModuleBlock) names.unshift(at.name.kind === K.Identifier ? at.name.text : at.name.getText ? at.name.getText() : '');
     }
     const stem = node.getSourceFile().fileName.replace(/(\.d)?\.[cm]?tsx?$/, '');
     return `${stem}#${names.join('.') || 'default'}`;

@@ -2,17 +2,18 @@
 // How the files of a folder name what other modules export: by a path inside of the same package, else by the name of a package that its users have too.
 const { builtinModules } = require('module');
 const path = require('path');
-const { Files } = require('./files.js');
+const { Files, isInside } = require('./files.js');
 const { ts } = require('./typescript.js');
 
 const RELATIVE = /^\.{1,2}(\/|$)/;
 const ENDING = /(\.d)?\.([cm]?)[jt]sx?$/;
 
-/** How sources of a folder name others: with which ending, by what most of them have. */
-function endingOf(world) {
+/** How sources of a folder name others, in `import(..)` too: with which ending, by what most of them have. */
+function endingOf(world, program) {
   const counts = { '.ts': 0, '.js': 0, '': 0 };
-  for (const { tree } of world.info.modules) {
-    for (const { text } of tree.sources || []) if (RELATIVE.test(text)) counts[/\.[cm]?tsx?$/.test(text) ? '.ts' : /\.[cm]?jsx?$/.test(text) ? '.js' : ''] += 1;
+  for (const { tree, path: file } of world.info.modules) {
+    const { imports = tree.sources || [] } = program.getSourceFile(file) || {};
+    for (const { text } of imports) if (RELATIVE.test(text)) counts[/\.[cm]?tsx?$/.test(text) ? '.ts' : /\.[cm]?jsx?$/.test(text) ? '.js' : ''] += 1;
   }
   return Object.keys(counts).sort((a, b) => counts[b] - counts[a])[0];
 }
@@ -30,9 +31,10 @@ class Naming {
   constructor(world, program, resolve) {
     Object.assign(this, { world, program, resolve });
     this.checker = program.getTypeChecker();
-    this.ending = endingOf(world);
+    this.ending = endingOf(world, program);
     this.files = new Files(world.dir);
-    this.known = new Set([...world.files.values()].map((it) => it.path));
+    const own = program.getSourceFiles().map((it) => it.fileName).filter((it) => isInside(world.dir, it) && !it.includes('/node_modules/'));
+    this.known = new Set([...own, ...[...world.files.values()].map((it) => it.path)]);
     this.byStem = new Map(program.getSourceFiles().map((it) => [it.fileName.replace(ENDING, ''), it]));
     this.exported = new Map();
     this.packages = new Map();

@@ -61,8 +61,7 @@ function causeOf({ code, info = [] }) {
 async function fixed(dir) {
   const { analyse } = require('./analysis.js');
   const { FIXABLE } = require('./codes.js');
-  const { fix } = require('./fix.js');
-  const { verified } = require('./thread.js');
+  const { fixed: fix, verified } = require('./thread.js');
   const context = { cwd: dir, environment: process.env, progress: new Progress({ write() {} }, false) };
   const before = await analyse(dir, {}, context);
   if (!before.messages.some((it) => FIXABLE.has(it.code))) return null;

@@ -558,6 +558,7 @@ async function fixes() {
       same(again.out, '', 'what a second run changes');
     }));
   }
+  for (const [name, body] of require('./fixes.js').tests({ run, withFolder, same, holds })) await test(name, body);
 }
 
 /** Types of what lies around a folder: in its workspace, and among the packages of the system. */

@@ -1,0 +1,1 @@
+export const no = Math.max(4);

@@ -1,0 +1,1 @@
+export function two() { return Math.max(2); }
