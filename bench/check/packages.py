@@ -21,7 +21,7 @@ import tempfile
 sys.dont_write_bytecode = True
 sys.path[:0] = [os.path.join(os.path.dirname(os.path.dirname(os.path.abspath(__file__))), folder) for folder in ("rules", "cases", "check", "time")]
 
-from program_path import program_path
+from program_path import VECTORS, program_path
 from package_accounts import Closure, mismatch, without_nested
 from package_rules import World, order_of
 from package_worlds import request_of, with_ranges, world_of
@@ -187,7 +187,7 @@ def main(words):
     if words[:1] == ['compare'] and len(words) == 3:
         return compare([world_of(json.loads(line)) for line in open(words[1])], open(words[2]).read())
     if words[:1] == ['run'] and len(words) in (3, 4):
-        program = program_path(words[3] if len(words) == 4 else PROGRAM)
+        program = program_path(words[3] if len(words) == 4 else PROGRAM, VECTORS)
         worlds = random_worlds(int(words[1]), int(words[2]))
         return compare(worlds, run(worlds, program))
     sys.exit(__doc__)

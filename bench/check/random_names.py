@@ -15,7 +15,7 @@ import subprocess
 import sys
 import tempfile
 
-from program_path import program_path
+from program_path import VECTORS, program_path
 
 NAMES = ("a", "b", "c", "default")
 LEVELS = 4
@@ -153,7 +153,7 @@ def run(program, calls):
 
 
 def main(words):
-    program = program_path(words[0])
+    program = program_path(words[0], VECTORS)
     count = int(words[1]) if len(words) > 1 else 20_000
     seed = int(words[2]) if len(words) > 2 else 1
     random_ = random.Random(seed)

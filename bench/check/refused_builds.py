@@ -18,7 +18,7 @@ import sys
 import tempfile
 
 from fork_server import ForkServer, compile_library
-from program_path import program_path
+from program_path import VECTORS, program_path
 
 DATA = os.path.join(os.path.dirname(os.path.abspath(__file__)), "../../crates/fast_check_vectors/data")
 PART = "cached_builds"
@@ -85,7 +85,7 @@ def main():
         for name in NAMES:
             with open(os.path.join(folder, PART), "w") as file:
                 file.write(line_of(name))
-            server = ForkServer(program_path(sys.argv[1]), library, word=PART, folder=folder)
+            server = ForkServer(program_path(sys.argv[1], VECTORS), library, word=PART, folder=folder)
             wanted = server.run(PART, b"").out.decode()
             more, ended = server.refuse_each(PART, lambda ran: outcome(ran, wanted))
             requests, found = requests + more, found + ended

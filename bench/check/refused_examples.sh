@@ -10,7 +10,9 @@ built=crates/fast_check_cli/out/fast_check_cli
 if [ $# -eq 0 ] && [ ! -x "$built" ]; then
   ./fast-check build examples/build_hello.json > /dev/null
 fi
-program=$(readlink -f "${1:-$built}")
+program=${1:-$built}
+[ -x "$program" ] || { echo "refused_examples.sh: there is no program $program; ./fast-check builds one, and tools/unproved one without any proof" >&2; exit 2; }
+program=$(readlink -f "$program")
 status=0
 stored=crates/fast_check_vectors/data
 bench/check/refuse.py "$program" transform examples/{first,functions,classes,modules,namespaces}.json $stored/an_exported_expando_namespace.json || status=1

@@ -37,7 +37,7 @@ def main():
         return 2
     is_well = True
     with tempfile.TemporaryDirectory() as folder:
-        server = ForkServer(program_path(sys.argv[1]), compile_library(folder))
+        server = ForkServer(program_path(sys.argv[1], "bench/time/driver.sh refused builds one"), compile_library(folder))
         for call in CALLS:
             requests, found = server.refuse_each(call, outcome)
             is_well &= set(found) <= set(KNOWN) and (found["as before"] > 0) == (call not in NO_REQUEST)

@@ -5,7 +5,8 @@
 # usage: bench/time/driver.sh NAME PROGRAM
 set -eu
 [ $# -eq 2 ] || { sed -n 's/^# usage: /usage: /p' "$0" >&2; exit 2; }
-program=$(readlink -f "$2")
+program=$(readlink -m "$2")
+[ -d "${program%/*}" ] || { echo "driver.sh: there is no folder ${program%/*}" >&2; exit 2; }
 cd "$(dirname "$(readlink -f "${BASH_SOURCE[0]}")")/../.."
 case $1 in
   names) below="fast_check_cases fast_check_lattice" ;;

@@ -22,7 +22,7 @@ sys.dont_write_bytecode = True
 sys.path[:0] = [os.path.join(os.path.dirname(os.path.dirname(os.path.abspath(__file__))), folder) for folder in ("rules", "cases", "check", "time")]
 
 from growth import runner
-from program_path import program_path
+from program_path import VECTORS, program_path
 from package_worlds import request_of
 from programs import built
 
@@ -140,7 +140,7 @@ def measure(program, name, packages, modules, symbols):
 
 
 def main(words):
-    program = program_path(words.pop() if len(words) in (1, 5) else PROGRAM)
+    program = program_path(words.pop() if len(words) in (1, 5) else PROGRAM, VECTORS)
     if len(words) not in (0, 4):
         sys.exit(__doc__)
     print('shape     packages  modules   symbols       MB  seconds  reading  ms/1000 sym.  MB peak')

@@ -58,7 +58,7 @@ lay_out() {
   install -m 644 "$here/completion.bash" "$completions/fast-check-ts"
   ln -s fast-check-ts "$completions/fast-check"
   install -m 644 "$top/LICENSE" "$doc/copyright"
-  install -m 644 "$top"/docs/{FORMATS,RULES,TYPESCRIPT}.md "$doc"
+  install -m 644 "$top"/docs/{FORMATS,HIDDEN,RULES,TYPESCRIPT}.md "$doc"
   cp -r "$top"/examples/{package,first.json,build_hello.json,pair.json} "$doc/examples"
   for page in fast-check fast-check-ts; do
     node "$here/manual.js" "$here/$page.1" "$version" "$(date -d "@$SOURCE_DATE_EPOCH" +%F)" | gzip -9n > "$man/$page.1.gz"
