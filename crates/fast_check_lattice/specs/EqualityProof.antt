@@ -1,3 +1,4 @@
+-- Inner: no contract of a public call cites what stands here.
 -- The test of equality holds exactly of equal sets, and so it is an equivalence.
 use Rattle.std.proofs.Common.{◌≡◌, ◌∙◌, sym, ap, refl, ⊎_elim, ℕ, zero, suc, ◌+◌, ◌<◌, ◌≤◌, Bool, true, false, ◌&&◌, cond, List}
 use Rattle.std.proofs.Common.{[], ◌∷◌, Option, Some, None, string_bytes, ◌↔◌, length, get_or, arith, subst}
