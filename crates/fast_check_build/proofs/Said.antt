@@ -8,7 +8,7 @@ use Rattle.fast_check_cache.specs.declared.package_ranges.PackagePublicRanges.{P
 use Rattle.fast_check_package_ranges.specs.findings.Found.{found_yields}
 use Rattle.fast_check_package_ranges.specs.declared.findings.found.FoundPackage.{FoundPackage}
 use Rattle.fast_check_package_ranges.specs.Answers.{AreAnswers}
-use Rattle.fast_check_range_finder.specs.demands.sources.Sources.{Used, none_used, with_used, Known}
+use Rattle.fast_check_range_finder.specs.demands.sources.Sources.{Used, with_used, Known}
 use Rattle.fast_check_range_finder.specs.Lent.{used_of}
 use Rattle.fast_check_range_finder.specs.Account.{Account, HasHomes, IsAccount, IsYield}
 use Rattle.fast_check_range_finder.specs.Rules.{world}
@@ -34,10 +34,9 @@ found_public k roots found answers a says named = record {
   own = own_answers k a.0 (found_yields found) a.2 named answers says;
 }
 
--- what holds of the items that a lent cache gives holds without a cache, or by the seed of that cache
+-- what holds by the items that a lent cache gives under a seed holds by those under its own seed
 pub with_lent : {C : Type 0} (lent : Option C) (own : C → List ℕ) (by : C → List ℕ → Used) (seed : List ℕ) (k : Known)
-    (So : Known → Type 0) →
-    MatchOption lent ⊤ (λ c. seed ≡ own c) → So (with_used (used_of lent (λ c. by c seed)) k) →
-    MatchOption lent (So (with_used none_used k)) (λ c. So (with_used (by c (own c)) k))
+    (So : Known → Type 0) → MatchOption lent ⊤ (λ c. seed ≡ own c) → So (with_used (used_of lent (λ c. by c seed)) k) →
+    So (with_used (used_of lent (λ c. by c (own c))) k)
 with_lent None own by seed k So h so = so
 with_lent (Some c) own by seed k So h so = subst (λ (s : List ℕ). So (with_used (by c s) k)) h so

@@ -3,9 +3,7 @@
 ghost use Rattle.std.specs.Prelude.{◌≡◌, ⊤, map, MatchOption, IfOk, IfErr};
 ghost use Rattle.fast_check_packages.specs.Package.{nv_of};
 ghost use Rattle.fast_check_packages.specs.MembersIn.{members_in};
-ghost use Rattle.fast_check_cache.specs.CachedPackages.{used_item};
-ghost use Rattle.fast_check_range_finder.specs.demands.sources.Sources.{with_used};
-ghost use Rattle.fast_check_range_finder.specs.Lent.{used_of};
+ghost use Rattle.fast_check_range_finder.specs.Lent.{with_cache};
 ghost use Rattle.fast_check_range_finder.specs.Refusals.{IsRefusal};
 ghost use Rattle.fast_check_build.specs.Found.{known_of, IsFound};
 
@@ -36,13 +34,13 @@ pub(crate) fn find_seeded(
     pending_nvs: VecDeque<PackageNv>,
 ) -> Result<BTreeMap<PackageNv, PackagePublicRanges>, BuildFault>
     ensures found { let s = input.entry.sources in
-        let used = used_of cache.entry (λ c. used_item (hash_of c.now input.entry.seed.now) (stored c.now) s.graph.now) in
         let k = known_of s.graph.now s.root_symbol.now (members_in s.workspace_members.now) (url_of jsr_url_provider.now) (nv_at jsr_url_provider.now) in
-        IfOk result (IsFound (with_used used k) (map nv_of pending_nvs.items)) }
+        let lent = with_cache cache.entry (λ c. hash_of c.now input.entry.seed.now) (λ c. stored c.now) k in
+        IfOk result (IsFound lent (map nv_of pending_nvs.items)) }
     ensures refused { let s = input.entry.sources in
-        let used = used_of cache.entry (λ c. used_item (hash_of c.now input.entry.seed.now) (stored c.now) s.graph.now) in
         let k = known_of s.graph.now s.root_symbol.now (members_in s.workspace_members.now) (url_of jsr_url_provider.now) (nv_at jsr_url_provider.now) in
-        IfErr result (IsRefusal (with_used used k) (map nv_of pending_nvs.items)) }
+        let lent = with_cache cache.entry (λ c. hash_of c.now input.entry.seed.now) (λ c. stored c.now) k in
+        IfErr result (IsRefusal lent (map nv_of pending_nvs.items)) }
 {
     // Each module is found by its own name.
     input.sources.root_symbol.own_names_find();
@@ -68,11 +66,11 @@ pub fn find_public_ranges<'a>(
     pending_nvs: VecDeque<PackageNv>,
 ) -> Result<BTreeMap<PackageNv, PackagePublicRanges>, BuildFault>
     ensures found { let k = known_of graph.now root_symbol.now workspace_members.now (url_of jsr_url_provider.now) (nv_at jsr_url_provider.now) in
-        IfOk result (λ answers. MatchOption cache.entry (IsFound k (map nv_of pending_nvs.items) answers) (λ c.
-        IsFound (with_used (used_item (hash_of c.now (seed_text c.now)) (stored c.now) graph.now) k) (map nv_of pending_nvs.items) answers)) }
+        let lent = with_cache cache.entry (λ c. hash_of c.now (seed_text c.now)) (λ c. stored c.now) k in
+        IfOk result (IsFound lent (map nv_of pending_nvs.items)) }
     ensures refused { let k = known_of graph.now root_symbol.now workspace_members.now (url_of jsr_url_provider.now) (nv_at jsr_url_provider.now) in
-        IfErr result (λ fault. MatchOption cache.entry (IsRefusal k (map nv_of pending_nvs.items) fault) (λ c.
-        IsRefusal (with_used (used_item (hash_of c.now (seed_text c.now)) (stored c.now) graph.now) k) (map nv_of pending_nvs.items) fault)) }
+        let lent = with_cache cache.entry (λ c. hash_of c.now (seed_text c.now)) (λ c. stored c.now) k in
+        IfErr result (IsRefusal lent (map nv_of pending_nvs.items)) }
 {
     let seed = seed_of(cache);
     let members = IndexedMembers::new(alloc, workspace_members)?;
@@ -126,12 +124,12 @@ impl<'a> PublicRangeFinder<'a> {
     ) -> Result<BTreeMap<PackageNv, PackagePublicRanges>, BuildFault>
         ensures found { let f = finder_of self.entry in
             let k = known_of f.graph f.root_symbol f.workspace_members (url_of jsr_url_provider.now) (nv_at jsr_url_provider.now) in
-            IfOk result (λ answers. MatchOption cache.entry (IsFound k (map nv_of f.pending_nvs) answers) (λ c.
-            IsFound (with_used (used_item (hash_of c.now (seed_text c.now)) (stored c.now) f.graph) k) (map nv_of f.pending_nvs) answers)) }
+            let lent = with_cache cache.entry (λ c. hash_of c.now (seed_text c.now)) (λ c. stored c.now) k in
+            IfOk result (IsFound lent (map nv_of f.pending_nvs)) }
         ensures refused { let f = finder_of self.entry in
             let k = known_of f.graph f.root_symbol f.workspace_members (url_of jsr_url_provider.now) (nv_at jsr_url_provider.now) in
-            IfErr result (λ fault. MatchOption cache.entry (IsRefusal k (map nv_of f.pending_nvs) fault) (λ c.
-            IsRefusal (with_used (used_item (hash_of c.now (seed_text c.now)) (stored c.now) f.graph) k) (map nv_of f.pending_nvs) fault)) }
+            let lent = with_cache cache.entry (λ c. hash_of c.now (seed_text c.now)) (λ c. stored c.now) k in
+            IfErr result (IsRefusal lent (map nv_of f.pending_nvs)) }
     {
         let PublicRangeFinder {
             graph,

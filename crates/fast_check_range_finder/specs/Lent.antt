@@ -1,4 +1,3 @@
--- Inner: no contract of a public call cites what stands here.
 -- All that is known where a caller lends a provider and, perhaps, a cache.
 use Rattle.std.specs.Prelude.{ℕ, List, Option, Some, None}
 use Rattle.url.specs.Parts.{Parts}
@@ -14,10 +13,11 @@ abbrev pub used_of : {C : Type 0} → Option C → (C → Used) → Used
 used_of None by = none_used
 used_of (Some c) by = by c
 
--- the items that are used, by the hashes and items of a cache
-abbrev pub used_with : {C : Type 0} → FinderInput → Option C → (C → List ℕ → Nv → List Text → ℕ) → (C → ℕ → Option ItemView) → Used
-used_with i cache hash stored = used_of cache (λ c. used_item (hash c i.seed.now) (stored c) i.sources.graph.now)
+-- the same, and which items are used where a cache is lent: by its hashes and its items
+abbrev pub with_cache : {C : Type 0} → Option C → (C → Nv → List Text → ℕ) → (C → ℕ → Option ItemView) → Known → Known
+with_cache cache hash stored k = with_used (used_of cache (λ c. used_item (hash c) (stored c) k.graph)) k
 
+-- for a finder
 abbrev pub known_with : {C : Type 0} → FinderInput → (Nv → Parts) → (Text → Option Nv) → Option C →
     (C → List ℕ → Nv → List Text → ℕ) → (C → ℕ → Option ItemView) → Known
-known_with i url_of nv_at cache hash stored = with_used (used_with i cache hash stored) (known i.sources url_of nv_at)
+known_with i url_of nv_at cache hash stored = with_cache cache (λ c. hash c i.seed.now) stored (known i.sources url_of nv_at)

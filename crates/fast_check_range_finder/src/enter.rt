@@ -6,13 +6,14 @@ ghost use Rattle.fast_check_packages.specs.MembersIn.{members_in};
 ghost use Rattle.fast_check_graph.specs.declared.graph.ModuleGraph.{ModuleGraph as ModuleGraphSeen};
 ghost use Rattle.fast_check_graph.specs.declared.root_symbol.RootSymbol.{RootSymbol as RootSymbolSeen};
 ghost use Rattle.fast_check_cache.specs.Cache.{item_of};
+ghost use Rattle.fast_check_cache.specs.CachedPackages.{used_item};
 ghost use Rattle.fast_check_package_ranges.specs.findings.Yields.{kept};
 ghost use Rattle.fast_check_package_ranges.specs.entries.Entries.{entrance_seen, DiagnosesRefused};
 ghost use Rattle.fast_check_package_ranges.specs.entries.Kept.{AreKept};
 ghost use Rattle.fast_check_demands.specs.worklists.Demands.{of_package, to_package};
 ghost use Rattle.fast_check_demands.specs.sources.Sources.{known};
 ghost use Rattle.fast_check_range_finder.specs.Finder.{IsSound, CanEnter, Goes};
-ghost use Rattle.fast_check_range_finder.specs.Lent.{used_with, known_with};
+ghost use Rattle.fast_check_range_finder.specs.Lent.{used_of, known_with};
 ghost use Rattle.fast_check_range_finder.specs.Rules.{entry_want, unless_faulty, entered_wants, entry_wants, entrance_at, world};
 ghost use Rattle.fast_check_range_finder.specs.Yields.{entered_yields, entry_yields, gives};
 
@@ -135,7 +136,7 @@ impl<'a> Finder<'a> {
         entry_points: Rc<BTreeSet<Url>>,
     ) -> Result<(), AllocError>
         ensures { let i = input.entry in
-            let used = used_with i cache.entry (λ c. hash_of c.now) (λ c. stored c.now) in
+            let used = used_of cache.entry (λ c. used_item (hash_of c.now i.seed.now) (stored c.now) i.sources.graph.now) in
             let urls = entry_points.value.keys in
             OnOk result ((g : ModuleGraphSeen) (r : RootSymbolSeen) → IsSound g r self.old → CanEnter (nv_of nv.now) self.old
             → Goes g r (entered_wants i.sources.graph.now (nv_of nv.now) urls (used (nv_of nv.now) urls)) (entered_yields i.sources.graph.now (nv_of nv.now) urls (used (nv_of nv.now) urls))
@@ -158,7 +159,7 @@ impl<'a> Finder<'a> {
         entry_points: Option<Rc<BTreeSet<Url>>>,
     ) -> Result<(), AllocError>
         ensures { let i = input.entry in
-            let used = used_with i cache.entry (λ c. hash_of c.now) (λ c. stored c.now) in
+            let used = used_of cache.entry (λ c. used_item (hash_of c.now i.seed.now) (stored c.now) i.sources.graph.now) in
             let entrance = entrance_seen entry_points in
             OnOk result ((g : ModuleGraphSeen) (r : RootSymbolSeen) → IsSound g r self.old → CanEnter (nv_of nv.now) self.old
             → Goes g r (entry_wants i.sources.graph.now used (nv_of nv.now) entrance) (entry_yields i.sources.graph.now used (nv_of nv.now) entrance) self.old self.new) }
@@ -182,10 +183,8 @@ impl<'a> Finder<'a> {
     ) -> Result<(), BuildFault>
         ensures entered { let k = known_with input.entry (url_of provider.now) (nv_at provider.now) cache.entry (λ c. hash_of c.now) (λ c. stored c.now) in
             let d = of_package (nv_of nv.now) in
-            OnOk result (AreKept k.workspace_members members.old → IsSound k.graph k.root_symbol self.old
-            → CanEnter (nv_of nv.now) self.old → Goes k.graph k.root_symbol (world k d) (gives k d) self.old self.new) }
-        ensures kept { let ours = members_in input.entry.sources.workspace_members.now in
-            OnOk result (AreKept ours members.old → AreKept ours members.new) }
+            OnOk result (AreKept k.workspace_members members.old → AreKept k.workspace_members members.new × (IsSound k.graph k.root_symbol self.old
+            → CanEnter (nv_of nv.now) self.old → Goes k.graph k.root_symbol (world k d) (gives k d) self.old self.new)) }
         ensures refused { IfErr result (DiagnosesRefused (nv_of nv.now)
             (entrance_at (known input.entry.sources (url_of provider.now) (nv_at provider.now)) (nv_of nv.now))) }
     {

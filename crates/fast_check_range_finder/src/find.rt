@@ -1,6 +1,6 @@
 //! The loop.
 
-ghost use Rattle.std.specs.Prelude.{◌≡◌, [], map, OnOk, IfOk, IfErr};
+ghost use Rattle.std.specs.Prelude.{◌≡◌, [], map, IfOk, IfErr};
 ghost use Rattle.fast_check_packages.specs.Package.{nv_of};
 ghost use Rattle.fast_check_graph.specs.declared.graph.ModuleGraph.{ModuleGraph as ModuleGraphSeen};
 ghost use Rattle.fast_check_graph.specs.declared.root_symbol.RootSymbol.{RootSymbol as RootSymbolSeen};
@@ -49,9 +49,7 @@ impl<'a> Finder<'a> {
         requires no_symbols { self.old.symbols.items ≡ [] }
         requires no_names { self.old.names.items ≡ [] }
         ensures turned { let k = known_with input.entry (url_of provider.now) (nv_at provider.now) cache.entry (λ c. hash_of c.now) (λ c. stored c.now) in
-            IfOk result (λ more. AreKept k.workspace_members members.old → TurnsTo k more self.old self.new) }
-        ensures kept { let ours = members_in input.entry.sources.workspace_members.now in
-            OnOk result (AreKept ours members.old → AreKept ours members.new) }
+            IfOk result (λ more. AreKept k.workspace_members members.old → TurnsTo k more self.old self.new × AreKept k.workspace_members members.new) }
         ensures refused { let k = known_with input.entry (url_of provider.now) (nv_at provider.now) cache.entry (λ c. hash_of c.now) (λ c. stored c.now) in
             IfErr result (IsRefusedOf k (map nv_of self.old.packages)) }
     {

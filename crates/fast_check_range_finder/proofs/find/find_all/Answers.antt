@@ -118,7 +118,7 @@ turns-smaller g c =
     let b = c.enter_next.new.self in
     let t : Turns k f b = past_symbols k f one b refl c.in-None.ensures.items true
     (past_names k one two b refl c.in-None-pop.ensures.items true
-    (rw c.if-not-branch.false at c.in_ok-enter_next-in-None-pop.ensures.turned i.members)) in
+    (rw c.if-not-branch.false at (c.in_ok-enter_next-in-None-pop.ensures.turned i.members).0)) in
     on_falls k rs (reach k ds rs) (universe k ds rs has) i.done f b i.on t
 
 pub turns-preserved : goal.turns-preserved
@@ -134,11 +134,11 @@ turns-preserved g c =
     let b = c.enter_next.new.self in
     let t : Turns k f b = past_symbols k f one b refl c.in-None.ensures.items true
     (past_names k one two b refl c.in-None-pop.ensures.items true
-    (rw c.if-not-branch.false at c.in_ok-enter_next-in-None-pop.ensures.turned i.members)) in
+    (rw c.if-not-branch.false at (c.in_ok-enter_next-in-None-pop.ensures.turned i.members).0)) in
     record {
       done = i.done ++ t.turn.demand ∷ [];
       on = on_turned k rs i.done f b i.on t;
-      members = c.in_ok-enter_next-in-None-pop.ensures.kept i.members;
+      members = (c.in_ok-enter_next-in-None-pop.ensures.turned i.members).1;
     }
 
 pub returns-clause-found : goal.returns-clause-found
@@ -154,7 +154,7 @@ returns-clause-found g c =
     let b = c.enter_next.new.self in
     let t : Rests k f b = past_symbols k f one b refl c.in-None.ensures.items false
     (past_names k one two b refl c.in-None-pop.ensures.items false
-    (rw c.if-not-branch.true at c.in_ok-enter_next-in-None-pop.ensures.turned i.members)) in
+    (rw c.if-not-branch.true at (c.in_ok-enter_next-in-None-pop.ensures.turned i.members).0)) in
     on_ended k rs i.done f b i.on t c.in_ok-into_found.field-0.entries (c.in_ok-into_found.ensures t.sound.once.apart)
 
 pub returns-in_err-enter_next-in-None-pop-clause-refused : goal.returns-in_err-enter_next-in-None-pop-clause-refused

@@ -10,11 +10,14 @@ use Rattle.fast_check_range_finder.specs.Yields.{entry_yields}
 use Rattle.fast_check_range_finder.proofs.finder.Finder.enter.Goals as goal
 
 pub returns-clause-entered : goal.returns-clause-entered
-returns-clause-entered g c mine sound can =
+returns-clause-entered g c mine =
     let m = goal.JsrUrlProvider-dyn g c.args.provider.now in
     let used = used_of c.args.cache (λ x. let n = goal.FastCheckCache-dyn g x.now in
     used_item (n.hash_of x.now.1 c.args.input.seed.now) (n.stored x.now.1) c.args.input.sources.graph.now) in
     let k = with_used used (known c.args.input.sources (m.url_of c.args.provider.now.1) (m.nv_at c.args.provider.now.1)) in
-    let nv = nv_of c.args.nv.now in
-    subst (λ (e : Entrance). Goes k.graph k.root_symbol (entry_wants k.graph used nv e) (entry_yields k.graph used nv e) c.args.self.now
-    c.enter_some.new.self) (sym (c.in_ok-entry_points.ensures.entered mine)) (c.in_ok-enter_some.ensures k.graph k.root_symbol sound can)
+    let nv = nv_of c.args.nv.now in (
+      c.in_ok-entry_points.ensures.kept mine,
+      λ sound can. subst (λ (e : Entrance). Goes k.graph k.root_symbol (entry_wants k.graph used nv e) (entry_yields k.graph used nv e)
+          c.args.self.now c.enter_some.new.self) (sym (c.in_ok-entry_points.ensures.entered mine))
+          (c.in_ok-enter_some.ensures k.graph k.root_symbol sound can),
+    )

@@ -45,12 +45,15 @@ returns-clause-turned g c mine =
     slice_get_read ps (length ps) n nv refl within
     (sym (get_or-map nv_of f.packages n c.at.result.now nv below ∙ (ap nv_of (sym c.at.ensures) ∙ sym c.in_ok-nv.ensures))) in
     let once = c.requires.sound.once in
-    turns_by k (of_package nv) f mid c.enter.new.self
-    (package_taken ps n (handled f.handled) f.modules.entries (map names_seen f.names.items) (map seen_at f.symbols.items) nv here) refl
-    (c.in_ok-enter.ensures.entered mine
-    (record {
-      modules = c.requires.sound.modules;
-      symbols = c.requires.sound.symbols;
-      once = once_passed ps n (map entered_nv f.entrances.items) once within;
-    })
-    (once_entered ps n (map entered_nv f.entrances.items) once nv here))
+    let entered = c.in_ok-enter.ensures.entered mine in (
+      turns_by k (of_package nv) f mid c.enter.new.self
+          (package_taken ps n (handled f.handled) f.modules.entries (map names_seen f.names.items) (map seen_at f.symbols.items) nv here) refl
+          (entered.1
+          (record {
+            modules = c.requires.sound.modules;
+            symbols = c.requires.sound.symbols;
+            once = once_passed ps n (map entered_nv f.entrances.items) once within;
+          })
+          (once_entered ps n (map entered_nv f.entrances.items) once nv here)),
+      entered.0,
+    )
