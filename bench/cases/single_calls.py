@@ -15,7 +15,7 @@ import forms
 import packages
 import search_cases  # which adds to the worlds, as reference_cases does
 from package_cases import CASES as WORLDS
-from runs import Module, keyword, line
+from runs import EXAMPLES, Module, keyword, line
 
 STATED = os.path.join(os.path.dirname(os.path.abspath(__file__)), "stated")
 
@@ -128,9 +128,15 @@ def worlds():
     return {"worlds": "".join(json.dumps(packages.request_of(request)) + "\n" for request in requests)}, "".join(line + "\n" for line in lines)
 
 
+def built():
+    """What is printed of `build_hello.json`: the answer that the run of this request has too."""
+    with open(os.path.join(EXAMPLES, "build_hello.answer.json")) as file:
+        return file.read()
+
+
 def parts(runs):
     """For each part, in order, its files and what it prints."""
     made, printed = forms.part()
-    return [({}, stated("example")), cache_cases.part(), cached_builds.part(), ({"forms": made}, printed), repeated("names"), repeated("places"),
+    return [({}, built()), ({}, stated("example")), ({}, stated("versions")), cache_cases.part(), cached_builds.part(), ({"forms": made}, printed), repeated("names"), repeated("places"),
             ({}, stated("unfound")), ({}, stated("faults")), worlds(), transformers(runs),
             deep()]

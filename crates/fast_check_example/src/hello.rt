@@ -5,5 +5,5 @@ mod modules;
 mod source;
 mod symbols;
 
-pub use crate::hello::modules::root_symbol;
+pub use crate::hello::modules::{es_module, root_symbol};
 pub use crate::hello::source::{Line, hello_alone, hello_world};

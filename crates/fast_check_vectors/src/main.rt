@@ -10,7 +10,7 @@ use anyhow::{Result, bail};
 use fast_check_cache_cases::{run_cache_cases, run_cached_builds};
 use fast_check_cases::{run_form_cases, run_name_cases, run_place_cases};
 use fast_check_commands::{AnyCommand, Ending, Lines, run_commands};
-use fast_check_example::run_example;
+use fast_check_example::{run_example, run_json, run_versions};
 use fast_check_finder_cases::{
     run_deep_cases, run_fault_cases, run_finder_cases, run_transformer_cases, run_unfound_cases,
 };
@@ -20,9 +20,11 @@ use std::io::Write;
 use std::{env, fs, io};
 
 /// All parts.
-const PARTS: [&str; 12] = [
+const PARTS: [&str; 14] = [
     "runs",
+    "json",
     "example",
+    "versions",
     "caches",
     "cached_builds",
     "forms",
@@ -63,7 +65,9 @@ fn run_case<W: Write>(rt: &HostRuntime, line: &str, out: &mut W) -> io::Result<(
 fn run_part(rt: &HostRuntime, part: &str) -> Result<()> {
     match part {
         "runs" => Ok(run_vectors(rt)?),
+        "json" => run_json(rt, "build_hello.json"),
         "example" => run_example(rt),
+        "versions" => run_versions(rt),
         "caches" => Ok(run_cache_cases(rt)?),
         "cached_builds" => Ok(run_cached_builds(rt)?),
         "forms" => Ok(run_form_cases(rt)?),

@@ -9,7 +9,7 @@ use std::collections::BTreeMap;
 use url::Url;
 
 /// The module with its symbols. What does not fit is refused here, by the fault of its tables.
-fn es_module(alloc: Global, specifier: &Url, line: Line) -> Result<EsModuleInfo> {
+pub fn es_module(alloc: Global, specifier: &Url, line: Line) -> Result<EsModuleInfo> {
     let name = specifier.clone()?;
     let source = parsed_source(alloc, line)?;
     let tables = module_tables(alloc, specifier, line.declarator)?;
