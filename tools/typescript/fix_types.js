@@ -424,6 +424,11 @@ function startOf(statement, file) {
   return start;
 }
 
+/** Whether a statement is one as `"use strict"`. */
+function isDirective(node) {
+  return ts.isExpressionStatement(node) && ts.isStringLiteral(node.expression);
+}
+
 /** The edit that imports names: behind the last import of a file, or the directives that it begins with, else before its first statement. */
 function importEdits(file, imports) {
   if (!imports.size) return [];
@@ -431,7 +436,7 @@ function importEdits(file, imports) {
   for (const [local, { source, name }] of imports) bySource.set(source, [...(bySource.get(source) || []), name === local ? name : `${name} as ${local}`]);
   const lines = [...bySource].map(([source, names]) => `import type { ${names.sort().join(', ')} } from "${source}";`);
   const lineBreak = lineBreakOf(file.text);
-  const first = file.statements.findIndex((it) => !ts.isPrologueDirective(it));
+  const first = file.statements.findIndex((it) => !isDirective(it));
   const others = file.statements.filter((it, place) => it.kind === K.ImportDeclaration || place < first);
   if (others.length) return [insert(others[others.length - 1].end, lines.map((it) => `${lineBreak}${it}`).join(''))];
   return [insert(startOf(file.statements[0], file), lines.map((it) => `${it}${lineBreak}`).join(''))];
