@@ -1,4 +1,3 @@
-mod Seen
 mod Named
 mod Turns
 mod LastRows

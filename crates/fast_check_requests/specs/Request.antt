@@ -21,7 +21,6 @@ use Rattle.fast_check_read.specs.Reading.{tree_of}
 use Rattle.fast_check_diagnostics.specs.declared.parsed_source.tables.parsed_source.ParsedSource.{ParsedSource}
 use Rattle.fast_check_diagnostics.specs.declared.parsed_source.tables.media_type.MediaType.{MediaType}
 use Rattle.fast_check_modules.specs.diagnostics.PublicRanges.{PublicRanges, is_public, is_implementation, same_range}
-use Rattle.fast_check_graph.specs.declared.graph.ModuleGraph.{ModuleGraph}
 use Rattle.fast_check_read_tables.specs.graph.Reads.{given, needed, url_of}
 use Rattle.fast_check_read_tables.specs.graph.Modules.{media_type_of}
 use Rattle.fast_check_read_tables.specs.Seen as seen
@@ -53,6 +52,20 @@ pub record Request : Type 0 where
   pub ranges : List SourceRange
   pub implementations : List SourceRange
   pub first : Bool
+
+-- ---- what contracts see of the values that are made of it
+
+abbrev pub source : ParsedSource → Source
+source s = record {
+  media_type = s.media_type;
+  text = rc_str_bytes s.text;
+  program = s.program;
+  comments = s.comments;
+  unresolved_context = s.unresolved_context;
+}
+
+abbrev pub es_module : EsModuleParts → Module
+es_module m = record { specifier = m.specifier; source = source m.source; tables = seen.tables m.tables }
 
 -- ---- what may be left out
 
@@ -120,33 +133,15 @@ request_of value = if has_float value then None else members_of_request value
 
 -- ---- the values that are made of it
 
--- a source with this text
-pub record IsSource (asked : Source) (source : ParsedSource) : Type 0 where
-  pub media_type : source.media_type ≡ asked.media_type
-  pub text : rc_str_bytes source.text ≡ asked.text
-  pub program : source.program ≡ asked.program
-  pub comments : source.comments ≡ asked.comments
-  pub unresolved_context : source.unresolved_context ≡ asked.unresolved_context
-
--- the parts of the module
-pub record HoldsModule (asked : Module) (parts : EsModuleParts) : Type 0 where
-  pub specifier : parts.specifier ≡ asked.specifier
-  pub source : IsSource asked.source parts.source
-  pub tables : seen.tables parts.tables ≡ asked.tables
-
--- the graph
-abbrev pub IsGraph : Request → ModuleGraph → Type 0
-IsGraph asked g = graphs.graph g ≡ asked.graph
-
 -- exactly the ranges that are given are public, and implementations
-pub record IsPublic (asked : Request) (public : PublicRanges) : Type 0 where
-  pub ranges : (r : SourceRange) → is_public public r ≡ list_any (same_range r) asked.ranges
-  pub implementations : (r : SourceRange) → is_implementation public r ≡ list_any (same_range r) asked.implementations
+pub record IsPublic (shown bodies : List SourceRange) (public : PublicRanges) : Type 0 where
+  pub ranges : (r : SourceRange) → is_public public r ≡ list_any (same_range r) shown
+  pub implementations : (r : SourceRange) → is_implementation public r ≡ list_any (same_range r) bodies
 
 pub record IsRequest (asked : Request) (made : TransformRequest) : Type 0 where
-  pub graph : IsGraph asked made.graph
-  pub es_module : HoldsModule asked.es_module made.es_module
-  pub public_ranges : IsPublic asked made.public_ranges
+  pub graph : graphs.graph made.graph ≡ asked.graph
+  pub es_module : es_module made.es_module ≡ asked.es_module
+  pub public_ranges : IsPublic asked.ranges asked.implementations made.public_ranges
   pub first : made.should_error_on_first_diagnostic ≡ asked.first
 
 -- a call makes a value of what is expected, or answers `BadForm` where nothing is; it may run out of memory

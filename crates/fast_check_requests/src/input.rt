@@ -4,7 +4,8 @@ ghost use Rattle.std.specs.Prelude.{◌≡◌, option_map, None, Some, IfOk, IfE
 ghost use Rattle.serde_json.specs.Read.{read};
 ghost use Rattle.serde_json.specs.View.{view};
 ghost use Rattle.fast_check_requests.specs.Call.{OfFile, IsReadRefusal};
-ghost use Rattle.fast_check_requests.specs.Input.{HoldsRequest, LacksRequest};
+ghost use Rattle.fast_check_requests.specs.Input.{HoldsRequest, Lacks};
+ghost use Rattle.fast_check_requests.specs.Request.{request_of};
 
 use crate::refusal::Refusal;
 use crate::request::{TransformRequest, read_transform_request};
@@ -43,7 +44,7 @@ pub fn take_input(alloc: Global, bytes: Vec<u8>) -> Result<Value, InputFault>
 /// no request. The bytes are dropped before the request is made of the value.
 pub fn read_request(alloc: Global, bytes: Vec<u8>) -> Result<TransformRequest, Refusal>
     ensures request { IfOk result (HoldsRequest bytes.items) }
-    ensures refusal { IfErr result (LacksRequest bytes.items) }
+    ensures refusal { IfErr result (Lacks request_of bytes.items) }
 {
     let value = take_input(alloc, bytes)?;
     Ok(read_transform_request(alloc, &value)?)

@@ -19,6 +19,7 @@ pub use lines::{LineWriter, Lines};
 pub use program::run_commands;
 pub use refusal::Refusal;
 pub use request::{
-    EsModuleParts, TransformRequest, read_es_module, read_optional_ranges, read_transform_request,
+    EsModuleParts, TransformRequest, member, read_es_module, read_optional_ranges,
+    read_transform_request,
 };
 pub use words::read_call;

@@ -6,9 +6,9 @@ ghost use Rattle.serde_json.specs.Find.{get};
 ghost use Rattle.serde_json.specs.View.{view};
 ghost use Rattle.fast_check_read.specs.Comments.{comments_of};
 ghost use Rattle.fast_check_read.specs.Each.{Answers};
-ghost use Rattle.fast_check_read_tables.specs.graph.Reads.{given};
+ghost use Rattle.fast_check_read_tables.specs.graph.Reads.{Reads, given};
 ghost use Rattle.fast_check_requests.specs.Request.{request_of, members_of_request, ranges_or_none, context_or_zero};
-ghost use Rattle.fast_check_requests.specs.Request.{program_of, source_of, module_of, Makes, HoldsModule, IsRequest, IsSource};
+ghost use Rattle.fast_check_requests.specs.Request.{program_of, source_of, module_of, source, es_module, Makes, IsRequest};
 
 use fast_check_comments::Comments;
 use fast_check_diagnostics::parsed_source::{ModuleSpecifier, ParsedSource};
@@ -77,7 +77,7 @@ fn read_members(alloc: Global, value: &Value) -> Result<TransformRequest, ReadEr
 }
 
 /// A member that has no default.
-fn member<'a>(value: &'a Value, name: &str) -> Result<&'a Value, ReadError>
+pub fn member<'a>(value: &'a Value, name: &str) -> Result<&'a Value, ReadError>
     ensures member { option_map (λ v. view v.now) (result_ok result) ≡ get name.now (view value.now) }
     ensures err { IfErr result (λ error. error ≡ ReadError.BadForm) }
 {
@@ -102,7 +102,7 @@ pub fn read_optional_ranges(
 
 /// Reads an object of the members `specifier` and `source`, and of those of tables.
 pub fn read_es_module(alloc: Global, value: &Value) -> Result<EsModuleParts, ReadError>
-    ensures { Makes HoldsModule (module_of (view value.now)) result }
+    ensures { Reads es_module (module_of (view value.now)) result }
 {
     Ok(EsModuleParts {
         specifier: read_member(alloc, value, "specifier")?,
@@ -112,7 +112,7 @@ pub fn read_es_module(alloc: Global, value: &Value) -> Result<EsModuleParts, Rea
 }
 
 fn read_source(alloc: Global, value: &Value) -> Result<ParsedSource, ReadError>
-    ensures { Makes IsSource (source_of (view value.now)) result }
+    ensures { Reads source (source_of (view value.now)) result }
 {
     let media_type = read_member(alloc, value, "media_type")?;
     let text = read_text(member(value, "text")?)?;

@@ -3,34 +3,19 @@ use Rattle.std.proofs.Common.{ℕ, ◌<◌, List, inl, inr, subst, sym, lit<}
 use Rattle.fast_check_requests.specs.declared.refusal.Refusal.{Refusal}
 use Rattle.fast_check_requests.specs.declared.refusal.Refusal.TheVariants as refusals
 use Rattle.fast_check_requests.specs.declared.request.TransformRequest.{TransformRequest}
-use Rattle.fast_check_requests.specs.Input.{HoldsRequest, LacksRequest}
+use Rattle.fast_check_requests.specs.Input.{HoldsRequest, Lacks}
+use Rattle.fast_check_requests.specs.Request.{request_of}
 use Rattle.fast_check_requests.specs.Run.{IsOfBytes}
 use Rattle.fast_check_modules.specs.EsModule.{EsModule}
 use Rattle.fast_check_transform_command.specs.Transform.{IsModuleOf, RefusesModule, AnswersRequest, RefusesRequest, RefusesBytes}
 
-pub refused : (refusal : Refusal) (bytes : List ℕ) → LacksRequest bytes refusal → RefusesBytes refusal bytes
-refused refusals.NotJson bytes lacks = lacks
-refused refusals.BadForm bytes lacks = lacks
-refused refusals.OutOfMemory bytes lacks = lacks
-refused refusals.Usage bytes lacks = absurd lacks
-refused refusals.Unreadable bytes lacks = absurd lacks
-refused (refusals.TableFault fault) bytes lacks = absurd lacks
-refused refusals.RangesNotAdmitted bytes lacks = absurd lacks
-refused refusals.InvalidExport bytes lacks = absurd lacks
-refused refusals.Unwritable bytes lacks = absurd lacks
+pub refused : (refusal : Refusal) (bytes : List ℕ) → Lacks request_of bytes refusal → RefusesBytes refusal bytes
+refused refusal bytes lacks = inl lacks
 
 pub request_refused : (refusal : Refusal) (bytes : List ℕ) (asked : TransformRequest) → HoldsRequest bytes asked →
     RefusesRequest asked refusal
     → RefusesBytes refusal bytes
-request_refused refusals.NotJson bytes asked holds refuses = absurd refuses
-request_refused refusals.BadForm bytes asked holds refuses = absurd refuses
-request_refused refusals.OutOfMemory bytes asked holds refuses = tt
-request_refused refusals.Usage bytes asked holds refuses = absurd refuses
-request_refused refusals.Unreadable bytes asked holds refuses = absurd refuses
-request_refused (refusals.TableFault fault) bytes asked holds refuses = (asked, holds, refuses)
-request_refused refusals.RangesNotAdmitted bytes asked holds refuses = (asked, holds, refuses)
-request_refused refusals.InvalidExport bytes asked holds refuses = absurd refuses
-request_refused refusals.Unwritable bytes asked holds refuses = absurd refuses
+request_refused refusal bytes asked holds refuses = inr (asked, holds, refuses)
 
 pub answer_status : (asked : TransformRequest) (line : List ℕ) (status : ℕ) → AnswersRequest asked line status → status < 2
 answer_status asked line status h =
@@ -41,12 +26,12 @@ pub of_bytes : (refusal : Refusal) (bytes : List ℕ) → RefusesBytes refusal b
 of_bytes refusals.NotJson bytes refuses = tt
 of_bytes refusals.BadForm bytes refuses = tt
 of_bytes refusals.OutOfMemory bytes refuses = tt
-of_bytes refusals.Usage bytes refuses = refuses
-of_bytes refusals.Unreadable bytes refuses = refuses
+of_bytes refusals.Usage bytes refuses = elim refuses [ inl h ↦ h | inr h ↦ h.2 ]
+of_bytes refusals.Unreadable bytes refuses = elim refuses [ inl h ↦ h | inr h ↦ h.2 ]
 of_bytes (refusals.TableFault fault) bytes refuses = tt
 of_bytes refusals.RangesNotAdmitted bytes refuses = tt
 of_bytes refusals.InvalidExport bytes refuses = tt
-of_bytes refusals.Unwritable bytes refuses = refuses
+of_bytes refusals.Unwritable bytes refuses = elim refuses [ inl h ↦ h | inr h ↦ h.2 ]
 
 pub module_refused : (refusal : Refusal) (asked : TransformRequest) (info : EsModule) → IsModuleOf asked.es_module info
     → RefusesModule info asked.public_ranges refusal → RefusesRequest asked refusal

@@ -8,7 +8,8 @@ use Rattle.fast_check_requests.specs.declared.refusal.Refusal.{Refusal}
 use Rattle.fast_check_requests.specs.declared.refusal.Refusal.TheVariants as refusals
 use Rattle.fast_check_requests.specs.declared.request.EsModuleParts.{EsModuleParts}
 use Rattle.fast_check_requests.specs.declared.request.TransformRequest.{TransformRequest}
-use Rattle.fast_check_requests.specs.Input.{HoldsRequest, IsNotJson, IsNoRequest}
+use Rattle.fast_check_requests.specs.Input.{HoldsRequest, RefusesBy}
+use Rattle.fast_check_requests.specs.Request.{request_of}
 use Rattle.fast_check_modules.specs.diagnostics.PublicRanges.{PublicRanges}
 use Rattle.fast_check_transform_command.specs.Line.{IsAnswer}
 
@@ -53,22 +54,11 @@ RefusesRequest asked _ = ⊥
 
 -- ---- the bytes of the file
 
--- they are the JSON of a request, of which this holds
-abbrev pub OfRequest : (TransformRequest → Type 0) → List ℕ → Type 0
-OfRequest P bytes = (asked : TransformRequest) × HoldsRequest bytes asked × P asked
-
 -- the line is the answer to the request in them
 abbrev pub IsAnswerTo : List ℕ → List ℕ → ℕ → Type 0
-IsAnswerTo bytes line status = OfRequest (λ asked. AnswersRequest asked line status) bytes
+IsAnswerTo bytes line status =
+    (asked : TransformRequest) × HoldsRequest bytes asked × AnswersRequest asked line status
 
--- why they are refused: they are no JSON, or the JSON of no request, or their request is refused; memory may run out at
--- any bytes
+-- why they are refused
 abbrev pub RefusesBytes : Refusal → List ℕ → Type 0
-RefusesBytes refusals.NotJson bytes = IsNotJson bytes
-RefusesBytes refusals.BadForm bytes = IsNoRequest bytes
-RefusesBytes (refusals.TableFault fault) bytes = OfRequest
-    (λ asked. RefusesRequest asked (refusals.TableFault fault)) bytes
-RefusesBytes refusals.RangesNotAdmitted bytes = OfRequest
-    (λ asked. RefusesRequest asked refusals.RangesNotAdmitted) bytes
-RefusesBytes refusals.OutOfMemory bytes = Unit {0}
-RefusesBytes _ bytes = ⊥
+RefusesBytes refusal bytes = RefusesBy request_of HoldsRequest RefusesRequest bytes refusal

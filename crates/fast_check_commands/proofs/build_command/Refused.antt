@@ -1,5 +1,5 @@
 -- Bytes without a request are refused, and so are those whose request is.
-use Rattle.std.proofs.Common.{◌≡◌, ℕ, ◌<◌, Bool, true, false, if◌then◌else◌, List, subst, sym, lit<}
+use Rattle.std.proofs.Common.{◌≡◌, ℕ, ◌<◌, Bool, true, false, if◌then◌else◌, List, inl, inr, subst, sym, lit<}
 use Rattle.std.specs.List.{list_any}
 use Rattle.fast_check_packages.specs.declared.listed.ListedPackages.{ListedPackages}
 use Rattle.fast_check_graph.specs.declared.root_symbol.RootSymbol.{RootSymbol}
@@ -7,33 +7,19 @@ use Rattle.fast_check_requests.specs.declared.refusal.Refusal.{Refusal}
 use Rattle.fast_check_requests.specs.declared.refusal.Refusal.TheVariants as refusals
 use Rattle.fast_check_requests.specs.declared.build_requests.request.BuildRequest.{BuildRequest}
 use Rattle.fast_check_requests.specs.Run.{IsOfBytes}
-use Rattle.fast_check_requests.specs.build_requests.Input.{HoldsBuild, LacksBuild}
+use Rattle.fast_check_requests.specs.Input.{Lacks}
+use Rattle.fast_check_requests.specs.build_requests.Input.{HoldsBuild}
+use Rattle.fast_check_requests.specs.build_requests.Request.{build_of}
 use Rattle.fast_check_commands.specs.build_command.Line.{has_diagnostics}
 use Rattle.fast_check_commands.specs.build_command.Build.{known_by, known_in, roots_in, IsRootIn, IsExportRefusal, AnswersBuild}
 use Rattle.fast_check_commands.specs.build_command.Build.{RefusesBuild, RefusesBytes}
 
-pub refused : (refusal : Refusal) (bytes : List ℕ) → LacksBuild bytes refusal → RefusesBytes refusal bytes
-refused refusals.NotJson bytes lacks = lacks
-refused refusals.BadForm bytes lacks = lacks
-refused refusals.OutOfMemory bytes lacks = lacks
-refused refusals.Usage bytes lacks = absurd lacks
-refused refusals.Unreadable bytes lacks = absurd lacks
-refused (refusals.TableFault fault) bytes lacks = absurd lacks
-refused refusals.RangesNotAdmitted bytes lacks = absurd lacks
-refused refusals.InvalidExport bytes lacks = absurd lacks
-refused refusals.Unwritable bytes lacks = absurd lacks
+pub refused : (refusal : Refusal) (bytes : List ℕ) → Lacks build_of bytes refusal → RefusesBytes refusal bytes
+refused refusal bytes lacks = inl lacks
 
 pub request_refused : (refusal : Refusal) (bytes : List ℕ) (asked : BuildRequest) → HoldsBuild bytes asked → RefusesBuild asked refusal
     → RefusesBytes refusal bytes
-request_refused refusals.NotJson bytes asked holds refuses = absurd refuses
-request_refused refusals.BadForm bytes asked holds refuses = absurd refuses
-request_refused refusals.OutOfMemory bytes asked holds refuses = tt
-request_refused refusals.Usage bytes asked holds refuses = absurd refuses
-request_refused refusals.Unreadable bytes asked holds refuses = absurd refuses
-request_refused (refusals.TableFault fault) bytes asked holds refuses = (asked, holds, refuses)
-request_refused refusals.RangesNotAdmitted bytes asked holds refuses = absurd refuses
-request_refused refusals.InvalidExport bytes asked holds refuses = (asked, holds, refuses)
-request_refused refusals.Unwritable bytes asked holds refuses = absurd refuses
+request_refused refusal bytes asked holds refuses = inr (asked, holds, refuses)
 
 -- where the modules of a request stand, so are its packages
 pub export_refused : (refusal : Refusal) (asked : BuildRequest) (root : RootSymbol) → IsRootIn asked root
@@ -69,9 +55,9 @@ pub of_bytes : (refusal : Refusal) (bytes : List ℕ) → RefusesBytes refusal b
 of_bytes refusals.NotJson bytes refuses = tt
 of_bytes refusals.BadForm bytes refuses = tt
 of_bytes refusals.OutOfMemory bytes refuses = tt
-of_bytes refusals.Usage bytes refuses = refuses
-of_bytes refusals.Unreadable bytes refuses = refuses
+of_bytes refusals.Usage bytes refuses = elim refuses [ inl h ↦ h | inr h ↦ h.2 ]
+of_bytes refusals.Unreadable bytes refuses = elim refuses [ inl h ↦ h | inr h ↦ h.2 ]
 of_bytes (refusals.TableFault fault) bytes refuses = tt
 of_bytes refusals.RangesNotAdmitted bytes refuses = tt
 of_bytes refusals.InvalidExport bytes refuses = tt
-of_bytes refusals.Unwritable bytes refuses = refuses
+of_bytes refusals.Unwritable bytes refuses = elim refuses [ inl h ↦ h | inr h ↦ h.2 ]

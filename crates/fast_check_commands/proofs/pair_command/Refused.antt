@@ -1,5 +1,5 @@
 -- Bytes without a request are refused, and so are those whose request is.
-use Rattle.std.proofs.Common.{ℕ, ◌<◌, List, Ok, Err, inr, subst, sym, lit<}
+use Rattle.std.proofs.Common.{ℕ, ◌<◌, List, Ok, Err, inl, inr, subst, sym, lit<}
 use Rattle.fast_check_requests.specs.declared.refusal.Refusal.{Refusal}
 use Rattle.fast_check_requests.specs.declared.refusal.Refusal.TheVariants as refusals
 use Rattle.fast_check_requests.specs.Run.{IsOfBytes}
@@ -9,33 +9,19 @@ use Rattle.fast_check_transform_command.specs.Transform.{IsModuleOf}
 use Rattle.fast_check_transformer.specs.Transformed.{ModuleAnswer}
 use Rattle.fast_check_commands.specs.declared.pair_command.request.PairRequest.{PairRequest}
 use Rattle.fast_check_commands.specs.declared.pair_command.request.Side.{Side}
-use Rattle.fast_check_commands.specs.pair_command.Input.{HoldsPair, LacksPair}
+use Rattle.fast_check_requests.specs.Input.{Lacks}
+use Rattle.fast_check_commands.specs.pair_command.Input.{HoldsPair}
+use Rattle.fast_check_commands.specs.pair_command.Request.{pair_of}
 use Rattle.fast_check_commands.specs.pair_command.Line.{status_of}
 use Rattle.fast_check_commands.specs.pair_command.Pair.{RefusesModules, AnswersPair, RefusesPair, RefusesBytes}
 use Rattle.fast_check_commands.specs.pair_command.Second.{RefusesSecond}
 
-pub refused : (refusal : Refusal) (bytes : List ℕ) → LacksPair bytes refusal → RefusesBytes refusal bytes
-refused refusals.NotJson bytes lacks = lacks
-refused refusals.BadForm bytes lacks = lacks
-refused refusals.OutOfMemory bytes lacks = lacks
-refused refusals.Usage bytes lacks = absurd lacks
-refused refusals.Unreadable bytes lacks = absurd lacks
-refused (refusals.TableFault fault) bytes lacks = absurd lacks
-refused refusals.RangesNotAdmitted bytes lacks = absurd lacks
-refused refusals.InvalidExport bytes lacks = absurd lacks
-refused refusals.Unwritable bytes lacks = absurd lacks
+pub refused : (refusal : Refusal) (bytes : List ℕ) → Lacks pair_of bytes refusal → RefusesBytes refusal bytes
+refused refusal bytes lacks = inl lacks
 
 pub request_refused : (refusal : Refusal) (bytes : List ℕ) (asked : PairRequest) → HoldsPair bytes asked → RefusesPair asked refusal
     → RefusesBytes refusal bytes
-request_refused refusals.NotJson bytes asked holds refuses = absurd refuses
-request_refused refusals.BadForm bytes asked holds refuses = absurd refuses
-request_refused refusals.OutOfMemory bytes asked holds refuses = tt
-request_refused refusals.Usage bytes asked holds refuses = absurd refuses
-request_refused refusals.Unreadable bytes asked holds refuses = absurd refuses
-request_refused (refusals.TableFault fault) bytes asked holds refuses = (asked, holds, refuses)
-request_refused refusals.RangesNotAdmitted bytes asked holds refuses = (asked, holds, refuses)
-request_refused refusals.InvalidExport bytes asked holds refuses = absurd refuses
-request_refused refusals.Unwritable bytes asked holds refuses = absurd refuses
+request_refused refusal bytes asked holds refuses = inr (asked, holds, refuses)
 
 -- ranges that are refused, and a second module that is
 pub modules_refused : (refusal : Refusal) (a b : EsModule) (ranges_a : PublicRanges) (side : Side) → IsModuleOf side.es_module b
@@ -83,9 +69,9 @@ pub of_bytes : (refusal : Refusal) (bytes : List ℕ) → RefusesBytes refusal b
 of_bytes refusals.NotJson bytes refuses = tt
 of_bytes refusals.BadForm bytes refuses = tt
 of_bytes refusals.OutOfMemory bytes refuses = tt
-of_bytes refusals.Usage bytes refuses = refuses
-of_bytes refusals.Unreadable bytes refuses = refuses
+of_bytes refusals.Usage bytes refuses = elim refuses [ inl h ↦ h | inr h ↦ h.2 ]
+of_bytes refusals.Unreadable bytes refuses = elim refuses [ inl h ↦ h | inr h ↦ h.2 ]
 of_bytes (refusals.TableFault fault) bytes refuses = tt
 of_bytes refusals.RangesNotAdmitted bytes refuses = tt
 of_bytes refusals.InvalidExport bytes refuses = tt
-of_bytes refusals.Unwritable bytes refuses = refuses
+of_bytes refusals.Unwritable bytes refuses = elim refuses [ inl h ↦ h | inr h ↦ h.2 ]

@@ -16,9 +16,10 @@ use Rattle.fast_check_build.specs.Found.{known_of}
 use Rattle.fast_check_build.specs.Build.{IsBuilt}
 use Rattle.fast_check_requests.specs.declared.refusal.Refusal.{Refusal}
 use Rattle.fast_check_requests.specs.declared.refusal.Refusal.TheVariants as refusals
-use Rattle.fast_check_requests.specs.Input.{IsNotJson}
+use Rattle.fast_check_requests.specs.Input.{RefusesBy}
 use Rattle.fast_check_requests.specs.declared.build_requests.request.BuildRequest.{BuildRequest}
-use Rattle.fast_check_requests.specs.build_requests.Input.{HoldsBuild, IsNoBuild}
+use Rattle.fast_check_requests.specs.build_requests.Input.{HoldsBuild}
+use Rattle.fast_check_requests.specs.build_requests.Request.{build_of}
 use Rattle.fast_check_requests.specs.build_requests.Root.{IsRootOfParts, StandUnderNames, IsBuildFault}
 use Rattle.fast_check_commands.specs.build_command.Line.{IsLineOf}
 
@@ -84,20 +85,10 @@ RefusesBuild asked _ = ⊥
 
 -- ---- the bytes of the file
 
--- they are the JSON of a request, of which this holds
-abbrev pub OfBuild : (BuildRequest → Type 0) → List ℕ → Type 0
-OfBuild P bytes = (asked : BuildRequest) × HoldsBuild bytes asked × P asked
-
 -- the line is the answer to the request in them
 abbrev pub IsAnswerTo : List ℕ → List ℕ → ℕ → Type 0
-IsAnswerTo bytes line status = OfBuild (λ asked. AnswersBuild asked line status) bytes
+IsAnswerTo bytes line status = (asked : BuildRequest) × HoldsBuild bytes asked × AnswersBuild asked line status
 
--- why they are refused: they are no JSON, or the JSON of no request, or their request is refused; memory may run out at
--- any bytes
+-- why they are refused
 abbrev pub RefusesBytes : Refusal → List ℕ → Type 0
-RefusesBytes refusals.NotJson bytes = IsNotJson bytes
-RefusesBytes refusals.BadForm bytes = IsNoBuild bytes
-RefusesBytes (refusals.TableFault fault) bytes = OfBuild (λ asked. RefusesBuild asked (refusals.TableFault fault)) bytes
-RefusesBytes refusals.InvalidExport bytes = OfBuild (λ asked. RefusesBuild asked refusals.InvalidExport) bytes
-RefusesBytes refusals.OutOfMemory bytes = Unit {0}
-RefusesBytes _ bytes = ⊥
+RefusesBytes refusal bytes = RefusesBy build_of HoldsBuild RefusesBuild bytes refusal

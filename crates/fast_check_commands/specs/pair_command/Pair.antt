@@ -7,12 +7,13 @@ use Rattle.fast_check_modules.specs.diagnostics.PublicRanges.{PublicRanges}
 use Rattle.fast_check_modules.specs.symbols.declared.fault.TableFault.{TableFault}
 use Rattle.fast_check_requests.specs.declared.refusal.Refusal.{Refusal}
 use Rattle.fast_check_requests.specs.declared.refusal.Refusal.TheVariants as refusals
-use Rattle.fast_check_requests.specs.Input.{IsNotJson}
+use Rattle.fast_check_requests.specs.Input.{RefusesBy}
 use Rattle.fast_check_transform_command.specs.Transform.{IsModuleOf}
 use Rattle.fast_check_commands.specs.declared.pair_command.request.PairRequest.{PairRequest}
 use Rattle.fast_check_commands.specs.declared.pair_command.request.Side.{Side}
-use Rattle.fast_check_commands.specs.pair_command.Input.{HoldsPair, IsNoPair}
+use Rattle.fast_check_commands.specs.pair_command.Input.{HoldsPair}
 use Rattle.fast_check_commands.specs.pair_command.Line.{IsPairAnswer}
+use Rattle.fast_check_commands.specs.pair_command.Request.{pair_of}
 
 -- ---- two modules
 
@@ -71,20 +72,10 @@ RefusesPair asked _ = ⊥
 
 -- ---- the bytes of the file
 
--- they are the JSON of a request, of which this holds
-abbrev pub OfPair : (PairRequest → Type 0) → List ℕ → Type 0
-OfPair P bytes = (asked : PairRequest) × HoldsPair bytes asked × P asked
-
 -- the line is the answer to the request in them
 abbrev pub IsAnswerTo : List ℕ → List ℕ → ℕ → Type 0
-IsAnswerTo bytes line status = OfPair (λ asked. AnswersPair asked line status) bytes
+IsAnswerTo bytes line status = (asked : PairRequest) × HoldsPair bytes asked × AnswersPair asked line status
 
--- why they are refused: they are no JSON, or the JSON of no request, or their request is refused; memory may run out at
--- any bytes
+-- why they are refused
 abbrev pub RefusesBytes : Refusal → List ℕ → Type 0
-RefusesBytes refusals.NotJson bytes = IsNotJson bytes
-RefusesBytes refusals.BadForm bytes = IsNoPair bytes
-RefusesBytes (refusals.TableFault fault) bytes = OfPair (λ asked. RefusesPair asked (refusals.TableFault fault)) bytes
-RefusesBytes refusals.RangesNotAdmitted bytes = OfPair (λ asked. RefusesPair asked refusals.RangesNotAdmitted) bytes
-RefusesBytes refusals.OutOfMemory bytes = Unit {0}
-RefusesBytes _ bytes = ⊥
+RefusesBytes refusal bytes = RefusesBy pair_of HoldsPair RefusesPair bytes refusal

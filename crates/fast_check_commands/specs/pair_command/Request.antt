@@ -1,16 +1,14 @@
 -- What `pair` is asked, as JSON.
 use Rattle.std.specs.Prelude.{◌≡◌, ℕ, List, Bool, if◌then◌else◌, codes, Option, Some, None}
-use Rattle.std.specs.List.{list_any}
 use Rattle.serde_json.specs.Data.{Data}
 use Rattle.serde_json.specs.Find.{get}
 use Rattle.serde_json.specs.Written.{has_float}
 use Rattle.fast_check_syntax.specs.declared.source.SourceRange.{SourceRange}
 use Rattle.fast_check_read.specs.Pieces.{optional_flag_of}
-use Rattle.fast_check_modules.specs.diagnostics.PublicRanges.{is_public, is_implementation, same_range}
 use Rattle.fast_check_read_tables.specs.graph.Reads.{given}
 use Rattle.fast_check_read_tables.specs.graph.Graph as graphs
 use Rattle.fast_check_read_tables.specs.graph.Graph.{SeenGraph, graph_member_of}
-use Rattle.fast_check_requests.specs.Request.{Module, ranges_or_none, module_of, HoldsModule}
+use Rattle.fast_check_requests.specs.Request.{Module, es_module, ranges_or_none, module_of, IsPublic}
 use Rattle.fast_check_commands.specs.declared.pair_command.request.PairRequest.{PairRequest}
 use Rattle.fast_check_commands.specs.declared.pair_command.request.Side as made
 
@@ -53,10 +51,8 @@ pair_of value = if has_float value then None else members_of_pair value
 
 -- the parts of the module, of which exactly the ranges that are given are public, and implementations
 pub record IsSide (asked : Side) (side : made.Side) : Type 0 where
-  pub es_module : HoldsModule asked.es_module side.es_module
-  pub ranges : (r : SourceRange) → is_public side.public_ranges r ≡ list_any (same_range r) asked.ranges
-  pub implementations : (r : SourceRange) → is_implementation side.public_ranges r ≡ list_any
-      (same_range r) asked.implementations
+  pub es_module : es_module side.es_module ≡ asked.es_module
+  pub public_ranges : IsPublic asked.ranges asked.implementations side.public_ranges
 
 pub record IsPair (asked : Pair) (pair : PairRequest) : Type 0 where
   pub graph : graphs.graph pair.graph ≡ asked.graph

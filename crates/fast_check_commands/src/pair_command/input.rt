@@ -1,7 +1,9 @@
 //! The request in the bytes of a file.
 
 ghost use Rattle.std.specs.Prelude.{IfOk, IfErr};
-ghost use Rattle.fast_check_commands.specs.pair_command.Input.{HoldsPair, LacksPair};
+ghost use Rattle.fast_check_requests.specs.Input.{Lacks};
+ghost use Rattle.fast_check_commands.specs.pair_command.Input.{HoldsPair};
+ghost use Rattle.fast_check_commands.specs.pair_command.Request.{pair_of};
 
 use crate::pair_command::request::{PairRequest, read_pair_request};
 use fast_check_requests::{Refusal, take_input};
@@ -11,7 +13,7 @@ use std::alloc::Global;
 /// request. The bytes are dropped before the request is made of the value.
 pub fn read_pair_input(alloc: Global, bytes: Vec<u8>) -> Result<PairRequest, Refusal>
     ensures request { IfOk result (HoldsPair bytes.items) }
-    ensures refusal { IfErr result (LacksPair bytes.items) }
+    ensures refusal { IfErr result (Lacks pair_of bytes.items) }
 {
     let value = take_input(alloc, bytes)?;
     Ok(read_pair_request(alloc, &value)?)

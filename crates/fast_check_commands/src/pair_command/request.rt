@@ -1,17 +1,14 @@
 //! What `pair` is asked, read from JSON.
 
-ghost use Rattle.std.specs.Prelude.{codes};
-ghost use Rattle.serde_json.specs.Find.{get};
 ghost use Rattle.serde_json.specs.View.{view};
-ghost use Rattle.fast_check_read_tables.specs.graph.Reads.{given};
-ghost use Rattle.fast_check_requests.specs.Request.{module_of, Makes, HoldsModule};
+ghost use Rattle.fast_check_requests.specs.Request.{Makes};
 ghost use Rattle.fast_check_commands.specs.pair_command.Request.{side_of, pair_of, members_of_pair, IsSide, IsPair};
 
 use fast_check_graph::ModuleGraph;
 use fast_check_modules::diagnostics::ModulePublicRanges;
 use fast_check_read::{ReadError, has_float, read_optional_flag};
 use fast_check_read_tables::read_graph;
-use fast_check_requests::{EsModuleParts, read_es_module, read_optional_ranges};
+use fast_check_requests::{EsModuleParts, member, read_es_module, read_optional_ranges};
 use serde_json::Value;
 use std::alloc::Global;
 
@@ -69,7 +66,7 @@ fn read_side(
 {
     let ranges = read_optional_ranges(alloc, value, ranges_name)?;
     let implementations = read_optional_ranges(alloc, value, implementations_name)?;
-    let es_module = read_module(alloc, value, name)?;
+    let es_module = read_es_module(alloc, member(value, name)?)?;
     let public_ranges = ModulePublicRanges::from_parts(
         alloc,
         ranges,
@@ -80,14 +77,4 @@ fn read_side(
         es_module,
         public_ranges,
     })
-}
-
-/// The module of a member, which has to stand.
-fn read_module(alloc: Global, value: &Value, name: &str) -> Result<EsModuleParts, ReadError>
-    ensures { Makes HoldsModule (given (get name.now (view value.now)) module_of) result }
-{
-    match value.get(name) {
-        Some(member) => read_es_module(alloc, member),
-        None => Err(ReadError::BadForm),
-    }
 }

@@ -1,33 +1,18 @@
 -- The module that a JSON value stands for.
 use Rattle.std.specs.Prelude.{ℕ, List, codes, if◌then◌else◌, Option, None, option_map}
-use Rattle.std.specs.Rc.{rc_str_bytes}
 use Rattle.std.specs.Str.{bytes_eq}
 use Rattle.serde_json.specs.Data.{Data}
 use Rattle.url.specs.Parts.{Parts}
-use Rattle.fast_check_diagnostics.specs.declared.parsed_source.tables.parsed_source.ParsedSource.{ParsedSource}
 use Rattle.fast_check_read_tables.specs.graph.Reads.{given, needed, variant_of, url_of}
 use Rattle.fast_check_read_tables.specs.Seen as seen
 use Rattle.fast_check_read_tables.specs.Seen.{SeenTables}
 use Rattle.fast_check_read_tables.specs.Tables.{tables_of}
-use Rattle.fast_check_requests.specs.declared.request.EsModuleParts.{EsModuleParts}
-use Rattle.fast_check_requests.specs.Request.{Source, Module, module_of}
+use Rattle.fast_check_requests.specs.Request.{Module, es_module, module_of}
 use Rattle.fast_check_requests.specs.declared.build_requests.module_parts.JsonModuleParts.{JsonModuleParts}
 use Rattle.fast_check_requests.specs.declared.build_requests.module_parts.ModuleParts.{ModuleParts}
 use Rattle.fast_check_requests.specs.declared.build_requests.module_parts.ModuleParts.TheVariants as parts
 
 -- ---- what contracts see of a module
-
-abbrev pub source : ParsedSource → Source
-source s = record {
-  media_type = s.media_type;
-  text = rc_str_bytes s.text;
-  program = s.program;
-  comments = s.comments;
-  unresolved_context = s.unresolved_context;
-}
-
-abbrev pub es_module : EsModuleParts → Module
-es_module m = record { specifier = m.specifier; source = source m.source; tables = seen.tables m.tables }
 
 -- a JSON module: its name and its tables
 pub record SeenJsonModule : Type 0 where

@@ -1,7 +1,9 @@
 //! The request in the bytes of a file.
 
 ghost use Rattle.std.specs.Prelude.{IfOk, IfErr};
-ghost use Rattle.fast_check_requests.specs.build_requests.Input.{HoldsBuild, LacksBuild};
+ghost use Rattle.fast_check_requests.specs.Input.{Lacks};
+ghost use Rattle.fast_check_requests.specs.build_requests.Input.{HoldsBuild};
+ghost use Rattle.fast_check_requests.specs.build_requests.Request.{build_of};
 
 use crate::build_requests::request::{BuildRequest, read_build_value};
 use crate::{Refusal, take_input};
@@ -11,7 +13,7 @@ use std::alloc::Global;
 /// no request. The bytes are dropped before the request is made of the value.
 pub fn read_build(alloc: Global, bytes: Vec<u8>) -> Result<BuildRequest, Refusal>
     ensures request { IfOk result (HoldsBuild bytes.items) }
-    ensures refusal { IfErr result (LacksBuild bytes.items) }
+    ensures refusal { IfErr result (Lacks build_of bytes.items) }
 {
     let value = take_input(alloc, bytes)?;
     Ok(read_build_value(alloc, value)?)

@@ -1,9 +1,6 @@
 //! Modules as they are handed in.
 
 ghost use Rattle.std.specs.Prelude.{option_map};
-ghost use Rattle.serde_json.specs.View.{view};
-ghost use Rattle.fast_check_read_tables.specs.graph.Reads.{Reads};
-ghost use Rattle.fast_check_requests.specs.Request.{module_of};
 ghost use Rattle.fast_check_requests.specs.build_requests.ModuleParts as parts;
 
 use crate::{EsModuleParts, read_es_module};
@@ -55,15 +52,9 @@ impl FromJson for ModuleParts {
     fn from_json(alloc: Global, value: &Value) -> Result<ModuleParts, ReadError> {
         let (name, content) = read_variant(value)?;
         match name {
-            "Esm" => Ok(ModuleParts::Esm(read_esm(alloc, content)?)),
+            "Esm" => Ok(ModuleParts::Esm(read_es_module(alloc, content)?)),
             "Json" => Ok(ModuleParts::Json(FromJson::from_json(alloc, content)?)),
             _ => Err(ReadError::BadForm),
         }
     }
-}
-
-fn read_esm(alloc: Global, value: &Value) -> Result<EsModuleParts, ReadError>
-    ensures { Reads parts.es_module (module_of (view value.now)) result }
-{
-    read_es_module(alloc, value)
 }

@@ -1,9 +1,9 @@
 //! The packages that a build is handed with their URLs.
 
-ghost use Rattle.std.specs.Prelude.{◌≡◌, map, codes, IfOk};
+ghost use Rattle.std.specs.Prelude.{◌≡◌, map, IfOk};
 ghost use Rattle.serde_json.specs.View.{view};
 ghost use Rattle.fast_check_packages.specs.Package.{nv_of};
-ghost use Rattle.fast_check_read_tables.specs.graph.Reads.{Reads, needed};
+ghost use Rattle.fast_check_read_tables.specs.graph.Reads.{Reads};
 ghost use Rattle.fast_check_requests.specs.build_requests.Provider.{provider, provider_of, last_rows};
 
 use fast_check_packages::{ListedPackages, PackageNv};
@@ -33,21 +33,11 @@ fn last_rows(
 }
 
 /// The packages of an object with the members `packages` and `fallback`.
-fn read_listed_packages(alloc: Global, value: &Value) -> Result<ListedPackages, ReadError>
+pub fn read_listed_packages(alloc: Global, value: &Value) -> Result<ListedPackages, ReadError>
     ensures { Reads provider (provider_of (view value.now)) result }
 {
     Ok(ListedPackages {
         packages: last_rows(alloc, read_list(alloc, value, "packages")?)?,
         fallback: read_member(alloc, value, "fallback")?,
     })
-}
-
-/// The packages of the member `provider`, which has to stand.
-pub fn read_provider(alloc: Global, value: &Value) -> Result<ListedPackages, ReadError>
-    ensures { Reads provider (needed provider_of (codes "provider") (view value.now)) result }
-{
-    match value.get("provider") {
-        Some(member) => read_listed_packages(alloc, member),
-        None => Err(ReadError::BadForm),
-    }
 }

@@ -6,7 +6,8 @@ ghost use Rattle.fast_check_read_tables.specs.graph.Reads.{Reads};
 ghost use Rattle.fast_check_requests.specs.build_requests.Request.{build, build_of, members_of_build};
 
 use crate::build_requests::module_parts::ModuleParts;
-use crate::build_requests::provider::read_provider;
+use crate::build_requests::provider::read_listed_packages;
+use crate::request::member;
 use fast_check_graph::ModuleGraph;
 use fast_check_packages::{ListedPackages, PackageNv, WorkspaceMember};
 use fast_check_read::{ReadError, had_float, has_float};
@@ -61,7 +62,7 @@ fn read_build_members(alloc: Global, value: &Value) -> Result<BuildRequest, Read
         modules: read_list(alloc, value, "modules")?,
         aliases: read_list(alloc, value, "aliases")?,
         workspace_members: read_list(alloc, value, "workspace_members")?,
-        provider: read_provider(alloc, value)?,
+        provider: read_listed_packages(alloc, member(value, "provider")?)?,
         pending: read_list(alloc, value, "pending")?,
         should_error_on_first_diagnostic: read_flag(value, "first")?,
     })

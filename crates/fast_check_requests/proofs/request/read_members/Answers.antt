@@ -3,13 +3,14 @@ use Rattle.fast_check_read.specs.Pieces.{optional_flag_of}
 use Rattle.fast_check_read_tables.specs.graph.Graph as graphs
 use Rattle.fast_check_read.proofs.Each.{some_of_ok}
 use Rattle.fast_check_read_tables.proofs.graph.Given.{given_some}
+use Rattle.fast_check_requests.specs.Request.{es_module}
 use Rattle.fast_check_requests.proofs.request.read_members.Goals as goal
 
 pub returns : goal.returns
 returns c = (
   record {
     graph = graphs.graph c.in_ok-graph.graph;
-    es_module = c.in_ok-es_module.ensures.0;
+    es_module = es_module c.in_ok-es_module.es_module;
     ranges = c.in_ok-ranges.ranges.items;
     implementations = c.in_ok-implementations.implementations.items;
     first = c.in_ok-should_error_on_first_diagnostic.should_error_on_first_diagnostic;
@@ -18,10 +19,10 @@ returns c = (
       ∙ (given_some _ c.in_ok-implementations.ensures
       ∙ (given_some _ (ap optional_flag_of (sym c.get.ensures) ∙ some_of_ok _ _ _ c.in_ok-should_error_on_first_diagnostic.ensures)
       ∙ (given_some _ c.in_ok-graph.ensures
-      ∙ given_some _ (given_some _ (sym c.in_ok-member.ensures.member) ∙ c.in_ok-es_module.ensures.1)))),
+      ∙ given_some _ (given_some _ (sym c.in_ok-member.ensures.member) ∙ c.in_ok-es_module.ensures)))),
   record {
     graph = refl;
-    es_module = c.in_ok-es_module.ensures.2;
+    es_module = refl;
     public_ranges =
         record { ranges = c.in_ok-public_ranges.ensures.public; implementations = c.in_ok-public_ranges.ensures.implementations };
     first = refl;

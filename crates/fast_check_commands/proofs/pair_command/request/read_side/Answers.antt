@@ -1,18 +1,21 @@
-use Rattle.std.proofs.Common.{◌∙◌}
+use Rattle.std.proofs.Common.{◌∙◌, refl, sym}
 use Rattle.fast_check_read_tables.proofs.graph.Given.{given_some}
+use Rattle.fast_check_requests.specs.Request.{es_module}
 use Rattle.fast_check_commands.proofs.pair_command.request.read_side.Goals as goal
 
 pub returns : goal.returns
 returns c = (
   record {
-    es_module = c.in_ok-es_module.ensures.0;
+    es_module = es_module c.in_ok-es_module.es_module;
     ranges = c.in_ok-ranges.ranges.items;
     implementations = c.in_ok-implementations.implementations.items;
   },
-  given_some _ c.in_ok-ranges.ensures ∙ (given_some _ c.in_ok-implementations.ensures ∙ given_some _ c.in_ok-es_module.ensures.1),
+  given_some _ c.in_ok-ranges.ensures
+      ∙ (given_some _ c.in_ok-implementations.ensures
+      ∙ given_some _ (given_some _ (sym c.in_ok-member.ensures.member) ∙ c.in_ok-es_module.ensures)),
   record {
-    es_module = c.in_ok-es_module.ensures.2;
-    ranges = c.in_ok-public_ranges.ensures.public;
-    implementations = c.in_ok-public_ranges.ensures.implementations;
+    es_module = refl;
+    public_ranges =
+        record { ranges = c.in_ok-public_ranges.ensures.public; implementations = c.in_ok-public_ranges.ensures.implementations };
   },
 )
