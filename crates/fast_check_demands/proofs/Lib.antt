@@ -4,4 +4,4 @@ pub mod Each
 pub mod Own
 mod Filters
 pub mod Yielded
-mod Aliased
+pub mod Aliased

@@ -5,8 +5,9 @@ ghost use Rattle.std.specs.Option.{option_copied};
 ghost use Rattle.fast_check_lattice.specs.Names.{path_of};
 ghost use Rattle.fast_check_symbols.specs.Symbols.{symbol_of};
 ghost use Rattle.fast_check_demands.specs.symbol_demands.Demands.{demand_of};
-ghost use Rattle.fast_check_demands.specs.symbol_demands.Rules.{each_of, qualified, parts_names, alias_names, member_names, prototype_names, export_names};
-ghost use Rattle.fast_check_demands.specs.symbol_demands.Rules.{whole_names, export_part_names, first_names, path_names};
+ghost use Rattle.fast_check_demands.specs.symbol_demands.Rules.{each_of, qualified, parts_names, member_names, prototype_names, export_names};
+ghost use Rattle.fast_check_demands.specs.symbol_demands.Rules.{whole_names, export_part_names, first_names};
+ghost use Rattle.fast_check_demands.specs.symbol_demands.Passed.{alias_passed, path_passed, own_parts, own_names};
 ghost use Rattle.fast_check_demands.specs.Yields.{Adds};
 
 use crate::names::is_prototype;
@@ -38,28 +39,23 @@ fn push_parts<'a>(
     Ok(())
 }
 
-/// Pushes the path that is asked of an alias for the symbol that it is bound to, and each name of its own path.
+/// Pushes the path that is asked of an alias for the symbol that it is bound to.
 fn push_passed<'a>(
     demand: SymbolDemand<'_>,
     symbol: Option<SymbolId>,
     names: &'a [String],
     extent: Extent,
-    parts: &'a [String],
     out: &mut Demands<'a>,
 ) -> Result<(), AllocError>
-    ensures { OnOk result (out.new ≡ out.old ++ each_of (λ x. qualified x (path_of names.now) extent demand.entry.referrer
-        ∷ parts_names (demand_of demand.entry) x parts.now) symbol) }
+    ensures { OnOk result (out.new ≡ out.old ++ each_of (λ x. qualified x (path_of names.now) extent demand.entry.referrer ∷ []) symbol) }
 {
     match symbol {
         None => Ok(()),
-        Some(symbol) => {
-            push_path(symbol, names, extent, demand.referrer, out)?;
-            push_parts(demand, symbol, parts, out)
-        }
+        Some(symbol) => push_path(symbol, names, extent, demand.referrer, out),
     }
 }
 
-/// Pushes what a path asks for below an alias.
+/// Pushes the path that is passed on by an alias.
 fn push_alias<'a>(
     tables: &CheckedTables,
     demand: SymbolDemand<'_>,
@@ -68,20 +64,12 @@ fn push_alias<'a>(
     kind: &'a SymbolDeclKind,
     out: &mut Demands<'a>,
 ) -> Result<(), AllocError>
-    ensures { OnOk result (out.new ≡ out.old ++ alias_names tables.now (demand_of demand.entry) (path_of names.now) extent kind.now) }
+    ensures { OnOk result (out.new ≡ out.old ++ alias_passed tables.now (demand_of demand.entry) (path_of names.now) extent kind.now) }
 {
     match kind {
-        SymbolDeclKind::Target(id) => {
-            push_passed(demand, bound(tables, id), names, extent, &[], out)
+        SymbolDeclKind::Target(id) | SymbolDeclKind::QualifiedTarget(id, _) => {
+            push_passed(demand, bound(tables, id), names, extent, out)
         }
-        SymbolDeclKind::QualifiedTarget(id, parts) => push_passed(
-            demand,
-            bound(tables, id),
-            names,
-            extent,
-            parts.as_slice(),
-            out,
-        ),
         SymbolDeclKind::FileRef { .. } | SymbolDeclKind::Definition(_) => Ok(()),
     }
 }
@@ -95,7 +83,7 @@ fn push_alias_at<'a>(
     out: &mut Demands<'a>,
 ) -> Result<(), AllocError>
     ensures { OnOk result (out.new ≡ out.old ++
-        each_of (alias_names tables.now (demand_of demand.entry) (path_of names.now) extent) (option_copied kind.entry)) }
+        each_of (alias_passed tables.now (demand_of demand.entry) (path_of names.now) extent) (option_copied kind.entry)) }
 {
     match kind {
         None => Ok(()),
@@ -103,7 +91,7 @@ fn push_alias_at<'a>(
     }
 }
 
-/// Pushes what a path asks for below the aliases among declarations.
+/// Pushes the path that is passed on by the aliases among declarations.
 fn push_aliases<'a>(
     tables: &CheckedTables,
     demand: SymbolDemand<'_>,
@@ -112,11 +100,61 @@ fn push_aliases<'a>(
     decls: &'a SymbolDecls,
     out: &mut Demands<'a>,
 ) -> Result<(), AllocError>
-    ensures { OnOk result (Adds (flat_map (λ x. alias_names tables.now (demand_of demand.entry) (path_of names.now) extent x.kind) decls.now.items)
+    ensures { OnOk result (Adds (flat_map (λ x. alias_passed tables.now (demand_of demand.entry) (path_of names.now) extent x.kind) decls.now.items)
         out.old out.new) }
 {
     for place in decls.alias_places() {
         push_alias_at(tables, demand, names, extent, decls.kind_at(*place), out)?;
+    }
+    Ok(())
+}
+
+/// Pushes each name of the own path of an alias, for the symbol that it is bound to.
+fn push_own_at<'a>(
+    tables: &CheckedTables,
+    demand: SymbolDemand<'_>,
+    kind: Option<&'a SymbolDeclKind>,
+    out: &mut Demands<'a>,
+) -> Result<(), AllocError>
+    ensures { OnOk result (out.new ≡ out.old ++ each_of (own_parts tables.now demand.entry.referrer) (option_copied kind.entry)) }
+{
+    let Some(SymbolDeclKind::QualifiedTarget(id, parts)) = kind else {
+        return Ok(());
+    };
+    match bound(tables, id) {
+        None => Ok(()),
+        Some(symbol) => push_parts(demand, symbol, parts.as_slice(), out),
+    }
+}
+
+/// Pushes the names of the own paths of the aliases among declarations.
+fn push_own<'a>(
+    tables: &CheckedTables,
+    demand: SymbolDemand<'_>,
+    decls: &'a SymbolDecls,
+    out: &mut Demands<'a>,
+) -> Result<(), AllocError>
+    ensures { OnOk result (Adds (flat_map (λ x. own_parts tables.now demand.entry.referrer x.kind) decls.now.items) out.old out.new) }
+{
+    for place in decls.alias_places() {
+        push_own_at(tables, demand, decls.kind_at(*place), out)?;
+    }
+    Ok(())
+}
+
+/// Pushes the names of the own paths of the aliases among the declarations of the symbol of a demand.
+pub fn push_own_names<'a>(
+    tables: &'a CheckedTables,
+    demand: SymbolDemand<'_>,
+    out: &mut Demands<'a>,
+) -> Result<(), AllocError>
+    ensures { OnOk result (Adds (own_names tables.now demand.entry.symbol demand.entry.referrer) out.old out.new) }
+{
+    let Some(symbol) = tables.symbol(demand.symbol) else {
+        return Ok(());
+    };
+    if symbol.decls.has_alias() {
+        return push_own(tables, demand, &symbol.decls, out);
     }
     Ok(())
 }
@@ -255,7 +293,7 @@ fn push_first<'a>(
     )
 }
 
-/// Pushes what a path below the symbol of a demand demands.
+/// Pushes what a path below the symbol of a demand demands, without the names of an alias's own path.
 pub fn push_path_demands<'a>(
     tables: &'a CheckedTables,
     demand: SymbolDemand<'_>,
@@ -263,7 +301,7 @@ pub fn push_path_demands<'a>(
     extent: Extent,
     out: &mut Demands<'a>,
 ) -> Result<(), AllocError>
-    ensures { OnOk result (Adds (each_of (λ s. path_names tables.now (demand_of demand.entry) (path_of names.now) extent s)
+    ensures { OnOk result (Adds (each_of (λ s. path_passed tables.now (demand_of demand.entry) (path_of names.now) extent s)
         (symbol_of demand.entry.symbol tables.now.symbols)) out.old out.new) }
 {
     let Some(symbol) = tables.symbol(demand.symbol) else {

@@ -1,11 +1,12 @@
 //! What follows from one demand of a module.
 ghost use Rattle.std.specs.Prelude.{◌≡◌, [], ◌++◌, IfOk, OnOk};
 ghost use Rattle.fast_check_demands.specs.symbol_demands.Demands.{demand_of};
-ghost use Rattle.fast_check_demands.specs.symbol_demands.Rules.{each_of, symbol_names, names};
+ghost use Rattle.fast_check_demands.specs.symbol_demands.Rules.{each_of, symbol_names};
+ghost use Rattle.fast_check_demands.specs.symbol_demands.Passed.{passed, own_names};
 ghost use Rattle.fast_check_symbols.specs.Symbols.{symbol_of};
 ghost use Rattle.fast_check_demands.specs.Yields.{Adds};
 
-use crate::aliases::push_path_demands;
+use crate::aliases::{push_own_names, push_path_demands};
 use crate::symbol_demands::symbols::CheckedTables;
 use crate::symbol_demands::{Ask, Demands, Namespaces, SymbolDemand, push_symbol};
 use std::alloc::{AllocError, Global};
@@ -25,13 +26,13 @@ fn push_symbol_of<'a>(
     }
 }
 
-/// The demands that follow from a demand within its module.
+/// The demands that follow from a demand within its module, but for the names of the own path of an alias ([`own_names_of`]).
 pub fn demands_of<'a>(
     alloc: Global,
     tables: &'a CheckedTables,
     demand: SymbolDemand<'a>,
 ) -> Result<Demands<'a>, AllocError>
-    ensures { IfOk result (λ out. Adds (names tables.now (demand_of demand.entry)) [] out) }
+    ensures { IfOk result (λ out. Adds (passed tables.now (demand_of demand.entry)) [] out) }
 {
     let mut out = Demands::new(alloc);
     match demand.ask {
@@ -42,5 +43,18 @@ pub fn demands_of<'a>(
             push_path_demands(tables, demand, names, extent, &mut out)?;
         }
     }
+    Ok(out)
+}
+
+/// The names of the own path of an alias, which follow from each path that is asked of the symbol of a demand, and are the same for each.
+pub fn own_names_of<'a>(
+    alloc: Global,
+    tables: &'a CheckedTables,
+    demand: SymbolDemand<'_>,
+) -> Result<Demands<'a>, AllocError>
+    ensures { IfOk result (λ out. Adds (own_names tables.now demand.entry.symbol demand.entry.referrer) [] out) }
+{
+    let mut out = Demands::new(alloc);
+    push_own_names(tables, demand, &mut out)?;
     Ok(out)
 }

@@ -16,5 +16,5 @@ pub use crate::symbol_demands::symbols::{CheckedTables, SymbolId};
 pub use crate::symbol_demands::{Ask, Demands, Extent, Namespaces, SymbolDemand, binds};
 pub use fast_check_syntax::SourceRange;
 pub use fault::{DemandFaultKind, SymbolFault, fault_of};
-pub use follow::demands_of;
+pub use follow::{demands_of, own_names_of};
 pub use public::{push_implementations, push_ranges};

@@ -34,7 +34,7 @@ use Rattle.fast_check_range_finder.specs.Asked.{demand_at, covers, IsOneMore}
 use Rattle.fast_check_range_finder.specs.NameOrder.{names_cmp}
 use Rattle.fast_check_range_finder.proofs.Same.{same_paths}
 
-then_equal : (a b : Ordering) → is_eq (ordering_then a b) ≡ (is_eq a && is_eq b)
+pub then_equal : (a b : Ordering) → is_eq (ordering_then a b) ≡ (is_eq a && is_eq b)
 then_equal Less b = refl
 then_equal Equal b = refl
 then_equal Greater b = refl
@@ -42,7 +42,7 @@ then_equal Greater b = refl
 and_same : (a b c d : Bool) → a ≡ b → c ≡ d → (a && c) ≡ (b && d)
 and_same a b c d e f = cc
 
-numbers_compare : (a b : ℕ) → is_eq (nat_cmp a b) ≡ (a == b)
+pub numbers_compare : (a b : ℕ) → is_eq (nat_cmp a b) ≡ (a == b)
 numbers_compare a b = search rules
 
 namespaces_compare : (a b : Namespaces) → is_eq (namespace_order.cmp-value.it a b) ≡ same_namespaces a b

@@ -37,3 +37,4 @@ mod Popped
 pub mod Owners
 pub mod PlaceKeys
 pub mod Within
+pub mod OwnAsked

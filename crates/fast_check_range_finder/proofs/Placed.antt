@@ -31,8 +31,9 @@ use Rattle.fast_check_package_ranges.specs.findings.Findings.{placed_yields}
 use Rattle.fast_check_package_ranges.specs.findings.Found.{own_text, source_in}
 use Rattle.fast_check_package_ranges.specs.findings.Yields.{Yield, recorded, public, implementing}
 use Rattle.fast_check_demands.specs.worklists.Demands.{Text, same_nv, Demand, of_package}
-use Rattle.fast_check_demands.proofs.worklists.Maps.{first_in, only_in, some_is}
+use Rattle.fast_check_demands.proofs.worklists.Maps.{none_in, first_in, only_in, some_is}
 use Rattle.fast_check_demands.specs.sources.Sources.{named_at}
+use Rattle.fast_check_range_finder.specs.declared.asked.AskedAlias.{AskedAlias}
 use Rattle.fast_check_range_finder.specs.declared.demand.Dependency.{Dependency}
 use Rattle.fast_check_range_finder.specs.declared.demand.NamesAt.{NamesAt}
 use Rattle.fast_check_range_finder.specs.declared.demand.SymbolAt.{SymbolAt}
@@ -89,7 +90,7 @@ module _ (g : ModuleGraph) (r : RootSymbol) (f b : Finder) (sound : IsSound g r 
   abbrev IsNew : Type 0
   IsNew = (b.modules.entries ≡ f.modules.entries ++ m ∷ []) × (m.1.found.info.now ≡ info) × (m.1.asked ≡ []) ×
       (m.1.found.ranges.items ≡ []) × (m.1.found.implementations.items ≡ []) × (m.1.found.faults.items ≡ []) ×
-      (m.1.index ≡ None) × (m.1.shows_all ≡ false)
+      (m.1.index ≡ None) × (m.1.shows_all ≡ false) × (m.1.aliases.keys ≡ [])
 
   -- what is kept is of this module
   pub placed_info : m.1.found.info.now ≡ info
@@ -216,6 +217,7 @@ module _ (g : ModuleGraph) (r : RootSymbol) (f b : Finder) (sound : IsSound g r 
         own = placed.text_is ∙ ap (λ (i : AnyModuleInfo). serialize (specifier_of i)) (sym new.1);
         index = subst (λ (o : Option ReExportIndex). IfSome o (IsIndexOf (traced_in g r m.1.found.info.now))) (sym new.6) tt;
         shown = λ t. absurd (false≢true (sym new.7 ∙ t));
+        aliases = λ a c. absurd (none_in a (subst (λ (ks : List AskedAlias). Contains ks a) new.8 c));
       }
 
       goes_new : Goes g r [] (recorded nv (serialize (specifier_of info)) ∷ []) f b

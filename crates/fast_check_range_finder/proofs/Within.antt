@@ -28,7 +28,7 @@ use Rattle.fast_check_range_finder.specs.declared.demand.Place.{Place}
 use Rattle.fast_check_range_finder.specs.declared.finder.Finder.{Finder}
 use Rattle.fast_check_range_finder.specs.declared.finder.FollowedModule.{FollowedModule}
 use Rattle.fast_check_range_finder.specs.Turn.{AreSame}
-use Rattle.fast_check_range_finder.specs.Finder.{Followed, place_nv, place_text, followed_yields, traced_in, AsksEach, AreShown, Shows, IsModuleOf, IsSound, Goes}
+use Rattle.fast_check_range_finder.specs.Finder.{Followed, place_nv, place_text, followed_yields, traced_in, AsksEach, AreAliasesAsked, AreShown, Shows, IsModuleOf, IsSound, Goes}
 use Rattle.fast_check_range_finder.specs.Rules.{own_text}
 use Rattle.fast_check_range_finder.specs.Yields.{public_at, implementing_at, faults_at}
 use Rattle.fast_check_range_finder.proofs.Places.{no_entry, some_entry}
@@ -38,10 +38,10 @@ use Rattle.fast_check_range_finder.proofs.Gained.{get_in, parts, parts_of, parts
 use Rattle.fast_check_range_finder.proofs.Followed.{IsFurther, further_goes}
 
 -- what holds of the value of a call that went well, by what holds where it goes well
-pub with_ok : {T E A B C : Type 0} (r : Result T E) {P Q : T → Type 0} → IfOk r P → OnOk r A → OnOk r B → OnOk r C →
-    ((x : T) → P x → A → B → C → Q x) → IfOk r Q
-with_ok (Ok x) p a b c f = f x p a b c
-with_ok (Err e) p a b c f = tt
+pub with_ok : {T E A B C D : Type 0} (r : Result T E) {P Q : T → Type 0} → IfOk r P → OnOk r A → OnOk r B → OnOk r C → OnOk r D →
+    ((x : T) → P x → A → B → C → D → Q x) → IfOk r Q
+with_ok (Ok x) p a b c d f = f x p a b c d
+with_ok (Err e) p a b c d f = tt
 
 -- the value at a place
 pub get_value : {K X : Type 0} (es : List (K × X)) (i : ℕ) (e : K × X) → slice_get es i ≡ Some e → slice_get (values_of es) i ≡ Some e.1
@@ -67,12 +67,13 @@ module _ (g : ModuleGraph) (r : RootSymbol) (f b : Finder) (sound : IsSound g r 
   own = sound.modules e (get_in f.modules.entries place e here)
 
   -- the module is the same
-  still : IfSome m.index (IsIndexOf t) → AreShown m → IsModuleOf g r (e.0, m)
-  still index shown = record {
+  still : IfSome m.index (IsIndexOf t) → AreShown m → AreAliasesAsked m → IsModuleOf g r (e.0, m)
+  still index shown aliases = record {
     named = own.named ∙ ap Some (sym info);
     own = own.own ∙ ap (λ (i : AnyModuleInfo). serialize (specifier_of i)) (sym info);
     index = subst (λ (i : AnyModuleInfo). IfSome m.index (IsIndexOf (traced_in g r i))) (sym info) index;
     shown = shown;
+    aliases = aliases;
   }
 
   -- what it gives is of the same module
@@ -88,13 +89,13 @@ module _ (g : ModuleGraph) (r : RootSymbol) (f b : Finder) (sound : IsSound g r 
       AsksEach place ds e.1.asked m.asked f.symbols.items b.symbols.items → m.found.ranges.items ≡ e.1.found.ranges.items ++ ranges (own_tables t) s →
       m.found.implementations.items ≡ e.1.found.implementations.items ++ implementations (own_tables t) s →
       map fault_seen m.found.faults.items ≡ map fault_seen e.1.found.faults.items ++ faults (own_tables t) s →
-      m.index ≡ e.1.index → m.shows_all ≡ e.1.shows_all →
+      m.index ≡ e.1.index → m.shows_all ≡ e.1.shows_all → AreAliasesAsked m →
       Goes g r (map (to_symbol (place_nv e) (own_text t)) (names (own_tables t) s))
       (public_at (place_nv e) t (ranges (own_tables t) s) ++ (implementing_at (place_nv e) t (implementations (own_tables t) s) ++
       faults_at (place_nv e) t (faults (own_tables t) s))) f b
-  symbol_within s ds same asks more_ranges more_implementations more_faults index shows = by_own_text (names (own_tables t) s) gained
+  symbol_within s ds same asks more_ranges more_implementations more_faults index shows aliases = by_own_text (names (own_tables t) s) gained
       (further_goes g r f b sound place e here m further
-      (still (subst (λ (o : Option ReExportIndex). IfSome o (IsIndexOf t)) (sym index) own.index) shown)
+      (still (subst (λ (o : Option ReExportIndex). IfSome o (IsIndexOf t)) (sym index) own.index) shown aliases)
       eq tells unique ds (names (own_tables t) s) gained same asks joins)
     where
       old : List Yield
@@ -117,10 +118,10 @@ module _ (g : ModuleGraph) (r : RootSymbol) (f b : Finder) (sound : IsSound g r 
           (map fault_seen m.found.faults.items) more_ranges more_implementations more_faults))
 
   pub names_within : (d : NameDemand) → AsksEach place (roots (own_tables t) d) e.1.asked m.asked f.symbols.items b.symbols.items →
-      Shows (re_export_ranges t d) e.1 m → IfSome m.index (IsIndexOf t) →
+      Shows (re_export_ranges t d) e.1 m → IfSome m.index (IsIndexOf t) → AreAliasesAsked m →
       Goes g r (map (to_symbol (place_nv e) (own_text t)) (roots (own_tables t) d)) (public_at (place_nv e) t (re_export_ranges t d)) f b
-  names_within d asks shows index = by_own_text (roots (own_tables t) d) (public_at (place_nv e) t (re_export_ranges t d))
-      (further_goes g r f b sound place e here m further (still index shows.shown) eq tells unique (roots (own_tables t) d) (roots (own_tables t) d)
+  names_within d asks shows index aliases = by_own_text (roots (own_tables t) d) (public_at (place_nv e) t (re_export_ranges t d))
+      (further_goes g r f b sound place e here m further (still index shows.shown aliases) eq tells unique (roots (own_tables t) d) (roots (own_tables t) d)
       (public_at (place_nv e) t (re_export_ranges t d)) (same_itself (roots (own_tables t) d)) asks joins)
     where
       new_is : followed_yields (e.0, m) ≡ parts (place_nv e) t m.found.ranges.items e.1.found.implementations.items (map fault_seen e.1.found.faults.items)

@@ -15,6 +15,8 @@ use Rattle.fast_check_graph.specs.declared.root_symbol.RootSymbol.{RootSymbol}
 use Rattle.fast_check_lattice.specs.declared.lattice.imported_exports.ImportedExports.{ImportedExports}
 use Rattle.fast_check_lattice.specs.Traces.{handled}
 use Rattle.fast_check_demands.specs.symbol_demands.Demands.{Demand as SymbolDemand, demand_of}
+use Rattle.fast_check_demands.specs.Account.{parts}
+use Rattle.fast_check_demands.specs.symbol_demands.Passed.{own_names}
 use Rattle.fast_check_demands.specs.Yields.{Joins}
 use Rattle.fast_check_demands.specs.name_demands.Files.{names_of}
 use Rattle.fast_check_demands.specs.declared.traces.modules.TracedModule.{TracedModule}
@@ -26,6 +28,7 @@ use Rattle.fast_check_package_ranges.specs.findings.Yields.{Yield, dependency}
 use Rattle.fast_check_package_ranges.specs.declared.findings.found.Entrance.{Entrance}
 use Rattle.fast_check_demands.specs.worklists.Demands.{Text, same_nv, Want, Demand, of_package, of_module, of_symbol}
 use Rattle.fast_check_demands.specs.sources.Sources.{Known, named_at, lent}
+use Rattle.fast_check_range_finder.specs.declared.asked.AskedAlias.{AskedAlias}
 use Rattle.fast_check_range_finder.specs.declared.demand.Place.{Place}
 use Rattle.fast_check_range_finder.specs.declared.demand.NamesAt.{NamesAt}
 use Rattle.fast_check_range_finder.specs.declared.demand.SymbolAt.{SymbolAt}
@@ -127,6 +130,19 @@ AsksEach place [] a b old new = (b ≡ a) × (map seen_at new ≡ map seen_at ol
 AsksEach place (d ∷ ds) a b old new = (mid : List SymbolDemand) × (between : List SymbolAt) × AsksOne place d a mid old between ×
     AsksEach place ds mid b between new
 
+-- where a symbol was asked for a path by another, the names of its aliases' own paths were asked for by that one
+abbrev pub AreAliasesAsked : FollowedModule → Type 0
+AreAliasesAsked m = (a : AskedAlias) → Contains m.aliases.keys a → (d : SymbolDemand) →
+    Contains (own_names (tables_in m.found.info.now) a.symbol a.referrer) d → (x : SymbolDemand) → Contains (parts d) x →
+    list_any (covers x) m.asked ≡ true
+
+-- these demands were asked for now or before, and what was asked of aliases is noted
+pub record AsksOwn (place : ℕ) (own : List SymbolDemand) (a b : FollowedModule) (old new : List SymbolAt) : Type 0 where
+  pub asked : List SymbolDemand
+  pub are : AreSame asked own
+  pub asks : AsksEach place asked a.asked b.asked old new
+  pub aliases : AreAliasesAsked b
+
 -- where all re-exports of all were shown, they are public
 abbrev pub AreShown : FollowedModule → Type 0
 AreShown m = m.shows_all ≡ true → (r : SourceRange) → Contains (node_ranges (tables_in m.found.info.now).re_exports) r →
@@ -141,6 +157,7 @@ pub record IsModuleOf (g : ModuleGraph) (r : RootSymbol) (e : Followed) : Type 0
   pub own : place_text e ≡ serialize (specifier_of e.1.found.info.now)
   pub index : IfSome e.1.index (IsIndexOf (traced_in g r e.1.found.info.now))
   pub shown : AreShown e.1
+  pub aliases : AreAliasesAsked e.1
 
 pub record IsSound (g : ModuleGraph) (r : RootSymbol) (f : Finder) : Type 0 where
   pub modules : (e : Followed) → Contains f.modules.entries e → IsModuleOf g r e
@@ -159,7 +176,7 @@ pub record IsPlaced (nv : Nv) (info : AnyModuleInfo) (place : ℕ) (old new : Mo
   pub text_is : place_text followed ≡ serialize (specifier_of info)
   pub by : (new ≡ old) ⊎ ((new ≡ old ++ followed ∷ []) × (followed.1.found.info.now ≡ info) × (followed.1.asked ≡ []) ×
       (followed.1.found.ranges.items ≡ []) × (followed.1.found.implementations.items ≡ []) × (followed.1.found.faults.items ≡ []) ×
-      (followed.1.index ≡ None) × (followed.1.shows_all ≡ false))
+      (followed.1.index ≡ None) × (followed.1.shows_all ≡ false) × (followed.1.aliases.keys ≡ []))
 
 -- these ranges are shown, and nothing else changes
 pub record Shows (more : List SourceRange) (a b : FollowedModule) : Type 0 where

@@ -112,6 +112,13 @@ fn narrowed<'a>(namespaces: Namespaces, demand: SymbolDemand<'a>) -> SymbolDeman
     SymbolDemand { ask, ..demand }
 }
 
+/// A symbol of which a path was asked for, and the symbol that asked.
+#[derive(Clone, Copy, PartialEq, Eq, PartialOrd, Ord)]
+pub struct AskedAlias {
+    pub symbol: SymbolId,
+    pub referrer: SymbolId,
+}
+
 /// The demands of a module's symbols that were asked for, each once, in one namespace.
 #[derive(Drop)]
 pub struct AskedSymbols<'a> {

@@ -12,7 +12,7 @@ ghost use Rattle.fast_check_graph.specs.declared.root_symbol.RootSymbol.{RootSym
 ghost use Rattle.fast_check_range_finder.specs.Finder.{search_of, yields_in, AsksOne, AsksEach, IsPlaced, IsSound, CanEnter, Goes};
 ghost use Rattle.fast_check_range_finder.specs.Search.{IsFresh};
 
-use crate::asked::AskedSymbols;
+use crate::asked::{AskedAlias, AskedSymbols};
 use crate::demand::{Dependency, NamesAt, Place, SymbolAt};
 use crate::names::ask_names;
 use fast_check_demands::name_demands::NameDemand;
@@ -33,6 +33,8 @@ use url::Url;
 pub struct FollowedModule<'a> {
     /// The demands of its symbols that were asked for.
     pub asked: AskedSymbols<'a>,
+    /// The symbols of which a path was asked for: the names of the own paths of their aliases were asked for then.
+    pub aliases: BTreeSet<AskedAlias>,
     /// The names behind its re-exports of all, once one was looked for there.
     pub index: Option<ReExportIndex<'a>>,
     /// Whether all its re-exports of all stand among the ranges.
@@ -65,11 +67,13 @@ impl<'a> FollowedModule<'a> {
         ensures implementations { result.found.implementations.items ≡ [] }
         ensures faults { result.found.faults.items ≡ [] }
         ensures asked { result.asked ≡ [] }
+        ensures aliases { result.aliases.keys ≡ [] }
         ensures index { result.index ≡ None }
         ensures shows_all { result.shows_all ≡ false }
     {
         FollowedModule {
             asked: AskedSymbols::new(alloc),
+            aliases: BTreeSet::new(alloc),
             index: None,
             shows_all: false,
             found: FoundModule::new(alloc, info),

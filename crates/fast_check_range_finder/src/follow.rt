@@ -8,6 +8,7 @@ ghost use Rattle.fast_check_graph.specs.declared.graph.ModuleGraph.{ModuleGraph 
 ghost use Rattle.fast_check_graph.specs.declared.root_symbol.RootSymbol.{RootSymbol as RootSymbolSeen};
 ghost use Rattle.fast_check_demands.specs.symbol_demands.Demands.{demand_of};
 ghost use Rattle.fast_check_demands.specs.symbol_demands.Rules.{names};
+ghost use Rattle.fast_check_demands.specs.symbol_demands.Passed.{own_names, asked_own};
 ghost use Rattle.fast_check_demands.specs.Yields.{ranges, implementations, faults, fault_seen};
 ghost use Rattle.fast_check_demands.specs.name_demands.Files.{names_of, files, file_demand_of};
 ghost use Rattle.fast_check_demands.specs.traces.Modules.{tables_in, own_tables};
@@ -17,10 +18,11 @@ ghost use Rattle.fast_check_demands.specs.traces.Wants.{module_wants, want_of, s
 ghost use Rattle.fast_check_demands.specs.worklists.Demands.{asked_by, of_symbol, to_symbol};
 ghost use Rattle.fast_check_demands.specs.sources.Sources.{known, named_at, traced_as};
 ghost use Rattle.fast_check_demands.specs.sources.Wants.{file_at, behind, file_wants, left_wants};
-ghost use Rattle.fast_check_range_finder.specs.Finder.{Followed, place_nv, place_text, names_seen, traced_in, AsksEach, AreShown, Shows, IsSound, Goes};
+ghost use Rattle.fast_check_range_finder.specs.Finder.{Followed, place_nv, place_text, names_seen, traced_in, AsksEach, AreAliasesAsked, AsksOwn, AreShown, Shows, IsSound, Goes};
 ghost use Rattle.fast_check_range_finder.specs.Rules.{own_text, world, names_wants};
 ghost use Rattle.fast_check_range_finder.specs.Yields.{dependencies, public_at, implementing_at, faults_at, names_yields, gives};
 
+use crate::asked::AskedAlias;
 use crate::demand::{NamesAt, SymbolAt};
 use crate::finder::{Finder, FollowedModule, ask_each, place_of};
 use fast_check_demands::name_demands::{FileWant, FileWants, NameDemand, files_of};
@@ -30,7 +32,9 @@ use fast_check_demands::traces::{
     roots_of, tables_of,
 };
 use fast_check_demands::worklists::{copy_of, is_same_package};
-use fast_check_demands::{demands_of, fault_of, push_implementations, push_ranges};
+use fast_check_demands::{
+    Ask, demands_of, fault_of, own_names_of, push_implementations, push_ranges,
+};
 use fast_check_graph::AnyModuleInfo;
 use fast_check_packages::{JsrUrlProvider, PackageNv};
 use std::alloc::{AllocError, Global};
@@ -46,6 +50,7 @@ fn add_yields<'a>(at: SymbolAt<'a>, followed: &mut FollowedModule<'a>) -> Result
         ≡ map fault_seen followed.old.found.faults.items ++ faults (tables_in followed.old.found.info.now) (demand_of at.entry.demand)) }
     ensures info { followed.new.found.info ≡ followed.old.found.info }
     ensures asked { followed.new.asked ≡ followed.old.asked }
+    ensures aliases { followed.new.aliases ≡ followed.old.aliases }
     ensures index { followed.new.index ≡ followed.old.index }
     ensures shows_all { followed.new.shows_all ≡ followed.old.shows_all }
 {
@@ -58,10 +63,55 @@ fn add_yields<'a>(at: SymbolAt<'a>, followed: &mut FollowedModule<'a>) -> Result
     Ok(())
 }
 
+/// Asks for the names of the own path of an alias that is asked for a path, unless the same symbol asked for a path of it before.
+fn ask_alias<'a>(
+    alloc: Global,
+    at: SymbolAt<'a>,
+    followed: &mut FollowedModule<'a>,
+    symbols: &mut Vec<SymbolAt<'a>>,
+) -> Result<(), AllocError>
+    ensures asks { OnOk result (AreAliasesAsked followed.old → AsksOwn at.entry.place (own_names (tables_in followed.old.found.info.now) at.entry.demand.symbol
+        at.entry.demand.referrer) followed.old followed.new symbols.old.items symbols.new.items) }
+    ensures found { OnOk result (followed.new.found ≡ followed.old.found) }
+    ensures index { OnOk result (followed.new.index ≡ followed.old.index) }
+    ensures shows_all { OnOk result (followed.new.shows_all ≡ followed.old.shows_all) }
+{
+    let alias = AskedAlias {
+        symbol: at.demand.symbol,
+        referrer: at.demand.referrer,
+    };
+    if !followed.aliases.insert(alias)? {
+        return Ok(());
+    }
+    let tables = tables_of(followed.found.info);
+    let own = own_names_of(alloc, tables, at.demand)?;
+    ask_each(at.place, &own, &mut followed.asked, symbols)
+}
+
+/// The same of a demand by a path. By reference and as a child an alias asks for no names of its own path.
+fn ask_own<'a>(
+    alloc: Global,
+    at: SymbolAt<'a>,
+    followed: &mut FollowedModule<'a>,
+    symbols: &mut Vec<SymbolAt<'a>>,
+) -> Result<(), AllocError>
+    ensures asks { let d = demand_of at.entry.demand in OnOk result (AreAliasesAsked followed.old
+        → AsksOwn at.entry.place (asked_own (tables_in followed.old.found.info.now) d d.asked) followed.old followed.new symbols.old.items symbols.new.items) }
+    ensures found { OnOk result (followed.new.found ≡ followed.old.found) }
+    ensures index { OnOk result (followed.new.index ≡ followed.old.index) }
+    ensures shows_all { OnOk result (followed.new.shows_all ≡ followed.old.shows_all) }
+{
+    match at.demand.ask {
+        Ask::Path(_, _) => ask_alias(alloc, at, followed, symbols),
+        Ask::Reference(_) | Ask::Child(_) => Ok(()),
+    }
+}
+
 /// Adds what names make public of the re-exports of all of a module. All of these are added once.
 fn show(followed: &mut FollowedModule<'_>, public: PublicReExports) -> Result<(), AllocError>
     ensures shows { OnOk result (AreShown followed.old → Shows (shown_ranges (tables_in followed.old.found.info.now).re_exports «public») followed.old followed.new) }
     ensures asked { OnOk result (followed.new.asked ≡ followed.old.asked) }
+    ensures aliases { OnOk result (followed.new.aliases ≡ followed.old.aliases) }
     ensures index { OnOk result (followed.new.index ≡ followed.old.index) }
 {
     match public {
@@ -97,6 +147,7 @@ fn follow_names_in<'a>(
         symbols.old.items symbols.new.items) }
     ensures shows { OnOk result (AreShown followed.old → Shows (re_export_ranges traced.entry (names_of names.entry)) followed.old followed.new) }
     ensures index_of { OnOk result (IfSome followed.new.index (IsIndexOf traced.entry)) }
+    ensures aliases { OnOk result (followed.new.aliases ≡ followed.old.aliases) }
 {
     let roots = roots_of(alloc, tables_of(traced.info), names)?;
     ask_each(place, &roots, &mut followed.asked, symbols)?;
@@ -226,6 +277,7 @@ impl<'a> Finder<'a> {
         let tables = tables_of(followed.found.info);
         let demands = demands_of(alloc, tables, at.demand)?;
         ask_each(at.place, &demands, &mut followed.asked, &mut self.symbols)?;
+        ask_own(alloc, at, followed, &mut self.symbols)?;
         files_of(alloc, tables, at.demand)
     }
 

@@ -10,7 +10,7 @@ mod follow;
 mod names;
 mod packages;
 
-pub use asked::{AskedAs, AskedSymbol, AskedSymbols, NamePath};
+pub use asked::{AskedAlias, AskedAs, AskedSymbol, AskedSymbols, NamePath};
 pub use demand::{Dependency, NamesAt, Place, SymbolAt};
 pub use enter::FinderInput;
 pub use fast_check_demands::sources::Sources;

@@ -45,5 +45,6 @@ returns c =
         c.new.ensures.faults,
         c.new.ensures.index,
         c.new.ensures.shows_all,
+        c.new.ensures.aliases,
       );
     }

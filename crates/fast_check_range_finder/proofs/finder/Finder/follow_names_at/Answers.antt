@@ -15,6 +15,7 @@ use Rattle.fast_check_range_finder.specs.Rules.{own_text}
 use Rattle.fast_check_range_finder.specs.Yields.{public_at}
 use Rattle.fast_check_range_finder.proofs.Gained.{get_in}
 use Rattle.fast_check_range_finder.proofs.PlaceKeys.{tells_places}
+use Rattle.fast_check_range_finder.proofs.OwnAsked.{each_kept, same_aliases}
 use Rattle.fast_check_range_finder.proofs.Within.{with_ok, get_value, value_in, names_within}
 use Rattle.fast_check_range_finder.proofs.finder.Finder.follow_names_at.Goals as goal
 
@@ -25,8 +26,8 @@ follow_names_in-requires-clause-index c =
 
 pub returns : goal.returns
 returns c = with_ok c.follow_names_in.result c.follow_names_in.ensures.wants c.follow_names_in.ensures.asks c.follow_names_in.ensures.shows
-    c.follow_names_in.ensures.index_of
-    (λ out is asks shows index e here.
+    c.follow_names_in.ensures.index_of c.follow_names_in.ensures.aliases
+    (λ out is asks shows index aliases e here.
     let f = c.args.self.now in
     let g = c.args.sources.graph.now in
     let r = c.args.sources.root_symbol.now in
@@ -44,5 +45,8 @@ returns c = with_ok c.follow_names_in.result c.follow_names_in.ensures.wants c.f
       is,
       names_within g r f b c.requires.sound c.args.place (e.0, x) here_x m
           (record { modules = refl; packages = refl; entered = refl; handled = refl; names = refl; entrances = refl; dependencies = refl; untyped = refl })
-          place_eq.eq-value.it tells_places c.get_index_mut.ensures.unique (ap (λ i. i.now) shown.info) d asks shown index,
+          place_eq.eq-value.it tells_places c.get_index_mut.ensures.unique (ap (λ i. i.now) shown.info) d asks shown index
+          (same_aliases x m (ap (λ i. i.now) shown.info)
+          (each_kept c.args.place (roots (own_tables (traced_in g r x.found.info.now)) d) x.asked m.asked f.symbols.items b.symbols.items asks)
+          own.aliases aliases),
     ))
