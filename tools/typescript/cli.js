@@ -97,12 +97,12 @@ function writeDiff(texts, { out, paint, cwd }) {
 }
 
 async function fix([word], options, context) {
-  const { rewriteText } = require('./files.js');
+  const { rewriteTexts } = require('./files.js');
   const { fixed } = require('./thread.js');
   const { world, texts, count: types } = await fixed(folderOf(word, context), options, context);
   context.progress.end();
   if (options.dry) writeDiff(texts, context);
-  else for (const [file, text] of texts) rewriteText(file, text);
+  else rewriteTexts(texts);
   const told = messagesOf(world);
   writeMessages(told, options, options.dry ? { out: context.err, paint: context.paintErrors } : context);
   const { count, seconds } = require('./formats.js');

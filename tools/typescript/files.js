@@ -91,13 +91,56 @@ function markOf(file) {
   return bytesOf(file).toString('utf8', 0, 3) === MARK ? MARK : '';
 }
 
-/** Writes another text to a file that is there, read as its bytes were: in UTF-8 or UTF-16, with their mark of byte order where they have one. */
-function rewriteText(file, text) {
-  const bytes = bytesOf(file);
-  const { isBig, isLittle } = orderOf(bytes);
+/** Another text for a file that is there, as bytes like those of the file: in UTF-8 or UTF-16, with their mark of byte order where they have one. */
+function bytesFor(file, text) {
+  const { isBig, isLittle } = orderOf(bytesOf(file));
   const mark = isBig || isLittle ? MARK : markOf(file);
   const made = Buffer.from(mark + text, isBig || isLittle ? 'utf16le' : 'utf8');
-  fs.writeFileSync(file, isBig ? made.swap16() : made);
+  return isBig ? made.swap16() : made;
+}
+
+/** Writes the bytes that are to replace a file into a new one beside it, which has its rights, and its owner where that may be. */
+function writeBeside(file, beside, bytes) {
+  fs.accessSync(file, fs.constants.W_OK);
+  const { mode, uid, gid } = fs.statSync(file);
+  const opened = fs.openSync(beside, 'wx', 0o600);
+  try {
+    fs.writeFileSync(opened, bytes);
+    try {
+      fs.fchownSync(opened, uid, gid);
+    } catch {
+      // Only root gives a file to others.
+    }
+    fs.fchmodSync(opened, mode & 0o777);
+    fs.fsyncSync(opened);
+  } finally {
+    fs.closeSync(opened);
+  }
+}
+
+/**
+ * Writes other texts to files that are there. All are written beside the files before the first is moved to its place: where one cannot be written, as on a
+ * full disk, no file changes.
+ */
+function rewriteTexts(texts) {
+  const mark = `${process.pid}-${Date.now()}`;
+  const all = [...texts].map(([name, text], place) => {
+    const file = fs.realpathSync(name);
+    return { file, text, beside: path.join(path.dirname(file), `.fast-check-${mark}-${place}`) };
+  });
+  const write = ({ file, text, beside }) => {
+    try {
+      writeBeside(file, beside, bytesFor(file, text));
+    } catch (error) {
+      throw Object.assign(new Error(`no file is changed, since ${file} cannot be written: ${error.message}`), { status: 2 });
+    }
+  };
+  try {
+    all.forEach(write);
+    for (const { file, beside } of all) fs.renameSync(beside, file);
+  } finally {
+    for (const { beside } of all) fs.rmSync(beside, { force: true });
+  }
 }
 
 /** The object in a text of JSON, which may have comments and commas that end a list: `{config, error}`, as the compiler reads it. */
@@ -196,4 +239,4 @@ function selfTypes(text) {
   return null;
 }
 
-module.exports = { Files, isInside, makeFolder, markOf, readJson, readText, rewriteText, mediaTypeOf, isDeclarationFile, isJavaScript, namedTypes, selfTypes };
+module.exports = { Files, isInside, makeFolder, markOf, readJson, readText, rewriteTexts, mediaTypeOf, isDeclarationFile, isJavaScript, namedTypes, selfTypes };

@@ -281,4 +281,4 @@ async function fix(dir, options, context) {
   return { world: { ...world, messages }, texts: fixer.texts, count: fixer.count };
 }
 
-module.exports = { fix };
+module.exports = { Project, fix };

@@ -3,17 +3,24 @@
 // Feeds the command line with random modules and with real ones that are edited, and looks whether it stands.
 //
 //   FAST_CHECK=PROGRAM node fuzz.js COUNT [SEED [FOLDER ..]]
+//   FAST_CHECK=PROGRAM node fuzz.js --types COUNT SEED FOLDER ..
 //
 // Of each seed a package of up to four modules is made: of modules of `fuzz_modules.js`, or of real modules of the FOLDERs with edits (empty bodies, types
 // dropped, members and items moved, twice there or gone). A module that the compiler's parser refuses is left out. Each command has to end with status 0 or 1,
 // but where a value is nested too deep; a tree that is printed has to be read back as the same, and so has each skeleton; and a second `fix` has to change
 // nothing. What fails is told with its seed; the package of one seed is made again by `fuzz.js 1 SEED`.
+//
+// With `--types` each seed takes one of the packages below the FOLDERs, drops up to four written types in its texts (no file changes), and lets `fix` write types:
+// the compiler may find no error that it has not found without them, and has to declare what it has declared; and a second run has to change nothing.
 const fs = require('fs');
 const os = require('os');
 const path = require('path');
 const { analyse } = require('./analysis.js');
 const { main } = require('./cli.js');
+const { Project, fix } = require('./fix.js');
 const { ModuleWriter, Random } = require('./fuzz_modules.js');
+const { isAlike } = require('./judge_declarations.js');
+const { compared, declarationName, emitted, errorsIn, programOf, resolverOf, surfaceOf } = require('./judge_surface.js');
 const { Progress } = require('./progress.js');
 const { roundTrip } = require('./roundtrip.js');
 const { printed } = require('./skeletons.js');
@@ -166,6 +173,105 @@ async function wrongTypes(folder) {
   return again.out ? `a second fix changes\n${again.out}` : wrongSkeleton(folder);
 }
 
+// ---- types that are dropped, and written by `fix`
+
+const hasValue = (node) => Boolean(node.initializer && (ts.isVariableDeclaration(node) || ts.isPropertyDeclaration(node) || ts.isParameter(node)));
+
+/** The types of a source without which it still says what is declared: those of values and of what bodies return, outside of bodies. */
+function droppable(file, found = []) {
+  const walk = (node) => {
+    if (node.type && (hasValue(node) || (ts.isFunctionLike(node) && node.body))) found.push(node.type);
+    if (!ts.isBlock(node)) ts.forEachChild(node, walk);
+  };
+  walk(file);
+  return found;
+}
+
+/** The texts of some modules without up to four of their types, by their paths. */
+function withoutTypes(modules, r) {
+  const made = new Map();
+  for (let drops = 1 + r.below(4); drops > 0; drops--) {
+    const { path: name, text: first } = r.of(modules);
+    const text = made.get(name) || first;
+    const file = ts.createSourceFile(name, text, ts.ScriptTarget.ESNext, true);
+    const found = droppable(file);
+    if (found.length) made.set(name, replacements('no type', r.of(found), file, r).reduce((all, [start, end]) => all.slice(0, start) + all.slice(end), text));
+  }
+  return made;
+}
+
+/** The compiler over a package as `fix` has it, but that declarations are written, each beside its source. */
+function projectOf(dir) {
+  const project = new Project(dir);
+  Object.assign(project.options, { noEmit: false, noEmitOnError: false, emitDeclarationOnly: true, outDir: undefined, outFile: undefined, declarationDir: undefined });
+  return project;
+}
+
+/** What the compiler finds wrong in the modules of a package, and what it declares for all that its entry points lead to. */
+function compilerView(world, project) {
+  const data = (world.info.jsonModules || []).map((it) => [it.path, it.text]);
+  const texts = new Map(world.info.modules.filter((it) => !/\.[cm]?jsx?$/.test(it.path)).map((it) => [it.path, it.text]));
+  const program = project.program(world, texts);
+  const errors = [...texts.keys()].flatMap((name) => errorsIn(program, name).map((it) => `${path.basename(name)}: ${it.code} ${it.text}`));
+  const made = new Map([...emitted(program, texts), ...data]);
+  const entries = world.info.entryPoints.filter((it) => world.files.has(it)).map((it) => declarationName(world.files.get(it).path));
+  return { errors, made, surface: surfaceOf(programOf(made, resolverOf(world, made)), made, entries) };
+}
+
+/**
+ * Whether a declaration is another one with types in place of `any`, which the compiler takes in a circle until a type is written there; and with imported names
+ * in place of types `import("./a").T`.
+ */
+function isNarrowed({ missing, added }) {
+  const plainly = (text) => text.replace(/\bimport\("[^"]*"\)\./g, '');
+  const pattern = (text) => new RegExp(`^${plainly(text).split(/\bany\b/).map((it) => it.replace(/[^\w\s]/g, '\\$&')).join('.*')}$`);
+  return missing.length === added.length && missing.every((it, place) => pattern(it).test(plainly(added[place])));
+}
+
+/** What is wrong with the types that `fix` writes into the texts of a package, or null; and how many there are. */
+async function wrongWritten(dir, texts, context) {
+  const project = projectOf(dir);
+  const before = compilerView(await analyse(dir, { texts }, context), project);
+  const { world, texts: written, count } = await fix(dir, { texts }, context);
+  const after = compilerView(world, project);
+  const known = new Set(before.errors);
+  const error = after.errors.find((it) => !known.has(it));
+  if (error) return { count, found: `the compiler finds with the types: ${error}` };
+  // Of a module with an error in its declarations the compiler emits none.
+  const stem = ({ key }) => `${key.slice(0, key.lastIndexOf('#'))}.d`;
+  const isEmitted = (view, it) => [...view.made.keys()].some((name) => name.startsWith(stem(it)));
+  const isDeclared = (it) => isEmitted(before, it) && isEmitted(after, it);
+  const isSame = (it) => isAlike(it.key, before.surface, after.surface) || isNarrowed(it);
+  const differ = compared(before.surface, after.surface).filter((it) => isDeclared(it) && !isSame(it));
+  if (differ.length) return { count, found: `the compiler declares ${JSON.stringify(differ[0])}` };
+  const again = await fix(dir, { texts: written }, context);
+  return { count, found: again.count ? `a second fix writes ${again.count} types` : null };
+}
+
+/** Drops types in a package of each of so many seeds, tells what fails, and answers how many types were written, and how many seeds failed. */
+async function fuzzTypes(amount, first, folders, tell = console.log) {
+  const { packagesBelow } = require('./sweep.js');
+  const below = (dir) => (fs.existsSync(path.join(dir, 'deno.json')) ? [dir] : packagesBelow(dir));
+  const all = folders.flatMap((it) => below(path.resolve(it))).sort();
+  const counts = { packages: 0, types: 0, failed: 0 };
+  for (let seed = first; seed < first + amount; seed++) {
+    const r = new Random(seed);
+    const dir = r.of(all);
+    const context = { cwd: dir, environment: process.env, progress: new Progress({ write() {} }, false) };
+    const world = await analyse(dir, {}, context).catch(() => null);
+    const modules = world ? world.info.modules.filter((it) => /(?<!\.d)\.[cm]?tsx?$/.test(it.path)) : [];
+    const texts = modules.length ? withoutTypes(modules, r) : new Map();
+    if (!texts.size) continue;
+    const { count, found } = await wrongWritten(dir, texts, context);
+    counts.packages += 1;
+    counts.types += count;
+    if (!found) continue;
+    counts.failed += 1;
+    tell(`seed ${seed}: ${dir}: ${found}`);
+  }
+  return counts;
+}
+
 /** Tries so many seeds, tells what fails, and answers how many do. */
 async function fuzz(count, first, folders, tell = console.log) {
   const sources = folders.flatMap((it) => sourcesBelow(it)).sort();
@@ -188,11 +294,14 @@ async function fuzz(count, first, folders, tell = console.log) {
   return counts;
 }
 
-module.exports = { MODULES, fuzz };
+module.exports = { MODULES, fuzz, fuzzTypes };
 if (require.main === module) {
-  const [count, seed, ...folders] = process.argv.slice(2);
-  fuzz(Number(count), Number(seed || 1), folders).then(({ modules, failed }) => {
-    console.log(`${count} packages of ${modules} modules from seed ${seed || 1}: ${failed} failed`);
+  const words = process.argv.slice(2);
+  const isOfTypes = words[0] === '--types';
+  const [count, seed, ...folders] = isOfTypes ? words.slice(1) : words;
+  (isOfTypes ? fuzzTypes : fuzz)(Number(count), Number(seed || 1), folders).then(({ modules, packages, types, failed }) => {
+    const tried = isOfTypes ? `${types} types written in ${packages} packages` : `${count} packages of ${modules} modules`;
+    console.log(`${tried} from seed ${seed || 1}: ${failed} failed`);
     process.exitCode = failed ? 1 : 0;
   });
 }

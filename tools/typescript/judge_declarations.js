@@ -81,4 +81,4 @@ function judgeDeclarations(world, { declared, source, skeletons, entries, progra
   return { files: files.length, compared: found.count, untold: [], errors: found.errors.map((it) => it.text), asSource: asSource.length, differ };
 }
 
-module.exports = { judgeDeclarations, judged };
+module.exports = { isAlike, judgeDeclarations, judged };

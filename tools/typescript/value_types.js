@@ -90,6 +90,9 @@ function negative(lit, holder) {
   return literalType({ [variant]: { ...node, raw: `-${node.raw}` } });
 }
 
+// What `typeof` may say, in the order of the compiler's declarations.
+const TYPE_NAMES = ['string', 'number', 'bigint', 'boolean', 'symbol', 'undefined', 'object', 'function'];
+
 const COMPARISONS = new Set(['==', '!=', '===', '!==', '<', '<=', '>', '>=', 'in', 'instanceof']);
 const ARITHMETIC = new Set(['+', '-', '*', '/', '%', '**', '<<', '>>', '>>>', '&', '|', '^']);
 
@@ -98,9 +101,16 @@ function operand(value) {
   if (value.Paren) return operand(value.Paren.expr);
   if (value.Tpl) return 'String';
   if (value.Bin) return operation(value.Bin);
+  if (value.Unary) return unary(value.Unary);
   const found = literalOf(value);
   const [variant] = found ? print.variantOf(found.lit) : [];
   return variant === 'Num' || variant === 'Str' ? LITERALS[variant] : null;
+}
+
+function unary({ op, arg }) {
+  if (op === '+') return 'Number';
+  if (op === 'typeof') return 'String';
+  return (op === '-' || op === '~') && operand(arg) === 'Number' ? 'Number' : null;
 }
 
 function operation({ op, left, right }) {
@@ -149,8 +159,14 @@ class ValueTypes {
 
   Unary(node, holder, value) {
     const found = literalOf(value);
-    if (!found) throw new Untold(node.span, `the type of an expression with \`${node.op}\` depends on its operand`);
-    return negative(found.lit, holder);
+    if (found) return negative(found.lit, holder);
+    const { op, arg } = node;
+    if (op === 'void') return keyword('Undefined');
+    if (op === 'typeof') return unionOf(TYPE_NAMES.map((name) => literalType({ Str: { span: NONE, value: name, raw: null } })));
+    if (op === '+' && arg.Lit && arg.Lit.Num) return literal(arg.Lit, holder);
+    if (op === '!' && holder === WIDE) return keyword('Boolean');
+    if (operand(value) === 'Number') return keyword('Number');
+    throw new Untold(node.span, `the type of an expression with \`${op}\` depends on its operand`);
   }
 
   Tpl(node, holder) {

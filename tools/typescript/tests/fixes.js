@@ -36,9 +36,38 @@ const SOURCES = [
   ['`any` that is written', 'export function f(a: any) { return a.map(f); }\n', 'export function f(a: any): any { return a.map(f); }\n'],
 ];
 
+/** Writes other texts to two files in a process that may write no file of more than 8 KB, as on a full disk: no file may change. */
+function fullDisk({ withFolder, same, holds }) {
+  return withFolder(async (folder) => {
+    const files = ['a.ts', 'b.ts'].map((name) => path.join(folder, name));
+    const long = '// a line\n'.repeat(2000);
+    write(folder, { 'a.ts': PLAIN, 'b.ts': long });
+    const call = `require(${JSON.stringify(require.resolve('../files.js'))}).rewriteTexts(${JSON.stringify([[files[0], TYPED], [files[1], long + TYPED]])})`;
+    const { status, stderr } = childProcess.spawnSync('bash', ['-c', 'ulimit -f 8; exec "$0" -e "$1"', process.execPath, call], { encoding: 'utf8' });
+    holds(status !== 0 && stderr.includes(`no file is changed, since ${files[1]} cannot be written: EFBIG`), stderr);
+    same(fs.readdirSync(folder).sort().join(), 'a.ts,b.ts,deno.json', 'the files');
+    same(files.map((it) => fs.readFileSync(it, 'utf8')).join(), [PLAIN, long].join(), 'the sources');
+  });
+}
+
+/** Writes a type into a source behind a link, which stays a link, and whose file keeps its rights. */
+function linked({ run, withFolder, same }) {
+  return withFolder(async (folder) => {
+    write(folder, { 'made.ts': PLAIN, 'mod.ts': { linkTo: 'made.ts' } });
+    const [link, file] = ['mod.ts', 'made.ts'].map((name) => path.join(folder, name));
+    fs.chmodSync(file, 0o640);
+    same((await run(['fix', '.'], { cwd: folder })).status, 0, 'the status');
+    same(`${fs.readlinkSync(link)} ${(fs.statSync(file).mode & 0o777).toString(8)}`, 'made.ts 640', 'the link and the rights');
+    same(fs.readFileSync(file, 'utf8'), TYPED, 'the source');
+    same(fs.readdirSync(folder).filter((it) => it.startsWith('.')).join(), '', 'what is left beside');
+  });
+}
+
 /** The tests: a name and a call that throws where it fails. */
-function tests({ run, withFolder, same, holds }) {
-  return SOURCES.map(([name, text, wanted, told, first = '']) => [`fix of ${name}`, () => withFolder(async (folder) => {
+function tests(tools) {
+  const { run, withFolder, same, holds } = tools;
+  const others = [['fix on a full disk', () => fullDisk(tools)], ['fix behind a link', () => linked(tools)]];
+  return others.concat(SOURCES.map(([name, text, wanted, told, first = '']) => [`fix of ${name}`, () => withFolder(async (folder) => {
     write(folder, { 'mod.ts': text, 'made.ts': MADE });
     const before = Buffer.from(text);
     const shown = (await run(['fix', '--dry', '.'], { cwd: folder })).out;
@@ -55,7 +84,7 @@ function tests({ run, withFolder, same, holds }) {
     const { status: applied, stderr } = childProcess.spawnSync('git', ['apply', '-'], { cwd: folder, input: shown, encoding: 'utf8' });
     same(`${applied}${stderr}`, '0', 'what git says of the diff');
     same(bytes(fs.readFileSync(path.join(folder, 'mod.ts'))), bytes(all), 'the source with the diff');
-  })]);
+  })]));
 }
 
 module.exports = { tests };

@@ -601,11 +601,17 @@ async function fixesAround() {
 
 /** Random modules, and those of the stored packages with edits. */
 async function fuzzed() {
-  const { MODULES, fuzz } = require('../fuzz.js');
+  const { MODULES, fuzz, fuzzTypes } = require('../fuzz.js');
   await test('300 random and edited modules', async () => {
     const told = [];
     await fuzz(300 / MODULES, 1, [__dirname], (line) => told.push(line));
     holds(!told.length, told.join('\n'));
+  });
+  await test('types that are dropped, and written by fix', async () => {
+    const told = [];
+    const folders = fs.readdirSync(PACKAGES).map((name) => path.join(PACKAGES, name));
+    const { types } = await fuzzTypes(30, 1, folders, (line) => told.push(line));
+    holds(!told.length && types > 0, told.join('\n') || 'no type was written');
   });
 }
 
