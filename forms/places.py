@@ -1,5 +1,5 @@
-"""The law of the places, the forms by their names, and the page."""
-from layout import WIDTH, camel, fill
+"""The law of the places, the places that definitions by forms look into, the forms by their names, and the page."""
+from layout import WIDTH, camel, fill, imports
 from schema import LEAF_FORMS, no_forms
 from table import LEAVES
 
@@ -35,8 +35,29 @@ def places_of(form):
     return [line] if len(line) <= WIDTH else [head] + fill(parts, 4, WIDTH)
 
 
+def named_places(table):
+    """`specs/Places.antt` of swc's helpers: the places that the section `places` names, each with its proof."""
+    read = {"text": "text_of", "scope": "context_of"}
+    lines = [
+        "-- The places of the parts that a definition by forms looks into, named by the fields that stand there.",
+        "use Rattle.std.specs.Prelude.{refl}",
+        "use Rattle.fast_check_syntax.specs.Shape.{text_of, context_of}",
+        "use Rattle.fast_check_swc_helpers.specs.PlaceOf.{PlaceOf, PlaceAs}",
+    ]
+    for crate in table.form_crates():
+        for file in sorted(table.files_of(crate), key=lambda file: file.name):
+            names = [f"{form.name}-{field.name}" for form, field, _ in table.places if form.file == file.name]
+            lines += imports(f"Rattle.fast_check_{crate}.specs.{camel(file.name)}", names, WIDTH) if names else []
+    for form, field, place in table.places:
+        name = f"{form.name}-{field.name}"
+        kind = f"PlaceAs {read[field.leaf]}" if field.leaf else "PlaceOf"
+        lines += ["", f"abbrev pub at-{name} : {kind} {name}", f"at-{name} = record {{ place = {place}; reads = λ t. refl }}"]
+    return lines
+
+
 def write_places(table, out):
     out.whole("crates/fast_check_json/specs/Fields.antt", places(table))
+    out.whole("crates/fast_check_swc_helpers/specs/Places.antt", named_places(table))
 
 
 def write_names(table, out):

@@ -64,7 +64,7 @@ class File:
 class Table:
     def __init__(self, text):
         self.fields, self.chapters, self.forms, self.choices = {}, [], {}, {}
-        self.words, self.crates, self.files, self.rows = {}, {}, {}, []
+        self.words, self.crates, self.files, self.rows, self.places = {}, {}, {}, [], []
         self.section, self.file, self.last = None, None, None
         for number, line in logical_lines(text):
             try:
@@ -75,7 +75,7 @@ class Table:
 
     def read(self, line):
         word, _, rest = line.strip().partition(" ")
-        if line in ("fields", "files", "rows"):
+        if line in ("fields", "files", "rows", "places"):
             self.section = line
         elif word == "chapter":
             self.section = "forms"
@@ -87,6 +87,8 @@ class Table:
             self.read_file(line, word, rest)
         elif self.section == "rows":
             self.read_row(line)
+        elif self.section == "places":
+            self.places += [self.place(text) for text in line.split(", ")]
         elif line.startswith(" "):
             self.read_note(line)
         elif word == "in":
@@ -171,6 +173,14 @@ class Table:
         if form not in self.forms or len(self.forms[form].fields) != len(self.rows[-1].slots):
             raise TableError(f"{form} has no field for each slot of {self.rows[-1].name}")
         self.rows[-1].forms.append((form, rule))
+
+    def place(self, text):
+        """A form, one of its fields, and where the field stands among the form's parts."""
+        name, wanted = parts(r"(\w+)\.(\w+)", text)
+        for place, field in enumerate(self.forms[name].fields if name in self.forms else []):
+            if field.name == wanted:
+                return self.forms[name], field, place
+        raise TableError(f"there is no {text}")
 
     def complete(self):
         """Sees that all that is named is there, and gives fields the comments that follow from their types."""

@@ -284,7 +284,7 @@ module _ (r : Renaming) (ok : IsRenaming r) where
           (sym (ap (untyped_at d look' u q pats') n.right)) f)
 
       pub shown_value_alike : IsPair r.scopes c.unresolved.0 d.unresolved.0 → Neither BlockStmt (ArrowExpr-body t) (ArrowExpr-body u) →
-          SameShown r c d (ArrowExpr-body t) (ArrowExpr-body u) → ArrowAlike
+          SameShown r c d Mutable (ArrowExpr-body t) (ArrowExpr-body u) → ArrowAlike
       shown_value_alike pair n s =
           let type = type_ann (promised c.unresolved (ArrowExpr-is_async t) s.left) in
           let type' = type_ann (promised d.unresolved (ArrowExpr-is_async u) s.right) in
@@ -294,7 +294,7 @@ module _ (r : Renaming) (ok : IsRenaming r) where
           (shown_type_alike c d pair (ArrowExpr-is_async t) (ArrowExpr-is_async u) s.left s.right h.is_async s.types)))
 
       pub kept_value_alike : Neither BlockStmt (ArrowExpr-body t) (ArrowExpr-body u) →
-          NoneShown r c d (ArrowExpr-body t) (ArrowExpr-body u) →
+          NoneShown r c d Mutable (ArrowExpr-body t) (ArrowExpr-body u) →
           Alike r ok (look (ArrowExpr-body t) None) (look' (ArrowExpr-body u) None) → ArrowAlike
       kept_value_alike n s v =
           valued_alike n (subst₂ (λ x y. Alike r ok (by_value c look t p pats x) (by_value d look' u q pats' y)) (sym s.left) (sym s.right)

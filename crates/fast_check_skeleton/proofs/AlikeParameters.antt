@@ -277,7 +277,7 @@ module _ (r : Renaming) (ok : IsRenaming r) where
 
       pub shown_default_alike : (t u : Tree) → Both kinds.AssignPat t u → Both kinds.BindingIdent (AssignPat-left t) (AssignPat-left u) →
           SameTree r (AssignPat-left t) (AssignPat-left u) →
-          SameShown r c d (AssignPat-right t) (AssignPat-right u) → PatAlike t u
+          SameShown r c d Mutable (AssignPat-right t) (AssignPat-right u) → PatAlike t u
       shown_default_alike t u k j e h =
           let id = BindingIdent-id (AssignPat-left t) in
           let id' = BindingIdent-id (AssignPat-left u) in
@@ -292,7 +292,7 @@ module _ (r : Renaming) (ok : IsRenaming r) where
 
       pub kept_default_alike : (t u : Tree) → Both kinds.AssignPat t u → Both kinds.BindingIdent (AssignPat-left t) (AssignPat-left u) →
           SameRange r (AssignPat-span t) (AssignPat-span u) →
-          SameTree r (AssignPat-left t) (AssignPat-left u) → NoneShown r c d (AssignPat-right t) (AssignPat-right u) → DefaultAlike t u →
+          SameTree r (AssignPat-left t) (AssignPat-left u) → NoneShown r c d Mutable (AssignPat-right t) (AssignPat-right u) → DefaultAlike t u →
           PatAlike t u
       kept_default_alike t u k j a e h v =
           let place = Ident-span (BindingIdent-id (AssignPat-left t)) in

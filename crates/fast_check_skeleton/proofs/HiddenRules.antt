@@ -28,7 +28,7 @@ use Rattle.fast_check_skeleton.specs.SameValues.{SameExpr, SameFunctionHead, Sam
 use Rattle.fast_check_skeleton.specs.SameValues.{SameArrowHead, SameArrowBody, SameParams, SamePats, SamePat, SameEmptied}
 use Rattle.fast_check_skeleton.specs.SameValues.{SameGathered, SameNamed, rests}
 use Rattle.fast_check_skeleton.specs.SameValues as v
-use Rattle.fast_check_skeleton.specs.SameClasses.{SameMethod, SameProperty, SameAccessor, SameTypeShown}
+use Rattle.fast_check_skeleton.specs.SameClasses.{SameMethod, SameProperty, SameAccessor}
 use Rattle.fast_check_skeleton.specs.SameClasses as s
 use Rattle.fast_check_skeleton.specs.HiddenChanges.{number_type, pattern}
 use Rattle.fast_check_skeleton.specs.HiddenRules.{function_of, arrow_of, void_type, numbers_type, number_of, object}

@@ -36,11 +36,12 @@ use Rattle.fast_check_signatures.specs.Members.{is_private_implementation, is_pr
 use Rattle.fast_check_signatures.specs.NewNodes.{no_scope, new_block, ident_name, ts_array_type}
 use Rattle.fast_check_skeleton.specs.SameValues.{SameExpr, SameFunction, SamePat, SameEmptied}
 use Rattle.fast_check_skeleton.specs.SameValues.{SameGathered, SameImplementation, rests, is_parameter}
-use Rattle.fast_check_skeleton.specs.SameValues.{Both, SameNamed, SameParams, takes_default}
+use Rattle.fast_check_skeleton.specs.SameValues.{Both, SameNamed, SameParams, SameShown, NoneShown}
+use Rattle.fast_check_skeleton.specs.SameValues.{takes_default}
 use Rattle.fast_check_skeleton.specs.SameClasses.{IsSilentMember, SameProperty, SameAccessor, SameParamType}
 use Rattle.fast_check_skeleton.specs.SameClasses.{SameConstructed, SameConstructor, SameSuperCalls, SameMethod}
-use Rattle.fast_check_skeleton.specs.SameClasses.{SameSuperclass, SameAmbientMembers, rest_params, SameTypeShown}
-use Rattle.fast_check_skeleton.specs.SameClasses.{NoTypeShown, SameParamProperty, SameMembers, HasNoPartner}
+use Rattle.fast_check_skeleton.specs.SameClasses.{SameSuperclass, SameAmbientMembers, rest_params}
+use Rattle.fast_check_skeleton.specs.SameClasses.{SameParamProperty, SameMembers, HasNoPartner}
 use Rattle.fast_check_skeleton.specs.SameClasses.{IsNoPartner}
 use Rattle.fast_check_skeleton.specs.HiddenChanges.{number_type, pattern}
 
@@ -182,13 +183,13 @@ module _ (r : Renaming) (c d : Bindings) where
       pub shown_params : (t u : Tree) →
           SameTree r (BindingIdent-type_ann (param_target t)) (BindingIdent-type_ann (param_target u)) →
           Both kinds.AssignPat (TsParamProp-param t) (TsParamProp-param u) →
-          SameTypeShown r c d f g (mutability_of_property (TsParamProp-readonly t))
+          SameShown r c d (mutability_of_property (TsParamProp-readonly t))
           (AssignPat-right (TsParamProp-param t)) (AssignPat-right (TsParamProp-param u)) → SameParamType r c d f g t u
       -- any two defaults of parameter properties that show no type
       pub untyped_params : (t u : Tree) →
           SameTree r (BindingIdent-type_ann (param_target t)) (BindingIdent-type_ann (param_target u)) →
           Both kinds.AssignPat (TsParamProp-param t) (TsParamProp-param u) →
-          NoTypeShown r c d f g (mutability_of_property (TsParamProp-readonly t))
+          NoneShown r c d (mutability_of_property (TsParamProp-readonly t))
           (AssignPat-right (TsParamProp-param t)) (AssignPat-right (TsParamProp-param u)) → SameParamType r c d f g t u
       -- anything in a constructor but its calls of `super` and its parameter properties
       pub constructed : (t u : Tree) →

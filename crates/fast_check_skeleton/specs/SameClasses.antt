@@ -1,6 +1,6 @@
 -- Agreement of classes but for what is hidden: one rule for each part that may differ. All else agrees under a renaming
 -- of positions and scope numbers.
-use Rattle.std.specs.Prelude.{◌≡◌, ℕ, Bool, true, false, Some, None, List, [], ◌∷◌, map}
+use Rattle.std.specs.Prelude.{◌≡◌, ℕ, Bool, true, false, List, [], ◌∷◌, map}
 use Rattle.std.specs.List.{list_any}
 use Rattle.fast_check_syntax.specs.declared.kind.Kind.TheVariants.{Constructor, ClassMethod, ClassProp}
 use Rattle.fast_check_syntax.specs.declared.kind.Kind.TheVariants.{TsIndexSignature, AutoAccessor, StaticBlock}
@@ -31,9 +31,7 @@ use Rattle.fast_check_expression_forms.specs.Expressions.{ExprOrSpread-spread}
 use Rattle.fast_check_expression_forms.specs.Patterns.{AssignPat-right}
 use Rattle.fast_check_program_forms.specs.Names.{BindingIdent-id, BindingIdent-type_ann}
 use Rattle.fast_check_statement_forms.specs.Statements.{BlockStmt-stmts, ExprStmt-span, ExprStmt-expr}
-use Rattle.fast_check_swc_helpers.specs.declared.literal_type.DeclMutabilityKind.{DeclMutabilityKind}
 use Rattle.fast_check_swc_helpers.specs.declared.literal_type.DeclMutabilityKind.TheVariants.{Mutable}
-use Rattle.fast_check_swc_helpers.specs.InferredType.{inferred_type}
 use Rattle.fast_check_signatures.specs.Bindings.{Bindings}
 use Rattle.fast_check_signatures.specs.Seen.{PropertyHead}
 use Rattle.fast_check_signatures.specs.Members.{is_private, is_hash_named, is_private_method_of}
@@ -42,7 +40,7 @@ use Rattle.fast_check_signatures.specs.Classes.{mutability_of_property, property
 use Rattle.fast_check_signatures.specs.Classes.{private_method_head, plain_param, param_target, param_properties}
 use Rattle.fast_check_signatures.specs.Classes.{patterns_among, is_super_call, is_reference}
 use Rattle.fast_check_skeleton.specs.SameValues.{Both, Neither, SameExpr, SameFunction, SameFunctionHead, SameReturn}
-use Rattle.fast_check_skeleton.specs.SameValues.{SameParams, SameImplementation}
+use Rattle.fast_check_skeleton.specs.SameValues.{SameParams, SameImplementation, SameShown, NoneShown}
 
 -- a has no partner; b is the partner of none
 abbrev pub HasNoPartner : Pairs → ℕ → Type 0
@@ -84,19 +82,6 @@ module _ (r : Renaming) (c d : Bindings) (f g : SourceRange → Bool) where
     pub is_optional : p.is_optional ≡ q.is_optional
     pub readonly : p.readonly ≡ q.readonly
 
-  -- values that show types which agree
-  pub record SameTypeShown (mutability : DeclMutabilityKind) (t u : Tree) : Type 0 where
-    pub left : Tree
-    pub right : Tree
-    pub left_is : inferred_type mutability c.unresolved t ≡ Some left
-    pub right_is : inferred_type mutability d.unresolved u ≡ Some right
-    pub types : SameTree r left right
-
-  -- values that show none
-  pub record NoTypeShown (mutability : DeclMutabilityKind) (t u : Tree) : Type 0 where
-    pub left : inferred_type mutability c.unresolved t ≡ None
-    pub right : inferred_type mutability d.unresolved u ≡ None
-
   -- the type and the value of a property
   pub data SameProperty (t u : Tree) : Type 0 where
     -- any types and values of private ones, their presence too
@@ -106,7 +91,7 @@ module _ (r : Renaming) (c d : Bindings) (f g : SourceRange → Bool) where
         SameProperty t u
     -- any values of the same inferred type
     inferred : SameTree r (ClassProp-type_ann t) (ClassProp-type_ann u) →
-        SameTypeShown (mutability_of_property (ClassProp-readonly t)) (ClassProp-value t) (ClassProp-value u) →
+        SameShown r c d (mutability_of_property (ClassProp-readonly t)) (ClassProp-value t) (ClassProp-value u) →
         SameProperty t u
     -- no values
     absent : SameTree r (ClassProp-type_ann t) (ClassProp-type_ann u) →
@@ -115,7 +100,7 @@ module _ (r : Renaming) (c d : Bindings) (f g : SourceRange → Bool) where
     -- values that show no type and are to stay
     kept : SameTree r (ClassProp-type_ann t) (ClassProp-type_ann u) →
         (ClassProp-is_override t ≡ ClassProp-is_override u) →
-        NoTypeShown (mutability_of_property (ClassProp-readonly t)) (ClassProp-value t) (ClassProp-value u) →
+        NoneShown r c d (mutability_of_property (ClassProp-readonly t)) (ClassProp-value t) (ClassProp-value u) →
         SameExpr r c d (ClassProp-value t) (ClassProp-value u) → SameProperty t u
 
   -- the type and the value of an accessor, which is taken for one that changes
@@ -124,10 +109,10 @@ module _ (r : Renaming) (c d : Bindings) (f g : SourceRange → Bool) where
     typed : SameTree r (AutoAccessor-type_ann t) (AutoAccessor-type_ann u) →
         is_absent (AutoAccessor-type_ann t) ≡ false → SameAccessor t u
     inferred : SameTree r (AutoAccessor-type_ann t) (AutoAccessor-type_ann u) →
-        SameTypeShown Mutable (AutoAccessor-value t) (AutoAccessor-value u) → SameAccessor t u
+        SameShown r c d Mutable (AutoAccessor-value t) (AutoAccessor-value u) → SameAccessor t u
     -- any values that show no type, their presence too
     untyped : SameTree r (AutoAccessor-type_ann t) (AutoAccessor-type_ann u) →
-        NoTypeShown Mutable (AutoAccessor-value t) (AutoAccessor-value u) →
+        NoneShown r c d Mutable (AutoAccessor-value t) (AutoAccessor-value u) →
         SameAccessor t u
 
   -- ---- constructors
@@ -140,12 +125,12 @@ module _ (r : Renaming) (c d : Bindings) (f g : SourceRange → Bool) where
     -- defaults of the same inferred type, behind no written type
     inferred : SameTree r (BindingIdent-type_ann (param_target t)) (BindingIdent-type_ann (param_target u)) →
         Both AssignPat (TsParamProp-param t) (TsParamProp-param u) →
-        SameTypeShown (mutability_of_property (TsParamProp-readonly t)) (AssignPat-right (TsParamProp-param t))
+        SameShown r c d (mutability_of_property (TsParamProp-readonly t)) (AssignPat-right (TsParamProp-param t))
         (AssignPat-right (TsParamProp-param u)) → SameParamType t u
     -- defaults that show no type
     untyped : SameTree r (BindingIdent-type_ann (param_target t)) (BindingIdent-type_ann (param_target u)) →
         Both AssignPat (TsParamProp-param t) (TsParamProp-param u) →
-        NoTypeShown (mutability_of_property (TsParamProp-readonly t))
+        NoneShown r c d (mutability_of_property (TsParamProp-readonly t))
         (AssignPat-right (TsParamProp-param t)) (AssignPat-right (TsParamProp-param u)) →
         SameParamType t u
     -- no defaults

@@ -28,6 +28,7 @@ use Rattle.fast_check_expression_forms.specs.Patterns.{RestPat-span, RestPat-dot
 use Rattle.fast_check_expression_forms.specs.Patterns.{AssignPat-span, AssignPat-left, AssignPat-right}
 use Rattle.fast_check_program_forms.specs.Names.{BindingIdent-type_ann}
 use Rattle.fast_check_swc_helpers.specs.ranges.Ranges.{range_of_node}
+use Rattle.fast_check_swc_helpers.specs.declared.literal_type.DeclMutabilityKind.{DeclMutabilityKind}
 use Rattle.fast_check_swc_helpers.specs.declared.literal_type.DeclMutabilityKind.TheVariants.{Mutable}
 use Rattle.fast_check_swc_helpers.specs.InferredType.{inferred_type}
 use Rattle.fast_check_swc_helpers.specs.NamedBodies.{named_return}
@@ -85,18 +86,18 @@ pub record SameBindings (r : Renaming) (c d : Bindings) : Type 0 where
 
 -- `c` and `d` are what is known of the names of either source
 module _ (r : Renaming) (c d : Bindings) where
-  -- values from which a type is inferred, and the types agree
-  pub record SameShown (t u : Tree) : Type 0 where
+  -- values that show types which agree
+  pub record SameShown (mutability : DeclMutabilityKind) (t u : Tree) : Type 0 where
     pub left : Tree
     pub right : Tree
-    pub left_is : inferred_type Mutable c.unresolved t ≡ Some left
-    pub right_is : inferred_type Mutable d.unresolved u ≡ Some right
+    pub left_is : inferred_type mutability c.unresolved t ≡ Some left
+    pub right_is : inferred_type mutability d.unresolved u ≡ Some right
     pub types : SameTree r left right
 
-  -- values from which no type is inferred
-  pub record NoneShown (t u : Tree) : Type 0 where
-    pub left : inferred_type Mutable c.unresolved t ≡ None
-    pub right : inferred_type Mutable d.unresolved u ≡ None
+  -- values that show none
+  pub record NoneShown (mutability : DeclMutabilityKind) (t u : Tree) : Type 0 where
+    pub left : inferred_type mutability c.unresolved t ≡ None
+    pub right : inferred_type mutability d.unresolved u ≡ None
 
   -- bodies of which neither names a return type, or both do, and the types agree
   pub data SameNamed (is_generator : Bool) (t u : Tree) : Type 0 where
@@ -204,10 +205,10 @@ module _ (r : Renaming) (c d : Bindings) where
           SameNamed (ArrowExpr-is_generator t) (ArrowExpr-body t) (ArrowExpr-body u) → SameArrowBody t u
       -- any values of the same inferred type
       shown_value : {t u : Tree} → Neither BlockStmt (ArrowExpr-body t) (ArrowExpr-body u) →
-          SameShown (ArrowExpr-body t) (ArrowExpr-body u) → SameArrowBody t u
+          SameShown Mutable (ArrowExpr-body t) (ArrowExpr-body u) → SameArrowBody t u
       -- values that are to stay
       kept_value : {t u : Tree} → Neither BlockStmt (ArrowExpr-body t) (ArrowExpr-body u) →
-          NoneShown (ArrowExpr-body t) (ArrowExpr-body u) →
+          NoneShown Mutable (ArrowExpr-body t) (ArrowExpr-body u) →
           SameExpr (ArrowExpr-body t) (ArrowExpr-body u) → SameArrowBody t u
 
     -- functions: any bodies behind a written return type, and bodies of one return class, which name the same type, if
@@ -255,12 +256,12 @@ module _ (r : Renaming) (c d : Bindings) where
           is_absent (BindingIdent-type_ann (AssignPat-left t)) ≡ false → SamePat t u
       -- any defaults of the same inferred type
       shown_default : {t u : Tree} → Both AssignPat t u → Both BindingIdent (AssignPat-left t) (AssignPat-left u) →
-          SameTree r (AssignPat-left t) (AssignPat-left u) → SameShown (AssignPat-right t) (AssignPat-right u) →
+          SameTree r (AssignPat-left t) (AssignPat-left u) → SameShown Mutable (AssignPat-right t) (AssignPat-right u) →
           SamePat t u
       -- defaults that are to stay
       kept_default : {t u : Tree} → Both AssignPat t u → Both BindingIdent (AssignPat-left t) (AssignPat-left u) →
           SameRange r (AssignPat-span t) (AssignPat-span u) →
-          SameTree r (AssignPat-left t) (AssignPat-left u) → NoneShown (AssignPat-right t) (AssignPat-right u) →
+          SameTree r (AssignPat-left t) (AssignPat-left u) → NoneShown Mutable (AssignPat-right t) (AssignPat-right u) →
           SameExpr (AssignPat-right t) (AssignPat-right u) → SamePat t u
       -- any defaults of patterns with a written type
       typed_pattern : {t u : Tree} → Both AssignPat t u → SameRange r (AssignPat-span t) (AssignPat-span u) →

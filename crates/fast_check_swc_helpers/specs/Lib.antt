@@ -1,5 +1,6 @@
 pub mod Keywords
 pub mod Builders
+pub mod PlaceOf
 pub mod Places
 pub mod LiteralType
 pub mod TemplateType

@@ -1,39 +1,24 @@
+-- Written by forms/write.py from forms/forms.txt.
 -- The places of the parts that a definition by forms looks into, named by the fields that stand there.
-use Rattle.std.specs.Prelude.{◌≡◌, ℕ, refl}
-use Rattle.fast_check_syntax.specs.declared.tree.Tree.{Tree}
-use Rattle.fast_check_syntax.specs.Shape.{part, text_of, context_of}
-use Rattle.fast_check_expression_forms.specs.Assertions.{TsAsExpr-type_ann, TsSatisfiesExpr-expr}
-use Rattle.fast_check_expression_forms.specs.Assertions.{TsTypeAssertion-type_ann}
-use Rattle.fast_check_expression_forms.specs.Calls.{CallExpr-args, CallExpr-callee, MemberExpr-obj, MemberExpr-prop}
-use Rattle.fast_check_expression_forms.specs.Expressions.{ExprOrSpread-expr, ExprOrSpread-spread, ParenExpr-expr}
-use Rattle.fast_check_expression_forms.specs.Templates.{Tpl-exprs}
+use Rattle.std.specs.Prelude.{refl}
+use Rattle.fast_check_syntax.specs.Shape.{text_of, context_of}
+use Rattle.fast_check_swc_helpers.specs.PlaceOf.{PlaceOf, PlaceAs}
 use Rattle.fast_check_program_forms.specs.Names.{Ident-ctxt, Ident-sym, IdentName-sym}
 use Rattle.fast_check_statement_forms.specs.Loops.{WhileStmt-body, DoWhileStmt-body, ForStmt-body, ForInStmt-body}
 use Rattle.fast_check_statement_forms.specs.Loops.{ForOfStmt-body}
 use Rattle.fast_check_statement_forms.specs.Statements.{BlockStmt-stmts, WithStmt-body, LabeledStmt-body, IfStmt-cons}
 use Rattle.fast_check_statement_forms.specs.Statements.{IfStmt-alt, SwitchStmt-cases, SwitchCase-cons, TryStmt-block}
 use Rattle.fast_check_statement_forms.specs.Statements.{TryStmt-handler, TryStmt-finalizer, CatchClause-body}
+use Rattle.fast_check_expression_forms.specs.Assertions.{TsSatisfiesExpr-expr, TsAsExpr-type_ann}
+use Rattle.fast_check_expression_forms.specs.Assertions.{TsTypeAssertion-type_ann}
+use Rattle.fast_check_expression_forms.specs.Calls.{MemberExpr-obj, MemberExpr-prop, CallExpr-callee, CallExpr-args}
+use Rattle.fast_check_expression_forms.specs.Expressions.{ParenExpr-expr, ExprOrSpread-spread, ExprOrSpread-expr}
+use Rattle.fast_check_expression_forms.specs.Templates.{Tpl-exprs}
 use Rattle.fast_check_type_forms.specs.TypeOperators.{TsTypeOperator-type_ann}
 use Rattle.fast_check_type_forms.specs.TypeParams.{TsTypeParamInstantiation-params}
 use Rattle.fast_check_type_forms.specs.Types.{TsTypeRef-type_params, TsTupleType-elem_types, TsTupleElement-ty}
 use Rattle.fast_check_type_forms.specs.Types.{TsArrayType-elem_type, TsOptionalType-type_ann, TsRestType-type_ann}
 use Rattle.fast_check_type_forms.specs.Types.{TsUnionType-types, TsIntersectionType-types, TsParenthesizedType-type_ann}
-
--- the place of a field: the field is the part that stands there
-pub record PlaceOf (field : Tree → Tree) : Type 0 where
-  pub place : ℕ
-  pub reads : (t : Tree) → field t ≡ part place t
-
--- the place of a field that is no tree: the field is what is read of the part that stands there
-pub record PlaceAs {A : Type 0} (read : Tree → A) (field : Tree → A) : Type 0 where
-  pub place : ℕ
-  pub reads : (t : Tree) → field t ≡ read (part place t)
-
--- the place of the first item of a list
-abbrev pub at_first : ℕ
-at_first = 0
-
--- ---- in values
 
 abbrev pub at-ParenExpr-expr : PlaceOf ParenExpr-expr
 at-ParenExpr-expr = record { place = 1; reads = λ t. refl }
@@ -68,8 +53,6 @@ at-ExprOrSpread-expr = record { place = 1; reads = λ t. refl }
 abbrev pub at-Tpl-exprs : PlaceOf Tpl-exprs
 at-Tpl-exprs = record { place = 1; reads = λ t. refl }
 
--- ---- in names
-
 abbrev pub at-Ident-ctxt : PlaceAs context_of Ident-ctxt
 at-Ident-ctxt = record { place = 1; reads = λ t. refl }
 
@@ -78,8 +61,6 @@ at-Ident-sym = record { place = 2; reads = λ t. refl }
 
 abbrev pub at-IdentName-sym : PlaceAs text_of IdentName-sym
 at-IdentName-sym = record { place = 1; reads = λ t. refl }
-
--- ---- in types
 
 abbrev pub at-TsTypeRef-type_params : PlaceOf TsTypeRef-type_params
 at-TsTypeRef-type_params = record { place = 2; reads = λ t. refl }
@@ -113,8 +94,6 @@ at-TsParenthesizedType-type_ann = record { place = 1; reads = λ t. refl }
 
 abbrev pub at-TsTypeOperator-type_ann : PlaceOf TsTypeOperator-type_ann
 at-TsTypeOperator-type_ann = record { place = 2; reads = λ t. refl }
-
--- ---- in statements
 
 abbrev pub at-BlockStmt-stmts : PlaceOf BlockStmt-stmts
 at-BlockStmt-stmts = record { place = 2; reads = λ t. refl }

@@ -8,12 +8,11 @@ use Rattle.fast_check_expression_forms.specs.Templates.{Tpl-exprs, Tpl-quasis, T
 use Rattle.fast_check_swc_helpers.specs.declared.literal_type.DeclMutabilityKind.{DeclMutabilityKind}
 use Rattle.fast_check_swc_helpers.specs.declared.literal_type.DeclMutabilityKind.TheVariants.{Const, Mutable}
 use Rattle.fast_check_swc_helpers.specs.Builders.{ts_keyword_type, ts_lit_type}
-use Rattle.fast_check_swc_helpers.specs.Places.{at_first}
 
 -- the text that the first part of a template stands for; an empty option where its escapes have no meaning, or there is
 -- no part
 abbrev pub cooked_text : Tree → Tree
-cooked_text tpl = TplElement-cooked (part at_first (Tpl-quasis tpl))
+cooked_text tpl = TplElement-cooked (part 0 (Tpl-quasis tpl))
 
 -- the type of a text without its raw form, as `"a"`; `string` where there is no text
 abbrev pub text_or_string : Tree → Tree

@@ -14,7 +14,7 @@ use Rattle.fast_check_signatures.specs.declared.fault.FaultKind.TheVariants.{Uns
 use Rattle.fast_check_signatures.specs.Seen.{Seen, written, faulty}
 use Rattle.fast_check_signatures.specs.Answers.{Adds, fault_at, answer_to}
 use Rattle.fast_check_expression_forms.specs.Properties.{ComputedPropName-expr}
-use Rattle.fast_check_swc_helpers.specs.Places.{PlaceOf}
+use Rattle.fast_check_swc_helpers.specs.PlaceOf.{PlaceOf}
 use Rattle.fast_check_signatures.specs.Classes.{property_of_kind, reference_of_kind, is_reference, superclass_seen}
 use Rattle.fast_check_signatures.proofs.Adding.{adds_nothing, adds_same, adds_fault}
 use Rattle.fast_check_signatures.proofs.References.{is_reference_is}
