@@ -1,6 +1,6 @@
 -- Places of keys, when one item more is put at its key.
 use Rattle.std.proofs.Common.{◌≡◌, ◌∙◌, sym, ap, refl, subst, ℕ, zero, suc, ◌<◌, Bool, true, false, cond, List, [], ◌∷◌, ◌++◌, Option}
-use Rattle.std.proofs.Common.{Some, None, length, get_or, set, arith}
+use Rattle.std.proofs.Common.{Some, None, length, get_or, set}
 use Rattle.std.specs.Prelude.{option_map, if◌then◌else◌}
 use Rattle.std.specs.Option.{option_or}
 use Rattle.std.specs.BTreeMap.{BTreeMap, get, is_at, Updates}
@@ -9,6 +9,7 @@ use Rattle.std.specs.Ordering.{is_eq}
 use Rattle.std.specs.declared.cmp.Ordering.{Ordering}
 use Rattle.fast_check_expandos.specs.FirstPlaces.{place_of, HasPlaces}
 use Rattle.fast_check_expandos.proofs.Grouped.{placed}
+use Rattle.fast_check_symbols.proofs.Seen.{longer_below, inside_below, apart}
 
 -- what an index answers is the place
 pub place_is : {K N : Type 0} {same : K → K → Bool} {cmp : K → K → Ordering} {es : List (K × N)} {places : BTreeMap K ℕ}
@@ -21,32 +22,6 @@ pub none_placed : {K N : Type 0} {same : K → K → Bool} {cmp : K → K → Or
 none_placed {same = same} {cmp = cmp} e f = record {
   says = λ k. ap (lookup (is_at (cmp k))) e ∙ ap (place_of same k) (sym f);
 }
-
-pub no_place : (o : Option ℕ) → ((i : ℕ) → o ≡ Some i → ⊥) → o ≡ None
-no_place None h = refl
-no_place (Some i) h = absurd (h i refl)
-
-inside_below : (b : Bool) (p : Option ℕ) (i n : ℕ) → cond b (Some 0) (option_map suc p) ≡ Some i → ((j : ℕ) → p ≡ Some j → j < n) →
-    i < suc n
-inside_below true p zero n at next = omega arith
-inside_below true p (suc i) n at next = cc
-inside_below false None i n at next = cc
-inside_below false (Some j) zero n at next = cc
-inside_below false (Some j) (suc i) n at next = let lt = next i (cc) in omega arith
-
-longer_below : (b c : Bool) (p : Option ℕ) (n : ℕ) →
-    cond b (Some 0) (option_map suc (option_or p (cond c (Some n) None))) ≡
-    option_or (cond b (Some 0) (option_map suc p)) (cond c (Some (suc n)) None)
-longer_below true c p n = refl
-longer_below false true None n = refl
-longer_below false false None n = refl
-longer_below false c (Some i) n = refl
-
-apart : (b : Bool) (o : Option ℕ) (n : ℕ) → (b ≡ true → o ≡ None) → option_or o (cond b (Some n) None) ≡ cond b (Some n) o
-apart true None n h = refl
-apart true (Some i) n h = let e : Some i ≡ None = h refl in cc
-apart false None n h = refl
-apart false (Some i) n h = refl
 
 module _ {K A N : Type 0} (same : K → K → Bool) (key : A → K) (merged : List A → N) (more : N → A → N) where
   -- a place is one of the list

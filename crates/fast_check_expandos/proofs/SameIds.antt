@@ -1,5 +1,5 @@
 -- Identifiers that are the same.
-use Rattle.std.proofs.Common.{◌≡◌, ◌∙◌, sym, ap, refl, Bool, true, false, ◌&&◌, ◌==◌, cond, true≢false, List, [], ◌∷◌, ◌++◌, Some, None}
+use Rattle.std.proofs.Common.{◌≡◌, ◌∙◌, sym, ap, refl, Bool, true, false, ◌==◌, cond, List, [], ◌∷◌, ◌++◌, Some, None}
 use Rattle.std.specs.Cmp.{unsigned_Decides}
 use Rattle.std.specs.Map.{lookup, set_value}
 use Rattle.std.specs.Str.{bytes_eq}
@@ -9,14 +9,7 @@ use Rattle.fast_check_modules.specs.symbols.Tables.{same_id}
 use Rattle.fast_check_expandos.specs.declared.namespaces.Namespace.{Namespace}
 use Rattle.fast_check_expandos.specs.declared.properties.ExpandoProperty.{ExpandoProperty}
 use Rattle.fast_check_expandos.specs.Merged.{merged, with_property, placed_property}
-
-left_of : (a b : Bool) → (a && b) ≡ true → a ≡ true
-left_of true b e = refl
-left_of false b e = absurd (true≢false (sym e))
-
-right_of : (a b : Bool) → (a && b) ≡ true → b ≡ true
-right_of true b e = e
-right_of false b e = absurd (true≢false (sym e))
+use Rattle.fast_check_symbols.proofs.Witness.{and_right as right_of, and_left as left_of}
 
 pub one_id : (a b : Id) → same_id a b ≡ true → a ≡ b
 one_id a b e =

@@ -86,7 +86,7 @@ begins_itself (a ∷ t) = both (a == a) (begins_with t t) (byte_same a a refl) (
 
 -- ---- how much is common
 
-no_place : (n : ℕ) → n < 0 → ⊥
+pub no_place : (n : ℕ) → n < 0 → ⊥
 no_place n h = omega arith
 
 longer : (c m n : ℕ) → c ≡ suc m → n ≤ m → suc n ≤ c
@@ -98,7 +98,7 @@ lift c m n e h = omega arith
 none_in : (c n : ℕ) → c ≡ 0 → suc n ≤ c → ⊥
 none_in c n e h = omega arith
 
-unlike : (n : ℕ) → suc n ≤ 0 → ⊥
+pub unlike : (n : ℕ) → suc n ≤ 0 → ⊥
 unlike n h = omega arith
 
 more : (m n : ℕ) → m ≤ n → suc m ≤ suc n
@@ -189,7 +189,7 @@ not_up_to x y e = above_by (slice_cmp nat_cmp x y) (slice_cmp nat_cmp y x) (nat_
 
 -- ---- how much is common, byte by byte
 
-next_below : (m n : ℕ) → suc m < suc n → m < n
+pub next_below : (m n : ℕ) → suc m < suc n → m < n
 next_below m n h = omega arith
 
 step : (c m n : ℕ) → c ≡ suc m → n ≡ m → suc n ≡ c

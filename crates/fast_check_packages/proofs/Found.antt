@@ -27,17 +27,9 @@ use Rattle.fast_check_packages.specs.Texts.{AreFirsts, IsAppended, HasTextPlaces
 use Rattle.fast_check_packages.proofs.First.{first_same, first_same_of, first_none, first_of_either}
 use Rattle.fast_check_packages.proofs.Longest.{no_item, longest_is}
 use Rattle.fast_check_packages.proofs.Begun.{le_of_beginning, begins_trans, begins_itself, up_to_trans, up_to_itself, not_up_to}
+use Rattle.fast_check_packages.proofs.Begun.{no_place, next_below, unlike as not_under}
 
 -- ---- the order of entries
-
-no_place : (n : ℕ) → n < 0 → ⊥
-no_place n h = omega arith
-
-not_under : (n : ℕ) → suc n ≤ 0 → ⊥
-not_under n h = omega arith
-
-next_below : (m n : ℕ) → suc m < suc n → m < n
-next_below m n h = omega arith
 
 next_up_to : (m n : ℕ) → suc m ≤ suc n → m ≤ n
 next_up_to m n h = omega arith

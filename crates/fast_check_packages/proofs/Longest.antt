@@ -8,15 +8,9 @@ use Rattle.fast_check_packages.specs.Listed.{begins_with}
 use Rattle.fast_check_packages.specs.declared.texts.Entry.{Entry}
 use Rattle.fast_check_packages.specs.Texts.{is_up_to, common, IsAscending, IsLastUpTo, IsLongestAt, IsLongestOf, AreNoted}
 use Rattle.fast_check_packages.proofs.Begun.{le_of_beginning, begins_between, begins_trans, begins_itself, begins_both}
-use Rattle.fast_check_packages.proofs.Begun.{begins_other, no_shorter}
+use Rattle.fast_check_packages.proofs.Begun.{begins_other, no_shorter, no_place, next_below}
 
 -- ---- the longest that begins a text
-
-no_place : (n : ℕ) → n < 0 → ⊥
-no_place n h = omega arith
-
-next_below : (m n : ℕ) → suc m < suc n → m < n
-next_below m n h = omega arith
 
 pub no_item : {X : Type 0} (xs : List X) (i : ℕ) → slice_get xs i ≡ None → i < length xs → ⊥
 no_item [] i e lt = no_place i lt

@@ -23,13 +23,10 @@ use Rattle.fast_check_signatures.specs.Members.{is_private_method_of, is_private
 use Rattle.fast_check_signatures.specs.Members.{stays_by_kind, stays_behind, is_private_computed_kind}
 use Rattle.fast_check_signatures.proofs.Choices.{both_true}
 use Rattle.fast_check_skeleton.specs.SameValues.{Both}
-use Rattle.fast_check_skeleton.specs.SameClasses.{IsSilentMember, SamePropertyHead, SameMember}
+use Rattle.fast_check_skeleton.specs.SameClasses.{IsSilentMember, SameMember}
 use Rattle.fast_check_skeleton.specs.SameClasses as s
 use Rattle.fast_check_skeleton.proofs.AlikeTrees.{same_read, kind_alike}
-
-no_second : (a : Bool) → (a && false) ≡ false
-no_second true = refl
-no_second false = refl
+use Rattle.fast_check_swc_helpers.proofs.OptionalStart.{and_false as no_second}
 
 is_not : (b : Bool) → not b ≡ true → b ≡ false
 is_not false e = refl

@@ -76,7 +76,7 @@ same_ident text =
     new_same (new_ident text)
     (λ m ok. simp (node_moved, range_moved, none_moved m ok, context_moved, text_moved, flag_moved, ok.scope_zero))
 
-same_name : (text : List ℕ) → Same (ident_name none_range text) (ident_name none_range text)
+pub same_name : (text : List ℕ) → Same (ident_name none_range text) (ident_name none_range text)
 same_name text = new_same (ident_name none_range text) (λ m ok. simp (node_moved, range_moved, none_moved m ok, text_moved))
 
 abbrev void_type : Tree
@@ -121,7 +121,7 @@ pub functions : (ss ts : List Tree) → SameFunction no_places no_classes no_cla
 functions ss ts = v.SameFunction.typed_function (function_head [] [] ss ts) (function_return [] [] ss ts) (simp (part_node, is_absent_node))
     (subst₂ (v.SameParams no_places no_classes no_classes) (sym (no_params ss)) (sym (no_params ts)) v.SameParams.no_params)
 
-function_made : (ss : List Tree) → FnDecl-function (function_f ss) ≡ void_function [] ss
+pub function_made : (ss : List Tree) → FnDecl-function (function_f ss) ≡ void_function [] ss
 function_made ss = part_node _ _ _
 
 function_decls : (p q : SourceRange) (ss ts : List Tree) → SameFunctionDecl no_places all_public all_public p q (function_f ss)
@@ -159,10 +159,10 @@ pub word_read : (w v : Word) → has_word w (tree.Word v) ≡ word_is_at w (Tree
 unfolding roll-Tree denote.Hole.Carrier.roll
 word_read w v = ap (word_is_at w) (out-roll-Tree (Tree-F.Word v))
 
-block_begins : range_of_node static_block ≡ at 7 16
+pub block_begins : range_of_node static_block ≡ at 7 16
 block_begins = simp (kind_of_node, part_node, range_of_range)
 
-block_alone : IsNoPartner no_places.starts (range_of_node static_block).start.0
+pub block_alone : IsNoPartner no_places.starts (range_of_node static_block).start.0
 block_alone n p = let q : IsPair no_places.starts n 7 = subst (λ s. IsPair no_places.starts n s.start.0) block_begins p in grind arith
 
 pub members : SameMembers no_places no_classes no_classes f f [] [] (method_m [] ∷ []) (static_block ∷ method_m (parameter ∷ []) ∷ [])

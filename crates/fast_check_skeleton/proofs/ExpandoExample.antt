@@ -179,7 +179,7 @@ property = record {
   conflicts = [];
 }
 
-span_made : (t : Tree) → AssignExpr-span (assignment t) ≡ none_range
+pub span_made : (t : Tree) → AssignExpr-span (assignment t) ≡ none_range
 span_made t = simp (part_node, range_of_range)
 
 properties_are : (x : Tree) → item_properties all_public (assigned (as_number x)) ≡ property ∷ []
@@ -209,7 +209,7 @@ second_stays = simp (item_seen_is, parts_node, kind_of_node, range_of_range, fla
 no_properties : (ss : List Tree) → item_properties all_public (function_f ss) ≡ []
 no_properties ss = simp kind_of_node
 
-object_name : (object_of target).0 ≡ 102 ∷ []
+pub object_name : (object_of target).0 ≡ 102 ∷ []
 object_name = simp (part_node, text_of_text)
 
 abbrev pair : List Tree → Tree → List Tree

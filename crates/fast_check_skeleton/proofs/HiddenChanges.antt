@@ -9,7 +9,7 @@ use Rattle.fast_check_syntax.specs.declared.source.SyntaxContext.{SyntaxContext}
 use Rattle.fast_check_syntax.specs.declared.tree.Tree as tree
 use Rattle.fast_check_syntax.specs.declared.tree.Tree.{Tree, Absent, roll-Tree, out-roll-Tree}
 use Rattle.fast_check_syntax.specs.declared.tree.Tree.TheOpen.{Tree-F}
-use Rattle.fast_check_syntax.specs.Shape.{none_range, list, parts, context_of, context_at, has_word, word_is_at}
+use Rattle.fast_check_syntax.specs.Shape.{none_range, list, parts, has_word, word_is_at}
 use Rattle.fast_check_syntax.specs.Moves.{Moves, Keeps, Renaming, IsRenaming, IsPair, moved}
 use Rattle.fast_check_syntax.specs.Same.{SameTree, SameRange}
 use Rattle.fast_check_syntax.proofs.Made.{kind_of_node, parts_node, part_node, is_absent_node, flag_of_flag, range_of_range}
@@ -38,12 +38,9 @@ use Rattle.fast_check_skeleton.specs.HiddenChanges.{number_type, void_function, 
 use Rattle.fast_check_skeleton.specs.HiddenChanges.{method_m, decorated}
 use Rattle.fast_check_skeleton.specs.HiddenChanges.{call, sequence, HiddenChanges, HidesChanges}
 use Rattle.fast_check_skeleton.proofs.AlikeTrees.{new_alike}
+use Rattle.fast_check_skeleton.proofs.Example.{context_of_context as context_read}
 
 -- ---- what is read of leaves
-
-pub context_read : (c : SyntaxContext) → context_of (tree.Context c) ≡ c
-unfolding roll-Tree denote.Hole.Carrier.roll
-context_read c = ap context_at (out-roll-Tree (Tree-F.Context c))
 
 pub private_read : has_word words.Private (tree.Word words.Private) ≡ word_is_at words.Private (Tree-F.Word words.Private)
 unfolding roll-Tree denote.Hole.Carrier.roll

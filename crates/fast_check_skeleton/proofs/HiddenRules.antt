@@ -1,5 +1,5 @@
 -- Of the other rules that hide something: two parts of modules that differ by it agree.
-use Rattle.std.specs.Prelude.{◌≡◌, ℕ, Bool, true, false, Some, None, List, [], ◌∷◌, refl}
+use Rattle.std.specs.Prelude.{◌≡◌, ℕ, Bool, false, Some, None, List, [], ◌∷◌}
 use Rattle.std.proofs.Common.{ap, ap₂, ◌∙◌, sym, subst₂}
 use Rattle.fast_check_syntax.specs.declared.kind.Kind.TheVariants as kinds
 use Rattle.fast_check_syntax.specs.declared.kind.Word.TheVariants as words
@@ -8,10 +8,10 @@ use Rattle.fast_check_syntax.specs.declared.source.SyntaxContext.{SyntaxContext}
 use Rattle.fast_check_syntax.specs.declared.tree.Tree as tree
 use Rattle.fast_check_syntax.specs.declared.tree.Tree.{Tree, Absent, roll-Tree, out-roll-Tree}
 use Rattle.fast_check_syntax.specs.declared.tree.Tree.TheOpen.{Tree-F}
-use Rattle.fast_check_syntax.specs.Shape.{none_range, list, parts, has_word, word_is_at, flag_of}
+use Rattle.fast_check_syntax.specs.Shape.{none_range, list, parts, has_word, word_is_at}
 use Rattle.fast_check_syntax.specs.Moves.{Renaming, IsRenaming}
 use Rattle.fast_check_syntax.proofs.Made.{kind_of_node, parts_node, part_node, is_absent_node, flag_of_flag, range_of_range}
-use Rattle.fast_check_class_forms.specs.Fields.{ClassProp-value, ClassProp-readonly, AutoAccessor-value}
+use Rattle.fast_check_class_forms.specs.Fields.{ClassProp-value, ClassProp-readonly}
 use Rattle.fast_check_class_forms.specs.Functions.{Function-params, Function-is_generator, Function-body, param}
 use Rattle.fast_check_class_forms.specs.Methods.{ClassMethod-span, ClassMethod-function}
 use Rattle.fast_check_expression_forms.specs.Expressions.{ArrowExpr-params, ArrowExpr-body, ArrowExpr-is_generator}
@@ -34,7 +34,8 @@ use Rattle.fast_check_skeleton.specs.HiddenChanges.{number_type, pattern}
 use Rattle.fast_check_skeleton.specs.HiddenRules.{function_of, arrow_of, void_type, numbers_type, number_of, object}
 use Rattle.fast_check_skeleton.specs.HiddenRules.{pattern_default, setter_s, property_of, accessor_of, private_word}
 use Rattle.fast_check_skeleton.specs.HiddenRules.{Unnamed, HiddenValues, HiddenMembers, SilentMembers, HidesByRules}
-use Rattle.fast_check_skeleton.proofs.HiddenChanges.{context_read, private_read, Same, at_places, in_scopes, are_same}
+use Rattle.fast_check_skeleton.proofs.HiddenChanges.{private_read, Same, at_places, in_scopes, are_same}
+use Rattle.fast_check_skeleton.proofs.Example.{context_of_context as context_read}
 use Rattle.fast_check_skeleton.proofs.HiddenChanges.{same_absent, same_void, same_number, same_numbers}
 
 setter_read : has_word words.Setter (tree.Word words.Setter) ≡ word_is_at words.Setter (Tree-F.Word words.Setter)

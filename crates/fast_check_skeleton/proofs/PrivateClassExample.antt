@@ -54,7 +54,7 @@ begins_at = simp (kind_of_node, part_node, range_of_range)
 not_public : a.is_public (range_of_node class_h) ≡ false
 not_public = simp (kind_of_node, part_node, range_of_range)
 
-begins_alone : HasNoPartner no_places.starts (range_of_node class_h).start.0
+pub begins_alone : HasNoPartner no_places.starts (range_of_node class_h).start.0
 begins_alone n p = let q : IsPair no_places.starts 7 n = subst (λ s. IsPair no_places.starts s n) begins_at p in grind arith
 
 -- ---- the statement agrees

@@ -14,7 +14,6 @@ use Rattle.fast_check_syntax.specs.Moves.{IsPair}
 use Rattle.fast_check_syntax.proofs.Made.{kind_of_node, parts_node, part_node, is_absent_node, flag_of_flag, range_of_range}
 use Rattle.fast_check_expression_forms.specs.Operators.{AssignExpr-span, AssignExpr-left}
 use Rattle.fast_check_swc_helpers.specs.ranges.Ranges.{range_of_node}
-use Rattle.fast_check_statement_forms.specs.Declarations.{FnDecl-function}
 use Rattle.fast_check_statement_forms.specs.Statements.{ExprStmt-expr}
 use Rattle.fast_check_swc_helpers.specs.Builders.{new_ident}
 use Rattle.fast_check_signatures.specs.Answers.{answer_to}
@@ -35,7 +34,6 @@ use Rattle.fast_check_skeleton.specs.Hidden.{IsSilent, AgreeHidden, SameFunction
 use Rattle.fast_check_skeleton.specs.Hidden as h
 use Rattle.fast_check_skeleton.specs.SameAssignments.{SameExpando, SameAssignment}
 use Rattle.fast_check_skeleton.specs.SameAssignments as forms
-use Rattle.fast_check_skeleton.specs.HiddenChanges.{void_function}
 use Rattle.fast_check_skeleton.specs.ClassExample.{function_f, empty_statement, no_places, no_classes}
 use Rattle.fast_check_skeleton.specs.ExpandoExample.{target, assignment, assigned}
 use Rattle.fast_check_skeleton.specs.SilentAssignmentExample.{name_b, name_c, silent, first, second, exporting_b, around}
@@ -44,6 +42,7 @@ use Rattle.fast_check_skeleton.proofs.ClassExample.{is_renaming, same_absent, sa
 use Rattle.fast_check_skeleton.proofs.ExpandoExample.{same_target, left_made, right_made, assignment_made, is_one}
 use Rattle.fast_check_skeleton.proofs.Example.{context_of_context}
 use Rattle.fast_check_skeleton.proofs.ModuleExample.{text_of_text}
+use Rattle.fast_check_skeleton.proofs.ClassExample.{function_made}
 
 abbrev a : Surroundings
 a = around exporting_b
@@ -102,7 +101,7 @@ names_are n = (λ i. mentioned_in (scope_is (new_ident n) i) (answer_to (right_i
 
 -- ---- the assignments
 
-property_is : property_name target ≡ 97 ∷ []
+pub property_is : property_name target ≡ 97 ∷ []
 property_is = simp (part_node, text_of_text)
 
 expandos : SameExpando no_places a b (assignment name_c) (assignment name_c)
@@ -137,9 +136,6 @@ both_assigned = h.SameItem.assigned (record {
 
 -- ---- the modules
 
-function_made : (ss : List Tree) → FnDecl-function (function_f ss) ≡ void_function [] ss
-function_made ss = part_node _ _ _
-
 function_decls : (p q : SourceRange) → p ≡ none_range → q ≡ none_range → (ss ts : List Tree) →
     SameFunctionDecl no_places a b p q (function_f ss) (function_f ts)
 function_decls p q e f ss ts = record {
@@ -166,7 +162,7 @@ goes = h.IsSilent.assigned (kind_of_node _ _) (simp (part_node, kind_of_node)) n
 begins_at : (range_of_node silent).start.0 ≡ 7
 begins_at = simp (kind_of_node, part_node, range_of_range)
 
-begins_alone : HasNoPartner no_places.starts (range_of_node silent).start.0
+pub begins_alone : HasNoPartner no_places.starts (range_of_node silent).start.0
 begins_alone n p = let q : IsPair no_places.starts 7 n = subst (λ s. IsPair no_places.starts s n) begins_at p in grind arith
 
 agree : AgreeHidden no_places a b first second

@@ -69,7 +69,7 @@ read name es i r at h =
 pub unread : (name : List ℕ) (es : Exports) → place_named name es ≡ None → None ≡ export_named name es
 unread name es at = ap (symbol_at es) (sym at) ∙ stands_there name es
 
-inside_below : (b : Bool) (p : Option ℕ) (i n : ℕ) → cond b (Some 0) (option_map suc p) ≡ Some i → ((j : ℕ) → p ≡ Some j → j < n)
+pub inside_below : (b : Bool) (p : Option ℕ) (i n : ℕ) → cond b (Some 0) (option_map suc p) ≡ Some i → ((j : ℕ) → p ≡ Some j → j < n)
     → i < suc n
 inside_below true p zero n at next = omega arith
 inside_below true p (suc i) n at next = cc
@@ -144,7 +144,7 @@ added name id [] at = refl
 added name id (e ∷ es) at =
     added_below (bytes_eq name e.0) (place_named name es) id e (name, id) es (put_export name id es) at (added name id es)
 
-longer_below : (b c : Bool) (p : Option ℕ) (n : ℕ)
+pub longer_below : (b c : Bool) (p : Option ℕ) (n : ℕ)
     → cond b (Some 0) (option_map suc (option_or p (cond c (Some n) None)))
     ≡ option_or (cond b (Some 0) (option_map suc p)) (cond c (Some (suc n)) None)
 longer_below true c p n = refl
@@ -159,7 +159,7 @@ longer asked (y ∷ ys) e =
     ap (λ (o : Option ℕ). cond (bytes_eq asked y.0) (Some 0) (option_map suc o)) (longer asked ys e)
     ∙ longer_below (bytes_eq asked y.0) (bytes_eq asked e.0) (place_named asked ys) (length ys)
 
-apart : (b : Bool) (o : Option ℕ) (n : ℕ) → (b ≡ true → o ≡ None) → option_or o (cond b (Some n) None) ≡ cond b (Some n) o
+pub apart : (b : Bool) (o : Option ℕ) (n : ℕ) → (b ≡ true → o ≡ None) → option_or o (cond b (Some n) None) ≡ cond b (Some n) o
 apart true None n h = refl
 apart true (Some i) n h = let e : Some i ≡ None = h refl in cc
 apart false None n h = refl

@@ -1,6 +1,6 @@
 -- The items that no later one replaces, found from the last one on.
 use Rattle.std.proofs.Common.{◌≡◌, ◌∙◌, sym, ap, refl, ℕ, Bool, true, false, not, ◌||◌, List, [], ◌∷◌, ◌++◌, reverse}
-use Rattle.std.proofs.Common.{append-nil, append_assoc, length, ◌<◌, Option, Some, arith}
+use Rattle.std.proofs.Common.{append-nil, append_assoc, length, ◌<◌, Option, Some, cond, arith}
 use Rattle.std.specs.Prelude.{if◌then◌else◌}
 use Rattle.std.specs.List.{list_any}
 use Rattle.std.proofs.lemmas.List.{reverse-append}
@@ -13,6 +13,10 @@ pub record IsBetween {X : Type 0} (alike : X → X → Bool) (all rest kept : Li
   pub parts : all ≡ rest ++ done
   pub count : reverse kept ≡ unreplaced alike done
   pub noted : (x : X) → is_noted x ≡ list_any (alike x) done
+
+pub or_cond : (b c : Bool) → cond b true c ≡ (b || c)
+or_cond true c = refl
+or_cond false c = refl
 
 pub at_first : {X : Type 0} (alike : X → X → Bool) (all kept : List X) (is_noted : X → Bool) → kept ≡ [] →
     ((x : X) → is_noted x ≡ false) → IsBetween alike all all kept is_noted

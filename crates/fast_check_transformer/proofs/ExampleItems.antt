@@ -1,15 +1,14 @@
 -- Items of which the examples are made agree in surroundings with one public test, whatever is known of names and of objects.
 use Rattle.std.specs.Prelude.{◌≡◌, ℕ, Bool, false, Option, List, [], ◌∷◌, refl}
 use Rattle.std.specs.List.{list_any}
-use Rattle.std.proofs.Common.{arith, ap, ◌∙◌, sym, subst, subst₂}
+use Rattle.std.proofs.Common.{ap, ◌∙◌, sym, subst₂}
 use Rattle.fast_check_syntax.specs.declared.kind.Word.TheVariants as words
 use Rattle.fast_check_syntax.specs.declared.source.SourceRange.{SourceRange}
 use Rattle.fast_check_syntax.specs.declared.tree.Tree as tree
 use Rattle.fast_check_syntax.specs.declared.tree.Tree.{Tree, Absent}
 use Rattle.fast_check_syntax.specs.Shape.{none_range, list, parts, has_word}
-use Rattle.fast_check_syntax.specs.Moves.{IsPair}
 use Rattle.fast_check_syntax.proofs.Made.{kind_of_node, parts_node, part_node, is_absent_node, flag_of_flag, range_of_range}
-use Rattle.fast_check_syntax.proofs.Moved.{node_moved, range_moved, none_moved, text_moved}
+use Rattle.fast_check_syntax.proofs.Moved.{node_moved, range_moved, none_moved}
 use Rattle.fast_check_syntax.proofs.Moved.{word_moved}
 use Rattle.fast_check_class_forms.specs.Classes.{Class-body}
 use Rattle.fast_check_class_forms.specs.Functions.{Function-params, Param-span, param}
@@ -27,7 +26,7 @@ use Rattle.fast_check_skeleton.specs.signatures.Members.{is_hash_named}
 use Rattle.fast_check_skeleton.specs.signatures.NewNodes.{ident_name}
 use Rattle.fast_check_expandos.specs.Assignments.{mentioned_by}
 use Rattle.fast_check_expandos.specs.Objects.{Objects}
-use Rattle.fast_check_skeleton.specs.SameClasses.{SamePropertyHead, SameMembers, SameClassHead, SameClass, HasNoPartner, IsNoPartner}
+use Rattle.fast_check_skeleton.specs.SameClasses.{SamePropertyHead, SameMembers, SameClassHead, SameClass}
 use Rattle.fast_check_skeleton.specs.SameClasses as s
 use Rattle.fast_check_skeleton.specs.SameValues.{SameExpr, SameFunction, SameParams, SamePat}
 use Rattle.fast_check_skeleton.specs.SameValues as v
@@ -47,12 +46,13 @@ use Rattle.fast_check_skeleton.specs.HiddenChangesExample.{parameters, decorated
 use Rattle.fast_check_skeleton.proofs.HiddenChanges.{hides_changes}
 use Rattle.fast_check_skeleton.specs.PrivateClassExample.{class_h, declarator_x, statement_x, export_x, one}
 use Rattle.fast_check_skeleton.proofs.ClassExample.{Same, SamePlace, new_same, same_absent, same_none, same_ident, at_places, in_scopes}
-use Rattle.fast_check_skeleton.proofs.ClassExample.{are_same, is_renaming}
+use Rattle.fast_check_skeleton.proofs.ClassExample.{are_same, is_renaming, same_name, block_alone}
 use Rattle.fast_check_skeleton.proofs.ClassExample.{function_head, function_return, f, first_members, second_members, neither_hashed}
 use Rattle.fast_check_skeleton.proofs.ClassExample.{word_read}
 use Rattle.fast_check_skeleton.proofs.ExpandoExample.{same_target, left_made, right_made, assignment_made, is_one}
 use Rattle.fast_check_skeleton.proofs.Example.{context_of_context}
 use Rattle.fast_check_skeleton.proofs.ModuleExample.{text_of_text}
+use Rattle.fast_check_skeleton.proofs.ExpandoExample.{span_made}
 
 -- the surroundings of a module that is no declaration file and has no overloads
 abbrev pub around : (SourceRange → Bool) → Bindings → (List ℕ → Option (List ℕ)) → Objects → Surroundings
@@ -70,9 +70,6 @@ around public bindings relative objects = record {
 pub class_place : range_of_node class_h ≡ at 7 17
 class_place = simp (kind_of_node, part_node, range_of_range)
 
-pub class_alone : HasNoPartner no_places.starts (range_of_node class_h).start.0
-class_alone n q = let w : IsPair no_places.starts 7 n = subst (λ r. IsPair no_places.starts r.start.0 n) class_place q in grind arith
-
 -- `function f(parameters): void { statements }`
 abbrev pub declared : List Tree → List Tree → Tree
 declared ps ss = fn_decl (new_ident (102 ∷ [])) false (void_function ps ss)
@@ -80,17 +77,8 @@ declared ps ss = fn_decl (new_ident (102 ∷ [])) false (void_function ps ss)
 pub function_place : (ps ss : List Tree) → range_of_node (declared ps ss) ≡ none_range
 function_place ps ss = simp (kind_of_node, part_node, range_of_range)
 
-pub span_made : (value : Tree) → AssignExpr-span (assignment value) ≡ none_range
-span_made value = simp (part_node, range_of_range)
-
 assigned_place : (value : Tree) → range_of_node (assigned value) ≡ none_range
 assigned_place value = simp (kind_of_node, part_node, range_of_range)
-
-block_begins : range_of_node static_block ≡ at 7 16
-block_begins = simp (kind_of_node, part_node, range_of_range)
-
-block_alone : IsNoPartner no_places.starts (range_of_node static_block).start.0
-block_alone n q = let w : IsPair no_places.starts n 7 = subst (λ r. IsPair no_places.starts n r.start.0) block_begins q in grind arith
 
 decorated_place : (ds ms : List Tree) → range_of_node (class_of ds ms) ≡ none_range
 decorated_place ds ms = simp (kind_of_node, part_node, range_of_range)
@@ -105,9 +93,6 @@ same_annotation = new_same (type_ann number_type) (λ m ok. simp (node_moved, ra
 
 same_word : (w : _) → Same (tree.Word w) (tree.Word w)
 same_word w = new_same (tree.Word w) (λ m ok. word_moved m w)
-
-same_name : (text : List ℕ) → Same (ident_name none_range text) (ident_name none_range text)
-same_name text = new_same (ident_name none_range text) (λ m ok. simp (node_moved, range_moved, none_moved m ok, text_moved))
 
 -- ---- values, functions and classes
 

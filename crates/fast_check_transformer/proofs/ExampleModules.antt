@@ -1,7 +1,7 @@
 -- The modules of the examples agree in surroundings with one public test, and do not where what was hidden is public.
 use Rattle.std.specs.Prelude.{◌≡◌, ℕ, ◌+◌, Bool, true, false, Option, Some, List, [], ◌∷◌, ◌++◌, map, length, refl, if◌then◌else◌}
 use Rattle.std.specs.List.{flat_map}
-use Rattle.std.proofs.Common.{arith, ap, ◌∙◌, sym, subst, subst₂}
+use Rattle.std.proofs.Common.{arith, ap, ◌∙◌, sym, subst₂}
 use Rattle.std.proofs.lemmas.List.{length-map}
 use Rattle.fast_check_syntax.specs.declared.kind.Kind.TheVariants as kinds
 use Rattle.fast_check_syntax.specs.declared.source.SourceRange.{SourceRange}
@@ -29,7 +29,6 @@ use Rattle.fast_check_expandos.specs.Expandos.{object_of}
 use Rattle.fast_check_expandos.specs.Objects.{Objects}
 use Rattle.fast_check_expandos.specs.References.{own_reference, references, mentioned}
 use Rattle.fast_check_expandos.proofs.ReferencesOut.{references_out}
-use Rattle.fast_check_skeleton.specs.SameClasses.{HasNoPartner}
 use Rattle.fast_check_skeleton.specs.SameValues.{SameBindings}
 use Rattle.fast_check_skeleton.specs.SameValues as v
 use Rattle.fast_check_skeleton.specs.declared.rules.DeclRule.TheVariants.{Variables, Function, Class}
@@ -53,9 +52,11 @@ use Rattle.fast_check_skeleton.specs.SilentAssignmentExample.{silent}
 use Rattle.fast_check_skeleton.proofs.Agreeing.{item_alike, silent_item}
 use Rattle.fast_check_skeleton.proofs.Namespaces.{item_seen_is}
 use Rattle.fast_check_skeleton.proofs.ClassExample.{Same, new_same, same_absent, are_same, items_made}
-use Rattle.fast_check_skeleton.proofs.ExpandoExample.{right_made, assignment_made}
+use Rattle.fast_check_skeleton.proofs.ExpandoExample.{right_made, assignment_made, span_made}
+use Rattle.fast_check_skeleton.proofs.PrivateClassExample.{begins_alone as class_alone}
+use Rattle.fast_check_skeleton.proofs.SilentAssignmentExample.{begins_alone as silent_alone}
 use Rattle.fast_check_transformer.specs.Examples.{null, first_assigned, second_assigned}
-use Rattle.fast_check_transformer.proofs.ExampleItems.{around, class_place, class_alone, declared, function_place, span_made}
+use Rattle.fast_check_transformer.proofs.ExampleItems.{around, class_place, declared, function_place}
 use Rattle.fast_check_transformer.proofs.ExampleItems.{all_parameters, operands, exports, function_items}
 use Rattle.fast_check_transformer.proofs.ExampleItems.{assigned_items, class_items, refused_items}
 
@@ -107,9 +108,6 @@ silent_place = simp (kind_of_node, part_node, range_of_range)
 
 silent_span : AssignExpr-span (ExprStmt-expr silent) ≡ at 7 14
 silent_span = simp (part_node, range_of_range)
-
-silent_alone : HasNoPartner no_places.starts (range_of_node silent).start.0
-silent_alone n q = let w : IsPair no_places.starts 7 n = subst (λ r. IsPair no_places.starts r.start.0 n) silent_place q in grind arith
 
 -- ---- modules that agree
 

@@ -12,7 +12,7 @@ use Rattle.fast_check_modules.specs.diagnostics.PublicRanges.{PublicRanges, is_p
 use Rattle.fast_check_modules.specs.symbols.Tables.{symbol_of_swc}
 use Rattle.fast_check_signatures.specs.NewNodes.{no_scope}
 use Rattle.fast_check_expandos.specs.Assignments.{is_declared, mentioned_by}
-use Rattle.fast_check_expandos.specs.Expandos.{object_of, property_name}
+use Rattle.fast_check_expandos.specs.Expandos.{object_of}
 use Rattle.fast_check_expandos.specs.ModuleObjects.{objects_of}
 use Rattle.fast_check_expandos.specs.Objects.{Objects, exports_name, stands_exported}
 use Rattle.fast_check_transform_imports.specs.surroundings.Sources.{relative_source}
@@ -25,7 +25,8 @@ use Rattle.fast_check_skeleton.specs.PrivateClassExample as class
 use Rattle.fast_check_skeleton.specs.SameComments.{SameComments}
 use Rattle.fast_check_skeleton.specs.SameAssignments.{SameObject}
 use Rattle.fast_check_skeleton.proofs.Example.{context_of_context}
-use Rattle.fast_check_skeleton.proofs.ModuleExample.{text_of_text}
+use Rattle.fast_check_skeleton.proofs.SilentAssignmentExample.{property_is}
+use Rattle.fast_check_skeleton.proofs.ExpandoExample.{object_name as object_text}
 use Rattle.fast_check_syntax.specs.declared.atom.Id.{Id}
 use Rattle.fast_check_syntax.specs.declared.tree.Tree.{Tree}
 use Rattle.fast_check_syntax.specs.Moves.{IsPair}
@@ -61,18 +62,11 @@ keyword_is : (m : EsModule) (t : Tree) (id : Id) → (objects m t).has_export_ke
 unfolding objects_of
 keyword_is m t id = refl
 
--- the target is `f.a`
-object_text : (object_of target).0 ≡ 102 ∷ []
-object_text = simp (part_node, text_of_text)
-
 object_scope : (object_of target).1 ≡ no_scope
 object_scope = simp (part_node, context_of_context)
 
 object_is : object_of target ≡ name_f
 object_is = λ i. record { 0 = object_text i; 1 = object_scope i }
-
-property_is : property_name target ≡ 97 ∷ []
-property_is = simp (part_node, text_of_text)
 
 module _ (graph : ModuleGraph) where
   abbrev of : EsModule → PublicRanges → Tree → Surroundings

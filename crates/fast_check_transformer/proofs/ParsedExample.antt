@@ -9,7 +9,7 @@ use Rattle.fast_check_syntax.specs.declared.source.SyntaxContext.{SyntaxContext}
 use Rattle.fast_check_syntax.specs.declared.tree.Tree as tree
 use Rattle.fast_check_syntax.specs.declared.tree.Tree.{Tree, Absent}
 use Rattle.fast_check_syntax.specs.Shape.{list, parts, has_word}
-use Rattle.fast_check_syntax.specs.Moves.{Pairs, IsPair, OneToOne, Renaming, IsRenaming, moved, partners, twice}
+use Rattle.fast_check_syntax.specs.Moves.{Pairs, IsPair, OneToOne, IsRenaming, moved, partners, twice}
 use Rattle.fast_check_syntax.specs.Same.{SameTree, SameRange}
 use Rattle.fast_check_syntax.proofs.Made.{kind_of_node, parts_node, part_node, is_absent_node, flag_of_flag, range_of_range}
 use Rattle.fast_check_syntax.proofs.Moved.{node_moved, absent_moved, range_moved, context_moved, text_moved, flag_moved, word_moved}
@@ -47,7 +47,7 @@ use Rattle.fast_check_skeleton.specs.SameAssignments as forms
 use Rattle.fast_check_skeleton.specs.Visible.{items_of}
 use Rattle.fast_check_skeleton.specs.Example.{at}
 use Rattle.fast_check_skeleton.proofs.ClassExample.{word_read}
-use Rattle.fast_check_skeleton.proofs.HiddenChanges.{context_read}
+use Rattle.fast_check_skeleton.proofs.Example.{context_of_context as context_read}
 use Rattle.fast_check_skeleton.proofs.ModuleExample.{text_of_text}
 use Rattle.fast_check_transformer.specs.ParsedExample.{letter, letter_pat, number_at, typed_number, typed_numbers, typed_void}
 use Rattle.fast_check_transformer.specs.ParsedExample.{pattern, typed_default, shown_default, parameter, void_function, method}

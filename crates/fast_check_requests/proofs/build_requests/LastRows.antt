@@ -11,6 +11,7 @@ use Rattle.fast_check_packages.specs.Package.{nv_of, nv_cmp}
 use Rattle.fast_check_packages.specs.PackageOrder.{nv_total}
 use Rattle.fast_check_packages.specs.Packages.{package_cmp}
 use Rattle.fast_check_symbols.specs.Entries.{unreplaced}
+use Rattle.fast_check_symbols.proofs.Unreplaced.{or_cond}
 
 abbrev pub Row : Type 0
 Row = PackageNv × Parts
@@ -38,10 +39,6 @@ seen_unreplaced f alike (x ∷ xs) =
     ∙ ap (λ b. if b then unreplaced alike (map f xs) else f x ∷ unreplaced alike (map f xs)) (sym (any_seen f (alike (f x)) xs)))
 
 -- ---- one package more is noted
-
-or_cond : (b c : Bool) → cond b true c ≡ (b || c)
-or_cond true c = refl
-or_cond false c = refl
 
 pub noted : (old new : BTreeSet PackageNv) (row : Row) (key : PackageNv) → nv_of key ≡ nv_of row.0
     → ((q : PackageNv) → contains package_cmp new q ≡ cond (eq_by_cmp package_cmp key q) true (contains package_cmp old q))

@@ -1,6 +1,7 @@
 use Rattle.std.proofs.Common.{◌≡◌, ◌∙◌, sym, ap, subst, slice_set, List, [], ◌∷◌, ◌++◌}
 use Rattle.std.proofs.lemmas.Result.{on_ok_weaker}
 use Rattle.fast_check_symbols.proofs.Alike.{ids_tie, same_id_equiv}
+use Rattle.fast_check_symbols.proofs.Seen.{absent as no_place}
 use Rattle.fast_check_syntax.specs.contracts.atom.IdOrd.TheImpl as order
 use Rattle.fast_check_syntax.specs.declared.atom.Id.{Id}
 use Rattle.fast_check_modules.specs.symbols.Tables.{same_id}
@@ -8,7 +9,7 @@ use Rattle.fast_check_expandos.specs.declared.namespaces.Namespace.{Namespace}
 use Rattle.fast_check_expandos.specs.declared.properties.ExpandoProperty.{ExpandoProperty}
 use Rattle.fast_check_expandos.specs.FirstPlaces.{HasObjects}
 use Rattle.fast_check_expandos.specs.Merged.{merged, with_property, placed_property}
-use Rattle.fast_check_expandos.proofs.FirstPlaces.{place_is, no_place, inside, put_there, put_last}
+use Rattle.fast_check_expandos.proofs.FirstPlaces.{place_is, inside, put_there, put_last}
 use Rattle.fast_check_expandos.proofs.Placed.{merged_one, same_placed}
 use Rattle.fast_check_expandos.proofs.SameIds.{one_id}
 use Rattle.fast_check_expandos.proofs.namespaces.place_property.Goals as goal

@@ -6,9 +6,10 @@ use Rattle.fast_check_syntax.specs.declared.source.SourceRange.{SourceRange}
 use Rattle.fast_check_expandos.specs.declared.references.Reference.{Reference}
 use Rattle.fast_check_expandos.specs.FirstPlaces.{HasNames, placed_reference}
 use Rattle.fast_check_expandos.specs.References.{last_range}
-use Rattle.fast_check_expandos.proofs.FirstPlaces.{place_is, no_place, inside, put_there, put_last}
+use Rattle.fast_check_expandos.proofs.FirstPlaces.{place_is, inside, put_there, put_last}
 use Rattle.fast_check_expandos.proofs.LastRanges.{one_text, same_placed}
 use Rattle.fast_check_expandos.proofs.references.place_reference.Goals as goal
+use Rattle.fast_check_symbols.proofs.Seen.{absent as no_place}
 
 abbrev name_of : Reference → List ℕ
 name_of r = r.name

@@ -1,16 +1,12 @@
-use Rattle.std.proofs.Common.{◌≡◌, ◌∙◌, sym, ap, refl, Bool, true, false, cond, ◌||◌, ◌==◌, ℕ, List}
+use Rattle.std.proofs.Common.{◌≡◌, ◌∙◌, sym, ap, true, false, cond, ◌||◌, ◌==◌, ℕ, List}
 use Rattle.std.specs.BTreeSet.{BTreeSet, contains}
 use Rattle.std.specs.List.{list_any}
 use Rattle.std.specs.Ordering.{nat_cmp, eq_by_cmp}
 use Rattle.fast_check_symbols.specs.declared.symbol.Symbol.{Symbol}
 use Rattle.fast_check_symbols.specs.Symbols.{has_id}
 use Rattle.fast_check_symbols.proofs.Indexed.{same_number}
-use Rattle.fast_check_symbols.proofs.Unreplaced.{at_first, one_kept, one_replaced, nothing_left, at_last}
+use Rattle.fast_check_symbols.proofs.Unreplaced.{at_first, or_cond, one_kept, one_replaced, nothing_left, at_last}
 use Rattle.fast_check_symbols.proofs.table.last_symbols.Goals as goal
-
-or_cond : (b c : Bool) → cond b true c ≡ (b || c)
-or_cond true c = refl
-or_cond false c = refl
 
 -- one id more
 noted : (old new : BTreeSet ℕ) (s : Symbol)
