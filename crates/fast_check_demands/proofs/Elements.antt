@@ -5,7 +5,7 @@ use Rattle.std.specs.List.{Contains, filter, flat_map}
 use Rattle.std.proofs.lemmas.Bool.{false≢true}
 use Rattle.std.proofs.lemmas.List.{length-map, get_or-map}
 use Rattle.std.proofs.lemmas.List.Elements.{Contains-push_cases, Contains-append_left, Contains-append_right, Contains-append_cases}
-pub use Rattle.fast_check_symbols.proofs.Witness.{present as in_any, witness as of_any}
+pub use Rattle.fast_check_symbols.proofs.Witness.{present as in_any}
 
 pub no_element : {X : Type 0} (x : X) → Contains [] x → ⊥
 no_element x (k, below, is) = omega (arith, below)
