@@ -1,5 +1,5 @@
 -- What a list adds to another as a set: in parts, or not at all where it is there.
-use Rattle.std.proofs.Common.{◌≡◌, sym, subst, List, [], ◌++◌, append-nil}
+use Rattle.std.proofs.Common.{◌≡◌, ◌∙◌, sym, ap, subst, List, [], ◌++◌, append-nil}
 use Rattle.std.specs.List.{Contains}
 use Rattle.std.proofs.lemmas.List.Elements.{Contains-append_right}
 use Rattle.fast_check_demands.specs.Yields.{Adds}
@@ -14,6 +14,10 @@ module _ {X : Type 0} where
     parts = λ x c. c;
     whole = λ x c. subst (λ (xs : List X). Contains xs x) (sym e) (Contains-append_right old these x c);
   }
+
+  -- none at all
+  pub nothing_more : (xs ys : List X) → ys ≡ [] → xs ≡ xs ++ ys
+  nothing_more xs ys e = sym (append-nil xs) ∙ ap (λ zs. xs ++ zs) (sym e)
 
   -- each of these was there
   pub adds_none : (these old : List X) → ((x : X) → Contains these x → Contains old x) → Adds these old old

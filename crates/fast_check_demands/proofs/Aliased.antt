@@ -99,9 +99,6 @@ module _ (t : Tables) (r : SymbolId) where
       flat_map (λ x. own_parts t r x.kind) s.decls.items ≡ each_of (symbol_own t r) o
   with_own s o is h = ap (λ b. cond b (flat_map (λ x. own_parts t r x.kind) s.decls.items) []) (sym h) ∙ ap (each_of (symbol_own t r)) (sym is)
 
-  pub without_own : (s : Symbol) (o : Option Symbol) → o ≡ Some s → has_alias s.decls.items ≡ false → [] ≡ each_of (symbol_own t r) o
-  without_own s o is h = ap (λ b. cond b (flat_map (λ x. own_parts t r x.kind) s.decls.items) []) (sym h) ∙ ap (each_of (symbol_own t r)) (sym is)
-
 module _ (t : Tables) (d : Demand) (path : Path) (extent : Extent) where
   abbrev pub demands_below : Alias → List Demand
   demands_below (symbol id) = each_of (λ x. qualified x path extent d.referrer ∷ []) (bound t id)

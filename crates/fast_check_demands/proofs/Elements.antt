@@ -1,10 +1,11 @@
 -- Elements of lists that are made of others.
-use Rattle.std.proofs.Common.{◌≡◌, ◌∙◌, sym, ap, refl, subst, Bool, true, false, cond, ◌&&◌, ◌||◌, List, [], ◌∷◌}
+use Rattle.std.proofs.Common.{◌≡◌, ◌∙◌, sym, ap, refl, subst, Bool, true, false, cond, List, [], ◌∷◌}
 use Rattle.std.proofs.Common.{map, ⊎_elim, inl, inr, ◌⊎◌, arith}
-use Rattle.std.specs.List.{Contains, filter, flat_map, list_any}
+use Rattle.std.specs.List.{Contains, filter, flat_map}
 use Rattle.std.proofs.lemmas.Bool.{false≢true}
 use Rattle.std.proofs.lemmas.List.{length-map, get_or-map}
 use Rattle.std.proofs.lemmas.List.Elements.{Contains-push_cases, Contains-append_left, Contains-append_right, Contains-append_cases}
+pub use Rattle.fast_check_symbols.proofs.Witness.{present as in_any}
 
 pub no_element : {X : Type 0} (x : X) → Contains [] x → ⊥
 no_element x (k, below, is) = omega (arith, below)
@@ -66,28 +67,3 @@ of_filter p (y ∷ xs) x c = by (p y) refl c (λ d. let m = of_filter p xs x d i
         (Contains (filter p xs) x → Contains (y ∷ xs) x × (p x ≡ true)) → Contains (y ∷ xs) x × (p x ≡ true)
     by true k d behind = ⊎_elim (λ is. (first x y xs is, ap p (sym is) ∙ k)) behind (cases y (filter p xs) x d)
     by false k d behind = behind d
-
-pub or_true : (b c : Bool) → c ≡ true → (b || c) ≡ true
-or_true true c h = refl
-or_true false c h = h
-
-pub in_any : {X : Type 0} (p : X → Bool) (xs : List X) (x : X) → Contains xs x → p x ≡ true → list_any p xs ≡ true
-in_any p [] x c e = absurd (no_element x c)
-in_any p (y ∷ xs) x c e = ⊎_elim
-    (λ is. ap (λ b. b || list_any p xs) (ap p is ∙ e))
-    (λ there. or_true (p y) (list_any p xs) (in_any p xs x there e))
-    (cases y xs x c)
-
-pub of_any : {X : Type 0} (p : X → Bool) (xs : List X) → list_any p xs ≡ true → (x : X) × Contains xs x × (p x ≡ true)
-of_any p [] e = absurd (false≢true e)
-of_any {X} p (y ∷ xs) e = by (p y) refl e (λ h. let m = of_any p xs h in (m.0, later y xs m.0 m.1, m.2))
-  where
-    by : (b : Bool) → p y ≡ b → (b || list_any p xs) ≡ true →
-        (list_any p xs ≡ true → (x : X) × Contains (y ∷ xs) x × (p x ≡ true)) → (x : X) × Contains (y ∷ xs) x × (p x ≡ true)
-    by true k h behind = (y, first y y xs refl, k)
-    by false k h behind = behind h
-
-pub both : (b c : Bool) → (b && c) ≡ true → (b ≡ true) × (c ≡ true)
-both true true e = (refl, refl)
-both true false e = absurd (false≢true e)
-both false c e = absurd (false≢true e)

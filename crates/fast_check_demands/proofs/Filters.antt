@@ -2,7 +2,7 @@
 use Rattle.std.proofs.Common.{◌≡◌, ◌∙◌, sym, ap, refl, ℕ, ◌+◌, Bool, true, false, cond, ◌&&◌, ◌||◌, List, [], ◌∷◌, ◌++◌, map, take, slice_get, append_assoc}
 use Rattle.std.specs.List.{filter, flat_map, list_any}
 use Rattle.std.proofs.lemmas.Bool.{false≢true}
-use Rattle.std.proofs.lemmas.List.Elements.{filter-append}
+use Rattle.std.proofs.lemmas.List.Elements.{filter-append, filter_agree}
 use Rattle.fast_check_demands.specs.symbol_demands.Rules.{each_of}
 use Rattle.fast_check_demands.proofs.symbol_demands.EachAt.{each_more}
 
@@ -24,13 +24,8 @@ filter_of_map p f (x ∷ xs) = by (p (f x)) (filter_of_map p f xs)
     by true e = ap (λ ys. f x ∷ ys) e
     by false e = e
 
-pub filter_alike : {X : Type 0} (p q : X → Bool) → ((x : X) → p x ≡ q x) → (xs : List X) → filter p xs ≡ filter q xs
-filter_alike p q e [] = refl
-filter_alike p q e (x ∷ xs) = ap (λ b. cond b (x ∷ filter p xs) (filter p xs)) (e x) ∙
-    ap (λ ys. cond (q x) (x ∷ ys) ys) (filter_alike p q e xs)
-
 pub filter_none : {X : Type 0} (p : X → Bool) → ((x : X) → false ≡ p x) → (xs : List X) → [] ≡ filter p xs
-filter_none {X} p e xs = go xs ∙ filter_alike (λ _. false) p e xs
+filter_none {X} p e xs = go xs ∙ filter_agree (λ _. false) p e xs
   where
     go : (ys : List X) → [] ≡ filter (λ _. false) ys
     go [] = refl

@@ -3,6 +3,7 @@ use Rattle.std.proofs.Common.{◌≡◌, Bool, true, false, cond, ◌&&◌, List
 use Rattle.std.specs.Option.{option_or}
 use Rattle.std.specs.List.{Contains, flat_map, filter}
 use Rattle.std.proofs.lemmas.List.Elements.{Contains-append_left}
+use Rattle.std.proofs.lemmas.Option.{none-some, same_Some}
 use Rattle.fast_check_lattice.specs.Names.{Name}
 use Rattle.fast_check_syntax.specs.declared.source.SourceRange.{SourceRange}
 use Rattle.fast_check_symbols.specs.declared.symbol_id.SymbolId.{SymbolId}
@@ -22,20 +23,14 @@ use Rattle.fast_check_demands.proofs.Each.{Each, each_nil, each_append, each_map
 
 -- what is found is there
 last_inside : {X : Type 0} (test : X → Bool) (xs : List X) (x : X) → last_that test xs ≡ Some x → Contains xs x
-last_inside test [] x e = absurd (no x e)
-  where
-    no : {X : Type 0} (x : X) → None ≡ Some x → ⊥
-    no x e = cc
+last_inside test [] x e = absurd (none-some x e)
 last_inside {X} test (y ∷ ys) x e = ⊎_elim
     (λ deep. later y ys x (last_inside test ys x deep))
     (λ here. first x y ys here)
     (last_or_this (last_that test ys) (test y) y x e)
   where
-    some_same : {X : Type 0} (a b : X) → Some a ≡ Some b → a ≡ b
-    some_same a b e = cc
-
     last_or_this : {X : Type 0} (o : Option X) (b : Bool) (y x : X) → option_or o (cond b (Some y) None) ≡ Some x → (o ≡ Some x) ⊎ (y ≡ x)
-    last_or_this None true y x e = inr (some_same y x e)
+    last_or_this None true y x e = inr (same_Some y x e)
     last_or_this None false y x e = inl e
     last_or_this (Some z) b y x e = inl e
 

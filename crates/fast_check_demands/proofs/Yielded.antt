@@ -2,17 +2,18 @@
 -- stand outside of it.
 use Rattle.std.proofs.Common.{◌≡◌, ◌∙◌, ◌↔◌, sym, ap, refl, subst, Bool, true, false, cond, not, ◌&&◌, List, [], ◌∷◌, ◌++◌, ⊎_elim}
 use Rattle.std.specs.List.{Contains, filter, flat_map}
+use Rattle.std.proofs.lemmas.Bool.{and_parts}
 use Rattle.std.proofs.lemmas.List.Elements.{Contains-append_left, Contains-append_right, Contains-append_cases}
 use Rattle.fast_check_syntax.specs.declared.source.SourceRange.{SourceRange}
 use Rattle.fast_check_symbols.specs.declared.symbol.Symbol.{Symbol}
 use Rattle.fast_check_symbols.specs.declared.decl.SymbolDecl.{SymbolDecl}
 use Rattle.fast_check_symbols.specs.Tables.{Tables}
+use Rattle.fast_check_symbols.proofs.Witness.{present, witness}
 use Rattle.fast_check_demands.specs.declared.symbol_demands.demand.Namespaces.{Namespaces}
 use Rattle.fast_check_demands.specs.symbol_demands.Decls.{binds, is_implementation, is_function}
 use Rattle.fast_check_demands.specs.Yields.{decl_ranges, is_within, has_properties, stands_outside, export_ranges, property_ranges}
 use Rattle.fast_check_demands.specs.Yields.{symbol_ranges}
 use Rattle.fast_check_demands.proofs.Elements.{no_element, first, later, cases, in_map, of_map, in_flat, of_flat, in_filter, of_filter}
-use Rattle.fast_check_demands.proofs.Elements.{in_any, of_any, both}
 
 module _ (t : Tables) (n : Namespaces) (s : Symbol) where
   abbrev bound : List SourceRange
@@ -40,7 +41,7 @@ module _ (t : Tables) (n : Namespaces) (s : Symbol) where
   yields_property : (x : SymbolDecl) (r : SourceRange) → has_properties n x ≡ true → Contains (properties_outside x) r →
       Contains (decl_yields x) r
   yields_property x r h c =
-      let e = both (binds x n) (is_plain x) h in
+      let e = and_parts (binds x n) (is_plain x) h in
       subst
       (λ (k : Bool). Contains (cond k (x.range ∷ cond (is_plain x) (properties_outside x) []) []) r) (sym e.0)
       (later x.range _ r (subst (λ (k : Bool). Contains (cond k (properties_outside x) []) r) (sym e.1) c))
@@ -58,8 +59,8 @@ module _ (t : Tables) (n : Namespaces) (s : Symbol) where
       property : Contains (property_ranges t n s) r → Contains (flat_map decl_yields s.decls.items) r
       property d =
           let f = of_filter (stands_outside n s.decls.items) (export_ranges t s.exports) r d in
-          let m = of_any (λ x. has_properties n x && not (is_within x.range r)) s.decls.items f.1 in
-          let e = both (has_properties n m.0) (not (is_within m.0.range r)) m.2 in
+          let m = witness (λ x. has_properties n x && not (is_within x.range r)) s.decls.items f.1 in
+          let e = and_parts (has_properties n m.0) (not (is_within m.0.range r)) m.2 in
           in_flat decl_yields s.decls.items m.0 r m.1 (yields_property m.0 r e.0
           (in_filter (λ r. not (is_within m.0.range r)) (export_ranges t s.exports) r f.0 e.1))
 
@@ -71,7 +72,7 @@ module _ (t : Tables) (n : Namespaces) (s : Symbol) where
       property h p =
           let f = of_filter (λ r. not (is_within x.range r)) (export_ranges t s.exports) r p in
           in_filter (stands_outside n s.decls.items) (export_ranges t s.exports) r f.0
-          (in_any (λ x. has_properties n x && not (is_within x.range r)) s.decls.items x c
+          (present (λ x. has_properties n x && not (is_within x.range r)) s.decls.items x c
           (ap (λ b. b && not (is_within x.range r)) h ∙ f.1))
 
       by : (b f : Bool) → binds x n ≡ b → is_plain x ≡ f →

@@ -39,42 +39,8 @@ fn push_parts<'a>(
     Ok(())
 }
 
-/// Pushes the path that is asked of an alias for the symbol that it is bound to.
-fn push_passed<'a>(
-    demand: SymbolDemand<'_>,
-    symbol: Option<SymbolId>,
-    names: &'a [String],
-    extent: Extent,
-    out: &mut Demands<'a>,
-) -> Result<(), AllocError>
-    ensures { OnOk result (out.new ≡ out.old ++ each_of (λ x. qualified x (path_of names.now) extent demand.entry.referrer ∷ []) symbol) }
-{
-    match symbol {
-        None => Ok(()),
-        Some(symbol) => push_path(symbol, names, extent, demand.referrer, out),
-    }
-}
-
-/// Pushes the path that is passed on by an alias.
+/// Pushes the path that is passed on by an alias, for the symbol that it is bound to.
 fn push_alias<'a>(
-    tables: &CheckedTables,
-    demand: SymbolDemand<'_>,
-    names: &'a [String],
-    extent: Extent,
-    kind: &'a SymbolDeclKind,
-    out: &mut Demands<'a>,
-) -> Result<(), AllocError>
-    ensures { OnOk result (out.new ≡ out.old ++ alias_passed tables.now (demand_of demand.entry) (path_of names.now) extent kind.now) }
-{
-    match kind {
-        SymbolDeclKind::Target(id) | SymbolDeclKind::QualifiedTarget(id, _) => {
-            push_passed(demand, bound(tables, id), names, extent, out)
-        }
-        SymbolDeclKind::FileRef { .. } | SymbolDeclKind::Definition(_) => Ok(()),
-    }
-}
-
-fn push_alias_at<'a>(
     tables: &CheckedTables,
     demand: SymbolDemand<'_>,
     names: &'a [String],
@@ -85,9 +51,12 @@ fn push_alias_at<'a>(
     ensures { OnOk result (out.new ≡ out.old ++
         each_of (alias_passed tables.now (demand_of demand.entry) (path_of names.now) extent) (option_copied kind.entry)) }
 {
-    match kind {
+    let Some(SymbolDeclKind::Target(id) | SymbolDeclKind::QualifiedTarget(id, _)) = kind else {
+        return Ok(());
+    };
+    match bound(tables, id) {
         None => Ok(()),
-        Some(kind) => push_alias(tables, demand, names, extent, kind, out),
+        Some(symbol) => push_path(symbol, names, extent, demand.referrer, out),
     }
 }
 
@@ -104,7 +73,7 @@ fn push_aliases<'a>(
         out.old out.new) }
 {
     for place in decls.alias_places() {
-        push_alias_at(tables, demand, names, extent, decls.kind_at(*place), out)?;
+        push_alias(tables, demand, names, extent, decls.kind_at(*place), out)?;
     }
     Ok(())
 }
@@ -168,22 +137,8 @@ fn push_member(
 ) -> Result<(), AllocError>
     ensures { OnOk result (out.new ≡ out.old ++ member_names (demand_of demand.entry) (path_of below.now) extent member) }
 {
-    match below.split_first() {
-        Some(_) => Ok(()),
-        None => push_whole_member(demand, extent, member, out),
-    }
-}
-
-fn push_whole_member(
-    demand: SymbolDemand<'_>,
-    extent: Extent,
-    member: Option<SymbolId>,
-    out: &mut Demands<'_>,
-) -> Result<(), AllocError>
-    ensures { OnOk result (out.new ≡ out.old ++ member_names (demand_of demand.entry) [] extent member) }
-{
     match (extent, member) {
-        (Extent::Whole, Some(member)) => {
+        (Extent::Whole, Some(member)) if below.is_empty() => {
             push_reference(member, Namespaces::Both, demand.referrer, out)
         }
         _ => Ok(()),

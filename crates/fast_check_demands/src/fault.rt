@@ -4,11 +4,11 @@ ghost use Rattle.std.specs.Option.{option_and_then};
 ghost use Rattle.fast_check_lattice.specs.Names.{path_of};
 ghost use Rattle.fast_check_symbols.specs.Symbols.{symbol_of};
 ghost use Rattle.fast_check_demands.specs.symbol_demands.Demands.{demand_of};
-ghost use Rattle.fast_check_demands.specs.Yields.{fault_seen, fault_at as fault_there, is_parent, private_fault, member_fault, prototype_fault, export_fault, first_fault, path_fault, fault_in};
+ghost use Rattle.fast_check_demands.specs.Yields.{fault_seen, fault_at as fault_there, private_fault, member_fault, prototype_fault, export_fault, first_fault, path_fault, fault_in};
 
 use crate::names::{is_prototype, start_of};
 use crate::symbol_demands::symbols::{CheckedTables, Symbol, SymbolId};
-use crate::symbol_demands::{Ask, SymbolDemand, is_same};
+use crate::symbol_demands::{Ask, SymbolDemand};
 
 /// What is wrong with a demand.
 #[derive(Clone, Copy, Debug, PartialEq, Eq, PartialOrd, Ord)]
@@ -45,19 +45,10 @@ fn fault_at<'a>(
     }
 }
 
-fn is_parent(id: SymbolId, parent: Option<SymbolId>) -> bool
-    ensures { result ≡ is_parent id parent }
-{
-    match parent {
-        None => false,
-        Some(parent) => is_same(parent, id),
-    }
-}
-
 fn private_fault<'a>(demand: SymbolDemand<'a>, symbol: &Symbol) -> Option<SymbolFault<'a>>
     ensures { option_map fault_seen result ≡ private_fault (demand_of demand.entry) symbol.now }
 {
-    if symbol.is_private_member && !is_parent(demand.referrer, symbol.parent_id) {
+    if symbol.is_private_member && symbol.parent_id != Some(demand.referrer) {
         return Some(fault_at(DemandFaultKind::PrivateMember, &[], demand));
     }
     None
@@ -155,22 +146,12 @@ fn path_fault<'a>(
     first_fault(tables, demand, names)
 }
 
-fn symbol_fault<'a>(tables: &CheckedTables, demand: SymbolDemand<'a>) -> Option<SymbolFault<'a>>
-    ensures { option_map fault_seen result ≡ option_and_then (λ s. private_fault (demand_of demand.entry) s)
-        (symbol_of demand.entry.symbol tables.now.symbols) }
-{
-    match tables.symbol(demand.symbol) {
-        None => None,
-        Some(symbol) => private_fault(demand, symbol),
-    }
-}
-
 /// What is wrong with a demand, if anything is.
 pub fn fault_of<'a>(tables: &CheckedTables, demand: SymbolDemand<'a>) -> Option<SymbolFault<'a>>
     ensures { option_map fault_seen result ≡ fault_in tables.now (demand_of demand.entry) (symbol_of demand.entry.symbol tables.now.symbols) }
 {
     match demand.ask {
-        Ask::Reference(_) | Ask::Child(_) => symbol_fault(tables, demand),
+        Ask::Reference(_) | Ask::Child(_) => private_fault(demand, tables.symbol(demand.symbol)?),
         Ask::Path(names, _) => path_fault(tables, demand, names),
     }
 }

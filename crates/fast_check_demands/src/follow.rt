@@ -1,30 +1,13 @@
 //! What follows from one demand of a module.
-ghost use Rattle.std.specs.Prelude.{◌≡◌, [], ◌++◌, IfOk, OnOk};
+ghost use Rattle.std.specs.Prelude.{[], IfOk};
 ghost use Rattle.fast_check_demands.specs.symbol_demands.Demands.{demand_of};
-ghost use Rattle.fast_check_demands.specs.symbol_demands.Rules.{each_of, symbol_names};
 ghost use Rattle.fast_check_demands.specs.symbol_demands.Passed.{passed, own_names};
-ghost use Rattle.fast_check_symbols.specs.Symbols.{symbol_of};
 ghost use Rattle.fast_check_demands.specs.Yields.{Adds};
 
 use crate::aliases::{push_own_names, push_path_demands};
 use crate::symbol_demands::symbols::CheckedTables;
-use crate::symbol_demands::{Ask, Demands, Namespaces, SymbolDemand, push_symbol};
+use crate::symbol_demands::{Ask, Demands, SymbolDemand, push_symbol};
 use std::alloc::{AllocError, Global};
-
-fn push_symbol_of<'a>(
-    tables: &'a CheckedTables,
-    demand: SymbolDemand<'a>,
-    namespaces: Namespaces,
-    out: &mut Demands<'a>,
-) -> Result<(), AllocError>
-    ensures { OnOk result (out.new ≡ out.old ++ each_of (λ s. symbol_names tables.now (demand_of demand.entry) namespaces s)
-        (symbol_of demand.entry.symbol tables.now.symbols)) }
-{
-    match tables.symbol(demand.symbol) {
-        None => Ok(()),
-        Some(symbol) => push_symbol(tables, demand, namespaces, symbol, out),
-    }
-}
 
 /// The demands that follow from a demand within its module, but for the names of the own path of an alias ([`own_names_of`]).
 pub fn demands_of<'a>(
@@ -37,7 +20,9 @@ pub fn demands_of<'a>(
     let mut out = Demands::new(alloc);
     match demand.ask {
         Ask::Reference(namespaces) | Ask::Child(namespaces) => {
-            push_symbol_of(tables, demand, namespaces, &mut out)?;
+            if let Some(symbol) = tables.symbol(demand.symbol) {
+                push_symbol(tables, demand, namespaces, symbol, &mut out)?;
+            }
         }
         Ask::Path(names, extent) => {
             push_path_demands(tables, demand, names, extent, &mut out)?;

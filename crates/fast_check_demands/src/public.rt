@@ -2,12 +2,12 @@
 ghost use Rattle.std.specs.Prelude.{◌≡◌, ◌++◌, ◌&&◌, ◌||◌, not, option_map, OnOk};
 ghost use Rattle.fast_check_symbols.specs.Exports.{seen_export};
 ghost use Rattle.std.specs.List.{filter};
-ghost use Rattle.fast_check_demands.specs.symbol_demands.Demands.{demand_of, asked_of};
+ghost use Rattle.fast_check_demands.specs.symbol_demands.Demands.{demand_of};
 ghost use Rattle.fast_check_demands.specs.symbol_demands.Decls.{binds as binds_in, is_implementation as implements};
 ghost use Rattle.fast_check_demands.specs.symbol_demands.Rules.{each_of};
 ghost use Rattle.fast_check_demands.specs.Yields.{decl_ranges, is_within, is_outside, has_properties, stands_outside, ranges_at, export_ranges};
-ghost use Rattle.fast_check_demands.specs.Yields.{property_ranges, symbol_ranges, asked_ranges, ranges};
-ghost use Rattle.fast_check_demands.specs.Yields.{symbol_implementations, asked_implementations, implementations};
+ghost use Rattle.fast_check_demands.specs.Yields.{property_ranges, symbol_ranges, ranges};
+ghost use Rattle.fast_check_demands.specs.Yields.{symbol_implementations, implementations};
 
 use crate::symbol_demands::symbols::{CheckedTables, Symbol, SymbolDecl, SymbolExports, SymbolId};
 use crate::symbol_demands::{Ask, Namespaces, SymbolDemand, binds, is_function};
@@ -20,23 +20,16 @@ fn is_within(range: SourceRange, inner: SourceRange) -> bool
     range.start.0 <= inner.start.0 && inner.end.0 <= range.end.0
 }
 
-/// The range that lies within two ranges, from the later start to the earlier end.
-fn shared(first: SourceRange, second: SourceRange) -> SourceRange
-    ensures { (r : SourceRange) → is_within result r ≡ (is_within first r && is_within second r) }
-{
-    SourceRange {
-        start: SourcePos(first.start.0.max(second.start.0)),
-        end: SourcePos(first.end.0.min(second.end.0)),
-    }
-}
-
-/// What lies outside of a range, or outside of what was hidden before, lies outside of this.
+/// The range from the later start to the earlier end. What lies outside of a range, or outside of what was hidden before, lies outside of this.
 fn hidden_by_both(before: Option<SourceRange>, range: SourceRange) -> SourceRange
     ensures { (r : SourceRange) → not (is_within result r) ≡ (is_outside before r || not (is_within range r)) }
 {
-    match before {
-        None => range,
-        Some(before) => shared(before, range),
+    let Some(before) = before else {
+        return range;
+    };
+    SourceRange {
+        start: SourcePos(before.start.0.max(range.start.0)),
+        end: SourcePos(before.end.0.min(range.end.0)),
     }
 }
 
@@ -76,20 +69,6 @@ fn push_outside(
     Ok(())
 }
 
-fn push_outside_at(
-    tables: &CheckedTables,
-    hidden: SourceRange,
-    id: SymbolId,
-    out: &mut Vec<SourceRange>,
-) -> Result<(), AllocError>
-    ensures { OnOk result (out.new.items ≡ out.old.items ++ filter (λ r. not (is_within hidden r)) (ranges_at tables.now id)) }
-{
-    match tables.symbol(id) {
-        None => Ok(()),
-        Some(symbol) => push_outside(hidden, symbol.decls.as_slice(), out),
-    }
-}
-
 fn push_export(
     tables: &CheckedTables,
     hidden: SourceRange,
@@ -99,10 +78,13 @@ fn push_export(
     ensures { OnOk result (out.new.items ≡ out.old.items
         ++ filter (λ r. not (is_within hidden r)) (each_of (λ e. ranges_at tables.now e.1) (option_map seen_export export.entry))) }
 {
-    match export {
-        None => Ok(()),
-        Some((_, id)) => push_outside_at(tables, hidden, id, out),
-    }
+    let Some((_, id)) = export else {
+        return Ok(());
+    };
+    let Some(symbol) = tables.symbol(id) else {
+        return Ok(());
+    };
+    push_outside(hidden, symbol.decls.as_slice(), out)
 }
 
 /// Pushes the declarations of exported symbols that stand outside of a range.
@@ -174,22 +156,6 @@ fn push_decls(decls: &[SymbolDecl], out: &mut Vec<SourceRange>) -> Result<(), Al
     Ok(())
 }
 
-fn push_asked(
-    tables: &CheckedTables,
-    demand: SymbolDemand<'_>,
-    symbol: &Symbol,
-    out: &mut Vec<SourceRange>,
-) -> Result<(), AllocError>
-    ensures { OnOk result (out.new.items ≡ out.old.items ++ asked_ranges tables.now (asked_of demand.entry.ask) symbol.now) }
-{
-    match demand.ask {
-        Ask::Reference(namespaces) | Ask::Child(namespaces) => {
-            push_symbol(tables, namespaces, symbol, out)
-        }
-        Ask::Path(_, _) => push_decls(symbol.decls.as_slice(), out),
-    }
-}
-
 /// Pushes the ranges that a demand makes public.
 pub fn push_ranges(
     tables: &CheckedTables,
@@ -198,9 +164,14 @@ pub fn push_ranges(
 ) -> Result<(), AllocError>
     ensures { OnOk result (out.new.items ≡ out.old.items ++ ranges tables.now (demand_of demand.entry)) }
 {
-    match tables.symbol(demand.symbol) {
-        None => Ok(()),
-        Some(symbol) => push_asked(tables, demand, symbol, out),
+    let Some(symbol) = tables.symbol(demand.symbol) else {
+        return Ok(());
+    };
+    match demand.ask {
+        Ask::Reference(namespaces) | Ask::Child(namespaces) => {
+            push_symbol(tables, namespaces, symbol, out)
+        }
+        Ask::Path(_, _) => push_decls(symbol.decls.as_slice(), out),
     }
 }
 
@@ -232,21 +203,6 @@ fn push_symbol_implementations(
     push_implementing(namespaces, symbol.decls.as_slice(), out)
 }
 
-fn push_asked_implementations(
-    demand: SymbolDemand<'_>,
-    symbol: &Symbol,
-    out: &mut Vec<SourceRange>,
-) -> Result<(), AllocError>
-    ensures { OnOk result (out.new.items ≡ out.old.items ++ asked_implementations (asked_of demand.entry.ask) symbol.now) }
-{
-    match demand.ask {
-        Ask::Reference(namespaces) | Ask::Child(namespaces) => {
-            push_symbol_implementations(namespaces, symbol, out)
-        }
-        Ask::Path(_, _) => Ok(()),
-    }
-}
-
 /// Pushes the ranges that a demand makes public as implementations of overloads.
 pub fn push_implementations(
     tables: &CheckedTables,
@@ -255,8 +211,13 @@ pub fn push_implementations(
 ) -> Result<(), AllocError>
     ensures { OnOk result (out.new.items ≡ out.old.items ++ implementations tables.now (demand_of demand.entry)) }
 {
-    match tables.symbol(demand.symbol) {
-        None => Ok(()),
-        Some(symbol) => push_asked_implementations(demand, symbol, out),
+    let Some(symbol) = tables.symbol(demand.symbol) else {
+        return Ok(());
+    };
+    match demand.ask {
+        Ask::Reference(namespaces) | Ask::Child(namespaces) => {
+            push_symbol_implementations(namespaces, symbol, out)
+        }
+        Ask::Path(_, _) => Ok(()),
     }
 }

@@ -1,9 +1,7 @@
 -- What a loop over the places of a list adds to another.
-use Rattle.std.proofs.Common.{◌≡◌, ◌∙◌, sym, ap, refl, ℕ, zero, suc, ◌+◌, ◌≤◌, List, [], ◌∷◌, ◌++◌, length, take, slice_get, append_assoc}
-use Rattle.std.proofs.Common.{arith}
+use Rattle.std.proofs.Common.{◌≡◌, ◌∙◌, sym, ap, refl, ℕ, zero, suc, ◌+◌, List, [], ◌∷◌, ◌++◌, take, slice_get, append_assoc, append-nil}
+use Rattle.std.proofs.Common.{add-one}
 use Rattle.std.specs.List.{flat_map}
-use Rattle.std.proofs.lemmas.List.{take_all}
-use Rattle.std.proofs.Common.{append-nil}
 use Rattle.fast_check_demands.specs.symbol_demands.Rules.{each_of}
 
 each_next : {X Y : Type 0} (f : X → List Y) (xs : List X) (i : ℕ) →
@@ -19,13 +17,4 @@ pub each_more : {X Y : Type 0} (f : X → List Y) (xs : List X) (i : ℕ) (start
     out ++ each_of f (slice_get xs i) ≡ start ++ flat_map f (take (i + 1) xs)
 each_more f xs i start out e = ap (λ ys. ys ++ each_of f (slice_get xs i)) e ∙
     (append_assoc start (flat_map f (take i xs)) (each_of f (slice_get xs i)) ∙
-    (ap (λ ys. start ++ ys) (each_next f xs i) ∙ ap (λ (k : ℕ). start ++ flat_map f (take k xs)) (next i)))
-  where
-    next : (i : ℕ) → suc i ≡ i + 1
-    next i = omega arith
-
--- after all places
-pub each_all : {X Y : Type 0} (f : X → List Y) (xs : List X) (i : ℕ) (start out : List Y) → length xs ≤ i →
-    out ≡ start ++ flat_map f (take i xs) →
-    out ≡ start ++ flat_map f xs
-each_all f xs i start out le e = e ∙ ap (λ ys. start ++ flat_map f ys) (take_all i xs le)
+    (ap (λ ys. start ++ ys) (each_next f xs i) ∙ ap (λ (k : ℕ). start ++ flat_map f (take k xs)) (sym (add-one i))))

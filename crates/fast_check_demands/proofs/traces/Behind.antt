@@ -1,5 +1,5 @@
 -- Names behind URLs, each of which is read once.
-use Rattle.std.proofs.Common.{◌≡◌, ◌∙◌, sym, refl, subst, ℕ, Bool, true, false, cond, is_some, List, Option, Some, None, option_map, bytes_eq}
+use Rattle.std.proofs.Common.{◌≡◌, ◌∙◌, sym, ap, refl, subst, ℕ, Bool, true, false, cond, is_some, List, Option, Some, None, option_map, bytes_eq}
 use Rattle.std.proofs.Common.{true≢false}
 use Rattle.std.specs.Borrow.{Bor}
 use Rattle.std.specs.BTreeMap.{BTreeMap}
@@ -13,7 +13,8 @@ use Rattle.url.specs.Parts.{Parts, serialize}
 use Rattle.fast_check_lattice.specs.Names.{Name}
 use Rattle.fast_check_modules.specs.symbols.declared.tables.ReExportAllNode.{ReExportAllNode}
 use Rattle.fast_check_modules.specs.symbols.Tables.{resolved_export}
-use Rattle.fast_check_graph.specs.Root.{module_named}
+use Rattle.fast_check_graph.specs.declared.root_symbol.AnyModuleInfo.{AnyModuleInfo}
+use Rattle.fast_check_graph.specs.Root.{module_named, found_module}
 use Rattle.fast_check_demands.specs.declared.traces.modules.TracedModule.{TracedModule}
 use Rattle.fast_check_demands.specs.declared.traces.origins.Origin.{Origin}
 use Rattle.fast_check_demands.specs.traces.Modules.{tables_in}
@@ -59,12 +60,18 @@ module _ (m : TracedModule) (x : ReExportAllNode) (url : Parts) where
     found = h;
   }
 
+  -- behind the module that was found there
+  abbrev behind_found : Option AnyModuleInfo → Name → Option Answered
+  behind_found found name =
+      option_map (λ answer. (x, answer)) (option_and_then (λ other. resolved_export (tables_in other) name) found)
+
   -- that is met now
   pub met_now : (was met : Met) (old new : Index) (key : List ℕ) → key ≡ serialize url →
       ((q : Bor (List ℕ)) → contains_by (λ k. slice_cmp nat_cmp q.now k.now) met
       ≡ cond (is_eq (slice_cmp nat_cmp key q.now)) true (contains_by (λ k. slice_cmp nat_cmp q.now k.now) was)) →
-      AreFound m was old → ((name : Name) → indexed name new ≡ option_or (indexed name old) (behind name)) → Puts m behind met old new
-  met_now was met old new key is updates h more = record {
+      AreFound m was old → (found : Option AnyModuleInfo) → found ≡ found_module m.root_symbol.now url →
+      ((name : Name) → indexed name new ≡ option_or (indexed name old) (behind_found found name)) → Puts m behind met old new
+  met_now was met old new key is updates h found there put = record {
     adds = more;
     found = λ other name r a.
         subst (λ (o : Option Answered). is_some o ≡ true) (sym (more name))
@@ -72,6 +79,9 @@ module _ (m : TracedModule) (x : ReExportAllNode) (url : Parts) where
         (sym (updates (record { ref_ptr = (0, 0); now = serialize other })) ∙ r));
   }
     where
+      more : (name : Name) → indexed name new ≡ option_or (indexed name old) (behind name)
+      more name = put name ∙ ap (λ o. option_or (indexed name old) (behind_found o name)) there
+
       by_url : (other : Parts) (name : Name) → is_some (module_answer m name other) ≡ true → (b : Bool) →
           is_eq (slice_cmp nat_cmp key (serialize other)) ≡ b → cond b true (is_met other was) ≡ true →
           is_some (option_or (indexed name old) (behind name)) ≡ true

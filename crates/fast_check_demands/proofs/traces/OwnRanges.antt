@@ -2,6 +2,7 @@
 use Rattle.std.proofs.Common.{◌≡◌, refl, subst, Bool, true, false, cond, is_some, List, [], ◌∷◌, map, Option, Some, None}
 use Rattle.std.specs.List.{Contains, find, flat_map}
 use Rattle.std.proofs.lemmas.List.Elements.{Contains-append_right}
+use Rattle.std.proofs.lemmas.Option.{none-some, same_Some}
 use Rattle.fast_check_syntax.specs.declared.source.SourceRange.{SourceRange}
 use Rattle.fast_check_lattice.specs.Names.{Name}
 use Rattle.fast_check_lattice.specs.Imports.{NameDemand, names_but_default, each_name, subset_at, whole_at}
@@ -16,17 +17,11 @@ use Rattle.fast_check_demands.specs.traces.Wants.{node_ranges, first_range, path
 
 -- what is found is there
 found_inside : {X : Type 0} (test : X → Bool) (xs : List X) (x : X) → find test xs ≡ Some x → Contains xs x
-found_inside test [] x e = absurd (no x e)
-  where
-    no : {X : Type 0} (x : X) → None ≡ Some x → ⊥
-    no x e = cc
+found_inside test [] x e = absurd (none-some x e)
 found_inside {X} test (y ∷ ys) x e = go (test y) (found_inside test ys x) e
   where
-    same : (a b : X) → Some a ≡ Some b → a ≡ b
-    same a b h = cc
-
     go : (b : Bool) → (find test ys ≡ Some x → Contains ys x) → cond b (Some y) (find test ys) ≡ Some x → Contains (y ∷ ys) x
-    go true below h = subst (λ (z : X). Contains (y ∷ ys) z) (same y x h) (first y y ys refl)
+    go true below h = subst (λ (z : X). Contains (y ∷ ys) z) (same_Some y x h) (first y y ys refl)
     go false below h = later y ys x (below h)
 
 module _ (m : TracedModule) where

@@ -1,6 +1,7 @@
 -- What is asked of a module, when names are added.
-use Rattle.std.proofs.Common.{◌≡◌, ◌∙◌, sym, ap, refl, subst, true, [], ◌∷◌, Option, Some, None, ◌⊎◌, inl, inr, ⊎_elim, ◌||◌}
+use Rattle.std.proofs.Common.{◌≡◌, ◌∙◌, sym, ap, refl, subst, true, [], ◌∷◌, Option, Some, ◌⊎◌, inl, inr, ⊎_elim, ◌||◌}
 use Rattle.std.proofs.lemmas.Bool.{cases_Bool, false≢true, or_cases, or_left, or_right}
+use Rattle.std.proofs.lemmas.Option.{none-some, same_Some}
 use Rattle.fast_check_lattice.specs.declared.lattice.named_subset.NamedSubset.{NamedSubset}
 use Rattle.fast_check_lattice.specs.declared.lattice.imported_exports.ImportedExports.{ImportedExports}
 use Rattle.fast_check_lattice.specs.declared.lattice.imported_exports.ImportedExports.TheVariants.{Star, StarWithDefault, Subset}
@@ -50,12 +51,6 @@ widened_wide old new d w = record {
   default = w.default;
 }
 
-none_some : {X : Type 0} (x : X) → None ≡ Some x → ⊥
-none_some x e = cc
-
-some_is : {X : Type 0} (x y : X) → Some x ≡ Some y → x ≡ y
-some_is x y e = cc
-
 not_star : (s : NamedSubset) → Star ≡ Subset s → ⊥
 not_star s e = false≢true (sym (ap (λ (x : ImportedExports). is_star x) e))
 
@@ -66,14 +61,14 @@ not_each s e = false≢true (sym (ap (λ (x : ImportedExports). is_star x) e))
 empty_new : (old new : ImportedExports) (answer : Option ImportedExports) (state : ImportedExports) (s : NamedSubset) →
     IsAdded old new answer state → answer ≡ Some (Subset s) → (asked new (subset_at []) ≡ true) ⊎ IsWide old new (subset_at [])
 empty_new old (Subset t) answer state s a e = inl refl
-empty_new StarWithDefault Star answer state s a e = absurd (none_some (Subset s) (sym a.answer_is ∙ e))
-empty_new StarWithDefault StarWithDefault answer state s a e = absurd (none_some (Subset s) (sym a.answer_is ∙ e))
-empty_new Star Star answer state s a e = absurd (none_some (Subset s) (sym (a.answer_is.1 refl) ∙ e))
+empty_new StarWithDefault Star answer state s a e = absurd (none-some (Subset s) (sym a.answer_is ∙ e))
+empty_new StarWithDefault StarWithDefault answer state s a e = absurd (none-some (Subset s) (sym a.answer_is ∙ e))
+empty_new Star Star answer state s a e = absurd (none-some (Subset s) (sym (a.answer_is.1 refl) ∙ e))
 empty_new Star StarWithDefault answer state s a e = inr (record { widens_to = inl refl; star = refl; default = refl })
-empty_new (Subset o) StarWithDefault answer state s a e = absurd (not_each s (some_is StarWithDefault (Subset s) (sym a.answer_is ∙ e)))
+empty_new (Subset o) StarWithDefault answer state s a e = absurd (not_each s (same_Some StarWithDefault (Subset s) (sym a.answer_is ∙ e)))
 empty_new (Subset o) Star answer state s a e =
-    ⊎_elim (λ t. absurd (not_each s (some_is StarWithDefault (Subset s) (sym (a.answer_is.0 t) ∙ e))))
-    (λ f. absurd (not_star s (some_is Star (Subset s) (sym (a.answer_is.1 f) ∙ e))))
+    ⊎_elim (λ t. absurd (not_each s (same_Some StarWithDefault (Subset s) (sym (a.answer_is.0 t) ∙ e))))
+    (λ f. absurd (not_star s (same_Some Star (Subset s) (sym (a.answer_is.1 f) ∙ e))))
     (cases_Bool (has_subset (paths o) (default_name ∷ [])))
 
 module _ (old new : ImportedExports) (answer : Option ImportedExports) (state : ImportedExports) (a : IsAdded old new answer state) where

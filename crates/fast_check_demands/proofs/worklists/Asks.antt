@@ -3,6 +3,7 @@ use Rattle.std.proofs.Common.{◌≡◌, ◌∙◌, sym, ap, refl, Bool, true, f
 use Rattle.std.specs.List.{list_any}
 use Rattle.std.specs.BTreeSet.{BTreeSet, contains, Updates}
 use Rattle.std.specs.Cmp.{eq_by_cmp_equiv}
+use Rattle.std.proofs.lemmas.List.{map_push}
 use Rattle.std.proofs.lemmas.List.Folds.{list_any-append}
 use Rattle.fast_check_packages.specs.declared.package.PackageNv.{PackageNv}
 use Rattle.fast_check_packages.specs.Package.{Nv, nv_of}
@@ -12,16 +13,12 @@ use Rattle.fast_check_demands.specs.worklists.Demands.{same_nv}
 use Rattle.fast_check_demands.specs.worklists.Places.{HasPackages}
 use Rattle.fast_check_demands.specs.worklists.State.{AddsPackage}
 
-pub map_last : {X Y : Type 0} (g : X → Y) (xs : List X) (x : X) → map g (xs ++ x ∷ []) ≡ map g xs ++ g x ∷ []
-map_last g [] x = refl
-map_last {X} {Y} g (y ∷ ys) x = ap (λ (zs : List Y). g y ∷ zs) (map_last g ys x)
-
 -- a new package goes last
 pub adds_new : (nv copy : PackageNv) (xs new : List PackageNv) → nv_of copy ≡ nv_of nv → list_any (same_nv (nv_of nv)) (map nv_of xs) ≡ false →
     new ≡ xs ++ copy ∷ [] → AddsPackage (nv_of nv) (map nv_of xs) (map nv_of new)
 adds_new nv copy xs new same absent is =
     ap (map nv_of) is
-    ∙ (map_last nv_of xs copy
+    ∙ (map_push nv_of xs copy
     ∙ (ap (λ (p : Nv). map nv_of xs ++ p ∷ []) same
     ∙ sym (ap (λ (b : Bool). cond b (map nv_of xs) (map nv_of xs ++ nv_of nv ∷ [])) absent)))
 
@@ -43,5 +40,5 @@ package_more nv copy key xs old new same alike u h = record {
       ∙ (ap (λ (l : Bool). cond (same_nv p (nv_of copy)) true l) (h.says asked)
       ∙ (either_way (same_nv p (nv_of copy)) (list_any (same_nv p) (map nv_of xs))
       ∙ (sym (list_any-append (same_nv p) (map nv_of xs) (nv_of copy ∷ []))
-      ∙ ap (list_any (same_nv p)) (sym (map_last nv_of xs copy))))));
+      ∙ ap (list_any (same_nv p)) (sym (map_push nv_of xs copy))))));
 }

@@ -1,6 +1,7 @@
 -- What is asked of a module by a path that is touched.
-use Rattle.std.proofs.Common.{◌≡◌, ◌∙◌, sym, ap, refl, Bool, true, false, ◌&&◌, ◌||◌, [], ◌∷◌}
+use Rattle.std.proofs.Common.{◌≡◌, ◌∙◌, sym, ap, refl, Bool, ◌&&◌, ◌||◌, [], ◌∷◌}
 use Rattle.std.proofs.Math.Path.{fun_ext}
+use Rattle.std.proofs.lemmas.Bool.{and_right}
 use Rattle.std.specs.Str.{bytes_eq}
 use Rattle.fast_check_lattice.specs.declared.lattice.named_subset.NamedSubset.{NamedSubset}
 use Rattle.fast_check_lattice.specs.declared.lattice.named_subset.Exports.TheVariants.{Subset as SubsetBelow}
@@ -13,14 +14,6 @@ use Rattle.fast_check_lattice.proofs.Sets.{same_subset, same_whole}
 use Rattle.fast_check_demands.specs.worklists.Demands.{touched_path, set_demands, asked, asked_by}
 use Rattle.fast_check_demands.specs.worklists.Exports.{touched_below}
 
-and_true : (b : Bool) → b ≡ b && true
-and_true true = refl
-and_true false = refl
-
-and_none : (b c : Bool) → c ≡ false → b && c ≡ false
-and_none true c e = e
-and_none false c e = refl
-
 -- a name before what is below it
 below_named : (n : Name) (p : Path) (s : NamedSubset) (f : NameSet) → IsSame f (touched_below p) → IsSame (paths s) (named n f) →
     IsSame (paths_below (SubsetBelow s)) (touched_below (n ∷ p))
@@ -30,7 +23,7 @@ below_named n p s f same is part q = below_subset_is s part q ∙ go part q
     go Touched [] = refl
     go Covered [] = refl
     go Touched (m ∷ q) = is Touched (m ∷ q) ∙ ap (λ (b : Bool). bytes_eq n m && b) (same Touched q)
-    go Covered (m ∷ q) = is Covered (m ∷ q) ∙ and_none (bytes_eq n m) (f Covered q) (same Covered q)
+    go Covered (m ∷ q) = is Covered (m ∷ q) ∙ and_right (bytes_eq n m) (f Covered q) (same Covered q)
 
 -- the same of a path that has such a name first
 pub below_first : (p : Path) (n : Name) (r : Path) → p ≡ n ∷ r → (s : NamedSubset) (f : NameSet) → IsSame f (touched_below r) →
@@ -51,7 +44,7 @@ touched_asked n p s f same is = fun_ext (asked_same s (touched_path (n ∷ p)) g
     go : IsSame (paths s) (touched_path (n ∷ p))
     go part [] = is part []
     go Touched (m ∷ q) = is Touched (m ∷ q) ∙ ap (λ (b : Bool). bytes_eq n m && b) (same Touched q)
-    go Covered (m ∷ q) = is Covered (m ∷ q) ∙ and_none (bytes_eq n m) (f Covered q) (same Covered q)
+    go Covered (m ∷ q) = is Covered (m ∷ q) ∙ and_right (bytes_eq n m) (f Covered q) (same Covered q)
 
 -- a set to which one whole path was brought, where nothing was
 pub whole_asked : (n : Name) (p : Path) (s : NamedSubset) (old : NameSet) → IsSame old nothing → IsJoin old (whole n p) (paths s) →

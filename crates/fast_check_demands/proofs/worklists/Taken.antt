@@ -3,6 +3,7 @@ use Rattle.std.proofs.Common.{◌≡◌, ◌∙◌, sym, ap, refl, subst, true, 
 use Rattle.std.specs.Map.{lookup, set_value}
 use Rattle.std.specs.Str.{bytes_eq}
 use Rattle.std.proofs.lemmas.Bool.{cases_Bool, false≢true, or_right, or_cases}
+use Rattle.std.proofs.lemmas.Option.{none-some, same_Some}
 use Rattle.std.proofs.lemmas.Slice.Eq.{bytes_eq-Decides}
 use Rattle.url.specs.Parts.{Parts, serialize}
 use Rattle.fast_check_lattice.specs.declared.lattice.imported_exports.ImportedExports.{ImportedExports}
@@ -12,7 +13,7 @@ use Rattle.fast_check_lattice.specs.Imports.{imported, answered, NameDemand, IsC
 use Rattle.fast_check_lattice.specs.Traces.{is_module, Handles, HandlesAt}
 use Rattle.fast_check_demands.specs.worklists.Demands.{Text, asked}
 use Rattle.fast_check_demands.proofs.worklists.Asking.{IsWide, asked_new, asked_either, copy_asked}
-use Rattle.fast_check_demands.proofs.worklists.Maps.{look_same, look_other, look_last, look_before, some_is}
+use Rattle.fast_check_demands.proofs.worklists.Maps.{look_same, look_other, look_last, look_before}
 
 abbrev pub text_of : List (Parts × ImportedExports) → Text → Option ImportedExports
 text_of es t = lookup (λ k. bytes_eq t (serialize k)) es
@@ -48,9 +49,6 @@ copy_same (Subset s) Star c = absurd c
 copy_same (Subset s) StarWithDefault c = absurd c
 copy_same (Subset s) (Subset t) c = c
 
-none_some : {X : Type 0} (x : X) → None ≡ Some x → ⊥
-none_some x e = cc
-
 pub bytes_same : (t : Text) → bytes_eq t t ≡ true
 bytes_same t = (bytes_eq-Decides t t).1 refl
 
@@ -68,7 +66,7 @@ apart_self : (url : Parts) (q : Text) → bytes_eq (serialize url) q ≡ false �
 apart_self url q f = apart url q f url (bytes_same (serialize url))
 
 no_new : (x y : ImportedExports) (answer : Option ImportedExports) → answer ≡ Some x → answer ≡ Some y → x ≡ y
-no_new x y answer a b = some_is x y (sym a ∙ b)
+no_new x y answer a b = same_Some x y (sym a ∙ b)
 
 module _ (old new : List (Parts × ImportedExports)) (url : Parts) (x : ImportedExports) (answer : Option ImportedExports) where
   taken_new : lookup (is_module url) old ≡ None → answer ≡ Some x → (copy : ImportedExports) → IsCopy x copy → new ≡ old ++ (url, copy) ∷
@@ -80,15 +78,15 @@ module _ (old new : List (Parts × ImportedExports)) (url : Parts) (x : Imported
     others = λ q f. ap (lookup (λ k. bytes_eq q (serialize k))) is ∙
         look_before (λ k. bytes_eq q (serialize k)) old url copy (apart_self url q f);
     above_new = λ part p t. copy_same x copy same part p ∙ t;
-    above_old = λ h e. absurd (none_some h (sym none ∙ e));
+    above_old = λ h e. absurd (none-some h (sym none ∙ e));
     covered = λ part p t. inr (x, a, sym (copy_same x copy same part p) ∙ t);
     answer_below = λ y e part p t. copy_same x copy same part p ∙
         subst (λ (z : ImportedExports). imported z part p ≡ true) (no_new y x answer e a) t;
     of_new = λ y e d t. inl (subst (λ (z : ImportedExports). asked z d ≡ true) (no_new y x answer e a) t);
     of_either = λ d t. inl (sym (copy_asked x copy same d) ∙ t);
-    progress = λ y e h f. absurd (none_some h (sym none ∙ f));
-    none_old = λ e. absurd (none_some x (sym e ∙ a));
-    all_none = λ e. absurd (none_some StarWithDefault (sym none ∙ e));
+    progress = λ y e h f. absurd (none-some h (sym none ∙ f));
+    none_old = λ e. absurd (none-some x (sym e ∙ a));
+    all_none = λ e. absurd (none-some StarWithDefault (sym none ∙ e));
   }
 
   taken_held : (held state : ImportedExports) → lookup (is_module url) old ≡ Some held → IsAdded held x answer state → new ≡ set_value
@@ -114,7 +112,7 @@ module _ (old new : List (Parts × ImportedExports)) (url : Parts) (x : Imported
   }
     where
       held_is : (h : ImportedExports) → lookup (is_module url) old ≡ Some h → held ≡ h
-      held_is h e = some_is held h (sym found ∙ e)
+      held_is h e = same_Some held h (sym found ∙ e)
 
       by_answer : (o : Option ImportedExports) (part : Part) (p : Path) → answered o part p ≡ true → (y : ImportedExports) × (o ≡ Some y) ×
           (imported y part p ≡ true)

@@ -7,34 +7,22 @@ ghost use Rattle.fast_check_packages.specs.MembersIn.{members_in};
 ghost use Rattle.fast_check_demands.specs.sources.Sources.{owner_by};
 
 use crate::sources::sources::Sources;
+use crate::worklists::copy_of;
 use fast_check_packages::{IndexedMembers, JsrUrlProvider, PackageNv};
 use std::alloc::AllocError;
 use url::Url;
-
-fn copy_of(nv: &PackageNv) -> Result<PackageNv, AllocError>
-    ensures { IfOk result (λ copy. nv_of copy ≡ nv_of nv.now) }
-{
-    nv.clone()
-}
-
-/// The package of the member at a place.
-fn member_at(members: &IndexedMembers<'_>, place: usize) -> Result<Option<PackageNv>, AllocError>
-    ensures { IfOk result (λ owner. option_map nv_of owner ≡ option_map member_nv (slice_get (members_in members.now) place)) }
-{
-    match members.package_at(place) {
-        None => Ok(None),
-        Some(nv) => Ok(Some(copy_of(nv)?)),
-    }
-}
 
 /// The package of the first member whose base begins the text.
 fn member_owner(members: &IndexedMembers<'_>, text: &str) -> Result<Option<PackageNv>, AllocError>
     ensures { IfOk result (λ owner. option_map nv_of owner ≡ option_map member_nv (member_of (members_in members.now) text.now)) }
 {
-    match members.place_around(text) {
-        None => Ok(None),
-        Some(place) => member_at(members, place),
-    }
+    let Some(place) = members.place_around(text) else {
+        return Ok(None);
+    };
+    let Some(nv) = members.package_at(place) else {
+        return Ok(None);
+    };
+    Ok(Some(copy_of(nv)?))
 }
 
 /// The package that a URL belongs to: that of a member of the workspace for a file, and else what the provider says.

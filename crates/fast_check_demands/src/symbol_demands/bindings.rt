@@ -1,7 +1,7 @@
 //! Demands by the names that a module binds.
 ghost use Rattle.std.specs.Prelude.{◌≡◌, [], ◌∷◌, ◌++◌, OnOk};
 ghost use Rattle.fast_check_lattice.specs.Names.{path_of};
-ghost use Rattle.fast_check_demands.specs.symbol_demands.Rules.{bound, each_of, reference, child, namespaces_of, qualified, named};
+ghost use Rattle.fast_check_demands.specs.symbol_demands.Rules.{bound, reference, child, namespaces_of, qualified, named};
 
 use crate::symbol_demands::demand::{Ask, Extent, Namespaces, SymbolDemand};
 use crate::symbol_demands::list::Demands;
@@ -85,23 +85,8 @@ pub fn push_named<'a>(
 ) -> Result<(), AllocError>
     ensures { OnOk result (out.new ≡ out.old ++ named symbol (path_of parts.now) referrer ∷ []) }
 {
-    match parts.split_first() {
-        None => push_path(symbol, parts, Extent::Touched, referrer, out),
-        Some(_) => push_path(symbol, parts, Extent::Whole, referrer, out),
+    if parts.is_empty() {
+        return push_path(symbol, parts, Extent::Touched, referrer, out);
     }
-}
-
-/// Demands what a qualified name leads to, if there is a symbol.
-pub fn push_named_at<'a>(
-    symbol: Option<SymbolId>,
-    parts: &'a [String],
-    referrer: SymbolId,
-    out: &mut Demands<'a>,
-) -> Result<(), AllocError>
-    ensures { OnOk result (out.new ≡ out.old ++ each_of (λ x. named x (path_of parts.now) referrer ∷ []) symbol) }
-{
-    match symbol {
-        None => Ok(()),
-        Some(symbol) => push_named(symbol, parts, referrer, out),
-    }
+    push_path(symbol, parts, Extent::Whole, referrer, out)
 }

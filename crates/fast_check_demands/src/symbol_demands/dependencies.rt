@@ -1,29 +1,15 @@
 //! Demands of what the public face of a declaration depends on.
-ghost use Rattle.std.specs.Prelude.{◌≡◌, ◌∷◌, [], ◌++◌, OnOk};
+ghost use Rattle.std.specs.Prelude.{◌≡◌, ◌++◌, OnOk};
 ghost use Rattle.fast_check_demands.specs.symbol_demands.Demands.{demand_of, same_symbol};
-ghost use Rattle.fast_check_demands.specs.symbol_demands.Rules.{each_of, reference, namespaces_of, parent_at, parent_names, dep_names, deps_names, kind_names};
+ghost use Rattle.fast_check_demands.specs.symbol_demands.Rules.{parent_at, parent_names, dep_names, deps_names, kind_names};
 
-use crate::symbol_demands::bindings::{bound, namespaces_of, push_named_at, push_reference};
+use crate::symbol_demands::bindings::{bound, namespaces_of, push_named, push_reference};
 use crate::symbol_demands::demand::{Namespaces, SymbolDemand};
 use crate::symbol_demands::list::Demands;
 use fast_check_symbols::{
     CheckedTables, SymbolDeclKind, SymbolDep, SymbolId, SymbolNode, SymbolNodeDep,
 };
 use std::alloc::AllocError;
-
-fn push_reference_at(
-    symbol: Option<SymbolId>,
-    namespaces: Namespaces,
-    referrer: SymbolId,
-    out: &mut Demands<'_>,
-) -> Result<(), AllocError>
-    ensures { OnOk result (out.new ≡ out.old ++ each_of (λ x. reference x namespaces referrer ∷ []) symbol) }
-{
-    match symbol {
-        None => Ok(()),
-        Some(symbol) => push_reference(symbol, namespaces, referrer, out),
-    }
-}
 
 fn push_dep<'a>(
     tables: &CheckedTables,
@@ -35,11 +21,16 @@ fn push_dep<'a>(
 {
     match &dep.dep {
         SymbolDep::Id(id) => {
-            let namespaces = namespaces_of(dep.namespace);
-            push_reference_at(bound(tables, id), namespaces, referrer, out)
+            let Some(symbol) = bound(tables, id) else {
+                return Ok(());
+            };
+            push_reference(symbol, namespaces_of(dep.namespace), referrer, out)
         }
         SymbolDep::QualifiedId(id, parts) => {
-            push_named_at(bound(tables, id), parts.as_slice(), referrer, out)
+            let Some(symbol) = bound(tables, id) else {
+                return Ok(());
+            };
+            push_named(symbol, parts.as_slice(), referrer, out)
         }
         SymbolDep::ImportType(_, _) => Ok(()),
     }
@@ -126,10 +117,16 @@ pub fn push_kind<'a>(
 {
     match kind {
         SymbolDeclKind::Target(id) => {
-            push_reference_at(bound(tables, id), namespaces, demand.symbol, out)
+            let Some(symbol) = bound(tables, id) else {
+                return Ok(());
+            };
+            push_reference(symbol, namespaces, demand.symbol, out)
         }
         SymbolDeclKind::QualifiedTarget(id, parts) => {
-            push_named_at(bound(tables, id), parts.as_slice(), demand.symbol, out)
+            let Some(symbol) = bound(tables, id) else {
+                return Ok(());
+            };
+            push_named(symbol, parts.as_slice(), demand.symbol, out)
         }
         SymbolDeclKind::FileRef { .. } | SymbolDeclKind::Definition(None) => Ok(()),
         SymbolDeclKind::Definition(Some(node)) => push_node(tables, demand, parent, node, out),

@@ -59,23 +59,7 @@ fn put_names<'a>(
     Ok(())
 }
 
-/// The same of the module at a URL.
-fn put_module<'a>(
-    traced: TracedModule<'a>,
-    node: &'a ReExportAllNode,
-    url: &Url,
-    names: &mut BTreeMap<&'a str, Origin<'a>>,
-) -> Result<(), AllocError>
-    ensures { OnOk result ((asked : Name) → indexed asked names.new
-        ≡ option_or (indexed asked names.old) (option_map (λ url. (node.now, url)) (module_answer traced.entry asked url.now))) }
-{
-    match traced.root_symbol.module_from_specifier(url) {
-        None => Ok(()),
-        Some(info) => put_names(node, tables_of(info), names),
-    }
-}
-
-/// The same, unless the URL was met, of whose module each name was put.
+/// The same of the module at a URL, unless the URL was met, of whose module each name was put.
 fn put_url<'a>(
     traced: TracedModule<'a>,
     node: &'a ReExportAllNode,
@@ -92,7 +76,10 @@ fn put_url<'a>(
         return Ok(());
     }
     met.insert(text)?;
-    put_module(traced, node, url, names)
+    match traced.root_symbol.module_from_specifier(url) {
+        None => Ok(()),
+        Some(info) => put_names(node, tables_of(info), names),
+    }
 }
 
 /// Puts where the names behind a re-export of all come from.

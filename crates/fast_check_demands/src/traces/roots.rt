@@ -1,17 +1,16 @@
 //! The symbols that the names of a module ask for.
 ghost use Rattle.std.specs.Prelude.{◌≡◌, ◌∷◌, [], ◌++◌, option_map, OnOk, IfOk};
 ghost use Rattle.std.specs.Option.{option_copied};
-ghost use Rattle.std.specs.List.{flat_map};
 ghost use Rattle.fast_check_lattice.specs.Names.{path_of};
 ghost use Rattle.fast_check_symbols.specs.Exports.{seen_export};
-ghost use Rattle.fast_check_demands.specs.name_demands.Files.{names_of, path_demand};
+ghost use Rattle.fast_check_demands.specs.name_demands.Files.{names_of};
 ghost use Rattle.fast_check_demands.specs.symbol_demands.Rules.{each_of};
 ghost use Rattle.fast_check_demands.specs.traces.Roots.{is_exported_in, namespaces_with, exported_in, export_whole, star_export, star_roots, path_roots, roots};
 
 use crate::name_demands::NameDemand;
 use crate::traces::modules::own_export;
 use crate::{Ask, CheckedTables, Demands, Extent, Namespaces, SymbolDemand};
-use fast_check_symbols::{Symbol, SymbolExports, SymbolId};
+use fast_check_symbols::{Symbol, SymbolId};
 use std::alloc::{AllocError, Global};
 
 /// The namespaces in which a symbol is exported, and both where no declaration has the keyword `export`.
@@ -64,20 +63,6 @@ fn push_star_export(
     }
 }
 
-fn push_star_exports(
-    tables: &CheckedTables,
-    with_default: bool,
-    exports: &SymbolExports,
-    out: &mut Demands<'_>,
-) -> Result<(), AllocError>
-    ensures { OnOk result (out.new ≡ out.old ++ flat_map (star_export tables.now with_default) exports.now) }
-{
-    for place in 0..exports.len() {
-        push_star_export(tables, with_default, exports.at(place), out)?;
-    }
-    Ok(())
-}
-
 fn push_star(
     tables: &CheckedTables,
     with_default: bool,
@@ -85,10 +70,13 @@ fn push_star(
 ) -> Result<(), AllocError>
     ensures { OnOk result (out.new ≡ out.old ++ star_roots tables.now with_default) }
 {
-    match tables.symbol(tables.module_symbol()) {
-        None => Ok(()),
-        Some(symbol) => push_star_exports(tables, with_default, &symbol.exports, out),
+    let Some(symbol) = tables.symbol(tables.module_symbol()) else {
+        return Ok(());
+    };
+    for place in 0..symbol.exports.len() {
+        push_star_export(tables, with_default, symbol.exports.at(place), out)?;
     }
+    Ok(())
 }
 
 fn push_path<'a>(
@@ -110,37 +98,6 @@ fn push_path<'a>(
     }
 }
 
-fn push_path_at<'a>(
-    tables: &CheckedTables,
-    export: Option<SymbolId>,
-    rest: &'a [String],
-    extent: Extent,
-    out: &mut Demands<'a>,
-) -> Result<(), AllocError>
-    ensures { OnOk result (out.new ≡ out.old ++ each_of (λ x. path_roots tables.now x (path_of rest.now) extent) export) }
-{
-    match export {
-        None => Ok(()),
-        Some(export) => push_path(tables, export, rest, extent, out),
-    }
-}
-
-fn push_named<'a>(
-    tables: &CheckedTables,
-    first: &str,
-    rest: &'a [String],
-    extent: Extent,
-    out: &mut Demands<'a>,
-) -> Result<(), AllocError>
-    ensures { OnOk result (out.new ≡ out.old ++ roots tables.now (path_demand (first.now ∷ path_of rest.now) extent)) }
-{
-    let export = own_export(tables, first);
-    match extent {
-        Extent::Touched => push_path_at(tables, export, rest, Extent::Touched, out),
-        Extent::Whole => push_path_at(tables, export, rest, Extent::Whole, out),
-    }
-}
-
 fn push_roots<'a>(
     tables: &CheckedTables,
     demand: NameDemand<'a>,
@@ -152,7 +109,12 @@ fn push_roots<'a>(
         NameDemand::AllButDefault => push_star(tables, false, out),
         NameDemand::All => push_star(tables, true, out),
         NameDemand::There => Ok(()),
-        NameDemand::Path(first, rest, extent) => push_named(tables, first, rest, extent, out),
+        NameDemand::Path(first, rest, extent) => {
+            let Some(export) = own_export(tables, first) else {
+                return Ok(());
+            };
+            push_path(tables, export, rest, extent, out)
+        }
     }
 }
 

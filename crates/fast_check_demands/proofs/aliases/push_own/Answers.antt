@@ -1,6 +1,4 @@
-use Rattle.std.proofs.Common.{◌∙◌, ap, ◌++◌}
-use Rattle.std.specs.List.{flat_map}
-use Rattle.std.proofs.lemmas.List.{take_all}
+use Rattle.fast_check_symbols.proofs.Pushed.{each_all}
 use Rattle.fast_check_demands.specs.symbol_demands.Passed.{own_parts}
 use Rattle.fast_check_demands.proofs.Aliased.{at, adds_aliases, own_below, own_of}
 use Rattle.fast_check_demands.proofs.aliases.push_own.Goals as goal
@@ -13,5 +11,4 @@ returns c =
     let places = c.alias_places-place-items.result.now in
     let given = own_parts t r in
     adds_aliases given (own_below t r) (own_of t r) decls places c.alias_places-place-items.ensures c.args.out.now c.loop-place.out
-    (c.loop-place.invariant ∙ ap (λ ps. c.args.out.now ++ flat_map (at given decls) ps)
-    (take_all c.loop-place.place-index places c.loop-place-test.false))
+    (each_all (at given decls) places c.loop-place.place-index c.args.out.now c.loop-place-test.false c.loop-place.invariant)

@@ -1,13 +1,16 @@
-use Rattle.std.proofs.Common.{◌∙◌, sym, None, Some}
-use Rattle.std.proofs.lemmas.Result.{IfOk-weaker}
+use Rattle.std.proofs.Common.{◌∙◌, ap, None, Some}
+use Rattle.fast_check_packages.specs.Package.{nv_of}
 use Rattle.fast_check_packages.specs.MembersIn.{members_in}
 use Rattle.fast_check_demands.proofs.sources.Placed.{member_placed}
 use Rattle.fast_check_demands.proofs.sources.owner.member_owner.Goals as goal
 
-pub returns-in-None : goal.returns-in-None
-returns-in-None c = member_placed (members_in c.args.members.now) c.args.text.now None (sym c.in-None.is ∙ c.place_around.ensures)
+pub returns-in_default : goal.returns-in_default
+returns-in_default c = member_placed (members_in c.args.members.now) c.args.text.now None c.in_default.ensures
 
-pub returns-in-Some : goal.returns-in-Some
-returns-in-Some c = IfOk-weaker c.member_at.result _ _
-    (λ owner e. e ∙ member_placed (members_in c.args.members.now) c.args.text.now (Some c.in-Some.place) (sym c.in-Some.is ∙ c.place_around.ensures))
-    c.member_at.ensures
+pub returns-in_default-package_at : goal.returns-in_default-package_at
+returns-in_default-package_at c = c.in_default-package_at.ensures ∙
+    member_placed (members_in c.args.members.now) c.args.text.now (Some c.in-Some.place) c.in-Some.ensures
+
+pub returns : goal.returns
+returns c = ap Some (c.in_ok-copy_of.ensures ∙ ap nv_of c.deref.ensures) ∙
+    (c.in-Some-package_at.ensures ∙ member_placed (members_in c.args.members.now) c.args.text.now (Some c.in-Some.place) c.in-Some.ensures)

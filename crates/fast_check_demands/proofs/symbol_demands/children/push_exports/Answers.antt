@@ -1,8 +1,9 @@
 use Rattle.std.proofs.Common.{◌∙◌, ap, [], ◌∷◌, ◌++◌, List, arith}
 use Rattle.std.proofs.lemmas.List.Concat.{flat_map_single}
+use Rattle.fast_check_symbols.proofs.Pushed.{each_all}
 use Rattle.fast_check_demands.specs.symbol_demands.Demands.{Demand}
 use Rattle.fast_check_demands.specs.symbol_demands.Rules.{child}
-use Rattle.fast_check_demands.proofs.symbol_demands.EachAt.{each_more, each_all}
+use Rattle.fast_check_demands.proofs.symbol_demands.EachAt.{each_more}
 use Rattle.fast_check_demands.proofs.symbol_demands.children.push_exports.Goals as goal
 
 pub loop-place-preserved : goal.loop-place-preserved
@@ -15,6 +16,6 @@ loop-place-preserved c = record {
 }
 
 pub returns : goal.returns
-returns c = each_all (λ e. child e.1 c.args.demand.symbol ∷ []) c.args.exports.now c.loop-place.place c.args.out.now c.loop-place.out
+returns c = each_all (λ e. child e.1 c.args.demand.symbol ∷ []) c.args.exports.now c.loop-place.place c.args.out.now
     (omega (arith, c.loop-place-test.false, c.loop-place.invariant.end)) c.loop-place.invariant.items ∙
     ap (λ (ds : List Demand). c.args.out.now ++ ds) (flat_map_single (λ e. child e.1 c.args.demand.symbol) c.args.exports.now)
