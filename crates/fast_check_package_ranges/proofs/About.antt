@@ -14,7 +14,7 @@ use Rattle.fast_check_package_ranges.specs.findings.Found.{dependency_yields, un
 use Rattle.fast_check_package_ranges.specs.findings.Yields.{ModuleFault, Yield, entry_point, dependency, public}
 use Rattle.fast_check_package_ranges.specs.findings.Yields.{implementing}
 use Rattle.fast_check_package_ranges.specs.declared.findings.found.Entrance.{Entrance}
-use Rattle.fast_check_package_ranges.specs.declared.findings.found.Entrance.TheVariants.{Entered, Kept}
+use Rattle.fast_check_package_ranges.specs.declared.findings.found.Entrance.TheVariants.{Entered, Cached}
 use Rattle.fast_check_package_ranges.specs.declared.findings.found.FoundModule.{FoundModule}
 use Rattle.fast_check_package_ranges.specs.declared.findings.found.FoundPackage.{FoundPackage}
 use Rattle.fast_check_package_ranges.proofs.findings.Bools.{or_none}
@@ -64,7 +64,7 @@ module _ (packages : List Nv) (nv : Nv) where
         (all_map Own (λ url. entry_point nv (serialize url)) (λ x. refl) entry_points.value.keys)
         (all_flat Own (entry_fault_yields nv) (λ f. (refl, (refl, tt))) faults.items),
   )
-  own_entrance (Some (Kept entry_points item)) = (refl, tt)
+  own_entrance (Some (Cached entry_points item)) = (refl, tt)
 
   own_module : (m : FoundModule) → AllByRecursion Own (module_yields nv m)
   own_module m = (

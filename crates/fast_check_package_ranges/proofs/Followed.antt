@@ -16,7 +16,7 @@ use Rattle.fast_check_package_ranges.specs.findings.Yields.{ModuleFault, Yield, 
 use Rattle.fast_check_package_ranges.specs.findings.Yields.{implementing, faulty, of_demand}
 use Rattle.fast_check_package_ranges.specs.declared.findings.found.EntryFault.{EntryFault}
 use Rattle.fast_check_package_ranges.specs.declared.findings.found.Entrance.{Entrance}
-use Rattle.fast_check_package_ranges.specs.declared.findings.found.Entrance.TheVariants.{Entered, Kept}
+use Rattle.fast_check_package_ranges.specs.declared.findings.found.Entrance.TheVariants.{Entered, Cached}
 use Rattle.fast_check_package_ranges.specs.declared.findings.found.FoundModule.{FoundModule}
 use Rattle.fast_check_package_ranges.specs.declared.findings.found.FoundPackage.{FoundPackage}
 use Rattle.fast_check_package_ranges.specs.Answers.{entry_points_of, dependencies_of, refused_of, is_filled, items_of, modules_of}
@@ -90,7 +90,7 @@ module _ (packages : List Nv) (nv : Nv) (p : FoundPackage) where
       (all_flat (λ y. entry_points_of y ≡ []) (entry_fault_yields nv) (λ x. (refl, (refl, tt))) faults.items))
       ∙ (append-nil _ ∙ (flat_map-map entry_points_of (λ url. entry_point nv (serialize url)) entry_points.value.keys
       ∙ flat_map_single serialize entry_points.value.keys)))
-  points (Some (Kept entry_points item)) = append-nil (map serialize entry_points.value.keys)
+  points (Some (Cached entry_points item)) = append-nil (map serialize entry_points.value.keys)
 
   pub all_points : flat_map entry_points_of (package_yields packages nv p) ≡ map serialize (urls_at p.entrance)
   all_points =
@@ -119,7 +119,7 @@ module _ (packages : List Nv) (nv : Nv) (p : FoundPackage) where
   refusals : (e : Option Entrance) → flat_map refused_of (entrance_yields nv e) ≡ []
   refusals None = refl
   refusals (Some (Entered entry_points faults)) = of_entered refused_of silent_refused packages nv (λ t. refl) entry_points.value.keys faults.items
-  refusals (Some (Kept entry_points item)) = refl
+  refusals (Some (Cached entry_points item)) = refl
 
   pub no_refusals : flat_map refused_of (package_yields packages nv p) ≡ []
   no_refusals = of_package refused_of silent_refused packages nv p
@@ -139,7 +139,7 @@ module _ (packages : List Nv) (nv : Nv) (p : FoundPackage) where
   items : (e : Option Entrance) → flat_map items_of (entrance_yields nv e) ≡ cond (is_filled (item_at e).1) ((urls_at e, item_at e) ∷ []) []
   items None = refl
   items (Some (Entered entry_points faults)) = of_entered items_of silent_items packages nv (λ t. refl) entry_points.value.keys faults.items
-  items (Some (Kept entry_points item)) = append-nil _
+  items (Some (Cached entry_points item)) = append-nil _
 
   pub all_items : flat_map items_of (package_yields packages nv p) ≡
       cond (is_filled (item_at p.entrance).1) ((urls_at p.entrance, item_at p.entrance) ∷ []) []
@@ -162,7 +162,7 @@ module _ (packages : List Nv) (nv : Nv) (p : FoundPackage) where
   depends None = refl
   depends (Some (Entered entry_points faults)) =
       of_entered dependencies_of silent_dependencies packages nv (λ t. refl) entry_points.value.keys faults.items
-  depends (Some (Kept entry_points item)) = append-nil _
+  depends (Some (Cached entry_points item)) = append-nil _
 
   named : (places : List ℕ) → flat_map dependencies_of (flat_map (dependency_yields packages nv) places) ≡ named_at packages places
   named [] = refl

@@ -10,7 +10,7 @@ use Rattle.fast_check_packages.specs.Package.{Nv}
 use Rattle.fast_check_package_ranges.specs.findings.Found.{module_yields, entrance_yields, dependency_yields, untyped_yields, package_yields}
 use Rattle.fast_check_package_ranges.specs.findings.Yields.{dependency}
 use Rattle.fast_check_package_ranges.specs.declared.findings.found.Entrance.{Entrance}
-use Rattle.fast_check_package_ranges.specs.declared.findings.found.Entrance.TheVariants.{Entered, Kept}
+use Rattle.fast_check_package_ranges.specs.declared.findings.found.Entrance.TheVariants.{Entered, Cached}
 use Rattle.fast_check_package_ranges.specs.declared.findings.found.FoundPackage.{FoundPackage}
 use Rattle.fast_check_package_ranges.specs.Answers.{is_filled}
 use Rattle.fast_check_package_ranges.proofs.Lists.{filled_append, filled_map, filled_flat}
@@ -33,7 +33,7 @@ filled_at {X} xs i = both_ways (is_filled (option_to_list (slice_get xs i))) (na
 entered : (nv : Nv) (e : Option Entrance) → is_filled (entrance_yields nv e) ≡ is_some e
 entered nv None = refl
 entered nv (Some (Entered entry_points faults)) = refl
-entered nv (Some (Kept entry_points item)) = refl
+entered nv (Some (Cached entry_points item)) = refl
 
 depends : (packages : List Nv) (nv : Nv) (places : List ℕ) →
     is_filled (flat_map (dependency_yields packages nv) places) ≡ list_any (λ place. nat_lt place (length packages)) places

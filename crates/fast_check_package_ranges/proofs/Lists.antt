@@ -1,5 +1,5 @@
 -- Lists that are filtered, filled or passed over.
-use Rattle.std.proofs.Common.{◌≡◌, ◌∙◌, refl, sym, ap, Bool, true, false, cond, ◌||◌, List, [], ◌∷◌, ◌++◌, map}
+use Rattle.std.proofs.Common.{◌≡◌, ◌∙◌, ◌==◌, refl, sym, ap, Bool, true, false, cond, ◌||◌, List, [], ◌∷◌, ◌++◌, map, length}
 use Rattle.std.specs.List.{filter, flat_map, AllByRecursion}
 use Rattle.std.proofs.lemmas.Bool.{false≢true}
 use Rattle.fast_check_package_ranges.specs.Answers.{is_filled}
@@ -51,3 +51,7 @@ filled_right (x ∷ xs) ys h = refl
 pub not_filled : {X : Type 0} (xs : List X) → is_filled xs ≡ false → xs ≡ []
 not_filled [] h = refl
 not_filled (x ∷ xs) h = absurd (false≢true (sym h))
+
+pub filled_from : {X : Type 0} (xs : List X) → (length xs == 0) ≡ false → is_filled xs ≡ true
+filled_from [] h = absurd (false≢true (sym h))
+filled_from (x ∷ xs) h = refl

@@ -5,12 +5,8 @@ use Rattle.std.specs.List.{list_any}
 use Rattle.std.specs.Ordering.{eq_by_cmp}
 use Rattle.std.specs.declared.cmp.Ordering.{Ordering}
 use Rattle.std.specs.Map.{IsKeyTest}
-use Rattle.std.proofs.lemmas.Bool.{cases_Bool, false≢true}
+use Rattle.std.proofs.lemmas.Bool.{cases_Bool, false≢true, or_right}
 use Rattle.fast_check_package_ranges.proofs.findings.Lists.{any_alike}
-
-or_second : (a b : Bool) → b ≡ true → (a || b) ≡ true
-or_second true b h = refl
-or_second false b h = h
 
 or_split : (b c : Bool) → (b || c) ≡ true → b ≡ false → c ≡ true
 or_split true c h g = absurd (false≢true (sym g))
@@ -30,7 +26,7 @@ module _ {K : Type 0} {cmp : K → K → Ordering} (o : IsTotalOrder cmp) (test 
       (λ f. let r : Passes ks = passing ks (or_split (test k) (list_any test ks) h f) in record {
         key = r.key;
         passes = r.passes;
-        among = or_second (eq_by_cmp cmp r.key k) (list_any (eq_by_cmp cmp r.key) ks) r.among;
+        among = or_right (eq_by_cmp cmp r.key k) (list_any (eq_by_cmp cmp r.key) ks) r.among;
       })
       (cases_Bool (test k))
 

@@ -1,7 +1,6 @@
 -- What is answered of a module is what a yield says of it.
-use Rattle.std.proofs.Common.{◌≡◌, ◌∙◌, refl, sym, ap, subst, ℕ, Bool, true, false, cond, ◌&&◌, ◌||◌, ◌==◌, List, [], ◌∷◌, Option, Some, None, arith}
+use Rattle.std.proofs.Common.{◌≡◌, ◌∙◌, refl, sym, ap, subst, Bool, true, false, cond, ◌&&◌, ◌||◌, List, [], ◌∷◌, Option, Some, None, arith}
 use Rattle.std.specs.Prelude.{IfSome}
-use Rattle.std.specs.Cmp.{unsigned_Decides}
 use Rattle.std.specs.Cmp.Lexicographic.{bytes_decides}
 use Rattle.std.specs.List.{list_any, filter, flat_map, Contains}
 use Rattle.std.specs.Option.{option_and_then}
@@ -10,7 +9,6 @@ use Rattle.std.specs.BTreeMap.{BTreeMap}
 use Rattle.std.proofs.lemmas.Bool.{and_parts, false≢true}
 use Rattle.std.proofs.lemmas.List.Elements.{Contains-append_right}
 use Rattle.url.specs.Parts.{Parts}
-use Rattle.fast_check_syntax.specs.declared.source.SourcePos.{SourcePos}
 use Rattle.fast_check_syntax.specs.declared.source.SourceRange.{SourceRange}
 use Rattle.fast_check_packages.specs.Package.{Nv}
 use Rattle.fast_check_packages.specs.declared.package.PackageNv.{PackageNv}
@@ -18,8 +16,9 @@ use Rattle.fast_check_cache.specs.Cache.{ItemView}
 use Rattle.fast_check_cache.specs.declared.package_ranges.PackagePublicRanges.{PackagePublicRanges}
 use Rattle.fast_check_diagnostics.specs.PublicRanges.{PublicRanges, same_range}
 use Rattle.fast_check_demands.specs.worklists.Demands.{Text, same_nv}
+use Rattle.fast_check_modules.proofs.FaultsFound.{exact_range}
 use Rattle.fast_check_package_ranges.specs.findings.Yields.{Yield, known_package, entry_point, refused_export, dependency, recorded, public}
-use Rattle.fast_check_package_ranges.specs.findings.Yields.{implementing, faulty, kept}
+use Rattle.fast_check_package_ranges.specs.findings.Yields.{implementing, faulty, cached}
 use Rattle.fast_check_package_ranges.proofs.findings.Bools.{or_none}
 use Rattle.fast_check_package_ranges.proofs.findings.Lists.{any_flat}
 use Rattle.fast_check_package_ranges.specs.Answers.{package_of, modules_of, about, about_module, ranges_of, implementations_of, items_of}
@@ -50,13 +49,6 @@ any_filter test p (x ∷ xs) = go (p x) (any_filter test p xs)
         list_any test (cond b (x ∷ filter p xs) (filter p xs)) ≡ ((b && test x) || list_any (λ y. p y && test y) xs)
     go true e = ap (λ c. test x || c) e
     go false e = e
-
-pub exact_range : (a b : SourceRange) → same_range a b ≡ true → a ≡ b
-exact_range a b h =
-    let at : ℕ → SourcePos = λ n. record { 0 = n } in
-    let from : ℕ → ℕ → SourceRange = λ s e. record { start = at s; end = at e } in
-    let t = and_parts (a.start.0 == b.start.0) (a.end.0 == b.end.0) h in
-    λ i. from ((unsigned_Decides a.start.0 b.start.0).0 t.0 i) ((unsigned_Decides a.end.0 b.end.0).0 t.1 i)
 
 module _ (yields : List Yield) (nv : Nv) (t : Text) (r : SourceRange) where
   -- a yield about the module that says so
@@ -95,7 +87,7 @@ module _ (yields : List Yield) (nv : Nv) (t : Text) (r : SourceRange) where
       go (recorded p u) c m h = absurd (false≢true h)
       go (implementing p u x) c m h = absurd (false≢true h)
       go (faulty p u f) c m h = absurd (false≢true h)
-      go (kept p es item) c m h = absurd (false≢true h)
+      go (cached p es item) c m h = absurd (false≢true h)
 
   pub implemented : list_any (same_range r) (flat_map implementations_of (about_module t (about nv yields))) ≡ true →
       (p : Nv) × Contains yields (implementing p t r)
@@ -116,7 +108,7 @@ module _ (yields : List Yield) (nv : Nv) (t : Text) (r : SourceRange) where
       go (recorded p u) c m h = absurd (false≢true h)
       go (public p u x) c m h = absurd (false≢true h)
       go (faulty p u f) c m h = absurd (false≢true h)
-      go (kept p es item) c m h = absurd (false≢true h)
+      go (cached p es item) c m h = absurd (false≢true h)
 
 -- each module that stands answers the yields about it
 module _ (yields : List Yield) (answers : BTreeMap PackageNv PackagePublicRanges) (says : AreAnswers yields answers) (nv : Nv) (t : Text) where

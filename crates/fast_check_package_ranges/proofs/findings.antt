@@ -1,7 +1,7 @@
 pub mod Bools
 pub mod Lists
 pub mod Compared
-pub mod Kept
+pub mod Inserted
 pub mod Reports
 pub mod Collected
 pub mod Diagnosed

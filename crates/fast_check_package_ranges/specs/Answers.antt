@@ -15,7 +15,7 @@ use Rattle.fast_check_diagnostics.specs.PublicRanges.{PublicRanges, same_range}
 use Rattle.fast_check_demands.specs.worklists.Demands.{Text, same_nv}
 use Rattle.fast_check_package_ranges.specs.findings.Diagnostics.{AreDiagnosed}
 use Rattle.fast_check_package_ranges.specs.findings.Yields.{ModuleFault, Yield, known_package, entry_point, refused_export, dependency}
-use Rattle.fast_check_package_ranges.specs.findings.Yields.{recorded, public, implementing, faulty, kept}
+use Rattle.fast_check_package_ranges.specs.findings.Yields.{recorded, public, implementing, faulty, cached}
 pub use Rattle.fast_check_package_ranges.specs.findings.Yields.{package_of}
 
 -- which module a yield is about
@@ -37,12 +37,12 @@ about_module t yields = filter (λ y. list_any (bytes_eq t) (modules_of y)) yiel
 
 abbrev pub entry_points_of : Yield → List Text
 entry_points_of (entry_point nv t) = t ∷ []
-entry_points_of (kept nv entry_points item) = map serialize entry_points
+entry_points_of (cached nv entry_points item) = map serialize entry_points
 entry_points_of y = []
 
 abbrev pub dependencies_of : Yield → List Nv
 dependencies_of (dependency nv d) = d ∷ []
-dependencies_of (kept nv entry_points item) = item.0
+dependencies_of (cached nv entry_points item) = item.0
 dependencies_of y = []
 
 abbrev pub ranges_of : Yield → List SourceRange
@@ -67,7 +67,7 @@ is_filled (x ∷ xs) = true
 
 -- an item that is used and has modules, with the entry points
 abbrev pub items_of : Yield → List (List Parts × ItemView)
-items_of (kept nv entry_points item) = cond (is_filled item.1) ((entry_points, item) ∷ []) []
+items_of (cached nv entry_points item) = cond (is_filled item.1) ((entry_points, item) ∷ []) []
 items_of y = []
 
 -- two lists have the same, by a test of what is the same

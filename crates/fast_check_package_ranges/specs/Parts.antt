@@ -14,7 +14,7 @@ use Rattle.fast_check_package_ranges.specs.findings.Found.{package_yields}
 use Rattle.fast_check_package_ranges.specs.findings.ModuleFaults.{AreFaultsOf}
 use Rattle.fast_check_package_ranges.specs.findings.Yields.{Yield}
 use Rattle.fast_check_package_ranges.specs.declared.findings.found.Entrance.{Entrance}
-use Rattle.fast_check_package_ranges.specs.declared.findings.found.Entrance.TheVariants.{Entered, Kept}
+use Rattle.fast_check_package_ranges.specs.declared.findings.found.Entrance.TheVariants.{Entered, Cached}
 use Rattle.fast_check_package_ranges.specs.declared.findings.found.FoundPackage.{FoundPackage}
 use Rattle.fast_check_package_ranges.specs.declared.modules.ModuleParts.{ModuleParts}
 use Rattle.fast_check_package_ranges.specs.Answers.{ranges_of, implementations_of, faults_of, about_module, StandsFor}
@@ -53,12 +53,12 @@ IsAnswerOf t _ _ = ⊥
 abbrev pub urls_at : Option Entrance → List Parts
 urls_at None = []
 urls_at (Some (Entered entry_points faults)) = entry_points.value.keys
-urls_at (Some (Kept entry_points item)) = entry_points.value.keys
+urls_at (Some (Cached entry_points item)) = entry_points.value.keys
 
 abbrev pub item_at : Option Entrance → ItemView
 item_at None = ([], [])
 item_at (Some (Entered entry_points faults)) = ([], [])
-item_at (Some (Kept entry_points item)) = item_of item
+item_at (Some (Cached entry_points item)) = item_of item
 
 -- the packages at these places
 abbrev pub named_at : List Nv → List ℕ → List Nv

@@ -1,3 +1,3 @@
 pub mod Entries
 pub mod Joined
-pub mod Kept
+pub mod MemberEntries

@@ -13,7 +13,7 @@ use crate::findings::{Entrance, FoundPackage, PackageNv};
 use crate::modules::{
     ModuleParts, add_all_followed, add_all_untyped, add_entry_faults, all_module_ranges,
 };
-use fast_check_cache::{FastCheckCacheItem, FastCheckCacheModuleItem, PackagePublicRanges};
+use fast_check_cache::{FastCheckCacheItem, PackagePublicRanges};
 use fast_check_demands::worklists::copy_of;
 use std::alloc::{AllocError, Global};
 use std::collections::{BTreeMap, BTreeSet};
@@ -58,7 +58,7 @@ fn copy_of_set(urls: &BTreeSet<Url>) -> Result<BTreeSet<Url>, AllocError>
 }
 
 /// What is answered of a package whose item is used.
-fn kept_answer(
+fn cached_answer(
     alloc: Global,
     entry_points: &BTreeSet<Url>,
     item: FastCheckCacheItem,
@@ -88,7 +88,7 @@ fn entered_answer(
 {
     match entrance {
         None => Ok(PackagePublicRanges::new(alloc)),
-        Some(Entrance::Kept { entry_points, item }) => kept_answer(alloc, &entry_points, item),
+        Some(Entrance::Cached { entry_points, item }) => cached_answer(alloc, &entry_points, item),
         Some(
             Entrance::Entered {
                 entry_points,
@@ -137,15 +137,6 @@ fn add_dependencies(
     Ok(())
 }
 
-fn has_modules(cache_items: &[(Url, FastCheckCacheModuleItem)]) -> bool
-    ensures { result ≡ is_filled cache_items.now }
-{
-    match cache_items.split_first() {
-        None => false,
-        Some(_) => true,
-    }
-}
-
 /// The answer of a package. One whose item is used and has modules is answered by its entry points and the item alone: what other packages ask of its
 /// modules goes, as the item stands in place of what was found. An item without modules tells the entry points and the dependencies, beside what
 /// other packages ask of the modules.
@@ -164,7 +155,7 @@ pub fn answer_of(
     } = found;
     let mut modules = BTreeMap::new(alloc);
     let mut answer = entered_answer(alloc, entrance, &mut modules)?;
-    if has_modules(answer.cache_items.as_slice()) {
+    if !answer.cache_items.is_empty() {
         return Ok(answer);
     }
     add_dependencies(packages, dependencies.as_slice(), &mut answer.dependencies)?;

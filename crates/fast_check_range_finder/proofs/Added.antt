@@ -4,7 +4,7 @@ use Rattle.std.proofs.Common.{Bool, ◌⊎◌, inl, inr, ⊎_elim, ◌&&◌, ari
 use Rattle.std.specs.Map.{lookup}
 use Rattle.std.specs.Str.{bytes_eq}
 use Rattle.std.specs.List.{Contains}
-use Rattle.std.proofs.lemmas.Bool.{cases_Bool, false≢true, or_cases, or_right, and_parts}
+use Rattle.std.proofs.lemmas.Bool.{cases_Bool, false≢true, or_cases, or_right, and_parts, not_from_false}
 use Rattle.std.proofs.lemmas.Slice.Eq.{bytes_eq-Decides}
 use Rattle.url.specs.Parts.{Parts, serialize}
 use Rattle.fast_check_lattice.specs.declared.lattice.named_subset.NamedSubset.{NamedSubset}
@@ -25,6 +25,7 @@ use Rattle.fast_check_demands.proofs.worklists.Taken.{IsTaken, taken}
 use Rattle.fast_check_demands.proofs.worklists.Single.{one_in, path_in, whole_covered, whole_set}
 use Rattle.fast_check_demands.proofs.worklists.Ranks.{rank_le, rank_some, rank_falls, first_whole}
 use Rattle.fast_check_range_finder.proofs.Inside.{default_within}
+use Rattle.fast_check_range_finder.proofs.Lists.{mapped_some}
 
 none_some : {X : Type 0} {Z : Type 0} (x : X) → None ≡ Some x → Z
 none_some x e = absurd (no x e)
@@ -71,10 +72,6 @@ each_is each_name e = refl
 each_is (subset_at p) e = absurd (false≢true (sym (ap (λ (f : NameDemand → Bool). f each_name) e)))
 each_is (whole_at p) e = absurd (false≢true (sym (ap (λ (f : NameDemand → Bool). f each_name) e)))
 
-not_from : (b : Bool) → b ≡ false → not b ≡ true
-not_from true h = cc
-not_from false h = refl
-
 -- a set that asks what a path asks has no more than the path
 set_exact : (s : NamedSubset) (f : NameSet) → ((n : _) (q r : Path) (part : Part) → f Covered (n ∷ q) ≡ true → f part (n ∷ (q ++ r)) ≡ true) →
     ((p : Path) → has_subset (paths s) p ≡ true → f Touched p ≡ true) → ((p : Path) → has_whole (paths s) p ≡ true → f Covered p ≡ true) →
@@ -94,7 +91,7 @@ set_exact s f longer subsets wholes = go
     go Covered p h = covered Covered p h
     go Touched p h =
         ⊎_elim (λ c. covered Touched p c)
-        (λ n. subsets p (subst (λ (b : Bool). (b && not (paths s Covered p)) ≡ true) (sym h) (not_from (paths s Covered p) n)))
+        (λ n. subsets p (subst (λ (b : Bool). (b && not (paths s Covered p)) ≡ true) (sym h) (not_from_false (paths s Covered p) n)))
         (cases_Bool (paths s Covered p))
 
 asked_exact : (x : ImportedExports) (d : NameDemand) → asked x ≡ asked_by d → IsBelow (imported x) (one d)
@@ -275,14 +272,10 @@ asked_star (Subset s) each_name i h = absurd (false≢true h)
 asked_star (Subset s) (subset_at p) i h = absurd i
 asked_star (Subset s) (whole_at p) i h = absurd i
 
-mapped : {X Y : Type 0} (f : X → Y) (o : Option X) (y : Y) → option_map f o ≡ Some y → (x : X) × (o ≡ Some x) × (f x ≡ y)
-mapped f None y e = none_some y e
-mapped f (Some x) y e = (x, refl, some_is (f x) y e)
-
 -- what was asked before stays as it is
 were_gains : (url : Parts) (d : NameDemand) (new : Option NameDemand) (old now : List (Parts × ImportedExports)) →
     WereAsked url d new old now → Gains (serialize url) d new old now
-were_gains url d new old now w = go (lookup (is_module url) old) refl w.told
+were_gains url d new old now w = go (lookup (is_module url) old) refl w.before
   where
     go : (o : Option ImportedExports) → lookup (is_module url) old ≡ o → was_told o d ≡ true → Gains (serialize url) d new old now
     go None e t = absurd (false≢true t)
@@ -320,7 +313,7 @@ module _ (url : Parts) (d : NameDemand) (new : Option NameDemand) (old now : Lis
 
   -- what is new, by what was answered
   by_answer : (e : NameDemand) → new ≡ Some e → (y : ImportedExports) × (w.answer ≡ Some y) × (new_names before d y ≡ e)
-  by_answer e h = mapped (new_names before d) w.answer e (sym w.is ∙ h)
+  by_answer e h = mapped_some (new_names before d) w.answer e (sym w.is ∙ h)
 
   to_new : (y : ImportedExports) → w.answer ≡ Some y → new ≡ Some (new_names before d y)
   to_new y h = w.is ∙ ap (λ (o : Option ImportedExports). option_map (new_names before d) o) h

@@ -12,13 +12,14 @@ use Rattle.std.specs.List.{Contains, flat_map}
 use Rattle.std.proofs.lemmas.List.{map-append, map-id, take-append-drop, take_more}
 use Rattle.std.proofs.lemmas.List.Concat.{flat_map-append}
 use Rattle.std.proofs.lemmas.List.Elements.{Contains-append_left, Contains-push_cases, Contains-push}
-use Rattle.std.proofs.lemmas.Option.{slice_get_within}
+use Rattle.std.proofs.lemmas.Option.{slice_get_within, none-some}
 use Rattle.indexmap.specs.IndexMap.{set_value_at}
 use Rattle.url.specs.Parts.{Parts}
 use Rattle.fast_check_packages.specs.Package.{Nv, nv_of}
 use Rattle.fast_check_packages.specs.declared.package.PackageNv.{PackageNv}
 use Rattle.fast_check_demands.specs.Yields.{Joins}
 use Rattle.fast_check_demands.proofs.Elements.{no_element, first, later, cases, in_map, of_map}
+use Rattle.fast_check_demands.proofs.worklists.Maps.{some_is}
 use Rattle.fast_check_package_ranges.specs.findings.Found.{entrance_yields, dependency_yields, module_yields, untyped_yields, package_yields, found_yields}
 use Rattle.fast_check_package_ranges.specs.findings.Yields.{Yield, dependency}
 use Rattle.fast_check_package_ranges.specs.declared.findings.found.Entrance.{Entrance}
@@ -29,14 +30,9 @@ use Rattle.fast_check_range_finder.specs.Once.{AreApart}
 use Rattle.fast_check_range_finder.specs.Packages.{Found, Entered, IsNew, IsNumbered, HasPlaces, Adds, IsEntered}
 use Rattle.fast_check_range_finder.specs.Turn.{AreSame}
 use Rattle.fast_check_range_finder.proofs.Joins.{joins_none, joins_first, joins_then, joins_left, joins_right, joins_push, joins_more}
+use Rattle.fast_check_range_finder.proofs.Lists.{get_last, get_value}
 
 -- elements by their places
-
-pub none_some : {X : Type 0} (x : X) → None ≡ Some x → ⊥
-none_some x e = cc
-
-pub some_is : {X : Type 0} (x y : X) → Some x ≡ Some y → x ≡ y
-some_is x y e = cc
 
 get_left : {X : Type 0} (xs ys : List X) (i : ℕ) → i < length xs → slice_get (xs ++ ys) i ≡ slice_get xs i
 get_left [] ys i h = absurd (omega (arith, h))
@@ -46,19 +42,10 @@ get_left (x ∷ xs) ys (suc i) h = get_left xs ys i (omega (arith, h))
 pub get_some : {X : Type 0} (xs ys : List X) (i : ℕ) (x : X) → slice_get xs i ≡ Some x → slice_get (xs ++ ys) i ≡ Some x
 get_some xs ys i x e = get_left xs ys i (slice_get_within xs i x e) ∙ e
 
-pub get_last : {X : Type 0} (xs : List X) (x : X) → slice_get (xs ++ x ∷ []) (length xs) ≡ Some x
-get_last [] x = refl
-get_last (y ∷ xs) x = get_last xs x
-
 got_in : {X : Type 0} (xs : List X) (i : ℕ) (x : X) → slice_get xs i ≡ Some x → Contains xs x
-got_in [] i x e = absurd (none_some x e)
+got_in [] i x e = absurd (none-some x e)
 got_in (y ∷ xs) zero x e = first x y xs (some_is y x e)
 got_in (y ∷ xs) (suc i) x e = later y xs x (got_in xs i x e)
-
-value_in : {K V : Type 0} (es : List (K × V)) (i : ℕ) (e : K × V) → slice_get es i ≡ Some e → slice_get (values_of es) i ≡ Some e.1
-value_in [] i e h = absurd (none_some e h)
-value_in {K} {V} (x ∷ xs) zero e h = ap (λ (z : K × V). Some z.1) (some_is x e h)
-value_in (x ∷ xs) (suc i) e h = value_in xs i e h
 
 -- each stands once
 
@@ -179,7 +166,7 @@ names_length [] = refl
 names_length (x ∷ xs) = ap suc (names_length xs)
 
 pub names_get : (xs : Found) (i : ℕ) (e : PackageNv × FoundPackage) → slice_get xs i ≡ Some e → slice_get (names_in xs) i ≡ Some (nv_of e.0)
-names_get [] i e h = absurd (none_some e h)
+names_get [] i e h = absurd (none-some e h)
 names_get (x ∷ xs) zero e h = ap (λ (z : PackageNv × FoundPackage). Some (nv_of z.0)) (some_is x e h)
 names_get (x ∷ xs) (suc i) e h = names_get xs i e h
 
@@ -247,7 +234,7 @@ module _ (w : FoundPackage) where
 
   of_set : (found : Found) (i : ℕ) (e x : PackageNv × FoundPackage) → slice_get found i ≡ Some e → Contains (set_value_at found i w) x →
       Contains found x ⊎ (x ≡ (e.0, w))
-  of_set [] i e x h c = absurd (none_some e h)
+  of_set [] i e x h c = absurd (none-some e h)
   of_set (y ∷ ys) zero e x h c = ⊎_elim
       (λ is. inr (sym is ∙ ap (λ (z : PackageNv × FoundPackage). (z.0, w)) (some_is y e h)))
       (λ there. inl (later y ys x there))
@@ -260,7 +247,7 @@ module _ (w : FoundPackage) where
   set_yields : (ps : List Nv) (more : List Yield) (found : Found) (i : ℕ) (e : PackageNv × FoundPackage) → slice_get found i ≡ Some e →
       Joins more (yields_of ps e) (yields_of ps (e.0, w)) →
       Joins more (flat_map (yields_of ps) found) (flat_map (yields_of ps) (set_value_at found i w))
-  set_yields ps more [] i e h j = absurd (none_some e h)
+  set_yields ps more [] i e h j = absurd (none-some e h)
   set_yields ps more (y ∷ ys) zero e h j = joins_left more (yields_of ps y) (yields_of ps (y.0, w)) (flat_map (yields_of ps) ys)
       (subst (λ (z : PackageNv × FoundPackage). Joins more (yields_of ps z) (yields_of ps (z.0, w))) (sym (some_is y e h)) j)
   set_yields ps more (y ∷ ys) (suc i) e h j = joins_right more (flat_map (yields_of ps) ys) (flat_map (yields_of ps) (set_value_at ys i w))
@@ -299,7 +286,7 @@ module _ (nv : Nv) (number : ℕ) (old mid : Found) (n : IsNumbered nv number ol
 module _ (nv : Nv) (number : ℕ) (old mid : Found) (n : IsNumbered nv number old mid) (p w : FoundPackage)
     (at : Some p ≡ slice_get (values_of mid) number) where
   found_there : p ≡ n.entry.1
-  found_there = some_is p n.entry.1 (at ∙ value_in mid number n.entry n.here)
+  found_there = some_is p n.entry.1 (at ∙ get_value mid number n.entry n.here)
 
   abbrev put : Found
   put = set_value_at mid number w
@@ -350,7 +337,7 @@ still_there nv on number place old mid new n m =
 
 pub not_there : {V : Type 0} (es : List (PackageNv × V)) (i : ℕ) (e : PackageNv × V) → slice_get es i ≡ Some e →
     None ≡ slice_get (values_of es) i → ⊥
-not_there es i e h none = none_some e.1 (none ∙ value_in es i e h)
+not_there es i e h none = none-some e.1 (none ∙ get_value es i e h)
 
 -- by keys
 
@@ -474,7 +461,7 @@ module _ (front : List Entered) (x : Entered) (number : ℕ) (old mid : Found) (
       n.by
 
   there : p ≡ n.entry.1
-  there = some_is p n.entry.1 (at ∙ value_in mid number n.entry n.here)
+  there = some_is p n.entry.1 (at ∙ get_value mid number n.entry n.here)
 
   pub entered_more : w.entrance ≡ Some x.1 → w.dependencies.items ≡ p.dependencies.items → w.modules.items ≡ p.modules.items →
       w.untyped.items ≡ p.untyped.items → IsEntered (front ++ x ∷ []) (set_value_at mid number w)

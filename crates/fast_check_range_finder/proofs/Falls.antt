@@ -12,13 +12,14 @@ use Rattle.fast_check_lattice.specs.Imports.{NameDemand}
 use Rattle.fast_check_demands.specs.symbol_demands.Demands.{Demand as SymbolDemand}
 use Rattle.fast_check_demands.specs.Account.{parts}
 use Rattle.fast_check_demands.specs.worklists.Demands.{Text, same_nv, asked_by, Want, to_package, to_module, to_symbol, World, Demand}
+use Rattle.fast_check_demands.proofs.Elements.{in_any}
 use Rattle.fast_check_range_finder.specs.Search.{Search, handled_at, MeetsSame, IsTaken, AsksPackage, IsMarked, AsksSymbol, AsksNames, WaitsFor, Asks, AsksAll}
 use Rattle.fast_check_range_finder.specs.Measure.{Universe, IsWithin, IsWantInside, IsUniverse, cost, total, rank, ranks, packages_left, symbols_left, left}
 use Rattle.fast_check_demands.proofs.worklists.Maps.{first_in, rest_in}
-use Rattle.fast_check_range_finder.proofs.Lists.{any_from, any_more}
+use Rattle.fast_check_range_finder.proofs.Lists.{any_more}
 use Rattle.fast_check_demands.proofs.worklists.Ranks.{cost_le, total_le, total_less}
 use Rattle.fast_check_range_finder.proofs.Added.{Gains, gains}
-use Rattle.fast_check_range_finder.proofs.Kept.{nv_itself, text_is}
+use Rattle.fast_check_range_finder.proofs.Accounted.{nv_itself, text_is}
 use Rattle.fast_check_range_finder.proofs.Parts.{part_within, some_part}
 
 cost_less : (x y : Bool) → x ≡ false → y ≡ true → cost y < cost x
@@ -71,7 +72,7 @@ module _ (u : Universe) where
       inside
       (cost_less (list_any (same_nv p) a.packages) (list_any (same_nv p) b.packages) was
       (subst (λ (x : List Nv). list_any (same_nv p) x ≡ true) (sym is)
-      (any_from (same_nv p) (a.packages ++ p ∷ []) p (Contains-append_right a.packages (p ∷ []) p (first_in p [])) (nv_itself p))))
+      (in_any (same_nv p) (a.packages ++ p ∷ []) p (Contains-append_right a.packages (p ∷ []) p (first_in p [])) (nv_itself p))))
 
   falls_package : (p : Nv) (a b : Search) → Contains u.packages p → AsksPackage p a b → left u b ≤ left u a
   unfolding left

@@ -15,6 +15,7 @@ use Rattle.fast_check_graph.specs.declared.root_symbol.RootSymbol.{RootSymbol}
 use Rattle.fast_check_packages.specs.declared.package.PackageNv.{PackageNv}
 use Rattle.fast_check_lattice.specs.declared.lattice.imported_exports.ImportedExports.{ImportedExports}
 use Rattle.fast_check_lattice.specs.Traces.{handled}
+use Rattle.fast_check_demands.proofs.worklists.Taken.{bytes_same}
 use Rattle.fast_check_package_ranges.specs.declared.findings.found.Entrance.{Entrance}
 use Rattle.fast_check_demands.specs.symbol_demands.Demands.{Demand as SymbolDemand}
 use Rattle.fast_check_demands.specs.Yields.{Joins}
@@ -30,8 +31,8 @@ use Rattle.fast_check_range_finder.specs.declared.finder.FollowedModule.{Followe
 use Rattle.fast_check_range_finder.specs.Once.{AreOnce}
 use Rattle.fast_check_range_finder.specs.Search.{Search, AsksAll}
 use Rattle.fast_check_range_finder.specs.Turn.{AreSame}
-use Rattle.fast_check_range_finder.specs.Finder.{Followed, Modules, place_nv, place_text, names_seen, seen_at, search_in, search_of, entered_yields, entered_nv, depends, followed_yields, noted_yields, yields_by, yields_in, AsksEach, IsModuleOf, IsSound, Goes}
-use Rattle.fast_check_range_finder.proofs.Kept.{nv_itself, text_itself, text_is}
+use Rattle.fast_check_range_finder.specs.Finder.{Followed, Modules, place_nv, place_text, names_seen, seen_at, search_in, search_of, entered_yields, entered_nv, depends, followed_yields, untyped_yields_of, yields_by, yields_in, AsksEach, IsModuleOf, IsSound, Goes}
+use Rattle.fast_check_range_finder.proofs.Accounted.{nv_itself, text_is}
 use Rattle.fast_check_range_finder.proofs.Places.{nv_is}
 use Rattle.fast_check_range_finder.proofs.Joins.{joins_left, joins_right}
 use Rattle.fast_check_range_finder.proofs.SymbolsAsked.{TellsPlaces, asked_of_module}
@@ -60,7 +61,7 @@ module _ (eq : Place → Place → Bool) (tells : TellsPlaces eq) where
   pub place_same : (a b : Place) → nv_of a.package ≡ nv_of b.package → serialize a.specifier.now ≡ serialize b.specifier.now → eq a b ≡ true
   place_same a b e f = tells a b ∙ and_from (same_nv (nv_of a.package) (nv_of b.package)) (bytes_eq (serialize a.specifier.now) (serialize b.specifier.now))
       (subst (λ (x : Nv). same_nv (nv_of a.package) x ≡ true) e (nv_itself (nv_of a.package)))
-      (subst (λ (x : Text). bytes_eq (serialize a.specifier.now) x ≡ true) f (text_itself (serialize a.specifier.now)))
+      (subst (λ (x : Text). bytes_eq (serialize a.specifier.now) x ≡ true) f (bytes_same (serialize a.specifier.now)))
 
   pub place_laws : IsEquivalence eq
   place_laws = record {
@@ -105,7 +106,7 @@ module _ (g : ModuleGraph) (r : RootSymbol) (f b : Finder) (sound : IsSound g r 
         (joins_right ys _ _ (flat_map entered_yields f.entrances.items)
         (joins_right ys _ _ (map depends f.dependencies.keys)
         (joins_left ys (flat_map followed_yields f.modules.entries) (flat_map followed_yields (set_value_at f.modules.entries place m))
-        (flat_map noted_yields f.untyped.items) (joins_set followed_yields ys f.modules.entries place e m here j))))
+        (flat_map untyped_yields_of f.untyped.items) (joins_set followed_yields ys f.modules.entries place e m here j))))
       where
         all : yields_in b ≡ yields_by f.entrances.items f.dependencies.keys (set_value_at f.modules.entries place m) f.untyped.items
         all = ap (λ (x : List (PackageNv × Entrance)). yields_by x b.dependencies.keys b.modules.entries b.untyped.items) w.entrances ∙

@@ -5,6 +5,7 @@ use Rattle.std.specs.List.{flat_map, Contains}
 use Rattle.std.proofs.lemmas.List.{map-append}
 use Rattle.std.proofs.lemmas.List.Concat.{flat_map-append}
 use Rattle.std.proofs.lemmas.List.Elements.{Contains-push_cases}
+use Rattle.std.proofs.lemmas.Option.{none-some}
 use Rattle.indexmap.specs.IndexMap.{set_value_at}
 use Rattle.fast_check_syntax.specs.declared.source.SourceRange.{SourceRange}
 use Rattle.fast_check_packages.specs.Package.{Nv}
@@ -26,12 +27,11 @@ use Rattle.fast_check_package_ranges.specs.findings.Found as found
 use Rattle.fast_check_package_ranges.specs.findings.Found.{module_yields}
 use Rattle.fast_check_package_ranges.specs.declared.findings.found.FoundModule.{FoundModule}
 use Rattle.fast_check_package_ranges.specs.findings.Yields.{Yield, recorded, public, implementing}
-use Rattle.fast_check_demands.proofs.worklists.Maps.{first_in, rest_in, split_in}
+use Rattle.fast_check_demands.proofs.worklists.Maps.{first_in, rest_in, split_in, some_is}
 use Rattle.fast_check_range_finder.specs.declared.demand.SymbolAt.{SymbolAt}
 use Rattle.fast_check_range_finder.specs.Finder.{seen_at, traced_in, put_at, AsksEach}
 use Rattle.fast_check_range_finder.specs.Rules.{own_text}
 use Rattle.fast_check_range_finder.specs.Yields.{text_of, source_in, public_at, implementing_at, fault_yields, faults_at}
-use Rattle.fast_check_range_finder.proofs.Places.{no_entry, some_entry}
 use Rattle.fast_check_range_finder.proofs.Joins.{joins_last, joins_then, joins_left, joins_right}
 
 -- at a place
@@ -39,17 +39,17 @@ use Rattle.fast_check_range_finder.proofs.Joins.{joins_last, joins_then, joins_l
 module _ {K X : Type 0} where
   pub joins_set : {Y : Type 0} (f : K × X → List Y) (ys : List Y) (es : List (K × X)) (i : ℕ) (e : K × X) (w : X) → slice_get es i ≡ Some e →
       Joins ys (f e) (f (e.0, w)) → Joins ys (flat_map f es) (flat_map f (set_value_at es i w))
-  joins_set f ys [] i e w h j = absurd (no_entry e h)
+  joins_set f ys [] i e w h j = absurd (none-some e h)
   joins_set f ys (x ∷ xs) zero e w h j = joins_left ys (f x) (f (x.0, w)) (flat_map f xs)
-      (subst (λ (z : K × X). Joins ys (f z) (f (z.0, w))) (sym (some_entry x e h)) j)
+      (subst (λ (z : K × X). Joins ys (f z) (f (z.0, w))) (sym (some_is x e h)) j)
   joins_set f ys (x ∷ xs) (suc i) e w h j =
       joins_right ys (flat_map f xs) (flat_map f (set_value_at xs i w)) (f x) (joins_set f ys xs i e w h j)
 
   pub set_cases : (es : List (K × X)) (i : ℕ) (e : K × X) (w : X) (x : K × X) → slice_get es i ≡ Some e → Contains (set_value_at es i w) x →
       Contains es x ⊎ ((e.0, w) ≡ x)
-  set_cases [] i e w x h c = absurd (no_entry e h)
+  set_cases [] i e w x h c = absurd (none-some e h)
   set_cases (y ∷ ys) zero e w x h c = ⊎_elim
-      (λ is. inr (ap (λ (z : K × X). (z.0, w)) (sym (some_entry y e h)) ∙ is))
+      (λ is. inr (ap (λ (z : K × X). (z.0, w)) (sym (some_is y e h)) ∙ is))
       (λ there. inl (rest_in y x ys there)) (split_in (y.0, w) x ys c)
   set_cases (y ∷ ys) (suc i) e w x h c = ⊎_elim
       (λ is. inl (subst (λ (z : K × X). Contains (y ∷ ys) z) is (first_in y ys)))
@@ -57,8 +57,8 @@ module _ {K X : Type 0} where
       (split_in y x (set_value_at ys i w) c)
 
   pub get_in : (es : List (K × X)) (i : ℕ) (e : K × X) → slice_get es i ≡ Some e → Contains es e
-  get_in [] i e h = absurd (no_entry e h)
-  get_in (x ∷ xs) zero e h = subst (λ (z : K × X). Contains (x ∷ xs) z) (some_entry x e h) (first_in x xs)
+  get_in [] i e h = absurd (none-some e h)
+  get_in (x ∷ xs) zero e h = subst (λ (z : K × X). Contains (x ∷ xs) z) (some_is x e h) (first_in x xs)
   get_in (x ∷ xs) (suc i) e h = rest_in x e xs (get_in xs i e h)
 
 -- what is found of a module

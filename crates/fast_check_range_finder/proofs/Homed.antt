@@ -11,12 +11,13 @@ use Rattle.fast_check_demands.specs.worklists.Demands.{Text, same_nv, Want, to_p
 use Rattle.fast_check_demands.specs.worklists.Demands.{of_symbol}
 use Rattle.fast_check_demands.proofs.worklists.Maps.{none_in, first_in, rest_in, split_in}
 use Rattle.fast_check_demands.specs.sources.Sources.{Known}
+use Rattle.fast_check_demands.proofs.Elements.{in_any}
 use Rattle.fast_check_range_finder.specs.Account.{package_of, is_package}
 use Rattle.fast_check_range_finder.specs.Search.{Search, IsPut, AsksPackage, WaitsFor, Asks, AsksAll}
-use Rattle.fast_check_range_finder.specs.Turn.{IsTurn, IsBegun, members, IsKept}
+use Rattle.fast_check_range_finder.specs.Turn.{IsTurn, IsBegun, members, IsAccounted}
 use Rattle.fast_check_range_finder.specs.Rules.{world}
-use Rattle.fast_check_range_finder.proofs.Lists.{any_some, any_from, any_more}
-use Rattle.fast_check_range_finder.proofs.Kept.{nv_itself}
+use Rattle.fast_check_range_finder.proofs.Lists.{any_some, any_more}
+use Rattle.fast_check_range_finder.proofs.Accounted.{nv_itself}
 use Rattle.fast_check_range_finder.proofs.Homes.{IsAtHome, at_home}
 
 abbrev pub HasPackage : Search → Nv → Type 0
@@ -35,7 +36,7 @@ want_package (to_symbol p t s) = p
 alike_has : (s : Search) (p q : Nv) → same_nv p q ≡ true → HasPackage s p → HasPackage s q
 alike_has s p q h has =
     let x = any_some (same_nv p) s.packages has in
-    any_from (same_nv q) s.packages x.0 x.1 (sym ((eq_by_cmp_equiv nv_total).congr p q x.0 h) ∙ x.2)
+    in_any (same_nv q) s.packages x.0 x.1 (sym ((eq_by_cmp_equiv nv_total).congr p q x.0 h) ∙ x.2)
 
 same_packages : (a b : Search) → b.packages ≡ a.packages → (q : Nv) → HasPackage a q → HasPackage b q
 same_packages a b e q h = subst (λ (x : List Nv). list_any (same_nv q) x ≡ true) (sym e) h
@@ -59,7 +60,7 @@ module _ (a b : Search) where
   package_here : (p : Nv) → AsksPackage p a b → HasPackage b p
   package_here p asks = ⊎_elim (λ was. same_packages a b was.1 p was.0)
       (λ new. subst (λ (x : List Nv). list_any (same_nv p) x ≡ true) (sym new.1)
-      (any_from (same_nv p) (a.packages ++ p ∷ []) p (Contains-append_right a.packages (p ∷ []) p (first_in p [])) (nv_itself p)))
+      (in_any (same_nv p) (a.packages ++ p ∷ []) p (Contains-append_right a.packages (p ∷ []) p (first_in p [])) (nv_itself p)))
       asks.put
 
   more_one : (w : Want) → Asks w a b → (q : Nv) → HasPackage a q → HasPackage b q
@@ -137,7 +138,7 @@ module _ {Y : Type 0} (k : Known) (gives : Demand → List Y) (done : List Deman
       (from_all t.followed.wants t.mid b t.followed.asks d waits))
       (Contains-append_cases (done ++ t.demand ∷ []) b.waiting d c)
 
-pub homed_ended : (k : Known) (roots : List Nv) (done : List Demand) (s : Search) → IsKept (world k) roots done s → IsHomed done s →
+pub homed_ended : (k : Known) (roots : List Nv) (done : List Demand) (s : Search) → IsAccounted (world k) roots done s → IsHomed done s →
     s.waiting ≡ [] → (d : Demand) → Contains done d → IsTrue (list_any (is_package (package_of d)) done)
 homed_ended k roots done s kept homed none d c =
     any_more (is_package (package_of d)) (members done s) done

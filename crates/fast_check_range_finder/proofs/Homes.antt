@@ -26,7 +26,7 @@ use Rattle.fast_check_demands.specs.sources.Wants.{file_at, behind, resolved, fi
 use Rattle.fast_check_range_finder.specs.Account.{package_of}
 use Rattle.fast_check_range_finder.specs.Rules.{own_text, module_of, names_wants, symbol_wants, entry_want, unless_faulty, entrance_at}
 use Rattle.fast_check_range_finder.specs.Rules.{entered_wants, entry_wants, world}
-use Rattle.fast_check_range_finder.proofs.Kept.{nv_itself}
+use Rattle.fast_check_range_finder.proofs.Accounted.{nv_itself}
 
 -- by what is asked beside it
 abbrev pub IsAtHome : Nv → List Want → Want → Type 0

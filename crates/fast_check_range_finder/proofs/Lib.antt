@@ -4,7 +4,7 @@ pub mod Same
 pub mod Parts
 pub mod Inside
 pub mod Added
-pub mod Kept
+pub mod Accounted
 pub mod Falls
 pub mod Turns
 pub mod OwnYields
@@ -30,7 +30,7 @@ pub mod Followed
 pub mod Placed
 pub mod Loop
 pub mod Whole
-pub mod Noted
+pub mod Reported
 pub mod Entered
 pub mod Taken
 mod Popped

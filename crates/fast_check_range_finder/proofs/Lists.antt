@@ -1,28 +1,24 @@
 -- Lists: tests that some element passes, and one element more.
-use Rattle.std.proofs.Common.{◌≡◌, sym, subst, Bool, true, List, [], ◌∷◌, ◌++◌, inl, inr, ⊎_elim, arith, length-append}
+use Rattle.std.proofs.Common.{◌≡◌, ap, refl, ℕ, zero, suc, Bool, true, List, [], ◌∷◌, ◌++◌, Option, Some, None, length, inl, inr, ⊎_elim}
+use Rattle.std.proofs.Common.{option_map, arith, length-append}
+use Rattle.std.specs.Prelude.{slice_get}
+use Rattle.std.specs.Map.{values_of}
 use Rattle.std.specs.List.{list_any, Contains}
-use Rattle.std.proofs.lemmas.Bool.{false≢true, or_left, or_right, or_cases}
+use Rattle.std.proofs.lemmas.Bool.{false≢true, or_cases}
 use Rattle.std.proofs.lemmas.List.Elements.{Contains-push_cases, Contains-push, Contains-append_left, Contains-append_right, Contains-append_cases}
+use Rattle.std.proofs.lemmas.Option.{none-some}
+use Rattle.fast_check_demands.proofs.Elements.{in_any}
 use Rattle.fast_check_range_finder.specs.Search.{IsPut}
-use Rattle.fast_check_demands.proofs.worklists.Maps.{first_in, rest_in, split_in}
+use Rattle.fast_check_demands.proofs.worklists.Maps.{first_in, rest_in, some_is}
 
 pub any_some : {X : Type 0} (f : X → Bool) (xs : List X) → list_any f xs ≡ true → (x : X) × Contains xs x × (f x ≡ true)
 any_some f [] h = absurd (false≢true h)
 any_some f (x ∷ xs) h =
     ⊎_elim (λ l. (x, first_in x xs, l)) (λ r. let s = any_some f xs r in (s.0, rest_in x s.0 xs s.1, s.2)) (or_cases (f x) (list_any f xs) h)
 
-pub any_from : {X : Type 0} (f : X → Bool) (xs : List X) (x : X) → Contains xs x → f x ≡ true → list_any f xs ≡ true
-any_from f [] x c h = absurd (no x c)
-  where
-    no : {X : Type 0} (x : X) → Contains [] x → ⊥
-    no x c = omega (arith, c.1)
-any_from {X} f (y ∷ xs) x c h =
-    ⊎_elim (λ e. or_left (f y) (list_any f xs) (subst (λ (z : X). f z ≡ true) (sym e) h))
-    (λ r. or_right (f y) (list_any f xs) (any_from f xs x r h)) (split_in y x xs c)
-
 pub any_more : {X : Type 0} (f : X → Bool) (xs ys : List X) → ((x : X) → Contains xs x → Contains ys x) → list_any f xs ≡ true →
     list_any f ys ≡ true
-any_more f xs ys g h = let s = any_some f xs h in any_from f ys s.0 (g s.0 s.1) s.2
+any_more f xs ys g h = let s = any_some f xs h in in_any f ys s.0 (g s.0 s.1) s.2
 
 pub put_last : {X : Type 0} (x : X) (xs : List X) → IsPut x xs (xs ++ x ∷ [])
 put_last x xs = record {
@@ -55,3 +51,16 @@ put_right {X} x xs ys zs p = record {
   here = Contains-append_right zs ys x p.here;
   count = omega (arith, length-append zs xs, length-append zs ys, p.count);
 }
+
+pub get_last : {X : Type 0} (xs : List X) (x : X) → slice_get (xs ++ x ∷ []) (length xs) ≡ Some x
+get_last [] x = refl
+get_last (y ∷ ys) x = get_last ys x
+
+pub get_value : {K X : Type 0} (es : List (K × X)) (i : ℕ) (e : K × X) → slice_get es i ≡ Some e → slice_get (values_of es) i ≡ Some e.1
+get_value [] i e h = absurd (none-some e h)
+get_value (x ∷ xs) zero e h = ap (λ y. Some y.1) (some_is x e h)
+get_value (x ∷ xs) (suc i) e h = get_value xs i e h
+
+pub mapped_some : {X Y : Type 0} (f : X → Y) (o : Option X) (y : Y) → option_map f o ≡ Some y → (x : X) × (o ≡ Some x) × (f x ≡ y)
+mapped_some f None y e = absurd (none-some y e)
+mapped_some f (Some x) y e = (x, refl, some_is (f x) y e)

@@ -8,7 +8,7 @@ use Rattle.fast_check_package_ranges.specs.findings.Found.{found_yields}
 use Rattle.fast_check_package_ranges.specs.findings.Yields.{Yield}
 use Rattle.fast_check_graph.specs.declared.graph.ModuleGraph.{ModuleGraph}
 use Rattle.fast_check_graph.specs.declared.root_symbol.RootSymbol.{RootSymbol}
-use Rattle.fast_check_demands.proofs.Elements.{in_map, of_map}
+use Rattle.fast_check_demands.proofs.Elements.{in_map, of_map, in_any}
 use Rattle.std.proofs.lemmas.Bool.{false≢true}
 use Rattle.fast_check_demands.specs.worklists.Demands.{same_nv, Demand, of_package, of_module, of_symbol, to_package}
 use Rattle.fast_check_demands.proofs.worklists.Maps.{first_in, none_in}
@@ -20,18 +20,18 @@ use Rattle.fast_check_range_finder.specs.Search.{Search, IsFresh}
 use Rattle.fast_check_range_finder.specs.Measure.{Universe, IsUniverse, left}
 use Rattle.fast_check_range_finder.specs.Refusals.{JoinAll}
 use Rattle.fast_check_range_finder.specs.Rules.{world}
-use Rattle.fast_check_range_finder.specs.Turn.{AreSame, members, IsKept, IsOnTheWay}
+use Rattle.fast_check_range_finder.specs.Turn.{AreSame, members, IsAccounted, IsOnTheWay}
 use Rattle.fast_check_range_finder.specs.Yields.{gives}
 use Rattle.fast_check_range_finder.proofs.Homed.{IsHomed, homed_begun, homed_turned, homed_ended}
-use Rattle.fast_check_range_finder.proofs.Kept.{nv_itself}
-use Rattle.fast_check_range_finder.proofs.Lists.{any_some, any_from}
+use Rattle.fast_check_range_finder.proofs.Accounted.{nv_itself}
+use Rattle.fast_check_range_finder.proofs.Lists.{any_some}
 use Rattle.fast_check_range_finder.proofs.Once.{same_yield}
 use Rattle.fast_check_range_finder.proofs.Places.{nv_is}
 use Rattle.fast_check_range_finder.proofs.Refused.{found_join, all_join}
 use Rattle.fast_check_range_finder.proofs.Turns.{begun, turned, falls, ended}
 
 -- each package that was asked for is chained
-module _ (k : Known) (roots : List Nv) (done : List Demand) (s : Search) (kept : IsKept (world k) roots done s) where
+module _ (k : Known) (roots : List Nv) (done : List Demand) (s : Search) (kept : IsAccounted (world k) roots done s) where
   by_demand : (p : Nv) (d : Demand) → is_package p d ≡ true → Chained (world k) roots d → Chained (world k) roots (of_package p)
   by_demand p (of_package q) h c = subst (λ (x : Nv). Chained (world k) roots (of_package x)) (sym (nv_is p q h)) c
   by_demand p (of_module q t d) h c = absurd (false≢true h)
@@ -39,7 +39,7 @@ module _ (k : Known) (roots : List Nv) (done : List Demand) (s : Search) (kept :
 
   pub packages_chained : (p : Nv) → Contains s.packages p → Chained (world k) roots (of_package p)
   packages_chained p c =
-      let m = any_some (is_package p) (members done s) (kept.packages p (any_from (same_nv p) s.packages p c (nv_itself p))) in
+      let m = any_some (is_package p) (members done s) (kept.packages p (in_any (same_nv p) s.packages p c (nv_itself p))) in
       by_demand p m.0 m.2 (kept.chained m.0 m.1)
 
 -- these demands were followed, and what is kept is right
@@ -103,5 +103,5 @@ module _ (k : Known) (roots : List Nv) where
         e.0,
         yields,
         all_join k done (found_yields found) (found_join found) yields,
-        homed_ended k roots done (search_of f) way.kept homed rests.none,
+        homed_ended k roots done (search_of f) way.accounted homed rests.none,
       )

@@ -1,12 +1,13 @@
 -- What a demand of a symbol names is made of the ids and paths of which it is made, and of those that the tables write.
 use Rattle.std.proofs.Common.{◌≡◌, sym, refl, subst, Bool, true, false, cond, ◌&&◌, not, List, [], ◌∷◌, ◌++◌, Option, Some, None, ◌⊎◌, inl, inr}
 use Rattle.std.proofs.Common.{⊎_elim, string_bytes}
-use Rattle.std.specs.Prelude.{option_map, option_to_list}
+use Rattle.std.specs.Prelude.{option_to_list}
 use Rattle.std.specs.Option.{option_or, option_and_then}
 use Rattle.std.specs.Str.{bytes_eq}
 use Rattle.std.specs.Map.{values_of, lookup}
 use Rattle.std.specs.List.{Contains, flat_map, find}
 use Rattle.std.proofs.lemmas.List.Elements.{Contains-append_left, Contains-append_right}
+use Rattle.std.proofs.lemmas.Option.{none-some}
 use Rattle.fast_check_lattice.specs.Names.{Name, Path, path_of}
 use Rattle.fast_check_syntax.specs.declared.atom.Id.{Id}
 use Rattle.fast_check_symbols.specs.declared.symbol_id.SymbolId.{SymbolId}
@@ -36,13 +37,7 @@ use Rattle.fast_check_demands.proofs.Elements.{later, in_map, in_flat}
 use Rattle.fast_check_demands.proofs.Each.{Each, each_nil, each_one, each_append, each_cons, each_map, each_flat, each_cond, each_each_of}
 use Rattle.fast_check_demands.proofs.worklists.Maps.{some_is, first_in, found_in}
 use Rattle.fast_check_range_finder.specs.Universe.{symbol_ids, IsAskedAmong, IsAmong}
-
-pub none_some : {X : Type 0} (x : X) → None ≡ Some x → ⊥
-none_some x e = cc
-
-mapped_some : {X Y : Type 0} (f : X → Y) (o : Option X) (y : Y) → option_map f o ≡ Some y → (x : X) × (o ≡ Some x) × (f x ≡ y)
-mapped_some f None y e = absurd (none_some y e)
-mapped_some f (Some x) y e = (x, refl, some_is (f x) y e)
+use Rattle.fast_check_range_finder.proofs.Lists.{mapped_some}
 
 last_or_this : {X : Type 0} (o : Option X) (b : Bool) (y x : X) → option_or o (cond b (Some y) None) ≡ Some x → (o ≡ Some x) ⊎ (y ≡ x)
 last_or_this None true y x e = inr (some_is y x e)
@@ -51,13 +46,13 @@ last_or_this (Some z) b y x e = inl e
 
 -- what is found is there
 pub last_inside : {X : Type 0} (test : X → Bool) (xs : List X) (x : X) → last_that test xs ≡ Some x → Contains xs x
-last_inside test [] x e = absurd (none_some x e)
+last_inside test [] x e = absurd (none-some x e)
 last_inside {X} test (y ∷ ys) x e = ⊎_elim (λ deep. later y ys x (last_inside test ys x deep))
     (λ here. subst (λ (z : X). Contains (y ∷ ys) z) here (first_in y ys))
     (last_or_this (last_that test ys) (test y) y x e)
 
 pub found_inside : {X : Type 0} (test : X → Bool) (xs : List X) (x : X) → find test xs ≡ Some x → Contains xs x
-found_inside test [] x e = absurd (none_some x e)
+found_inside test [] x e = absurd (none-some x e)
 found_inside {X} test (y ∷ ys) x e = go (test y) (found_inside test ys x) e
   where
     go : (b : Bool) → (find test ys ≡ Some x → Contains ys x) → cond b (Some y) (find test ys) ≡ Some x → Contains (y ∷ ys) x
@@ -94,7 +89,7 @@ module _ (t : Tables) (I : List SymbolId) (P : List Path)
   bound_id id x e = go (symbol_id_of t id) (mapped_some (λ s. s.id) (symbol_of_swc t id) x e)
     where
       at : (o : Option SymbolId) (s : Symbol) → option_and_then (λ k. symbol_of k t.symbols) o ≡ Some s → Contains t.symbols s
-      at None s h = absurd (none_some s h)
+      at None s h = absurd (none-some s h)
       at (Some k) s h = last_inside (has_id k) t.symbols s h
 
       go : (o : Option SymbolId) → (s : Symbol) × (option_and_then (λ k. symbol_of k t.symbols) o ≡ Some s) × (s.id ≡ x) → Contains I x

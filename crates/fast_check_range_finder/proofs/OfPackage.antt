@@ -16,7 +16,7 @@ use Rattle.fast_check_demands.specs.traces.Modules.{own_tables}
 use Rattle.fast_check_demands.specs.traces.Wants.{re_export_ranges}
 use Rattle.fast_check_demands.specs.worklists.Demands.{Text, Want, to_package, to_module, to_symbol, Demand, of_package, of_module, of_symbol}
 use Rattle.fast_check_package_ranges.specs.findings.Yields.{Yield, known_package, entry_point, refused_export, dependency}
-use Rattle.fast_check_package_ranges.specs.findings.Yields.{recorded, public, implementing, faulty, untyped_module, kept}
+use Rattle.fast_check_package_ranges.specs.findings.Yields.{recorded, public, implementing, faulty, untyped_module, cached}
 use Rattle.fast_check_package_ranges.specs.findings.Findings.{faulty_module, entry_fault, placed_yield}
 use Rattle.fast_check_package_ranges.specs.findings.Faults.{placed}
 use Rattle.fast_check_package_ranges.specs.findings.Yields.{package_of as answered_of}
@@ -69,7 +69,7 @@ module _ (nv : Nv) where
       (each_cons IsOf (recorded nv t) (faulty nv t untyped_module ∷ []) refl (each_one IsOf (faulty nv t untyped_module) refl)) (each_nil IsOf)
 
   of_entered : (k : Known) (urls : List Parts) (item : Option ItemView) → Each IsOf (entered_yields k.graph nv urls item)
-  of_entered k urls (Some item) = each_one IsOf (kept nv urls item) refl
+  of_entered k urls (Some item) = each_one IsOf (cached nv urls item) refl
   of_entered k urls None =
       let entries = map (λ url. entry_point nv (serialize url)) urls in
       let wrong = flat_map (entry_fault_yields nv) (all_faults k.graph urls) in

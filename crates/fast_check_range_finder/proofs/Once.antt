@@ -4,18 +4,19 @@ use Rattle.std.proofs.Common.{take, Some, inl, inr, ⊎_elim, ◌⊎◌, arith, 
 use Rattle.std.specs.Prelude.{slice_get}
 use Rattle.std.specs.List.{Contains}
 use Rattle.std.proofs.lemmas.Bool.{false≢true}
-use Rattle.std.proofs.lemmas.Option.{slice_get_within}
+use Rattle.std.proofs.lemmas.Option.{slice_get_within, none-some}
 use Rattle.std.proofs.lemmas.List.{take-append-le}
 use Rattle.std.proofs.lemmas.List.Elements.{Contains-push_cases, Contains-push}
 use Rattle.fast_check_packages.specs.Package.{Nv}
 use Rattle.fast_check_demands.proofs.Elements.{no_element, first, later, cases, in_any}
 use Rattle.fast_check_demands.specs.worklists.Demands.{same_nv, Want, to_package, to_module, to_symbol, Demand}
+use Rattle.fast_check_demands.proofs.worklists.Maps.{some_is}
 use Rattle.fast_check_range_finder.specs.Account.{Account, IsYield}
 use Rattle.fast_check_range_finder.specs.Search.{Search, AsksPackage, Asks, AsksAll}
 use Rattle.fast_check_range_finder.specs.Once.{AreApart, AreOnce}
 use Rattle.fast_check_range_finder.specs.Turn.{AreSame}
-use Rattle.fast_check_range_finder.proofs.Collected.{none_some, some_is, none_split, apart_none}
-use Rattle.fast_check_range_finder.proofs.Kept.{nv_itself}
+use Rattle.fast_check_range_finder.proofs.Collected.{none_split, apart_none}
+use Rattle.fast_check_range_finder.proofs.Accounted.{nv_itself}
 
 -- lists of which each element stands once
 
@@ -50,12 +51,12 @@ apart_push {X} xs x apart new front back y e c = ⊎_elim
 -- the element at a place, behind those before it
 
 at_place : {X : Type 0} (xs : List X) (n : ℕ) (x : X) → slice_get xs n ≡ Some x → (rest : List X) × (xs ≡ take n xs ++ x ∷ rest)
-at_place [] n x e = absurd (none_some x e)
+at_place [] n x e = absurd (none-some x e)
 at_place (y ∷ xs) zero x e = (xs, joined y x xs xs (some_is y x e) refl)
 at_place {X} (y ∷ xs) (suc n) x e = let s = at_place xs n x e in (s.0, ap (λ (zs : List X). y ∷ zs) s.1)
 
 take_at : {X : Type 0} (xs : List X) (n : ℕ) (x : X) → slice_get xs n ≡ Some x → take (suc n) xs ≡ take n xs ++ x ∷ []
-take_at [] n x e = absurd (none_some x e)
+take_at [] n x e = absurd (none-some x e)
 take_at (y ∷ xs) zero x e = joined y x [] [] (some_is y x e) refl
 take_at {X} (y ∷ xs) (suc n) x e = ap (λ (zs : List X). y ∷ zs) (take_at xs n x e)
 

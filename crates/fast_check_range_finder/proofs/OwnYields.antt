@@ -26,7 +26,7 @@ use Rattle.fast_check_demands.specs.traces.Wants.{re_export_ranges}
 use Rattle.fast_check_demands.proofs.traces.OwnRanges.{own_demand}
 use Rattle.fast_check_demands.specs.worklists.Demands.{Text, Want, to_package, to_module, to_symbol, Demand, of_package, of_module, of_symbol}
 use Rattle.fast_check_package_ranges.specs.findings.Yields.{Yield, known_package, entry_point, refused_export, dependency, public, implementing}
-use Rattle.fast_check_package_ranges.specs.findings.Yields.{ModuleFault, recorded, faulty, untyped_module, kept}
+use Rattle.fast_check_package_ranges.specs.findings.Yields.{ModuleFault, recorded, faulty, untyped_module, cached}
 use Rattle.fast_check_package_ranges.specs.findings.Findings.{faulty_module, entry_fault, placed_yield, placed_yields}
 use Rattle.fast_check_package_ranges.specs.entries.Entries.{Entrance, passed_over, refused, entered, all_faults}
 use Rattle.fast_check_demands.specs.sources.Sources.{Known, is_text, node_at, named_at, traced_as, typed_info, info_at, module_at, untyped_at}
@@ -159,7 +159,7 @@ module _ (k : Known) (found : AreFoundByOwnNames k.root_symbol) where
       (each_append Q faults_of depends (all_faults_placed nv m (faults (own_tables m) s)) (all_dependencies nv (symbol_wants k nv s m))))
 
   of_entered : (nv : Nv) (urls : List Parts) (item : Option ItemView) → Each Q (entered_yields k.graph nv urls item)
-  of_entered nv urls (Some item) = each_one Q (kept nv urls item) tt
+  of_entered nv urls (Some item) = each_one Q (cached nv urls item) tt
   of_entered nv urls None = each_cons Q (known_package nv) _ tt
       (each_append Q (map (λ url. entry_point nv (serialize url)) urls) (flat_map (entry_fault_yields nv) (all_faults k.graph urls))
       (each_map Q (λ url. entry_point nv (serialize url)) urls (λ url _. tt))

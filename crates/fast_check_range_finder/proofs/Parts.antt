@@ -8,8 +8,9 @@ use Rattle.fast_check_demands.specs.declared.symbol_demands.demand.Namespaces.Th
 use Rattle.fast_check_demands.specs.symbol_demands.Demands.{Demand, Asked, by_reference, as_child, by_path}
 use Rattle.fast_check_demands.specs.Account.{alike, essence, referred, same, asker, is_both, asked_within, narrowed, parts}
 use Rattle.fast_check_demands.proofs.worklists.Maps.{none_in, first_in, rest_in, split_in}
+use Rattle.fast_check_demands.proofs.Elements.{in_any}
 use Rattle.fast_check_range_finder.specs.Asked.{covers, IsOneMore, AddsSymbol, IsNew, AddsDemand}
-use Rattle.fast_check_range_finder.proofs.Lists.{any_from, any_more}
+use Rattle.fast_check_range_finder.proofs.Lists.{any_more}
 use Rattle.fast_check_range_finder.proofs.Same.{alike_itself}
 
 -- what asks for the same thing
@@ -81,7 +82,7 @@ some_part d = ⊎_elim
 -- what is asked for anew
 
 one_now : (d : Demand) (old new : List Demand) → IsOneMore d old new → list_any (covers d) new ≡ true
-one_now d old new w = any_from (covers d) new (essence d) w.here (covers_essence d d ∙ covers_itself d)
+one_now d old new w = in_any (covers d) new (essence d) w.here (covers_essence d d ∙ covers_itself d)
 
 lacked : (d : Demand) (old new : List Demand) → ((x : Demand) → Contains old x → Contains new x) → list_any (covers d) new ≡ false →
     list_any (covers d) old ≡ false

@@ -1,15 +1,16 @@
 -- Places are told by package and text.
-use Rattle.std.proofs.Common.{◌≡◌, ◌∙◌, sym, ap, refl, ℕ, suc, ◌+◌, ◌<◌, Bool, true, false, not, cond, ◌&&◌, List, [], ◌∷◌, ◌++◌, Option, Some, None}
-use Rattle.std.proofs.Common.{slice_get, position, length, is_some, arith}
+use Rattle.std.proofs.Common.{◌≡◌, ◌∙◌, sym, ap, refl, ℕ, suc, ◌+◌, ◌<◌, Bool, true, false, not, cond, ◌&&◌, List, [], ◌∷◌, Some, None}
+use Rattle.std.proofs.Common.{slice_get, position, length, arith}
 use Rattle.std.specs.Prelude.{nat_lt}
 use Rattle.std.specs.List.{position_or_len}
 use Rattle.std.specs.Map.{keys_of}
-use Rattle.std.proofs.lemmas.Bool.{false≢true, ltb-true}
+use Rattle.std.proofs.lemmas.Bool.{ltb-true}
 use Rattle.std.specs.Str.{bytes_eq}
+use Rattle.std.proofs.lemmas.Option.{none-some}
 use Rattle.url.specs.Parts.{serialize}
 use Rattle.fast_check_packages.specs.PackageOrder.{nv_ties}
+use Rattle.fast_check_demands.proofs.worklists.Maps.{some_is}
 use Rattle.fast_check_range_finder.specs.contracts.demand.PlacePartialEq.TheImpl as place_eq
-use Rattle.fast_check_range_finder.proofs.Places.{no_entry, some_entry}
 use Rattle.fast_check_range_finder.proofs.SymbolsAsked.{TellsPlaces}
 
 pub tells_places : TellsPlaces place_eq.eq-value.it
@@ -47,14 +48,6 @@ module _ {K X : Type 0} (t : K → Bool) where
 
       by : (b : Bool) → nat_lt n (length (keys_of es)) ≡ b → cond b (Some n) None ≡ Some i →
           (x : K × X) × (slice_get es i ≡ Some x) × (t x.0 ≡ true)
-      by false k is = absurd (no_entry i is)
-      by true k is = let same : n ≡ i = some_entry n i is in let l = keys_length es in let lt = ltb-true n (length (keys_of es)) k in
+      by false k is = absurd (none-some i is)
+      by true k is = let same : n ≡ i = some_is n i is in let l = keys_length es in let lt = ltb-true n (length (keys_of es)) k in
           found_at es i same (omega (arith, l, lt, same))
-
-pub get_last : {X : Type 0} (xs : List X) (x : X) → slice_get (xs ++ x ∷ []) (length xs) ≡ Some x
-get_last [] x = refl
-get_last (y ∷ ys) x = get_last ys x
-
-pub none_from : {X : Type 0} (o : Option X) → is_some o ≡ false → o ≡ None
-none_from None h = refl
-none_from (Some x) h = absurd (false≢true (sym h))

@@ -40,7 +40,7 @@ use Rattle.fast_check_range_finder.specs.declared.demand.SymbolAt.{SymbolAt}
 use Rattle.fast_check_range_finder.specs.declared.finder.Finder.{Finder}
 use Rattle.fast_check_range_finder.specs.Asked.{covers}
 use Rattle.fast_check_range_finder.specs.Search.{Search}
-use Rattle.fast_check_range_finder.specs.Finder.{Followed, Modules, place_nv, place_text, has_symbol, place_of, places, names_seen, seen_at, symbol_at, symbols_at, search_in, search_of, entered_yields, entered_nv, depends, followed_yields, noted_yields, yields_by, yields_in, traced_in, IsModuleOf, IsSound, IsPlaced, Goes}
+use Rattle.fast_check_range_finder.specs.Finder.{Followed, Modules, place_nv, place_text, has_symbol, place_of, places, names_seen, seen_at, symbol_at, symbols_at, search_in, search_of, entered_yields, entered_nv, depends, followed_yields, untyped_yields_of, yields_by, yields_in, traced_in, IsModuleOf, IsSound, IsPlaced, Goes}
 use Rattle.fast_check_range_finder.proofs.Steps.{same_itself}
 use Rattle.fast_check_range_finder.proofs.Joins.{joins_left, joins_right, joins_last}
 use Rattle.fast_check_range_finder.proofs.Gained.{get_in}
@@ -128,7 +128,7 @@ module _ (g : ModuleGraph) (r : RootSymbol) (f b : Finder) (sound : IsSound g r 
         let own = sound.modules m c in
         Contains-append_right (flat_map entered_yields f.entrances.items) _ _
         (Contains-append_right (map depends f.dependencies.keys) _ _
-        (Contains-append_left (flat_map followed_yields f.modules.entries) (flat_map noted_yields f.untyped.items) _
+        (Contains-append_left (flat_map followed_yields f.modules.entries) (flat_map untyped_yields_of f.untyped.items) _
         (in_flat followed_yields f.modules.entries m (recorded nv (serialize (specifier_of info))) c
         (subst (λ (y : Yield). Contains (followed_yields m) y)
         (ap (λ (p : Nv). recorded p (own_text m.1.found)) placed.nv_is ∙ ap (recorded nv) (sym own.own ∙ placed.text_is))
@@ -230,7 +230,7 @@ module _ (g : ModuleGraph) (r : RootSymbol) (f b : Finder) (sound : IsSound g r 
             (joins_right (recorded nv (serialize (specifier_of info)) ∷ []) _ _ (flat_map entered_yields f.entrances.items)
             (joins_right (recorded nv (serialize (specifier_of info)) ∷ []) _ _ (map depends f.dependencies.keys)
             (joins_left (recorded nv (serialize (specifier_of info)) ∷ []) (flat_map followed_yields f.modules.entries)
-            (flat_map followed_yields (f.modules.entries ++ m ∷ [])) (flat_map noted_yields f.untyped.items)
+            (flat_map followed_yields (f.modules.entries ++ m ∷ [])) (flat_map untyped_yields_of f.untyped.items)
             (subst (λ (ys : List Yield). Joins (recorded nv (serialize (specifier_of info)) ∷ []) (flat_map followed_yields f.modules.entries) ys)
             (sym last_is) (joins_last (recorded nv (serialize (specifier_of info)) ∷ []) (flat_map followed_yields f.modules.entries))))));
         sound = record {

@@ -1,5 +1,5 @@
 -- Packages and texts that are the same; and the modules of a finder, each at its place.
-use Rattle.std.proofs.Common.{◌≡◌, ◌∙◌, sym, ap, refl, subst, ℕ, zero, suc, Bool, true, ◌||◌, List, [], ◌∷◌, Some, None}
+use Rattle.std.proofs.Common.{◌≡◌, ◌∙◌, sym, ap, refl, subst, ℕ, zero, suc, Bool, true, ◌||◌, List, [], ◌∷◌, Some}
 use Rattle.std.proofs.Common.{slice_get, ⊎_elim, inl, inr, ◌⊎◌}
 use Rattle.std.proofs.Math.Path.{fun_ext}
 use Rattle.std.specs.List.{list_any, Contains, IsDistinct}
@@ -13,11 +13,13 @@ use Rattle.std.specs.declared.cmp.Ordering.TheVariants.{Less, Equal, Greater}
 use Rattle.std.proofs.lemmas.Bool.{false≢true, or_left, or_right, or_cases}
 use Rattle.std.proofs.lemmas.Map.Entries.{lookup_from_place}
 use Rattle.std.proofs.lemmas.Map.Views.{lookup-from_Contains}
+use Rattle.std.proofs.lemmas.Option.{none-some}
 use Rattle.semver.specs.Order.{pre_cmp, build_cmp}
 use Rattle.semver.specs.OrderLaws.{pre-anti, build-anti}
 use Rattle.indexmap.specs.IndexMap.{set_value_at}
 use Rattle.fast_check_packages.specs.Package.{Nv, VersionParts, version_cmp, nv_cmp}
 use Rattle.fast_check_demands.specs.worklists.Demands.{same_nv}
+use Rattle.fast_check_demands.proofs.worklists.Maps.{some_is}
 
 -- packages that are the same are one
 
@@ -64,24 +66,18 @@ nv_is a b h =
     joined : (m n : List ℕ) (v w : VersionParts) → m ≡ n → v ≡ w → made m v ≡ made n w
     joined m n v w e f = cc
 
-pub no_entry : {Z : Type 0} (z : Z) → None ≡ Some z → ⊥
-no_entry z e = cc
-
-pub some_entry : {Z : Type 0} (x y : Z) → Some x ≡ Some y → x ≡ y
-some_entry x y e = cc
-
 -- a value at a place of a map is another one
 
 module _ {K X : Type 0} where
   pub get_set : (es : List (K × X)) (i : ℕ) (e : K × X) (w : X) → slice_get es i ≡ Some e → slice_get (set_value_at es i w) i ≡ Some (e.0, w)
-  get_set [] i e w h = absurd (no_entry e h)
-  get_set (x ∷ xs) zero e w h = ap (λ (y : K × X). Some (y.0, w)) (some_entry x e h)
+  get_set [] i e w h = absurd (none-some e h)
+  get_set (x ∷ xs) zero e w h = ap (λ (y : K × X). Some (y.0, w)) (some_is x e h)
   get_set (x ∷ xs) (suc i) e w h = get_set xs i e w h
 
   -- its own
   pub set_itself : (es : List (K × X)) (i : ℕ) (e : K × X) → slice_get es i ≡ Some e → set_value_at es i e.1 ≡ es
   set_itself [] i e h = refl
-  set_itself (x ∷ xs) zero e h = ap (λ (y : K × X). (x.0, y.1) ∷ xs) (sym (some_entry x e h))
+  set_itself (x ∷ xs) zero e h = ap (λ (y : K × X). (x.0, y.1) ∷ xs) (sym (some_is x e h))
   set_itself (x ∷ xs) (suc i) e h = ap (λ (ys : List (K × X)). x ∷ ys) (set_itself xs i e h)
 
   pub set_twice : (es : List (K × X)) (i : ℕ) (v w : X) → set_value_at (set_value_at es i v) i w ≡ set_value_at es i w
@@ -98,16 +94,16 @@ module _ {K X : Type 0} where
 
   pub any_set : (f : K × X → Bool) (es : List (K × X)) (i : ℕ) (e : K × X) (w : X) → slice_get es i ≡ Some e → f (e.0, w) ≡ true →
       list_any f (set_value_at es i w) ≡ true
-  any_set f [] i e w h t = absurd (no_entry e h)
+  any_set f [] i e w h t = absurd (none-some e h)
   any_set f (x ∷ xs) zero e w h t =
-      or_left (f (x.0, w)) (list_any f xs) (subst (λ (y : K × X). f (y.0, w) ≡ true) (sym (some_entry x e h)) t)
+      or_left (f (x.0, w)) (list_any f xs) (subst (λ (y : K × X). f (y.0, w) ≡ true) (sym (some_is x e h)) t)
   any_set f (x ∷ xs) (suc i) e w h t = or_right (f x) (list_any f (set_value_at xs i w)) (any_set f xs i e w h t)
 
   pub any_of_set : (f : K × X → Bool) (es : List (K × X)) (i : ℕ) (e : K × X) (w v : X) → slice_get es i ≡ Some e →
       list_any f (set_value_at es i w) ≡ true → (f (e.0, w) ≡ true) ⊎ (list_any f (set_value_at es i v) ≡ true)
-  any_of_set f [] i e w v h t = absurd (no_entry e h)
+  any_of_set f [] i e w v h t = absurd (none-some e h)
   any_of_set f (x ∷ xs) zero e w v h t = ⊎_elim
-      (λ here. inl (subst (λ (y : K × X). f (y.0, w) ≡ true) (some_entry x e h) here))
+      (λ here. inl (subst (λ (y : K × X). f (y.0, w) ≡ true) (some_is x e h) here))
       (λ there. inr (or_right (f (x.0, v)) (list_any f xs) there))
       (or_cases (f (x.0, w)) (list_any f xs) t)
   any_of_set f (x ∷ xs) (suc i) e w v h t = ⊎_elim

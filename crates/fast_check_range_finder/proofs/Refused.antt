@@ -11,12 +11,12 @@ use Rattle.fast_check_packages.specs.declared.fault.BuildFault.{BuildFault}
 use Rattle.fast_check_packages.specs.declared.fault.BuildFault.TheVariants.{InvalidExport, OutOfMemory}
 use Rattle.fast_check_cache.specs.Cache.{item_of}
 use Rattle.fast_check_package_ranges.specs.declared.findings.found.Entrance.{Entrance as FoundEntrance}
-use Rattle.fast_check_package_ranges.specs.declared.findings.found.Entrance.TheVariants.{Entered, Kept}
+use Rattle.fast_check_package_ranges.specs.declared.findings.found.Entrance.TheVariants.{Entered, Cached}
 use Rattle.fast_check_package_ranges.specs.declared.findings.found.FoundModule.{FoundModule}
 use Rattle.fast_check_package_ranges.specs.declared.findings.found.FoundPackage.{FoundPackage}
 use Rattle.fast_check_package_ranges.specs.findings.Faults.{placed_seen}
 use Rattle.fast_check_package_ranges.specs.findings.Yields.{ModuleFault, Yield, known_package, entry_point, refused_export, dependency, recorded, public}
-use Rattle.fast_check_package_ranges.specs.findings.Yields.{implementing, faulty, untyped_module, kept}
+use Rattle.fast_check_package_ranges.specs.findings.Yields.{implementing, faulty, untyped_module, cached}
 use Rattle.fast_check_package_ranges.specs.findings.Findings.{faulty_module, entry_fault, placed_yield, placed_yields}
 use Rattle.fast_check_package_ranges.specs.findings.Found.{source_in, own_text, module_yields, entry_fault_yields, entrance_yields, dependency_yields}
 use Rattle.fast_check_package_ranges.specs.findings.Found.{untyped_yields, package_yields, found_yields}
@@ -37,7 +37,7 @@ faulty_joins p t f = each_cons NotRefusedYield (recorded p t) (faulty p t f ∷ 
 
 entrance_joins : (p : Nv) (e : Option FoundEntrance) → Each NotRefusedYield (entrance_yields p e)
 entrance_joins p None = each_nil NotRefusedYield
-entrance_joins p (Some (Kept urls item)) = each_one NotRefusedYield (kept p urls.value.keys (item_of item)) tt
+entrance_joins p (Some (Cached urls item)) = each_one NotRefusedYield (cached p urls.value.keys (item_of item)) tt
 entrance_joins p (Some (Entered urls faults)) = each_cons NotRefusedYield (known_package p) _ tt
     (each_append NotRefusedYield (map (λ url. entry_point p (serialize url)) urls.value.keys) (flat_map (entry_fault_yields p) faults.items)
     (each_map NotRefusedYield (λ url. entry_point p (serialize url)) urls.value.keys (λ url c. tt))

@@ -5,6 +5,7 @@ use Rattle.std.specs.Prelude.{nat_lt, if◌then◌else◌}
 use Rattle.std.specs.List.{Contains}
 use Rattle.std.proofs.lemmas.List.Elements.{Contains-append_left, Contains-append_right}
 use Rattle.std.proofs.lemmas.Bool.{cases_Bool, ltb-true, ltb-false}
+use Rattle.std.proofs.lemmas.Option.{none-some}
 use Rattle.url.specs.Parts.{serialize}
 use Rattle.fast_check_packages.specs.Package.{Nv}
 use Rattle.fast_check_cache.specs.Cache.{ItemView}
@@ -13,9 +14,6 @@ use Rattle.fast_check_cache.specs.CachedPackages.{usable, if_usable, at_key, use
 use Rattle.fast_check_range_finder.specs.Lent.{used_of}
 use Rattle.fast_check_range_finder.specs.Reach.{dependencies_in, dependencies_below, lent_dependencies}
 use Rattle.fast_check_range_finder.proofs.Reach.{HasDependencies}
-
-none_some : {X : Type 0} (x : X) → None ≡ Some x → ⊥
-none_some x e = cc
 
 -- the dependencies of the item under a key that is lower
 below : (stored : ℕ → Option ItemView) (n key : ℕ) (item : ItemView) → key < n → stored key ≡ Some item → (p : Nv) → Contains item.0 p →
@@ -40,20 +38,20 @@ under_key stored n key item e p c = go (nat_lt key n) (ltb-true key n) e
   where
     go : (b : Bool) → (b ≡ true → key < n) → (if b then stored key else None) ≡ Some item → Contains (dependencies_below stored n) p
     go true lower h = below stored n key item (lower refl) h p c
-    go false lower h = absurd (none_some item h)
+    go false lower h = absurd (none-some item h)
 
 -- an item that is used is there
 there : (g : ModuleGraph) (o : Option ItemView) (item : ItemView) → if_usable g o ≡ Some item → o ≡ Some item
-there g None item e = absurd (none_some item e)
+there g None item e = absurd (none-some item e)
 there g (Some x) item e = go (usable g x) e
   where
     go : (b : Bool) → (if b then Some x else None) ≡ Some item → Some x ≡ Some item
     go true h = h
-    go false h = absurd (none_some item h)
+    go false h = absurd (none-some item h)
 
 pub has_lent : {C : Type 0} (lent : Option C) (key : C → Nv → List (List ℕ) → ℕ) (stored : C → ℕ → Option ItemView) (g : ModuleGraph) →
     HasDependencies (used_of lent (λ c. used_item (key c) (stored c) g)) (lent_dependencies lent stored)
-has_lent None key stored g nv urls item e p c = absurd (none_some item e)
+has_lent None key stored g nv urls item e p c = absurd (none-some item e)
 has_lent (Some x) key stored g nv urls item e p c =
     under_key (stored x) (2 ^ 64) (key x nv (map serialize urls)) item
     (there g (at_key (stored x) (key x nv (map serialize urls))) item e) p c

@@ -16,6 +16,8 @@ use Rattle.fast_check_lattice.specs.declared.lattice.imported_exports.ImportedEx
 use Rattle.fast_check_demands.specs.symbol_demands.Demands.{Demand as SymbolDemand}
 use Rattle.fast_check_demands.specs.Account.{parts}
 use Rattle.fast_check_demands.specs.worklists.Demands.{Text, same_nv, Demand, of_package, of_symbol, to_symbol}
+use Rattle.fast_check_demands.proofs.worklists.Taken.{bytes_same}
+use Rattle.fast_check_demands.proofs.Elements.{in_any}
 use Rattle.fast_check_range_finder.specs.declared.demand.Place.{Place}
 use Rattle.fast_check_range_finder.specs.declared.demand.SymbolAt.{SymbolAt}
 use Rattle.fast_check_range_finder.specs.declared.finder.FollowedModule.{FollowedModule}
@@ -23,8 +25,8 @@ use Rattle.fast_check_range_finder.specs.Account.{meets}
 use Rattle.fast_check_range_finder.specs.Asked.{covers, IsNew, AddsDemand}
 use Rattle.fast_check_range_finder.specs.Search.{Search, IsPut, IsMarked, AsksSymbol, AsksAll}
 use Rattle.fast_check_range_finder.specs.Finder.{Followed, Modules, place_nv, place_text, has_symbol, places, place_of, seen_at, symbol_at, symbols_at, search_in, put_at, AsksOne, AsksEach}
-use Rattle.fast_check_range_finder.proofs.Kept.{nv_itself, text_itself}
-use Rattle.fast_check_range_finder.proofs.Lists.{any_some, any_from, any_more, put_last, put_right}
+use Rattle.fast_check_range_finder.proofs.Accounted.{nv_itself}
+use Rattle.fast_check_range_finder.proofs.Lists.{any_some, any_more, put_last, put_right}
 use Rattle.fast_check_range_finder.proofs.Parts.{covers_essence}
 use Rattle.fast_check_range_finder.proofs.Places.{get_set, set_itself, keys_set, any_set, any_of_set, any_set_same, one_entry}
 
@@ -63,7 +65,7 @@ module _ (eq : Place → Place → Bool) (laws : IsEquivalence eq) (tells : Tell
   -- the test of the module itself
   own_test : (d : SymbolDemand) (xs : List SymbolDemand) → list_any (covers d) xs ≡ true → has_symbol (place_nv e) (place_text e) d (entry xs) ≡ true
   own_test d xs h = and_from (same_nv (place_nv e) (place_nv e)) (bytes_eq (place_text e) (place_text e) && list_any (covers d) xs) (nv_itself (place_nv e))
-      (and_from (bytes_eq (place_text e) (place_text e)) (list_any (covers d) xs) (text_itself (place_text e)) h)
+      (and_from (bytes_eq (place_text e) (place_text e)) (list_any (covers d) xs) (bytes_same (place_text e)) h)
 
   meets_own : (d : SymbolDemand) (xs : List SymbolDemand) → list_any (covers d) xs ≡ true →
       list_any (has_symbol (place_nv e) (place_text e) d) (with_asked xs) ≡ true
@@ -116,10 +118,10 @@ module _ (eq : Place → Place → Bool) (laws : IsEquivalence eq) (tells : Tell
         let s = any_some (covers x) b more.1 in
         ⊎_elim
         (λ old. inl (and_from (same_nv p (place_nv e)) (bytes_eq t (place_text e) && list_any (covers x) a) these.0
-        (and_from (bytes_eq t (place_text e)) (list_any (covers x) a) more.0 (any_from (covers x) a s.0 old s.2))))
+        (and_from (bytes_eq t (place_text e)) (list_any (covers x) a) more.0 (in_any (covers x) a s.0 old s.2))))
         (λ new. inr (and_from (same_nv p (place_nv e)) (bytes_eq t (place_text e) && list_any (covers x) (parts n)) these.0
         (and_from (bytes_eq t (place_text e)) (list_any (covers x) (parts n)) more.0
-        (any_from (covers x) (parts n) new.0 new.1
+        (in_any (covers x) (parts n) new.0 new.1
         (sym (covers_essence x new.0) ∙ subst (λ (y : SymbolDemand). covers x y ≡ true) new.2 s.2)))))
         (w.only s.0 s.1)
 

@@ -4,11 +4,13 @@ use Rattle.std.specs.Prelude.{option_to_list}
 use Rattle.std.specs.List.{flat_map}
 use Rattle.std.proofs.lemmas.List.{append-nil}
 use Rattle.std.proofs.lemmas.List.Concat.{flat_map-append}
+use Rattle.std.proofs.lemmas.Option.{none-some}
 use Rattle.url.specs.Parts.{Parts}
 use Rattle.fast_check_packages.specs.Package.{Nv}
 use Rattle.fast_check_lattice.specs.declared.lattice.imported_exports.ImportedExports.{ImportedExports}
 use Rattle.fast_check_demands.specs.symbol_demands.Demands.{Demand as SymbolDemand}
 use Rattle.fast_check_demands.specs.Yields.{Joins}
+use Rattle.fast_check_demands.proofs.worklists.Maps.{some_is}
 use Rattle.fast_check_package_ranges.specs.findings.Yields.{Yield}
 use Rattle.fast_check_demands.specs.worklists.Demands.{Demand, of_package, of_symbol}
 use Rattle.fast_check_demands.specs.sources.Sources.{Known}
@@ -19,11 +21,10 @@ use Rattle.fast_check_range_finder.specs.Finder.{Followed, Modules, place_nv, pl
 use Rattle.fast_check_range_finder.specs.Rules.{world}
 use Rattle.fast_check_range_finder.specs.Yields.{gives}
 use Rattle.fast_check_range_finder.proofs.Lists.{put_last, put_left, put_right}
-use Rattle.fast_check_range_finder.proofs.Places.{no_entry, some_entry}
 
 place_at : (es : Modules) (i : ℕ) (e : Followed) → slice_get es i ≡ Some e → slice_get (places es) i ≡ Some (place_of e.0)
-place_at [] i e h = absurd (no_entry e h)
-place_at (x ∷ xs) zero e h = ap (λ (y : Followed). Some (place_of y.0)) (some_entry x e h)
+place_at [] i e h = absurd (none-some e h)
+place_at (x ∷ xs) zero e h = ap (λ (y : Followed). Some (place_of y.0)) (some_is x e h)
 place_at (x ∷ xs) (suc i) e h = place_at xs i e h
 
 put_first : {X : Type 0} (x : X) (xs : List X) → IsPut x xs (x ∷ xs)
@@ -34,8 +35,8 @@ put_first x xs = put_left_of x xs
 
 -- the one at a place leads the rest
 drop_at : {X : Type 0} (n : ℕ) (xs : List X) (x : X) → slice_get xs n ≡ Some x → drop n xs ≡ x ∷ drop (suc n) xs
-drop_at n [] x h = absurd (no_entry x h)
-drop_at zero (y ∷ ys) x h = ap (λ z. z ∷ ys) (some_entry y x h)
+drop_at n [] x h = absurd (none-some x h)
+drop_at zero (y ∷ ys) x h = ap (λ z. z ∷ ys) (some_is y x h)
 drop_at (suc n) (y ∷ ys) x h = drop_at n ys x h
 
 drop_next : {X : Type 0} (n : ℕ) (xs : List X) (x : X) → slice_get xs n ≡ Some x → drop n xs ≡ x ∷ drop (n + 1) xs

@@ -13,12 +13,12 @@ use Rattle.fast_check_demands.specs.Yields.{Joins}
 use Rattle.fast_check_demands.specs.worklists.Demands.{Text, same_nv, one, Want, to_package, Demand, of_package, of_module, of_symbol, World, Follows, Gives}
 use Rattle.fast_check_range_finder.specs.Account.{is_package, is_of, meets, names_at, IsCovered, Chained, root, step, IsWidening, IsAccount, IsYield}
 use Rattle.fast_check_range_finder.specs.Search.{Search, handled_at, IsAsked}
-use Rattle.fast_check_range_finder.specs.Turn.{IsTurn, IsBegun, members, IsKept, IsOnTheWay}
+use Rattle.fast_check_range_finder.specs.Turn.{IsTurn, IsBegun, members, IsAccounted, IsOnTheWay}
 use Rattle.fast_check_range_finder.specs.Measure.{Universe, IsUniverse, left}
 use Rattle.fast_check_demands.proofs.worklists.Maps.{none_in, first_in, some_is}
 use Rattle.fast_check_range_finder.proofs.Lists.{any_more}
 use Rattle.fast_check_demands.proofs.worklists.Single.{star_in, default_in, one_below_all}
-use Rattle.fast_check_range_finder.proofs.Kept.{kept_all, more_all, now_all, kept_taken, more_taken}
+use Rattle.fast_check_range_finder.proofs.Accounted.{accounted_all, more_all, now_all, accounted_taken, more_taken}
 use Rattle.fast_check_range_finder.proofs.Inside.{inside}
 use Rattle.fast_check_range_finder.proofs.Falls.{falls_all, falls_taken}
 
@@ -39,7 +39,7 @@ yielded_more {Y} gives done d old new y j = record {
 }
 
 -- what was asked is covered by what was followed and what waits
-covered : (world : World) (roots : List Nv) (done : List Demand) (s : Search) → IsKept world roots done s → (e : Demand) → IsAsked s e →
+covered : (world : World) (roots : List Nv) (done : List Demand) (s : Search) → IsAccounted world roots done s → (e : Demand) → IsAsked s e →
     IsCovered (members done s) e
 covered world roots done s k (of_package p) h = k.packages p h
 covered world roots done s k (of_module nv t d) h = (k.some t h.0 h.1, λ part q i. k.names t h.0 h.1 part q (h.2 part q i))
@@ -73,7 +73,7 @@ module _ {Y : Type 0} (world : World) (gives : Demand → List Y) (roots : List 
       let chain : (w : Want) (e : Demand) → Contains g.wants w → Gives w e → Chained world roots e =
       λ w e c h. let r = g.are w c in of_root r.0 r.1 e (subst (λ (x : Want). Gives x e) r.2 h) in
       record {
-        kept = kept_all world roots [] g.wants g.first s fresh chain g.asks;
+        accounted = accounted_all world roots [] g.wants g.first s fresh chain g.asks;
         has_roots = λ p c. now_all world roots [] g.wants g.first s fresh chain g.asks (to_package p) (g.all p c) (of_package p) refl;
         closed = λ d e c f. absurd (none_in d c);
         yielded = record { sound = λ y c. absurd (none_in y c); complete = λ d y h c. absurd (none_in d h) };
@@ -93,7 +93,7 @@ module _ {Y : Type 0} (world : World) (gives : Demand → List Y) (roots : List 
       no_member : (e : Demand) → {Z : Type 0} → Contains (members [] g.first) e → Z
       no_member e c = absurd (none_in e (subst (λ (x : List Demand). Contains x e) g.fresh.waiting c))
 
-      fresh : IsKept world roots [] g.first
+      fresh : IsAccounted world roots [] g.first
       fresh = record {
         chained = λ e c. no_member e c;
         packages = λ p h. absurd (false≢true (subst (λ (x : List Nv). list_any (same_nv p) x ≡ true) g.fresh.packages h));
@@ -107,28 +107,28 @@ module _ {Y : Type 0} (world : World) (gives : Demand → List Y) (roots : List 
   module _ (done : List Demand) (a b : Search) (old new : List Y) (w : IsOnTheWay world gives roots done a old)
       (t : IsTurn world gives a b old new) where
     chain : Chained world roots t.demand
-    chain = w.kept.chained t.demand (Contains-append_right done a.waiting t.demand t.taken.waits.here)
+    chain = w.accounted.chained t.demand (Contains-append_right done a.waiting t.demand t.taken.waits.here)
 
-    mid_kept : IsKept world roots (done ++ t.demand ∷ []) t.mid
-    mid_kept = kept_taken world roots done t.demand a t.mid w.kept t.taken
+    mid_accounted : IsAccounted world roots (done ++ t.demand ∷ []) t.mid
+    mid_accounted = accounted_taken world roots done t.demand a t.mid w.accounted t.taken
 
     chains : (v : Want) (e : Demand) → Contains t.followed.wants v → Gives v e → Chained world roots e
     chains = chain_wants done a t.demand t.followed.wants chain t.followed.are.sound
 
     lasts : (e : Demand) → IsAsked a e → IsAsked b e
-    lasts e h = more_all world roots (done ++ t.demand ∷ []) t.followed.wants t.mid b mid_kept chains t.followed.asks e
+    lasts e h = more_all world roots (done ++ t.demand ∷ []) t.followed.wants t.mid b mid_accounted chains t.followed.asks e
         (more_taken world roots done t.demand a t.mid t.taken e h)
 
     pub turned : IsOnTheWay world gives roots (done ++ t.demand ∷ []) b new
     turned = record {
-      kept = kept_all world roots (done ++ t.demand ∷ []) t.followed.wants t.mid b mid_kept chains t.followed.asks;
+      accounted = accounted_all world roots (done ++ t.demand ∷ []) t.followed.wants t.mid b mid_accounted chains t.followed.asks;
       has_roots = λ p h. lasts (of_package p) (w.has_roots p h);
       closed = λ d e h f.
           ⊎_elim
           (λ before. lasts e (w.closed d e before f))
           (λ same.
           let g : Follows world t.demand e = subst (λ (x : Demand). Follows world x e) (sym same) f in
-          now_all world roots (done ++ t.demand ∷ []) t.followed.wants t.mid b mid_kept chains t.followed.asks g.want
+          now_all world roots (done ++ t.demand ∷ []) t.followed.wants t.mid b mid_accounted chains t.followed.asks g.want
           (t.followed.are.complete g.want g.among) e g.gives)
           (Contains-push_cases done t.demand d h);
       yielded = yielded_more gives done t.demand old new w.yielded t.followed.yields;
@@ -146,12 +146,12 @@ module _ {Y : Type 0} (world : World) (gives : Demand → List Y) (roots : List 
       IsAccount world roots done × IsYield gives done found
   ended done s found none w = (
     record {
-      chained = λ d h. w.kept.chained d (Contains-append_left done s.waiting d h);
+      chained = λ d h. w.accounted.chained d (Contains-append_left done s.waiting d h);
       has_roots = λ p h. covers (of_package p) (w.has_roots p h);
       closed = λ d e h f. covers e (w.closed d e h f);
       widened = λ p q r t a b c h i j.
-          covers (of_module r t c) (wide s p q r t a b c (w.kept.below (of_module p t a) (Contains-append_left done s.waiting (of_module p t a) h))
-          (w.kept.below (of_module q t b) (Contains-append_left done s.waiting (of_module q t b) i)) j);
+          covers (of_module r t c) (wide s p q r t a b c (w.accounted.below (of_module p t a) (Contains-append_left done s.waiting (of_module p t a) h))
+          (w.accounted.below (of_module q t b) (Contains-append_left done s.waiting (of_module q t b) i)) j);
     },
     w.yielded,
   )
@@ -160,4 +160,4 @@ module _ {Y : Type 0} (world : World) (gives : Demand → List Y) (roots : List 
       back e c = ⊎_elim (λ l. l) (λ r. absurd (none_in e (subst (λ (x : List Demand). Contains x e) none r))) (Contains-append_cases done s.waiting e c)
 
       covers : (e : Demand) → IsAsked s e → IsCovered done e
-      covers e h = covers_more (members done s) done back e (covered world roots done s w.kept e h)
+      covers e h = covers_more (members done s) done back e (covered world roots done s w.accounted e h)

@@ -18,9 +18,9 @@ use Rattle.fast_check_lattice.specs.Names.{Path, path_of, whole_below, has_whole
 use Rattle.fast_check_demands.specs.declared.symbol_demands.demand.Extent.{Extent}
 use Rattle.fast_check_demands.specs.declared.symbol_demands.demand.Extent.TheVariants.{Touched, Whole}
 use Rattle.fast_check_packages.specs.contracts.package.PackageNvOrd.TheImpl as package_order
+use Rattle.fast_check_demands.proofs.worklists.Taken.{bytes_same}
 use Rattle.fast_check_range_finder.specs.contracts.demand.DependencyOrd.TheImpl as dependency_order
 use Rattle.fast_check_demands.proofs.worklists.Maps.{first_in, only_in}
-use Rattle.fast_check_range_finder.proofs.Kept.{text_itself}
 use Rattle.fast_check_range_finder.proofs.Once.{once_asked}
 use Rattle.fast_check_range_finder.proofs.Places.{nv_is, then_both}
 use Rattle.fast_check_graph.specs.declared.graph.ModuleGraph.{ModuleGraph}
@@ -107,12 +107,12 @@ module _ (g : ModuleGraph) (r : RootSymbol) (f : Finder) (packages : List Packag
 
 begins_itself : (p : Path) → begins p p ≡ true
 begins_itself [] = refl
-begins_itself (n ∷ p) = and_from (bytes_eq n n) (begins p p) (text_itself n) (begins_itself p)
+begins_itself (n ∷ p) = and_from (bytes_eq n n) (begins p p) (bytes_same n) (begins_itself p)
 
 whole_itself : (b : Bool) → b ≡ true → (p : Path) → has_whole (λ part q. b && whole_below p part q) p ≡ true
 whole_itself false e p = absurd (false≢true e)
 whole_itself true e [] = refl
-whole_itself true e (n ∷ p) = whole_itself (bytes_eq n n) (text_itself n) p
+whole_itself true e (n ∷ p) = whole_itself (bytes_eq n n) (bytes_same n) p
 
 -- what a value of the code asks for is among what it stands for
 pub proper : (d : Single) → asked_by (names_of d) (names_of d) ≡ true
@@ -124,7 +124,7 @@ proper (singles.Path first rest extent) = by_extent extent
     by_extent : (x : Extent) → asked_by (path_demand (first.now ∷ path_of rest.now) x) (path_demand (first.now ∷ path_of rest.now) x) ≡ true
     by_extent Touched = and_from (begins (first.now ∷ path_of rest.now) (first.now ∷ path_of rest.now)) true
         (begins_itself (first.now ∷ path_of rest.now)) refl
-    by_extent Whole = whole_itself (bytes_eq first.now first.now) (text_itself first.now) (path_of rest.now)
+    by_extent Whole = whole_itself (bytes_eq first.now first.now) (bytes_same first.now) (path_of rest.now)
 
 -- names that are pushed
 pub names_pushed : (old new : List NamesAt) (x : NamesAt) (p : Nv) (url : Parts) (e : NameDemand) → new ≡ old ++ x ∷ [] → nv_of x.package ≡ p →

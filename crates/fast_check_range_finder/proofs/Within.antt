@@ -5,6 +5,7 @@ use Rattle.std.proofs.Common.{Result, Ok, Err}
 use Rattle.std.specs.List.{Contains, IsDistinct}
 use Rattle.std.specs.Map.{keys_of, values_of}
 use Rattle.std.proofs.lemmas.List.Elements.{Contains-append_left}
+use Rattle.std.proofs.lemmas.Option.{none-some}
 use Rattle.url.specs.Parts.{serialize}
 use Rattle.fast_check_syntax.specs.declared.source.SourceRange.{SourceRange}
 use Rattle.fast_check_graph.specs.Root.{specifier_of}
@@ -22,6 +23,7 @@ use Rattle.fast_check_demands.specs.traces.Origins.{IsIndexOf}
 use Rattle.fast_check_demands.specs.traces.Roots.{roots}
 use Rattle.fast_check_demands.specs.traces.Wants.{node_ranges, re_export_ranges}
 use Rattle.fast_check_demands.specs.declared.traces.origins.ReExportIndex.{ReExportIndex}
+use Rattle.fast_check_demands.proofs.worklists.Maps.{some_is}
 use Rattle.fast_check_package_ranges.specs.findings.Yields.{Yield}
 use Rattle.fast_check_demands.specs.worklists.Demands.{Text, to_symbol}
 use Rattle.fast_check_range_finder.specs.declared.demand.Place.{Place}
@@ -31,7 +33,6 @@ use Rattle.fast_check_range_finder.specs.Turn.{AreSame}
 use Rattle.fast_check_range_finder.specs.Finder.{Followed, place_nv, place_text, followed_yields, traced_in, AsksEach, AreAliasesAsked, AreShown, Shows, IsModuleOf, IsSound, Goes}
 use Rattle.fast_check_range_finder.specs.Rules.{own_text}
 use Rattle.fast_check_range_finder.specs.Yields.{public_at, implementing_at, faults_at}
-use Rattle.fast_check_range_finder.proofs.Places.{no_entry, some_entry}
 use Rattle.fast_check_range_finder.proofs.Steps.{same_itself}
 use Rattle.fast_check_range_finder.proofs.SymbolsAsked.{TellsPlaces}
 use Rattle.fast_check_range_finder.proofs.Gained.{get_in, parts, parts_of, parts_joins, ranges_join}
@@ -43,17 +44,11 @@ pub with_ok : {T E A B C D : Type 0} (r : Result T E) {P Q : T → Type 0} → I
 with_ok (Ok x) p a b c d f = f x p a b c d
 with_ok (Err e) p a b c d f = tt
 
--- the value at a place
-pub get_value : {K X : Type 0} (es : List (K × X)) (i : ℕ) (e : K × X) → slice_get es i ≡ Some e → slice_get (values_of es) i ≡ Some e.1
-get_value [] i e h = absurd (no_entry e h)
-get_value (x ∷ xs) zero e h = ap (λ y. Some y.1) (some_entry x e h)
-get_value (x ∷ xs) (suc i) e h = get_value xs i e h
-
 -- and the entry of a value
 pub value_in : {K X : Type 0} (es : List (K × X)) (i : ℕ) (x : X) → slice_get (values_of es) i ≡ Some x →
     (k : K) × (slice_get es i ≡ Some (k, x))
-value_in [] i x h = absurd (no_entry x h)
-value_in (y ∷ ys) zero x h = (y.0, ap (λ z. Some (y.0, z)) (some_entry y.1 x h))
+value_in [] i x h = absurd (none-some x h)
+value_in (y ∷ ys) zero x h = (y.0, ap (λ z. Some (y.0, z)) (some_is y.1 x h))
 value_in (y ∷ ys) (suc i) x h = value_in ys i x h
 
 module _ (g : ModuleGraph) (r : RootSymbol) (f b : Finder) (sound : IsSound g r f) (place : ℕ) (e : Followed)

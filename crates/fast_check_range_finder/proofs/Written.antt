@@ -8,6 +8,7 @@ use Rattle.std.specs.Str.{bytes_eq}
 use Rattle.std.specs.Option.{option_and_then, option_or}
 use Rattle.std.proofs.lemmas.Bool.{cases_Bool}
 use Rattle.std.proofs.lemmas.List.Elements.{Contains-append_left, Contains-append_right}
+use Rattle.std.proofs.lemmas.Option.{none-some}
 use Rattle.url.specs.Parts.{Parts, serialize}
 use Rattle.fast_check_lattice.specs.Names.{Name, Path, path_of}
 use Rattle.fast_check_lattice.specs.Imports.{default_name, NameDemand, names_but_default, each_name, subset_at, whole_at}
@@ -49,12 +50,12 @@ use Rattle.fast_check_range_finder.specs.Reach.{dep_names, kind_names, symbol_na
 use Rattle.fast_check_range_finder.specs.Reach.{all_ids, own_texts}
 use Rattle.fast_check_range_finder.proofs.Paths.{flat_longer, Fits, fits_in, in_fits, fits_empty, fits_more, fits_longer, fits_tail}
 use Rattle.fast_check_range_finder.proofs.Paths.{fits_name, fits_rest, empty_in}
-use Rattle.fast_check_range_finder.proofs.Named.{none_some, last_inside, looked_inside, dep_paths, kind_paths, in_names}
+use Rattle.fast_check_range_finder.proofs.Named.{last_inside, looked_inside, dep_paths, kind_paths, in_names}
 
 -- what is looked up in what was found
 pub then_some : {X Y : Type 0} (f : X → Option Y) (o : Option X) (y : Y) → option_and_then f o ≡ Some y → (x : X) × (o ≡ Some x) ×
     (f x ≡ Some y)
-then_some f None y e = absurd (none_some y e)
+then_some f None y e = absurd (none-some y e)
 then_some f (Some x) y e = (x, refl, e)
 
 or_some : {X : Type 0} (o p : Option X) (x : X) → option_or o p ≡ Some x → (o ≡ Some x) ⊎ (p ≡ Some x)
@@ -87,7 +88,7 @@ module _ (k : Known) where
   info_in t info e =
       let n = then_some (typed_info k.root_symbol t) (node_at k.graph t) info e in
       ⊎_elim (λ h. named_info t info (sym (ap (λ (b : Bool). cond b (named_at k.root_symbol t) None) h) ∙ n.2))
-      (λ h. absurd (none_some info (sym (ap (λ (b : Bool). cond b (named_at k.root_symbol t) None) h) ∙ n.2)))
+      (λ h. absurd (none-some info (sym (ap (λ (b : Bool). cond b (named_at k.root_symbol t) None) h) ∙ n.2)))
       (cases_Bool (is_typed_module n.0))
 
   module _ (info : AnyModuleInfo) (is : IsInfo info) where

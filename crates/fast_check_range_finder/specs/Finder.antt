@@ -105,12 +105,12 @@ depends d = dependency (nv_of d.package) (nv_of d.on)
 abbrev pub followed_yields : Followed → List Yield
 followed_yields e = module_yields (place_nv e) e.1.found
 
-abbrev pub noted_yields : PackageNv × Parts → List Yield
-noted_yields e = untyped_yields (nv_of e.0) e.1
+abbrev pub untyped_yields_of : PackageNv × Parts → List Yield
+untyped_yields_of e = untyped_yields (nv_of e.0) e.1
 
 abbrev pub yields_by : List (PackageNv × Entrance) → List Dependency → Modules → List (PackageNv × Parts) → List Yield
 yields_by entrances dependencies ms untyped = flat_map entered_yields entrances ++ (map depends dependencies ++
-    (flat_map followed_yields ms ++ flat_map noted_yields untyped))
+    (flat_map followed_yields ms ++ flat_map untyped_yields_of untyped))
 
 abbrev pub yields_in : Finder → List Yield
 yields_in f = yields_by f.entrances.items f.dependencies.keys f.modules.entries f.untyped.items

@@ -6,7 +6,7 @@ use Rattle.fast_check_cache.specs.Cache.{ItemView}
 use Rattle.fast_check_cache.specs.CachedPackages.{used_item}
 use Rattle.fast_check_demands.specs.worklists.Demands.{Text}
 use Rattle.fast_check_demands.specs.sources.Sources.{Used, none_used, Known, known, with_used}
-use Rattle.fast_check_range_finder.specs.declared.enter.FinderInput.{FinderInput}
+use Rattle.fast_check_range_finder.specs.declared.options.FinderInput.{FinderInput}
 
 -- by the cache, if one is lent
 abbrev pub used_of : {C : Type 0} → Option C → (C → Used) → Used

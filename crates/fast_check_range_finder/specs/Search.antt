@@ -101,7 +101,7 @@ new_names before d (Subset s) = new_beside before d
 
 -- names that were asked of the module before
 pub record WereAsked (url : Parts) (d : NameDemand) (new : Option NameDemand) (old now : List (Parts × ImportedExports)) : Type 0 where
-  pub told : was_told (lookup (is_module url) old) d ≡ true
+  pub before : was_told (lookup (is_module url) old) d ≡ true
   pub none : new ≡ None
   pub same : now ≡ old
 

@@ -49,7 +49,7 @@ abbrev pub HasStar : List Demand → Text → Type 0
 HasStar account t = (nv : Nv) × (d : NameDemand) × Contains account (of_module nv t d) × IsStarred d
 
 -- what was asked is chained, and covered by the demands that were followed and those that wait; and these were asked
-pub record IsKept (world : World) (roots : List Nv) (done : List Demand) (s : Search) : Type 0 where
+pub record IsAccounted (world : World) (roots : List Nv) (done : List Demand) (s : Search) : Type 0 where
   pub chained : (d : Demand) → Contains (members done s) d → Chained world roots d
   pub packages : (p : Nv) → IsTrue (list_any (same_nv p) s.packages) → IsTrue (list_any (is_package p) (members done s))
   pub symbols : (nv : Nv) (t : Text) (d : SymbolDemand) → IsTrue (s.symbols nv t d) →
@@ -64,7 +64,7 @@ pub record IsKept (world : World) (roots : List Nv) (done : List Demand) (s : Se
 -- these demands were followed: what follows from each was asked, and what they give was found
 pub record IsOnTheWay {Y : Type 0} (world : World) (gives : Demand → List Y) (roots : List Nv) (done : List Demand) (s : Search)
     (found : List Y) : Type 0 where
-  pub kept : IsKept world roots done s
+  pub accounted : IsAccounted world roots done s
   pub has_roots : (p : Nv) → Contains roots p → IsAsked s (of_package p)
   pub closed : (d e : Demand) → Contains done d → Follows world d e → IsAsked s e
   pub yielded : IsYield gives done found

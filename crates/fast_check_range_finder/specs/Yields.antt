@@ -22,7 +22,7 @@ use Rattle.fast_check_demands.specs.worklists.Demands.{Text, Want, to_package, t
 use Rattle.fast_check_demands.specs.worklists.Demands.{of_module, of_symbol}
 use Rattle.fast_check_package_ranges.specs.declared.findings.found.EntryFault.{EntryFault}
 use Rattle.fast_check_package_ranges.specs.findings.Yields.{Yield, known_package, entry_point, refused_export, dependency}
-use Rattle.fast_check_package_ranges.specs.findings.Yields.{recorded, public, implementing, untyped_module, kept}
+use Rattle.fast_check_package_ranges.specs.findings.Yields.{recorded, public, implementing, untyped_module, cached}
 use Rattle.fast_check_package_ranges.specs.findings.Findings.{faulty_module, entry_fault, placed_yields}
 use Rattle.fast_check_package_ranges.specs.entries.Entries.{Entrance, passed_over, refused, entered, all_faults}
 use Rattle.fast_check_demands.specs.sources.Sources.{Used, Known, module_at, untyped_at}
@@ -81,7 +81,7 @@ entry_fault_yields nv f = faulty_module nv (serialize f.0) (entry_fault f.1)
 
 -- a package whose item is used gives the item, and nothing of its entry points
 abbrev pub entered_yields : ModuleGraph → Nv → List Parts → Option ItemView → List Yield
-entered_yields g nv urls (Some item) = kept nv urls item ∷ []
+entered_yields g nv urls (Some item) = cached nv urls item ∷ []
 entered_yields g nv urls None =
     known_package nv ∷
     (map (λ url. entry_point nv (serialize url)) urls ++ flat_map (entry_fault_yields nv) (all_faults g urls))

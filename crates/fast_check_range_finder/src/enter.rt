@@ -7,9 +7,9 @@ ghost use Rattle.fast_check_graph.specs.declared.graph.ModuleGraph.{ModuleGraph 
 ghost use Rattle.fast_check_graph.specs.declared.root_symbol.RootSymbol.{RootSymbol as RootSymbolSeen};
 ghost use Rattle.fast_check_cache.specs.Cache.{item_of};
 ghost use Rattle.fast_check_cache.specs.CachedPackages.{used_item};
-ghost use Rattle.fast_check_package_ranges.specs.findings.Yields.{kept};
+ghost use Rattle.fast_check_package_ranges.specs.findings.Yields.{cached};
 ghost use Rattle.fast_check_package_ranges.specs.entries.Entries.{entrance_seen, DiagnosesRefused};
-ghost use Rattle.fast_check_package_ranges.specs.entries.Kept.{AreKept};
+ghost use Rattle.fast_check_package_ranges.specs.entries.MemberEntries.{AreMemberEntries};
 ghost use Rattle.fast_check_demands.specs.worklists.Demands.{of_package, to_package};
 ghost use Rattle.fast_check_demands.specs.sources.Sources.{known};
 ghost use Rattle.fast_check_range_finder.specs.Finder.{IsSound, CanEnter, Goes};
@@ -18,25 +18,19 @@ ghost use Rattle.fast_check_range_finder.specs.Rules.{entry_want, unless_faulty,
 ghost use Rattle.fast_check_range_finder.specs.Yields.{entered_yields, entry_yields, gives};
 
 use crate::finder::Finder;
-use fast_check_cache::{FastCheckCache, FastCheckCacheItem, look_up};
+use crate::options::{FinderInput, Lent};
+use fast_check_cache::{FastCheckCacheItem, look_up};
 use fast_check_demands::name_demands::NameDemand;
 use fast_check_demands::sources::Sources;
 use fast_check_demands::worklists::copy_of;
 use fast_check_graph::ModuleGraph;
 use fast_check_package_ranges::entries::{MemberEntries, entry_faults, entry_points};
-use fast_check_package_ranges::findings::{Entrance, EntryFault};
-use fast_check_packages::{BuildFault, JsrUrlProvider, PackageNv};
+use fast_check_package_ranges::findings::Entrance;
+use fast_check_packages::{BuildFault, PackageNv};
 use std::alloc::{AllocError, Global};
 use std::collections::BTreeSet;
 use std::rc::Rc;
 use url::Url;
-
-/// What is known of modules and packages, and the seed of the keys of the cache.
-#[derive(Clone, Copy)]
-pub struct FinderInput<'a> {
-    pub sources: Sources<'a>,
-    pub seed: &'a str,
-}
 
 impl<'a> Finder<'a> {
     /// Asks for packages.
@@ -69,38 +63,20 @@ impl<'a> Finder<'a> {
     }
 
     /// Asks for what an item depends on that is used, in place of what would be found.
-    fn enter_kept(
+    fn enter_cached(
         &mut self,
         nv: &PackageNv,
         entry_points: Rc<BTreeSet<Url>>,
         item: FastCheckCacheItem,
     ) -> Result<(), AllocError>
         ensures { OnOk result ((g : ModuleGraphSeen) (r : RootSymbolSeen) → IsSound g r self.old → CanEnter (nv_of nv.now) self.old
-            → Goes g r (map to_package (item_of item).0) (kept (nv_of nv.now) entry_points.value.keys (item_of item) ∷ []) self.old self.new) }
+            → Goes g r (map to_package (item_of item).0) (cached (nv_of nv.now) entry_points.value.keys (item_of item) ∷ []) self.old self.new) }
     {
         self.ask_packages(&item.dependencies)?;
         let package = copy_of(nv)?;
-        let entrance = Entrance::Kept { entry_points, item };
+        let entrance = Entrance::Cached { entry_points, item };
         self.entrances.push((package, entrance))?;
         Ok(())
-    }
-
-    /// Asks for all names of entry points, unless something is wrong with one.
-    fn ask_unless_faulty(
-        &mut self,
-        alloc: Global,
-        nv: &PackageNv,
-        entry_points: &BTreeSet<Url>,
-        faults: &[(Url, EntryFault)],
-    ) -> Result<(), AllocError>
-        ensures goes { OnOk result ((g : ModuleGraphSeen) (r : RootSymbolSeen) → IsSound g r self.old
-            → Goes g r (unless_faulty faults.now (map (entry_want (nv_of nv.now)) entry_points.now.keys)) [] self.old self.new) }
-        ensures enters { OnOk result ((nv : NvSeen) → CanEnter nv self.old → CanEnter nv self.new) }
-    {
-        match faults.split_first() {
-            None => self.ask_entries(alloc, nv, entry_points),
-            Some(_) => Ok(()),
-        }
     }
 
     /// Notes the entry points of a package with what is wrong with them, and asks for all their names, unless something is wrong with one.
@@ -116,7 +92,9 @@ impl<'a> Finder<'a> {
             (entered_yields graph.now (nv_of nv.now) entry_points.value.keys None) self.old self.new) }
     {
         let faults = entry_faults(alloc, graph, &entry_points)?;
-        self.ask_unless_faulty(alloc, nv, &entry_points, faults.as_slice())?;
+        if faults.is_empty() {
+            self.ask_entries(alloc, nv, &entry_points)?;
+        }
         let package = copy_of(nv)?;
         let entrance = Entrance::Entered {
             entry_points,
@@ -129,44 +107,22 @@ impl<'a> Finder<'a> {
     /// Asks the cache for a package with these entry points, and enters it.
     fn enter_known(
         &mut self,
-        alloc: Global,
-        input: FinderInput<'a>,
-        cache: Option<&dyn FastCheckCache>,
+        lent: Lent<'a, '_>,
         nv: &PackageNv,
         entry_points: Rc<BTreeSet<Url>>,
     ) -> Result<(), AllocError>
-        ensures { let i = input.entry in
-            let used = used_of cache.entry (λ c. used_item (hash_of c.now i.seed.now) (stored c.now) i.sources.graph.now) in
+        ensures { let i = lent.entry.input in
+            let used = used_of lent.entry.cache (λ c. used_item (hash_of c.now i.seed.now) (stored c.now) i.sources.graph.now) in
             let urls = entry_points.value.keys in
             OnOk result ((g : ModuleGraphSeen) (r : RootSymbolSeen) → IsSound g r self.old → CanEnter (nv_of nv.now) self.old
-            → Goes g r (entered_wants i.sources.graph.now (nv_of nv.now) urls (used (nv_of nv.now) urls)) (entered_yields i.sources.graph.now (nv_of nv.now) urls (used (nv_of nv.now) urls))
+            → Goes g r (entered_wants i.sources.graph.now (nv_of nv.now) urls (used (nv_of nv.now) urls))
+            (entered_yields i.sources.graph.now (nv_of nv.now) urls (used (nv_of nv.now) urls))
             self.old self.new) }
     {
-        let graph = input.sources.graph;
-        match look_up(cache, input.seed, graph, nv, &entry_points)? {
-            None => self.enter_at(alloc, graph, nv, entry_points),
-            Some(item) => self.enter_kept(nv, entry_points, item),
-        }
-    }
-
-    /// Enters a package, if its entry points are known.
-    fn enter_some(
-        &mut self,
-        alloc: Global,
-        input: FinderInput<'a>,
-        cache: Option<&dyn FastCheckCache>,
-        nv: &PackageNv,
-        entry_points: Option<Rc<BTreeSet<Url>>>,
-    ) -> Result<(), AllocError>
-        ensures { let i = input.entry in
-            let used = used_of cache.entry (λ c. used_item (hash_of c.now i.seed.now) (stored c.now) i.sources.graph.now) in
-            let entrance = entrance_seen entry_points in
-            OnOk result ((g : ModuleGraphSeen) (r : RootSymbolSeen) → IsSound g r self.old → CanEnter (nv_of nv.now) self.old
-            → Goes g r (entry_wants i.sources.graph.now used (nv_of nv.now) entrance) (entry_yields i.sources.graph.now used (nv_of nv.now) entrance) self.old self.new) }
-    {
-        match entry_points {
-            None => Ok(()),
-            Some(entry_points) => self.enter_known(alloc, input, cache, nv, entry_points),
+        let FinderInput { sources, seed } = lent.input;
+        match look_up(lent.cache, seed, sources.graph, nv, &entry_points)? {
+            None => self.enter_at(lent.alloc, sources.graph, nv, entry_points),
+            Some(item) => self.enter_cached(nv, entry_points, item),
         }
     }
 
@@ -174,27 +130,33 @@ impl<'a> Finder<'a> {
     /// export text that does not join, before the cache is asked. The entry points of members are kept from one package to the next.
     pub fn enter(
         &mut self,
-        alloc: Global,
-        input: FinderInput<'a>,
-        provider: &dyn JsrUrlProvider,
-        cache: Option<&dyn FastCheckCache>,
+        lent: Lent<'a, '_>,
         nv: &PackageNv,
         members: &mut MemberEntries,
     ) -> Result<(), BuildFault>
-        ensures entered { let k = known_with input.entry (url_of provider.now) (nv_at provider.now) cache.entry (λ c. hash_of c.now) (λ c. stored c.now) in
+        ensures entered { let k = known_with lent.entry.input (url_of lent.entry.provider.now) (nv_at lent.entry.provider.now)
+            lent.entry.cache (λ c. hash_of c.now) (λ c. stored c.now) in
             let d = of_package (nv_of nv.now) in
-            OnOk result (AreKept k.workspace_members members.old → AreKept k.workspace_members members.new × (IsSound k.graph k.root_symbol self.old
+            OnOk result (AreMemberEntries k.workspace_members members.old → AreMemberEntries k.workspace_members members.new × (IsSound k.graph k.root_symbol self.old
             → CanEnter (nv_of nv.now) self.old → Goes k.graph k.root_symbol (world k d) (gives k d) self.old self.new)) }
         ensures refused { IfErr result (DiagnosesRefused (nv_of nv.now)
-            (entrance_at (known input.entry.sources (url_of provider.now) (nv_at provider.now)) (nv_of nv.now))) }
+            (entrance_at (known lent.entry.input.sources (url_of lent.entry.provider.now) (nv_at lent.entry.provider.now)) (nv_of nv.now))) }
     {
         let Sources {
             graph,
             workspace_members,
             ..
-        } = input.sources;
-        let entry_points = entry_points(alloc, graph, workspace_members, provider, nv, members)?;
-        self.enter_some(alloc, input, cache, nv, entry_points)?;
-        Ok(())
+        } = lent.input.sources;
+        match entry_points(
+            lent.alloc,
+            graph,
+            workspace_members,
+            lent.provider,
+            nv,
+            members,
+        )? {
+            None => Ok(()),
+            Some(entry_points) => Ok(self.enter_known(lent, nv, entry_points)?),
+        }
     }
 }

@@ -6,7 +6,7 @@ ghost use Rattle.fast_check_graph.specs.declared.graph.ModuleGraph.{ModuleGraph 
 ghost use Rattle.fast_check_graph.specs.declared.root_symbol.RootSymbol.{RootSymbol as RootSymbolSeen};
 ghost use Rattle.fast_check_packages.specs.MembersIn.{members_in};
 ghost use Rattle.fast_check_package_ranges.specs.findings.Found.{found_yields};
-ghost use Rattle.fast_check_package_ranges.specs.entries.Kept.{AreKept};
+ghost use Rattle.fast_check_package_ranges.specs.entries.MemberEntries.{AreMemberEntries};
 ghost use Rattle.fast_check_range_finder.specs.Account.{Account, HasHomes, IsAccount, IsYield};
 ghost use Rattle.fast_check_range_finder.specs.Finder.{IsSound, Begins, TurnsTo};
 ghost use Rattle.fast_check_range_finder.specs.Lent.{known_with};
@@ -14,8 +14,8 @@ ghost use Rattle.fast_check_range_finder.specs.Refusals.{IsRefusal, IsRefusedOf,
 ghost use Rattle.fast_check_range_finder.specs.Rules.{world};
 ghost use Rattle.fast_check_range_finder.specs.Yields.{gives};
 
-use crate::enter::FinderInput;
 use crate::finder::Finder;
+use crate::options::{FinderInput, FinderOptions, Lent};
 use fast_check_cache::FastCheckCache;
 use fast_check_demands::worklists::copy_of;
 use fast_check_package_ranges::entries::MemberEntries;
@@ -39,18 +39,17 @@ impl<'a> Finder<'a> {
     /// Enters the next package, if there is one.
     fn enter_next(
         &mut self,
-        alloc: Global,
-        input: FinderInput<'a>,
-        provider: &dyn JsrUrlProvider,
-        cache: Option<&dyn FastCheckCache>,
+        lent: Lent<'a, '_>,
         members: &mut MemberEntries,
     ) -> Result<bool, BuildFault>
-        requires sound { IsSound input.sources.graph.now input.sources.root_symbol.now self.old }
+        requires sound { IsSound lent.input.sources.graph.now lent.input.sources.root_symbol.now self.old }
         requires no_symbols { self.old.symbols.items ≡ [] }
         requires no_names { self.old.names.items ≡ [] }
-        ensures turned { let k = known_with input.entry (url_of provider.now) (nv_at provider.now) cache.entry (λ c. hash_of c.now) (λ c. stored c.now) in
-            IfOk result (λ more. AreKept k.workspace_members members.old → TurnsTo k more self.old self.new × AreKept k.workspace_members members.new) }
-        ensures refused { let k = known_with input.entry (url_of provider.now) (nv_at provider.now) cache.entry (λ c. hash_of c.now) (λ c. stored c.now) in
+        ensures turned { let k = known_with lent.entry.input (url_of lent.entry.provider.now) (nv_at lent.entry.provider.now)
+            lent.entry.cache (λ c. hash_of c.now) (λ c. stored c.now) in
+            IfOk result (λ more. AreMemberEntries k.workspace_members members.old → TurnsTo k more self.old self.new × AreMemberEntries k.workspace_members members.new) }
+        ensures refused { let k = known_with lent.entry.input (url_of lent.entry.provider.now) (nv_at lent.entry.provider.now)
+            lent.entry.cache (λ c. hash_of c.now) (λ c. stored c.now) in
             IfErr result (IsRefusedOf k (map nv_of self.old.packages)) }
     {
         if self.entered >= self.packages.len() {
@@ -58,7 +57,7 @@ impl<'a> Finder<'a> {
         }
         let nv = copy_of(self.packages.at(self.entered))?;
         self.entered += 1;
-        self.enter(alloc, input, provider, cache, &nv, members)?;
+        self.enter(lent, &nv, members)?;
         Ok(true)
     }
 }
@@ -83,15 +82,21 @@ pub fn find_all<'a>(
     ensures refused { let k = known_with input.entry (url_of provider.now) (nv_at provider.now) cache.entry (λ c. hash_of c.now) (λ c. stored c.now) in
         IfErr result (IsRefusal k (map nv_of roots.now)) }
 {
+    let lent = FinderOptions {
+        alloc,
+        input,
+        provider,
+        cache,
+    };
     let mut finder = begin(alloc, roots)?;
     let mut members = MemberEntries::new(alloc);
     'turns: loop {
         match finder.symbols.pop() {
-            Some(at) => finder.follow_symbol(alloc, input.sources, provider, at)?,
+            Some(at) => finder.follow_symbol(lent, at)?,
             None => match finder.names.pop() {
-                Some(at) => finder.follow_names(alloc, input.sources, provider, at)?,
+                Some(at) => finder.follow_names(lent, at)?,
                 None => {
-                    if !finder.enter_next(alloc, input, provider, cache, &mut members)? {
+                    if !finder.enter_next(lent, &mut members)? {
                         break;
                     }
                 }

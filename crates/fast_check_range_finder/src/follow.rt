@@ -25,6 +25,7 @@ ghost use Rattle.fast_check_range_finder.specs.Yields.{dependencies, public_at, 
 use crate::asked::AskedAlias;
 use crate::demand::{NamesAt, SymbolAt};
 use crate::finder::{Finder, FollowedModule, ask_each, place_of};
+use crate::options::Lent;
 use fast_check_demands::name_demands::{FileWant, FileWants, NameDemand, files_of};
 use fast_check_demands::sources::{Sources, info_of, is_untyped, owner_of};
 use fast_check_demands::traces::{
@@ -36,7 +37,7 @@ use fast_check_demands::{
     Ask, demands_of, fault_of, own_names_of, push_implementations, push_ranges,
 };
 use fast_check_graph::AnyModuleInfo;
-use fast_check_packages::{JsrUrlProvider, PackageNv};
+use fast_check_packages::PackageNv;
 use std::alloc::{AllocError, Global};
 use url::Url;
 
@@ -160,22 +161,20 @@ impl<'a> Finder<'a> {
     /// Asks for names of the module at a URL, if it belongs to the package; for another package it belongs to, alone.
     fn ask_file(
         &mut self,
-        alloc: Global,
-        sources: Sources<'a>,
-        provider: &dyn JsrUrlProvider,
+        lent: Lent<'a, '_>,
         nv: &PackageNv,
         url: &Url,
         names: NameDemand<'a>,
     ) -> Result<(), AllocError>
-        ensures { let k = known sources.entry (url_of provider.now) (nv_at provider.now) in
+        ensures { let k = known lent.entry.input.sources (url_of lent.entry.provider.now) (nv_at lent.entry.provider.now) in
             let ws = file_at (nv_of nv.now) (serialize url.now) (asked_by (names_of names.entry)) (k.owner (serialize url.now)) in
             OnOk result (IsSound k.graph k.root_symbol self.old → Goes k.graph k.root_symbol ws (dependencies (nv_of nv.now) ws) self.old self.new) }
     {
-        match owner_of(sources, provider, url)? {
+        match owner_of(lent.input.sources, lent.provider, url)? {
             None => Ok(()),
             Some(owner) => {
                 if is_same_package(nv, &owner) {
-                    return self.ask_names(alloc, &owner, url, names);
+                    return self.ask_names(lent.alloc, &owner, url, names);
                 }
                 self.depend(nv, owner)
             }
@@ -183,46 +182,40 @@ impl<'a> Finder<'a> {
     }
 
     /// What a module asks of the file that a text names.
-    fn ask_want(
+    fn ask_dependency(
         &mut self,
-        alloc: Global,
-        sources: Sources<'a>,
-        provider: &dyn JsrUrlProvider,
+        lent: Lent<'a, '_>,
         nv: &PackageNv,
         info: &'a AnyModuleInfo,
         want: FileWant<'a>,
     ) -> Result<(), AllocError>
-        ensures { let k = known sources.entry (url_of provider.now) (nv_at provider.now) in
+        ensures { let k = known lent.entry.input.sources (url_of lent.entry.provider.now) (nv_at lent.entry.provider.now) in
             let ws = file_wants k (nv_of nv.now) (traced_as k info.now) (file_demand_of want.entry) in
             OnOk result (IsSound k.graph k.root_symbol self.old → Goes k.graph k.root_symbol ws (dependencies (nv_of nv.now) ws) self.old self.new) }
     {
-        match sources
-            .graph
-            .resolve_dependency(want.specifier, info.specifier())
-        {
+        let graph = lent.input.sources.graph;
+        match graph.resolve_dependency(want.specifier, info.specifier()) {
             None => Ok(()),
-            Some(url) => self.ask_file(alloc, sources, provider, nv, url, want.names),
+            Some(url) => self.ask_file(lent, nv, url, want.names),
         }
     }
 
     /// Asks for names of the module at a URL behind a re-export, for whatever package it belongs to.
     fn ask_behind(
         &mut self,
-        alloc: Global,
-        sources: Sources<'a>,
-        provider: &dyn JsrUrlProvider,
+        lent: Lent<'a, '_>,
         nv: &PackageNv,
         url: &Url,
         names: NameDemand<'a>,
     ) -> Result<(), AllocError>
-        ensures { let k = known sources.entry (url_of provider.now) (nv_at provider.now) in
+        ensures { let k = known lent.entry.input.sources (url_of lent.entry.provider.now) (nv_at lent.entry.provider.now) in
             let ws = behind (nv_of nv.now) (serialize url.now) (asked_by (names_of names.entry)) (k.owner (serialize url.now)) in
             OnOk result (IsSound k.graph k.root_symbol self.old → Goes k.graph k.root_symbol ws (dependencies (nv_of nv.now) ws) self.old self.new) }
     {
-        match owner_of(sources, provider, url)? {
+        match owner_of(lent.input.sources, lent.provider, url)? {
             None => Ok(()),
             Some(owner) => {
-                self.ask_names(alloc, &owner, url, names)?;
+                self.ask_names(lent.alloc, &owner, url, names)?;
                 if is_same_package(nv, &owner) {
                     return Ok(());
                 }
@@ -232,30 +225,24 @@ impl<'a> Finder<'a> {
     }
 
     /// What a module asks of another by what it exports again.
-    fn ask_left(
+    fn ask_re_exported(
         &mut self,
-        alloc: Global,
-        sources: Sources<'a>,
-        provider: &dyn JsrUrlProvider,
+        lent: Lent<'a, '_>,
         nv: &PackageNv,
         info: &'a AnyModuleInfo,
         want: ModuleWant<'a>,
     ) -> Result<(), AllocError>
-        ensures { let k = known sources.entry (url_of provider.now) (nv_at provider.now) in
+        ensures { let k = known lent.entry.input.sources (url_of lent.entry.provider.now) (nv_at lent.entry.provider.now) in
             let ws = left_wants k (nv_of nv.now) (traced_as k info.now) (want_of want.entry) in
             OnOk result (IsSound k.graph k.root_symbol self.old → Goes k.graph k.root_symbol ws (dependencies (nv_of nv.now) ws) self.old self.new) }
     {
         match want {
-            ModuleWant::Answered(url, names) => {
-                self.ask_behind(alloc, sources, provider, nv, url, names)
-            }
+            ModuleWant::Answered(url, names) => self.ask_behind(lent, nv, url, names),
             ModuleWant::ReExported(text) => {
-                match sources.graph.resolve_dependency(text, info.specifier()) {
+                let graph = lent.input.sources.graph;
+                match graph.resolve_dependency(text, info.specifier()) {
                     None => Ok(()),
-                    Some(url) => {
-                        let names = NameDemand::AllButDefault;
-                        self.ask_behind(alloc, sources, provider, nv, url, names)
-                    }
+                    Some(url) => self.ask_behind(lent, nv, url, NameDemand::AllButDefault),
                 }
             }
         }
@@ -282,15 +269,9 @@ impl<'a> Finder<'a> {
     }
 
     /// Follows a demand of a symbol.
-    pub fn follow_symbol(
-        &mut self,
-        alloc: Global,
-        sources: Sources<'a>,
-        provider: &dyn JsrUrlProvider,
-        at: SymbolAt<'a>,
-    ) -> Result<(), AllocError>
+    pub fn follow_symbol(&mut self, lent: Lent<'a, '_>, at: SymbolAt<'a>) -> Result<(), AllocError>
         requires { at.place < length self.old.modules.entries }
-        ensures { let k = known sources.entry (url_of provider.now) (nv_at provider.now) in
+        ensures { let k = known lent.entry.input.sources (url_of lent.entry.provider.now) (nv_at lent.entry.provider.now) in
             OnOk result ((e : Followed) → slice_get self.old.modules.entries at.entry.place ≡ Some e → IsSound k.graph k.root_symbol self.old
             → let d = of_symbol (place_nv e) (place_text e) (demand_of at.entry.demand) in
             Goes k.graph k.root_symbol (world k d) (gives k d) self.old self.new) }
@@ -300,9 +281,9 @@ impl<'a> Finder<'a> {
         };
         let nv = copy_of(&place.package)?;
         let info = followed.found.info;
-        let wants = self.follow_at(alloc, at)?;
+        let wants = self.follow_at(lent.alloc, at)?;
         for want in wants.as_slice() {
-            self.ask_want(alloc, sources, provider, &nv, info, *want)?;
+            self.ask_dependency(lent, &nv, info, *want)?;
         }
         Ok(())
     }
@@ -337,37 +318,29 @@ impl<'a> Finder<'a> {
     /// Follows names of a module that has tables.
     fn follow_module(
         &mut self,
-        alloc: Global,
-        sources: Sources<'a>,
-        provider: &dyn JsrUrlProvider,
+        lent: Lent<'a, '_>,
         info: &'a AnyModuleInfo,
         nv: PackageNv,
         names: NameDemand<'a>,
     ) -> Result<(), AllocError>
-        requires sound { IsSound sources.graph.now sources.root_symbol.now self.old }
-        requires own { named_at sources.root_symbol.now (serialize (specifier_of info.now)) ≡ Some info.now }
-        ensures { let k = known sources.entry (url_of provider.now) (nv_at provider.now) in
+        requires sound { IsSound lent.input.sources.graph.now lent.input.sources.root_symbol.now self.old }
+        requires own { named_at lent.input.sources.root_symbol.now (serialize (specifier_of info.now)) ≡ Some info.now }
+        ensures { let k = known lent.entry.input.sources (url_of lent.entry.provider.now) (nv_at lent.entry.provider.now) in
             OnOk result (let m = traced_as k info.now in let d = names_of names.entry in
             Goes k.graph k.root_symbol (names_wants k (nv_of nv) d m) (names_yields k (nv_of nv) d m) self.old self.new) }
     {
-        let place = place_of(alloc, &mut self.modules, copy_of(&nv)?, info)?;
-        let wants = self.follow_names_at(alloc, sources, place, names)?;
+        let place = place_of(lent.alloc, &mut self.modules, copy_of(&nv)?, info)?;
+        let wants = self.follow_names_at(lent.alloc, lent.input.sources, place, names)?;
         for want in wants.as_slice() {
-            self.ask_left(alloc, sources, provider, &nv, info, *want)?;
+            self.ask_re_exported(lent, &nv, info, *want)?;
         }
         Ok(())
     }
 
     /// Follows names of a module, if it has tables. One whose types are not known is noted.
-    pub fn follow_names(
-        &mut self,
-        alloc: Global,
-        sources: Sources<'a>,
-        provider: &dyn JsrUrlProvider,
-        at: NamesAt<'a>,
-    ) -> Result<(), AllocError>
-        requires { IsSound sources.graph.now sources.root_symbol.now self.old }
-        ensures { let k = known sources.entry (url_of provider.now) (nv_at provider.now) in
+    pub fn follow_names(&mut self, lent: Lent<'a, '_>, at: NamesAt<'a>) -> Result<(), AllocError>
+        requires { IsSound lent.input.sources.graph.now lent.input.sources.root_symbol.now self.old }
+        ensures { let k = known lent.entry.input.sources (url_of lent.entry.provider.now) (nv_at lent.entry.provider.now) in
             let d = names_seen at.entry in OnOk result (Goes k.graph k.root_symbol (world k d) (gives k d) self.old self.new) }
     {
         let NamesAt {
@@ -375,14 +348,19 @@ impl<'a> Finder<'a> {
             specifier,
             names,
         } = at;
-        match info_of(sources.graph, sources.root_symbol, &specifier) {
+        let Sources {
+            graph,
+            root_symbol,
+            ..
+        } = lent.input.sources;
+        match info_of(graph, root_symbol, &specifier) {
             Some(info) => {
                 // Each module is found by its own name.
-                sources.root_symbol.own_names_find();
-                self.follow_module(alloc, sources, provider, info, package, names)
+                root_symbol.own_names_find();
+                self.follow_module(lent, info, package, names)
             }
             None => {
-                if is_untyped(sources.graph, &specifier) {
+                if is_untyped(graph, &specifier) {
                     self.untyped.push((package, specifier))?;
                 }
                 Ok(())

@@ -8,13 +8,14 @@ mod find;
 mod finder;
 mod follow;
 mod names;
+mod options;
 mod packages;
 
 pub use asked::{AskedAlias, AskedAs, AskedSymbol, AskedSymbols, NamePath};
 pub use demand::{Dependency, NamesAt, Place, SymbolAt};
-pub use enter::FinderInput;
 pub use fast_check_demands::sources::Sources;
 pub use fast_check_packages::{BuildFault, PackageNv, WorkspaceMember};
 pub use find::find_all;
 pub use finder::{Finder, FollowedModule};
 pub use names::ask_names;
+pub use options::{FinderInput, FinderOptions, Lent};

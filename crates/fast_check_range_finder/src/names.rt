@@ -25,23 +25,15 @@ fn has_part(exports: &ImportedExports, first: &str, rest: &[String], extent: Ext
     }
 }
 
-/// Whether a demand is a path that is among what was demanded. Other demands cost no more to ask for than to look up.
-fn has_names(exports: &ImportedExports, names: NameDemand<'_>) -> bool
-    ensures { result ≡ has_path exports.now (names_of names.entry) }
+/// Whether a demand is a path that was demanded of a module before. Other demands cost no more to ask for than to look up.
+fn was_asked(before: Option<&ImportedExports>, names: NameDemand<'_>) -> bool
+    ensures { result ≡ was_told (option_copied before.entry) (names_of names.entry) }
 {
-    match names {
-        NameDemand::Path(first, rest, extent) => has_part(exports, first, rest, extent),
-        NameDemand::AllButDefault | NameDemand::All | NameDemand::There => false,
-    }
-}
-
-/// The same of what was demanded of a module, if it is known.
-fn was_told(exports: Option<&ImportedExports>, names: NameDemand<'_>) -> bool
-    ensures { result ≡ was_told (option_copied exports.entry) (names_of names.entry) }
-{
-    match exports {
-        None => false,
-        Some(exports) => has_names(exports, names),
+    match (before, names) {
+        (Some(exports), NameDemand::Path(first, rest, extent)) => {
+            has_part(exports, first, rest, extent)
+        }
+        _ => false,
     }
 }
 
@@ -76,7 +68,7 @@ pub fn ask_names<'a>(
     ensures { IfOk result (λ new. AddsNames specifier.now (names_of names.entry) (option_map names_of new) (handled modules.old) (handled modules.new)) }
 {
     let before = modules.exports_of(specifier);
-    if was_told(before, names) {
+    if was_asked(before, names) {
         return Ok(None);
     }
     let beside = new_beside(before, names);

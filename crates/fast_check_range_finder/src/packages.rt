@@ -4,7 +4,7 @@ ghost use Rattle.std.specs.Prelude.{◌∷◌, ◌++◌, [], List, map, IfOk, On
 ghost use Rattle.std.specs.List.{flat_map, Contains};
 ghost use Rattle.fast_check_packages.specs.Package.{nv_of};
 ghost use Rattle.fast_check_package_ranges.specs.findings.Found.{module_yields, untyped_yields, found_yields};
-ghost use Rattle.fast_check_range_finder.specs.Finder.{entered_nv, depends, followed_yields, noted_yields, yields_in};
+ghost use Rattle.fast_check_range_finder.specs.Finder.{entered_nv, depends, followed_yields, untyped_yields_of, yields_in};
 ghost use Rattle.fast_check_range_finder.specs.Once.{AreApart};
 ghost use Rattle.fast_check_range_finder.specs.Packages.{Entered, IsNumbered, Adds, IsEntered};
 ghost use Rattle.fast_check_range_finder.specs.Turn.{AreSame};
@@ -148,7 +148,7 @@ fn add_all_untyped(
     untyped: Vec<(PackageNv, Url)>,
     found: &mut IndexMap<PackageNv, FoundPackage<'_>>,
 ) -> Result<(), AllocError>
-    ensures { OnOk result (Adds (flat_map noted_yields untyped.items) found.old.entries found.new.entries) }
+    ensures { OnOk result (Adds (flat_map untyped_yields_of untyped.items) found.old.entries found.new.entries) }
 {
     for (nv, url) in untyped {
         add_untyped(alloc, nv, url, found)?;

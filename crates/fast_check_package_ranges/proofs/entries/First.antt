@@ -3,9 +3,7 @@ use Rattle.std.proofs.Common.{◌≡◌, ◌∙◌, sym, ap, ℕ, zero, suc, ◌
 use Rattle.std.proofs.Common.{take, length, get_or, ⊎_elim, arith, add-one}
 use Rattle.std.specs.List.{find}
 use Rattle.std.proofs.lemmas.Bool.{cases_Bool}
-
-none_some : {X : Type 0} (x : X) → None ≡ Some x → ⊥
-none_some x e = cc
+use Rattle.std.proofs.lemmas.Option.{none-some}
 
 module _ {X Y : Type 0} (p : Y → Bool) (f : X → Y) where
   -- none so far, and the next one
@@ -15,10 +13,10 @@ module _ {X Y : Type 0} (p : Y → Bool) (f : X → Y) where
   first_at (z ∷ zs) zero x le is none y h =
       let g : find p (f z ∷ []) ≡ Some y = ap (λ (w : X). find p (f w ∷ [])) (sym is) ∙ h in
       ⊎_elim (λ t. ap (λ (b : Bool). cond b (Some (f z)) (find p (map f zs))) t ∙ (sym (ap (λ (b : Bool). cond b (Some (f z)) None) t) ∙ g))
-      (λ e. absurd (none_some y (sym (ap (λ (b : Bool). cond b (Some (f z)) None) e) ∙ g)))
+      (λ e. absurd (none-some y (sym (ap (λ (b : Bool). cond b (Some (f z)) None) e) ∙ g)))
       (cases_Bool (p (f z)))
   first_at (z ∷ zs) (suc i) x le is none y h =
-      ⊎_elim (λ t. absurd (none_some (f z) (sym none ∙ ap (λ (b : Bool). cond b (Some (f z)) (find p (map f (take i zs)))) t)))
+      ⊎_elim (λ t. absurd (none-some (f z) (sym none ∙ ap (λ (b : Bool). cond b (Some (f z)) (find p (map f (take i zs)))) t)))
       (λ e. ap (λ (b : Bool). cond b (Some (f z)) (find p (map f zs))) e ∙
       first_at zs i x (omega (arith, le)) is (sym (ap (λ (b : Bool). cond b (Some (f z)) (find p (map f (take i zs)))) e) ∙ none) y h)
       (cases_Bool (p (f z)))

@@ -8,19 +8,15 @@ use Rattle.std.specs.Ordering.{is_eq}
 use Rattle.std.specs.String.{string_cmp}
 use Rattle.std.specs.declared.rc.Rc.{Rc}
 use Rattle.std.proofs.lemmas.Slice.Eq.{bytes_eq-Decides}
+use Rattle.std.proofs.lemmas.Option.{none-some}
 use Rattle.url.specs.Parts.{Parts}
 use Rattle.fast_check_packages.specs.Package.{Nv}
 use Rattle.fast_check_packages.specs.declared.package.WorkspaceMember.{WorkspaceMember}
 use Rattle.fast_check_packages.specs.Members.{has_version, is_member, is_of_name, member_named}
+use Rattle.fast_check_demands.proofs.worklists.Maps.{some_is}
 use Rattle.fast_check_package_ranges.specs.entries.Entries.{member_exports, entrance_by, entered}
-use Rattle.fast_check_package_ranges.specs.entries.Kept.{AreKept}
+use Rattle.fast_check_package_ranges.specs.entries.MemberEntries.{AreMemberEntries}
 use Rattle.fast_check_package_ranges.specs.declared.entries.members.MemberEntries.{MemberEntries}
-
-inside : {X : Type 0} (x y : X) → Some x ≡ Some y → x ≡ y
-inside x y e = cc
-
-none_some : {X : Type 0} (x : X) → None ≡ Some x → ⊥
-none_some x e = cc
 
 other_name : {X : Type 0} (b : Bool) (has : Option X → Bool) → has None ≡ true → (w : Option X) → (b && has w) ≡ false →
     (is_none w && b) ≡ false
@@ -31,12 +27,12 @@ other_name b has all (Some w) e = refl
 own_name : {X : Type 0} (b : Bool) (has : Option X → Bool) (w : Option X) → w ≡ None → (b && has w) ≡ true → (is_none w && b) ≡ true
 own_name true has None none e = refl
 own_name false has None none e = e
-own_name b has (Some w) none e = absurd (none_some w (sym none))
+own_name b has (Some w) none e = absurd (none-some w (sym none))
 
 -- where a package is a member without version, that is the first of its name
 pub first_of_name : (members : List WorkspaceMember) (nv : Nv) (m : WorkspaceMember) → member_named members nv ≡ Some m → m.version ≡ None →
     find (is_of_name nv.0) members ≡ Some m
-first_of_name [] nv m h none = absurd (none_some m h)
+first_of_name [] nv m h none = absurd (none-some m h)
 first_of_name (x ∷ members) nv m h none = by (is_member nv x) refl h (λ is. first_of_name members nv m is none)
   where
     by : (b : Bool) → is_member nv x ≡ b → cond b (Some x) (find (is_member nv) members) ≡ Some m →
@@ -45,7 +41,7 @@ first_of_name (x ∷ members) nv m h none = by (is_member nv x) refl h (λ is. f
     by true e is rest =
         ap (λ b. cond b (Some x) (find (is_of_name nv.0) members))
         (own_name (bytes_eq nv.0 (string_bytes x.name)) (has_version nv.1) x.version
-        (ap (λ (y : WorkspaceMember). y.version) (inside x m is) ∙ none) e) ∙ is
+        (ap (λ (y : WorkspaceMember). y.version) (some_is x m is) ∙ none) e) ∙ is
     by false e is rest =
         ap (λ b. cond b (Some x) (find (is_of_name nv.0) members))
         (other_name (bytes_eq nv.0 (string_bytes x.name)) (has_version nv.1) refl x.version e) ∙ rest is
@@ -55,7 +51,7 @@ pub kept_more : (old new : MemberEntries) (key : String Global) (nv : Nv) (urls 
     string_bytes key ≡ nv.0 →
     ((q : String Global) → get string_cmp new.by_name q ≡ cond (is_eq (string_cmp key q)) (Some urls) (get string_cmp old.by_name q)) →
     (members : List WorkspaceMember) (m : WorkspaceMember) → member_named members nv ≡ Some m → m.version ≡ None →
-    entrance_by m.base (Some (member_exports m)) ≡ entered urls.value.keys → AreKept members old → AreKept members new
+    entrance_by m.base (Some (member_exports m)) ≡ entered urls.value.keys → AreMemberEntries members old → AreMemberEntries members new
 kept_more old new key nv urls copy put members m is none are h name found there other first =
     by (is_eq (string_cmp key name)) refl (sym (put name) ∙ there)
   where
@@ -64,8 +60,8 @@ kept_more old new key nv urls copy put members m is none are h name found there 
     by true e got =
         let named : nv.0 ≡ string_bytes name = sym copy ∙ (bytes_eq-Decides (string_bytes key) (string_bytes name)).0
         (texts_ties (string_bytes key) (string_bytes name) ∙ e) in
-        let one : m ≡ other = inside m other (sym (first_of_name members nv m is none)
+        let one : m ≡ other = some_is m other (sym (first_of_name members nv m is none)
         ∙ (ap (λ (t : List ℕ). find (is_of_name t) members) named ∙ first)) in
         subst (λ (x : WorkspaceMember). entrance_by x.base (Some (member_exports x)) ≡ entered found.value.keys) one
-        (are ∙ ap (λ (us : Rc (BTreeSet Parts) Global). entered us.value.keys) (inside urls found got))
+        (are ∙ ap (λ (us : Rc (BTreeSet Parts) Global). entered us.value.keys) (some_is urls found got))
     by false e got = h name found got other first

@@ -3,8 +3,7 @@ use Rattle.std.proofs.Common.{◌≡◌, ◌∙◌, sym, ap, refl, subst, ℕ, B
 use Rattle.std.proofs.Common.{Option, Some, None, option_to_list, is_none, true≢false}
 use Rattle.std.specs.Borrow.{Bor}
 use Rattle.std.specs.BTreeSet.{BTreeSet, contains_by}
-use Rattle.std.specs.Cmp.{IsTotalOrder, on_total}
-use Rattle.std.specs.Cmp.Lexicographic.{slice_cmp, nat_list_cmp_total, nat_list_eq_equiv, texts_ties}
+use Rattle.std.specs.Cmp.Lexicographic.{slice_cmp, nat_list_eq_equiv, texts_ties}
 use Rattle.std.specs.List.{find, list_any}
 use Rattle.std.specs.Ordering.{is_eq, nat_cmp}
 use Rattle.std.specs.Str.{bytes_eq}
@@ -17,9 +16,7 @@ use Rattle.url.specs.Parts.{Parts, serialize}
 use Rattle.fast_check_package_ranges.specs.entries.Entries.{joined, all_joined, put_url, in_order}
 use Rattle.fast_check_package_ranges.specs.entries.Joined.{AreJoined}
 use Rattle.fast_check_package_ranges.proofs.entries.Keys.{put_twice, put_stays}
-
-by_text : IsTotalOrder (λ (a b : Parts). slice_cmp nat_cmp (serialize a) (serialize b))
-by_text = on_total serialize nat_list_cmp_total
+use Rattle.fast_check_package_ranges.proofs.Maps.{text_total}
 
 some_none : {X : Type 0} (x : X) → Some x ≡ None → ⊥
 some_none x e = cc
@@ -32,13 +29,13 @@ Settles urls url = fold put_url urls (option_to_list url) ≡ urls
 
 settles_twice : (urls : List Parts) (url : Option Parts) → Settles (fold put_url urls (option_to_list url)) url
 settles_twice urls None = refl
-settles_twice urls (Some url) = put_twice (λ a b. slice_cmp nat_cmp (serialize a) (serialize b)) by_text urls url
+settles_twice urls (Some url) = put_twice (λ a b. slice_cmp nat_cmp (serialize a) (serialize b)) text_total urls url
 
 settles_more : (urls : List Parts) (url other : Option Parts) → Settles urls url → Settles (fold put_url urls (option_to_list other)) url
 settles_more urls None other h = refl
 settles_more urls (Some url) None h = h
 settles_more urls (Some url) (Some other) h =
-    put_stays (λ a b. slice_cmp nat_cmp (serialize a) (serialize b)) by_text urls url other h
+    put_stays (λ a b. slice_cmp nat_cmp (serialize a) (serialize b)) text_total urls url other h
 
 module _ (base : Parts) where
   settles_all : (texts : List (List ℕ)) (urls : List Parts) (url : Option Parts) → Settles urls url →

@@ -1,5 +1,5 @@
 -- Equations of tests.
-use Rattle.std.proofs.Common.{◌≡◌, refl, Bool, true, false, ◌&&◌, ◌||◌}
+use Rattle.std.proofs.Common.{◌≡◌, refl, Bool, true, false, ◌||◌}
 
 pub or_none : (a : Bool) → (a || false) ≡ a
 or_none true = refl
@@ -8,7 +8,3 @@ or_none false = refl
 pub or_assoc : (a b c : Bool) → ((a || b) || c) ≡ (a || (b || c))
 or_assoc true b c = refl
 or_assoc false b c = refl
-
-pub and_none : (a : Bool) → (a && false) ≡ false
-and_none true = refl
-and_none false = refl

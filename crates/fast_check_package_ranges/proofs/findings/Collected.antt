@@ -13,20 +13,20 @@ use Rattle.std.specs.declared.alloc.Global.{Global}
 use Rattle.std.specs.declared.cmp.Ordering.{Ordering}
 use Rattle.std.specs.declared.cmp.Ordering.TheVariants.{Less, Equal, Greater}
 use Rattle.std.specs.declared.rc.RcStr.{RcStr}
-use Rattle.std.proofs.lemmas.Bool.{false≢true}
+use Rattle.std.proofs.lemmas.Bool.{false≢true, or_right}
 use Rattle.std.proofs.lemmas.List.{take_more, map-append}
 use Rattle.std.proofs.lemmas.List.Concat.{flat_map-append}
 use Rattle.std.proofs.lemmas.List.Elements.{Contains-append_left, Contains-push, Contains-push_cases, filter-append}
 use Rattle.std.proofs.lemmas.List.Folds.{list_any-append}
-use Rattle.fast_check_package_ranges.specs.contracts.findings.module_faults.ToldFaultOrd.TheImpl as order
+use Rattle.fast_check_package_ranges.specs.contracts.findings.module_faults.ReportedFaultOrd.TheImpl as order
 use Rattle.fast_check_package_ranges.specs.declared.findings.module_faults.ModuleFaults.{ModuleFaults}
-use Rattle.fast_check_package_ranges.specs.declared.findings.module_faults.ToldFault.{ToldFault}
+use Rattle.fast_check_package_ranges.specs.declared.findings.module_faults.ReportedFault.{ReportedFault}
 use Rattle.fast_check_package_ranges.specs.findings.Faults.{PlacedFault}
 use Rattle.fast_check_package_ranges.specs.findings.Yields.{ModuleFault, untyped_module, of_demand}
 use Rattle.fast_check_package_ranges.specs.findings.Diagnostics.{same_report, is_untyped, others}
 use Rattle.fast_check_package_ranges.specs.findings.ModuleFaults.{fault_with, fault_of, AreFaults, AddsFaults, AddsTo}
 use Rattle.fast_check_package_ranges.proofs.findings.Bools.{or_none}
-use Rattle.fast_check_package_ranges.proofs.findings.Kept.{inserted}
+use Rattle.fast_check_package_ranges.proofs.findings.Inserted.{inserted}
 use Rattle.fast_check_package_ranges.proofs.findings.Reports.{report_itself, reports_tie}
 
 -- what holds of each entry, where one is put at a new key
@@ -51,12 +51,8 @@ some_or : {X : Type 0} (b : Bool) (v : X) (o : Option X) → is_some (cond b (So
 some_or true v o = refl
 some_or false v o = refl
 
-or_right : (a b : Bool) → b ≡ true → (a || b) ≡ true
-or_right true b h = refl
-or_right false b h = h
-
 -- a key that is there tells the same
-told_there : (es : List (ToldFault × RcStr Global)) (k : ToldFault) (t : List ℕ) →
+told_there : (es : List (ReportedFault × RcStr Global)) (k : ReportedFault) (t : List ℕ) →
     is_some (lookup (is_at (order.cmp-value.it k)) es) ≡ list_any (λ e. same_report (fault_with k t) (fault_of e)) es
 told_there [] k t = refl
 told_there (e ∷ es) k t =
@@ -64,7 +60,7 @@ told_there (e ∷ es) k t =
     ∙ (ap (λ b. b || is_some (lookup (is_at (order.cmp-value.it k)) es)) (sym (reports_tie k e.0 t (rc_str_bytes e.1)))
     ∙ ap (λ b. same_report (fault_with k t) (fault_of e) || b) (told_there es k t))
 
-module _ (fs : List ModuleFault) (es : List (ToldFault × RcStr Global)) (k : ToldFault) (v : RcStr Global) (a : AreFaults fs es) where
+module _ (fs : List ModuleFault) (es : List (ReportedFault × RcStr Global)) (k : ReportedFault) (v : RcStr Global) (a : AreFaults fs es) where
   more : AllByRecursion (λ e. Contains (fs ++ fault_of (k, v) ∷ []) (fault_of e)) es
   more = all_weaker (λ e. Contains fs (fault_of e)) (λ e. Contains (fs ++ fault_of (k, v) ∷ []) (fault_of e))
       (λ e c. Contains-append_left fs (fault_of (k, v) ∷ []) (fault_of e) c) es a.only
@@ -92,17 +88,17 @@ module _ (fs : List ModuleFault) (es : List (ToldFault × RcStr Global)) (k : To
         (Contains-push_cases fs (fault_of (k, v)) f c);
   }
 
-abbrev Kept : Type 0
-Kept = List (ToldFault × RcStr Global)
+abbrev Reported : Type 0
+Reported = List (ReportedFault × RcStr Global)
 
-pub adds_none : (old : Kept) → AddsFaults [] old old
+pub adds_none : (old : Reported) → AddsFaults [] old old
 adds_none old fs a = subst (λ (x : List ModuleFault). AreFaults x old) (sym (append-nil fs)) a
 
-pub adds_then : (xs ys : List ModuleFault) (a b c : Kept) → AddsFaults xs a b → AddsFaults ys b c → AddsFaults (xs ++ ys) a c
+pub adds_then : (xs ys : List ModuleFault) (a b c : Reported) → AddsFaults xs a b → AddsFaults ys b c → AddsFaults (xs ++ ys) a c
 adds_then xs ys a b c p q fs h = subst (λ (x : List ModuleFault). AreFaults x c) (append_assoc fs xs ys) (q (fs ++ xs) (p fs h))
 
 -- those of one more of a list
-pub adds_more : {S : Type 0} (gives : S → List PlacedFault) (ss : List S) (i : ℕ) (a b c : Kept) {s : S} → i < length ss → s ≡ get_or ss i s →
+pub adds_more : {S : Type 0} (gives : S → List PlacedFault) (ss : List S) (i : ℕ) (a b c : Reported) {s : S} → i < length ss → s ≡ get_or ss i s →
     AddsFaults (map of_demand (flat_map gives (take i ss))) a b → AddsFaults (map of_demand (gives s)) b c →
     AddsFaults (map of_demand (flat_map gives (take (i + 1) ss))) a c
 adds_more {S} gives ss i a b c {s} h e p q =
@@ -124,15 +120,15 @@ pub adds_others : (zs : List ModuleFault) (old new : ModuleFaults) → AreOthers
     AddsFaults zs old.others.entries new.others.entries → AddsTo zs old new
 adds_others zs old new o u adds fs a = record {
   untyped = u ∙ (a.untyped ∙ sym (list_any-append is_untyped fs zs ∙ (ap (λ b. list_any is_untyped fs || b) o.1 ∙ or_none (list_any is_untyped fs))));
-  kept = subst (λ (x : List ModuleFault). AreFaults x new.others.entries)
+  reported = subst (λ (x : List ModuleFault). AreFaults x new.others.entries)
       (sym (filter-append (λ f. not (is_untyped f)) fs zs ∙ ap (λ x. others fs ++ x) o.0))
-      (adds (others fs) a.kept);
+      (adds (others fs) a.reported);
 }
 
 pub adds_untyped : (old new : ModuleFaults) → new.is_untyped ≡ true → new.others.entries ≡ old.others.entries → AddsTo (untyped_module ∷ []) old new
 adds_untyped old new u same fs a = record {
   untyped = u ∙ sym (list_any-append is_untyped fs (untyped_module ∷ []) ∙ or_right (list_any is_untyped fs) true refl);
-  kept = subst (λ (x : List ModuleFault). AreFaults x new.others.entries)
+  reported = subst (λ (x : List ModuleFault). AreFaults x new.others.entries)
       (sym (filter-append (λ f. not (is_untyped f)) fs (untyped_module ∷ []) ∙ append-nil (others fs)))
-      (subst (λ (es : Kept). AreFaults (others fs) es) (sym same) a.kept);
+      (subst (λ (es : Reported). AreFaults (others fs) es) (sym same) a.reported);
 }

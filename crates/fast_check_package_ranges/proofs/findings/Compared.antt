@@ -1,10 +1,11 @@
 -- Faults that compare alike are told as one.
-use Rattle.std.proofs.Common.{◌≡◌, refl, ℕ, Bool, true, false, ◌&&◌, ◌==◌, List}
+use Rattle.std.proofs.Common.{◌≡◌, refl, ℕ, true, ◌==◌, List}
 use Rattle.std.specs.Cmp.{both_tied, unsigned_ties, unsigned_Decides}
 use Rattle.std.specs.Cmp.Lexicographic.{slice_cmp, texts_ties, nat_list_eq_equiv}
 use Rattle.std.specs.Str.{bytes_eq}
 use Rattle.std.specs.Ordering.{is_eq, nat_cmp}
 use Rattle.std.specs.Prelude.{string_bytes}
+use Rattle.std.proofs.lemmas.Bool.{and_from}
 use Rattle.url.specs.Parts.{serialize}
 use Rattle.fast_check_syntax.specs.declared.source.SourceRange.{SourceRange}
 use Rattle.fast_check_syntax.specs.contracts.source.SourceRangeOrd.TheImpl as range_order
@@ -45,10 +46,6 @@ compares a b t u = both_tied _ _ (range_order.cmp-value.it a.range b.range) _ (r
 
 -- a fault is one with itself
 
-pub and_both : (a b : Bool) → a ≡ true → b ≡ true → (a && b) ≡ true
-and_both true b h g = g
-and_both false b h g = h
-
 same_number : (n : ℕ) → (n == n) ≡ true
 same_number n = (unsigned_Decides n n).1 refl
 
@@ -58,12 +55,12 @@ kind_itself NotFound = refl
 kind_itself TooComplex = refl
 
 range_itself : (r : SourceRange) → same_range r r ≡ true
-range_itself r = and_both (r.start.0 == r.start.0) (r.end.0 == r.end.0) (same_number r.start.0) (same_number r.end.0)
+range_itself r = and_from (r.start.0 == r.start.0) (r.end.0 == r.end.0) (same_number r.start.0) (same_number r.end.0)
 
 pub same_itself : (r : PlacedFault) → same_fault r r ≡ true
-same_itself r = and_both (same_range r.range r.range) _ (range_itself r.range)
-    (and_both (same_kind r.kind r.kind) _ (kind_itself r.kind)
-    (and_both (bytes_eq r.name r.name) _ (nat_list_eq_equiv.refl r.name)
-    (and_both (bytes_eq r.referrer r.referrer) (bytes_eq (serialize r.specifier) (serialize r.specifier))
+same_itself r = and_from (same_range r.range r.range) _ (range_itself r.range)
+    (and_from (same_kind r.kind r.kind) _ (kind_itself r.kind)
+    (and_from (bytes_eq r.name r.name) _ (nat_list_eq_equiv.refl r.name)
+    (and_from (bytes_eq r.referrer r.referrer) (bytes_eq (serialize r.specifier) (serialize r.specifier))
     (nat_list_eq_equiv.refl r.referrer)
     (nat_list_eq_equiv.refl (serialize r.specifier)))))

@@ -12,15 +12,15 @@ use Rattle.fast_check_diagnostics.specs.declared.diagnostics.FastCheckDiagnostic
 use Rattle.fast_check_demands.specs.worklists.Demands.{Text}
 use Rattle.fast_check_package_ranges.specs.findings.Faults.{demand_fault}
 use Rattle.fast_check_package_ranges.specs.findings.Yields.{ModuleFault, missing_entry}
-use Rattle.fast_check_package_ranges.specs.findings.Diagnostics.{fault_told, AreDiagnosed}
+use Rattle.fast_check_package_ranges.specs.findings.Diagnostics.{fault_reported, AreDiagnosed}
 
-cached_tells_nothing : (t : Text) (specifier : Parts) → fault_told t (Cached specifier) ≡ None
+cached_tells_nothing : (t : Text) (specifier : Parts) → fault_reported t (Cached specifier) ≡ None
 unfolding demand_fault
 cached_tells_nothing t specifier = refl
 
 -- each diagnostic tells something
-each_tells : (t : Text) (ds : List FastCheckDiagnostic) (fs : List ModuleFault) → map (fault_told t) ds ≡ map Some fs →
-    AllByRecursion (λ d. is_some (fault_told t d) ≡ true) ds
+each_tells : (t : Text) (ds : List FastCheckDiagnostic) (fs : List ModuleFault) → map (fault_reported t) ds ≡ map Some fs →
+    AllByRecursion (λ d. is_some (fault_reported t d) ≡ true) ds
 each_tells t [] fs e = tt
 each_tells t (d ∷ ds) [] e = absurd (false≢true (ap is_nil e))
   where
@@ -38,9 +38,9 @@ each_tells t (d ∷ ds) (f ∷ fs) e = (ap (head_some) e, each_tells t ds fs (ap
     tail_of (x ∷ xs) = xs
 
 module _ (t : Text) (faults : List ModuleFault) (ds : List FastCheckDiagnostic) (diagnosed : AreDiagnosed t faults ds) where
-  tells : (d : FastCheckDiagnostic) → Contains ds d → is_some (fault_told t d) ≡ true
-  tells d among = All-contains (λ x. is_some (fault_told t x) ≡ true) ds d
-      (All-from_recursion (λ x. is_some (fault_told t x) ≡ true) ds (each_tells t ds diagnosed.reports diagnosed.tell)) among
+  tells : (d : FastCheckDiagnostic) → Contains ds d → is_some (fault_reported t d) ≡ true
+  tells d among = All-contains (λ x. is_some (fault_reported t x) ≡ true) ds d
+      (All-from_recursion (λ x. is_some (fault_reported t x) ≡ true) ds (each_tells t ds diagnosed.reports diagnosed.tell)) among
 
   pub no_cached : (specifier : Parts) → Contains ds (Cached specifier) → ⊥
   no_cached specifier among = false≢true (sym (ap is_some (cached_tells_nothing t specifier)) ∙ tells (Cached specifier) among)

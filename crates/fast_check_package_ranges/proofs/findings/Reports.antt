@@ -8,9 +8,9 @@ use Rattle.std.specs.declared.alloc.Global.{Global}
 use Rattle.std.specs.declared.rc.RcStr.{RcStr}
 use Rattle.std.proofs.lemmas.Map.Keys.{IsDistinct-cons, IsDistinct-head, IsDistinct-tail}
 use Rattle.fast_check_package_ranges.specs.declared.findings.found.EntryFault.TheVariants.{NotFound, Untyped}
-use Rattle.fast_check_package_ranges.specs.contracts.findings.module_faults.ToldFaultOrd.TheImpl as order
-use Rattle.fast_check_package_ranges.specs.declared.findings.module_faults.ToldFault.{ToldFault}
-use Rattle.fast_check_package_ranges.specs.declared.findings.module_faults.ToldFault.TheVariants.{OfEntry, OfDemand}
+use Rattle.fast_check_package_ranges.specs.contracts.findings.module_faults.ReportedFaultOrd.TheImpl as order
+use Rattle.fast_check_package_ranges.specs.declared.findings.module_faults.ReportedFault.{ReportedFault}
+use Rattle.fast_check_package_ranges.specs.declared.findings.module_faults.ReportedFault.TheVariants.{OfEntry, OfDemand}
 use Rattle.fast_check_package_ranges.specs.findings.Yields.{ModuleFault, missing_entry, untyped_entry, untyped_module, of_demand}
 use Rattle.fast_check_package_ranges.specs.findings.Diagnostics.{same_report}
 use Rattle.fast_check_package_ranges.specs.findings.ModuleFaults.{fault_with, fault_of}
@@ -22,7 +22,7 @@ report_itself untyped_entry = refl
 report_itself untyped_module = refl
 report_itself (of_demand r) = same_itself r
 
-pub reports_tie : (a b : ToldFault) (t u : List ℕ) → same_report (fault_with a t) (fault_with b u) ≡ is_eq (order.cmp-value.it a b)
+pub reports_tie : (a b : ReportedFault) (t u : List ℕ) → same_report (fault_with a t) (fault_with b u) ≡ is_eq (order.cmp-value.it a b)
 reports_tie (OfEntry NotFound) (OfEntry NotFound) t u = refl
 reports_tie (OfEntry NotFound) (OfEntry Untyped) t u = refl
 reports_tie (OfEntry Untyped) (OfEntry NotFound) t u = refl
@@ -34,7 +34,7 @@ reports_tie (OfDemand a) (OfEntry Untyped) t u = refl
 reports_tie (OfDemand a) (OfDemand b) t u = compares a b t u
 
 -- those of a map are told once
-apart : (e : ToldFault × RcStr Global) (es : List (ToldFault × RcStr Global)) →
+apart : (e : ReportedFault × RcStr Global) (es : List (ReportedFault × RcStr Global)) →
     AllByRecursion (λ k. eq_by_cmp order.cmp-value.it e.0 k ≡ false) (keys_of es) →
     AllByRecursion (λ f. same_report (fault_of e) f ≡ false) (map fault_of es)
 apart e [] a = tt
@@ -44,7 +44,7 @@ pub none_twice : IsDistinct same_report []
 unfolding IsDistinct
 none_twice = tt
 
-pub told_once : (es : List (ToldFault × RcStr Global)) → IsDistinct (eq_by_cmp order.cmp-value.it) (keys_of es) →
+pub told_once : (es : List (ReportedFault × RcStr Global)) → IsDistinct (eq_by_cmp order.cmp-value.it) (keys_of es) →
     IsDistinct same_report (map fault_of es)
 told_once [] s = none_twice
 told_once (x ∷ xs) s = IsDistinct-cons same_report (fault_of x) (map fault_of xs)

@@ -45,27 +45,27 @@ abbrev pub others : List ModuleFault → List ModuleFault
 others faults = filter (λ f. not (is_untyped f)) faults
 
 -- That the types of a module are not known is told where nothing else is wrong with it.
-abbrev pub told_of : List ModuleFault → List ModuleFault → List ModuleFault
-told_of [] faults = faults
-told_of (f ∷ fs) faults = f ∷ fs
+abbrev pub reported_of : List ModuleFault → List ModuleFault → List ModuleFault
+reported_of [] faults = faults
+reported_of (f ∷ fs) faults = f ∷ fs
 
-abbrev pub told : List ModuleFault → List ModuleFault
-told faults = told_of (others faults) faults
+abbrev pub all_reported : List ModuleFault → List ModuleFault
+all_reported faults = reported_of (others faults) faults
 
 -- what a diagnostic tells of the module: one of the module as a whole carries its specifier
-abbrev pub fault_told : Text → FastCheckDiagnostic → Option ModuleFault
-fault_told t (ExportNotFound specifier) = cond (bytes_eq t (serialize specifier)) (Some missing_entry) None
-fault_told t (UnsupportedJavaScriptEntrypoint specifier) =
+abbrev pub fault_reported : Text → FastCheckDiagnostic → Option ModuleFault
+fault_reported t (ExportNotFound specifier) = cond (bytes_eq t (serialize specifier)) (Some missing_entry) None
+fault_reported t (UnsupportedJavaScriptEntrypoint specifier) =
     cond (bytes_eq t (serialize specifier)) (Some untyped_entry) None
-fault_told t (UnsupportedNestedJavaScript specifier) =
+fault_reported t (UnsupportedNestedJavaScript specifier) =
     cond (bytes_eq t (serialize specifier)) (Some untyped_module) None
-fault_told t d = option_map of_demand (demand_fault d)
+fault_reported t d = option_map of_demand (demand_fault d)
 
 -- These diagnostics of a module tell what of these faults is to be told, with its source text, and nothing else. All
 -- that is to be told is told, but no two tell the same.
 pub record AreDiagnosed (t : Text) (faults : List ModuleFault) (ds : List FastCheckDiagnostic) : Type 0 where
   pub reports : List ModuleFault
-  pub tell : map (fault_told t) ds ≡ map Some reports
+  pub tell : map (fault_reported t) ds ≡ map Some reports
   pub once : IsDistinct same_report reports
-  pub only : (f : ModuleFault) → Contains reports f → Contains (told faults) f
-  pub all : (f : ModuleFault) → Contains (told faults) f → list_any (same_report f) reports ≡ true
+  pub only : (f : ModuleFault) → Contains reports f → Contains (all_reported faults) f
+  pub all : (f : ModuleFault) → Contains (all_reported faults) f → list_any (same_report f) reports ≡ true

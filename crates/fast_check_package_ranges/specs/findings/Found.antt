@@ -14,13 +14,13 @@ use Rattle.fast_check_graph.specs.ModuleNames.{specifier_of}
 use Rattle.fast_check_demands.specs.worklists.Demands.{Text}
 use Rattle.fast_check_package_ranges.specs.declared.findings.found.EntryFault.{EntryFault}
 use Rattle.fast_check_package_ranges.specs.declared.findings.found.Entrance.{Entrance}
-use Rattle.fast_check_package_ranges.specs.declared.findings.found.Entrance.TheVariants.{Entered, Kept}
+use Rattle.fast_check_package_ranges.specs.declared.findings.found.Entrance.TheVariants.{Entered, Cached}
 use Rattle.fast_check_package_ranges.specs.declared.findings.found.FoundModule.{FoundModule}
 use Rattle.fast_check_package_ranges.specs.declared.findings.found.FoundPackage.{FoundPackage}
 use Rattle.fast_check_package_ranges.specs.findings.Faults.{FaultSource, placed_seen}
 use Rattle.fast_check_package_ranges.specs.findings.Findings.{entry_fault, faulty_module, placed_yields}
 use Rattle.fast_check_package_ranges.specs.findings.Yields.{Yield, known_package, entry_point, dependency, recorded, public}
-use Rattle.fast_check_package_ranges.specs.findings.Yields.{implementing, untyped_module, kept}
+use Rattle.fast_check_package_ranges.specs.findings.Yields.{implementing, untyped_module, cached}
 
 -- the source text of a module; one of JSON has none
 abbrev pub text_of : AnyModuleInfo → List ℕ
@@ -56,7 +56,7 @@ entrance_yields nv (Some (Entered entry_points faults)) =
     known_package nv
     ∷ (map (λ url. entry_point nv (serialize url)) entry_points.value.keys
     ++ flat_map (entry_fault_yields nv) faults.items)
-entrance_yields nv (Some (Kept entry_points item)) = kept nv entry_points.value.keys (item_of item) ∷ []
+entrance_yields nv (Some (Cached entry_points item)) = cached nv entry_points.value.keys (item_of item) ∷ []
 
 -- the package that stands at a place
 abbrev pub dependency_yields : List Nv → Nv → ℕ → List Yield

@@ -28,7 +28,7 @@ pub data Yield : Type 0 where
   public : Nv → Text → SourceRange → Yield
   implementing : Nv → Text → SourceRange → Yield
   faulty : Nv → Text → ModuleFault → Yield
-  kept : Nv → List Parts → ItemView → Yield
+  cached : Nv → List Parts → ItemView → Yield
 
 -- the package that a yield is about
 abbrev pub package_of : Yield → Nv
@@ -40,4 +40,4 @@ package_of (recorded nv t) = nv
 package_of (public nv t r) = nv
 package_of (implementing nv t r) = nv
 package_of (faulty nv t f) = nv
-package_of (kept nv entry_points item) = nv
+package_of (cached nv entry_points item) = nv

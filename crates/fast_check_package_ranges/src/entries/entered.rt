@@ -5,7 +5,7 @@ ghost use Rattle.fast_check_packages.specs.Package.{nv_of};
 ghost use Rattle.fast_check_packages.specs.Members.{member_named};
 ghost use Rattle.fast_check_packages.specs.MembersIn.{members_in};
 ghost use Rattle.fast_check_package_ranges.specs.entries.Entries.{base_or, entrance_by, entered, entrance_of, entrance_seen, DiagnosesRefused};
-ghost use Rattle.fast_check_package_ranges.specs.entries.Kept.{AreKept};
+ghost use Rattle.fast_check_package_ranges.specs.entries.MemberEntries.{AreMemberEntries};
 
 use crate::entries::joined::join_exports;
 use crate::entries::members::MemberEntries;
@@ -50,17 +50,17 @@ pub fn entry_points(
     members: &IndexedMembers<'_>,
     provider: &dyn JsrUrlProvider,
     nv: &PackageNv,
-    kept: &mut MemberEntries,
+    member_entries: &mut MemberEntries,
 ) -> Result<Option<Rc<BTreeSet<Url>>>, BuildFault>
-    ensures entered { IfOk result (λ urls. AreKept (members_in members.now) kept.old
+    ensures entered { IfOk result (λ urls. AreMemberEntries (members_in members.now) member_entries.old
         → entrance_of graph.now (members_in members.now) (url_of provider.now) (nv_of nv.now) ≡ entrance_seen urls) }
-    ensures kept { OnOk result (AreKept (members_in members.now) kept.old → AreKept (members_in members.now) kept.new) }
+    ensures kept { OnOk result (AreMemberEntries (members_in members.now) member_entries.old → AreMemberEntries (members_in members.now) member_entries.new) }
     ensures refused { IfErr result (DiagnosesRefused (nv_of nv.now) (entrance_of graph.now (members_in members.now) (url_of provider.now) (nv_of nv.now))) }
 {
     let member = members.named(nv);
     match (graph.package_exports(nv), member) {
         (Some(exports), _) => Ok(Some(graph_entries(alloc, member, provider, nv, exports)?)),
-        (None, Some(member)) => Ok(Some(kept.of_member(alloc, nv, member)?)),
+        (None, Some(member)) => Ok(Some(member_entries.of_member(alloc, nv, member)?)),
         (None, None) => Ok(None),
     }
 }

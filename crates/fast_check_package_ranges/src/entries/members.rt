@@ -4,7 +4,7 @@ ghost use Rattle.fast_check_packages.specs.Package.{nv_of};
 ghost use Rattle.fast_check_packages.specs.Members.{member_named};
 ghost use Rattle.fast_check_packages.specs.declared.package.WorkspaceMember.{WorkspaceMember};
 ghost use Rattle.fast_check_package_ranges.specs.entries.Entries.{member_exports, entrance_by, entered, DiagnosesRefused};
-ghost use Rattle.fast_check_package_ranges.specs.entries.Kept.{AreKept};
+ghost use Rattle.fast_check_package_ranges.specs.entries.MemberEntries.{AreMemberEntries};
 
 use crate::entries::joined::join_exports;
 use fast_check_packages::{BuildFault, PackageNv, WorkspaceMember};
@@ -22,15 +22,15 @@ pub struct MemberEntries {
 impl MemberEntries {
     /// Nothing was asked for. It takes no memory.
     pub fn new(alloc: Global) -> MemberEntries
-        ensures { (members : List WorkspaceMember) → AreKept members result }
+        ensures { (members : List WorkspaceMember) → AreMemberEntries members result }
     {
         MemberEntries {
             by_name: BTreeMap::new(alloc),
         }
     }
 
-    /// Keeps the entry points of the member without version that a package is.
-    fn keep(
+    /// Adds the entry points of the member without version that a package is.
+    fn insert(
         &mut self,
         alloc: Global,
         nv: &PackageNv,
@@ -40,36 +40,14 @@ impl MemberEntries {
         ensures { OnOk result ((members : List WorkspaceMember) → member_named members (nv_of nv.now) ≡ Some member.now
             → member.now.version ≡ None
             → entrance_by member.now.base (Some (member_exports member.now)) ≡ entered urls.value.keys
-            → AreKept members self.old → AreKept members self.new) }
+            → AreMemberEntries members self.old → AreMemberEntries members self.new) }
     {
         let name = String::from_str(alloc, nv.name.as_str())?;
         self.by_name.insert(name, urls)?;
         Ok(())
     }
 
-    /// The entry points of a member without version, which are worked out where they were not before.
-    fn without_version(
-        &mut self,
-        alloc: Global,
-        nv: &PackageNv,
-        member: &WorkspaceMember,
-    ) -> Result<Rc<BTreeSet<Url>>, BuildFault>
-        ensures entered { IfOk result (λ urls. (members : List WorkspaceMember) → member_named members (nv_of nv.now) ≡ Some member.now
-            → member.now.version ≡ None → AreKept members self.old
-            → entrance_by member.now.base (Some (member_exports member.now)) ≡ entered urls.value.keys) }
-        ensures kept { OnOk result ((members : List WorkspaceMember) → member_named members (nv_of nv.now) ≡ Some member.now
-            → member.now.version ≡ None → AreKept members self.old → AreKept members self.new) }
-        ensures refused { IfErr result (DiagnosesRefused (nv_of nv.now) (entrance_by member.now.base (Some (member_exports member.now)))) }
-    {
-        if let Some(urls) = self.by_name.get(&nv.name) {
-            return Ok(urls.clone()?);
-        }
-        let urls = join_exports(alloc, nv, &member.base, &member.exports)?;
-        self.keep(alloc, nv, member, urls.clone()?)?;
-        Ok(urls)
-    }
-
-    /// The entry points of the member that a package is.
+    /// The entry points of the member that a package is. Those of a member without version are worked out where they were not before.
     pub fn of_member(
         &mut self,
         alloc: Global,
@@ -77,14 +55,19 @@ impl MemberEntries {
         member: &WorkspaceMember,
     ) -> Result<Rc<BTreeSet<Url>>, BuildFault>
         ensures entered { IfOk result (λ urls. (members : List WorkspaceMember) → member_named members (nv_of nv.now) ≡ Some member.now
-            → AreKept members self.old → entrance_by member.now.base (Some (member_exports member.now)) ≡ entered urls.value.keys) }
+            → AreMemberEntries members self.old → entrance_by member.now.base (Some (member_exports member.now)) ≡ entered urls.value.keys) }
         ensures kept { OnOk result ((members : List WorkspaceMember) → member_named members (nv_of nv.now) ≡ Some member.now
-            → AreKept members self.old → AreKept members self.new) }
+            → AreMemberEntries members self.old → AreMemberEntries members self.new) }
         ensures refused { IfErr result (DiagnosesRefused (nv_of nv.now) (entrance_by member.now.base (Some (member_exports member.now)))) }
     {
-        match &member.version {
-            None => self.without_version(alloc, nv, member),
-            Some(_) => join_exports(alloc, nv, &member.base, &member.exports),
+        if member.version.is_some() {
+            return join_exports(alloc, nv, &member.base, &member.exports);
         }
+        if let Some(urls) = self.by_name.get(&nv.name) {
+            return Ok(urls.clone()?);
+        }
+        let urls = join_exports(alloc, nv, &member.base, &member.exports)?;
+        self.insert(alloc, nv, member, urls.clone()?)?;
+        Ok(urls)
     }
 }

@@ -4,7 +4,7 @@ ghost use Rattle.std.specs.Prelude.{◌≡◌, Some};
 ghost use Rattle.std.specs.Rc.{rc_str_bytes};
 ghost use Rattle.fast_check_demands.specs.worklists.Demands.{Text};
 ghost use Rattle.fast_check_package_ranges.specs.findings.Faults.{placed_with};
-ghost use Rattle.fast_check_package_ranges.specs.findings.Diagnostics.{fault_told};
+ghost use Rattle.fast_check_package_ranges.specs.findings.Diagnostics.{fault_reported};
 ghost use Rattle.fast_check_package_ranges.specs.findings.Yields.{of_demand};
 
 use crate::findings::demand_fault::DemandFault;
@@ -15,7 +15,7 @@ use std::rc::RcStr;
 /// The diagnostic of a fault.
 #[tactic(auto, unfolding(crate::specs::findings::Faults::demand_fault))]
 pub(crate) fn demand_diagnostic(fault: DemandFault, text_info: RcStr) -> FastCheckDiagnostic
-    ensures { (t : Text) → fault_told t result ≡ Some (of_demand (placed_with fault (rc_str_bytes text_info))) }
+    ensures { (t : Text) → fault_reported t result ≡ Some (of_demand (placed_with fault (rc_str_bytes text_info))) }
 {
     let DemandFault {
         range,

@@ -57,7 +57,7 @@ pub enum Entrance {
         faults: Vec<(Url, EntryFault)>,
     },
     /// Its item in a cache is used.
-    Kept {
+    Cached {
         entry_points: Rc<BTreeSet<Url>>,
         /// What the cache keeps of it, in place of all that would be found.
         item: FastCheckCacheItem,

@@ -8,8 +8,8 @@ ghost use Rattle.fast_check_package_ranges.specs.findings.Faults.{source_of, pla
 ghost use Rattle.fast_check_package_ranges.specs.findings.Findings.{entry_fault};
 ghost use Rattle.fast_check_package_ranges.specs.findings.Found.{source_in};
 ghost use Rattle.fast_check_package_ranges.specs.findings.Yields.{ModuleFault, untyped_module, of_demand};
-ghost use Rattle.fast_check_package_ranges.specs.findings.Diagnostics.{fault_told, same_report, AreDiagnosed};
-ghost use Rattle.fast_check_package_ranges.specs.findings.ModuleFaults.{fault_with, fault_of, AddsFaults, AreFaultsOf, AddsTo, is_filled, told_with};
+ghost use Rattle.fast_check_package_ranges.specs.findings.Diagnostics.{fault_reported, same_report, AreDiagnosed};
+ghost use Rattle.fast_check_package_ranges.specs.findings.ModuleFaults.{fault_with, fault_of, AddsFaults, AreFaultsOf, AddsTo, reported_with};
 
 use crate::findings::demand_fault::{DemandFault, placed};
 use crate::findings::diagnostics::demand_diagnostic;
@@ -25,7 +25,7 @@ use url::Url;
 
 /// What is wrong with a module, but that its types are not known. They come in the order in which they are told.
 #[derive(PartialEq, Eq, PartialOrd, Ord, Drop)]
-pub(crate) enum ToldFault {
+pub(crate) enum ReportedFault {
     OfEntry(EntryFault),
     OfDemand(DemandFault),
 }
@@ -36,13 +36,13 @@ pub struct ModuleFaults {
     /// Whether it was asked for, and its types are not known.
     is_untyped: bool,
     /// What else is wrong with it, with the source text.
-    others: BTreeMap<ToldFault, RcStr>,
+    others: BTreeMap<ReportedFault, RcStr>,
 }
 
 /// Adds a fault, unless it is there.
 fn add_fault(
-    others: &mut BTreeMap<ToldFault, RcStr>,
-    fault: ToldFault,
+    others: &mut BTreeMap<ReportedFault, RcStr>,
+    fault: ReportedFault,
     text: RcStr,
 ) -> Result<(), AllocError>
     ensures { OnOk result (AddsFaults (fault_with fault (rc_str_bytes text) ∷ []) others.old.entries others.new.entries) }
@@ -59,13 +59,17 @@ fn add_demand_fault(
     alloc: Global,
     faulty: FaultyModule<'_>,
     fault: SymbolFault<'_>,
-    others: &mut BTreeMap<ToldFault, RcStr>,
+    others: &mut BTreeMap<ReportedFault, RcStr>,
 ) -> Result<(), AllocError>
     ensures { OnOk result (AddsFaults (map of_demand (placed_seen (source_of faulty.entry) fault.entry)) others.old.entries others.new.entries) }
 {
     match placed(alloc, faulty, fault)? {
         None => Ok(()),
-        Some(placed) => add_fault(others, ToldFault::OfDemand(placed), faulty.text.clone()?),
+        Some(placed) => add_fault(
+            others,
+            ReportedFault::OfDemand(placed),
+            faulty.text.clone()?,
+        ),
     }
 }
 
@@ -74,7 +78,7 @@ fn add_demand_faults(
     alloc: Global,
     faulty: FaultyModule<'_>,
     faults: &[SymbolFault<'_>],
-    others: &mut BTreeMap<ToldFault, RcStr>,
+    others: &mut BTreeMap<ReportedFault, RcStr>,
 ) -> Result<(), AllocError>
     ensures { OnOk result (AddsFaults (map of_demand (flat_map (placed_seen (source_of faulty.entry)) faults.now))
         others.old.entries others.new.entries) }
@@ -87,7 +91,7 @@ fn add_demand_faults(
 
 /// The diagnostic of what is wrong with an entry point.
 fn entry_diagnostic(specifier: Url, fault: EntryFault) -> FastCheckDiagnostic
-    ensures { fault_told (serialize specifier) result ≡ Some (entry_fault fault) }
+    ensures { fault_reported (serialize specifier) result ≡ Some (entry_fault fault) }
 {
     match fault {
         EntryFault::NotFound => FastCheckDiagnostic::ExportNotFound { specifier },
@@ -98,14 +102,14 @@ fn entry_diagnostic(specifier: Url, fault: EntryFault) -> FastCheckDiagnostic
 /// The diagnostic of a fault.
 fn diagnostic_of(
     specifier: &Url,
-    fault: ToldFault,
+    fault: ReportedFault,
     text: RcStr,
 ) -> Result<FastCheckDiagnostic, AllocError>
-    ensures { IfOk result (λ d. fault_told (serialize specifier.now) d ≡ Some (fault_with fault (rc_str_bytes text))) }
+    ensures { IfOk result (λ d. fault_reported (serialize specifier.now) d ≡ Some (fault_with fault (rc_str_bytes text))) }
 {
     match fault {
-        ToldFault::OfEntry(fault) => Ok(entry_diagnostic(specifier.clone()?, fault)),
-        ToldFault::OfDemand(fault) => Ok(demand_diagnostic(fault, text)),
+        ReportedFault::OfEntry(fault) => Ok(entry_diagnostic(specifier.clone()?, fault)),
+        ReportedFault::OfDemand(fault) => Ok(demand_diagnostic(fault, text)),
     }
 }
 
@@ -113,9 +117,9 @@ fn diagnostic_of(
 fn diagnostics_of(
     alloc: Global,
     specifier: &Url,
-    others: BTreeMap<ToldFault, RcStr>,
+    others: BTreeMap<ReportedFault, RcStr>,
 ) -> Result<Vec<FastCheckDiagnostic>, AllocError>
-    ensures told { IfOk result (λ out. map (fault_told (serialize specifier.now)) out.items ≡ map (λ e. Some (fault_of e)) others.entries) }
+    ensures reported { IfOk result (λ out. map (fault_reported (serialize specifier.now)) out.items ≡ map (λ e. Some (fault_of e)) others.entries) }
     ensures once { IfOk result (λ out. IsDistinct same_report (map fault_of others.entries)) }
 {
     let mut out = Vec::new(alloc);
@@ -125,26 +129,16 @@ fn diagnostics_of(
     Ok(out)
 }
 
-/// Whether anything is told.
-fn is_filled(out: &[FastCheckDiagnostic]) -> bool
-    ensures { result ≡ is_filled out.now }
-{
-    match out.split_first() {
-        None => false,
-        Some(_) => true,
-    }
-}
-
 /// Adds that the types of the module are not known, if nothing else is told.
 fn push_untyped(
     specifier: &Url,
     is_untyped: bool,
     out: &mut Vec<FastCheckDiagnostic>,
 ) -> Result<(), AllocError>
-    ensures { OnOk result (map (fault_told (serialize specifier.now)) out.new.items
-        ≡ told_with is_untyped (map (fault_told (serialize specifier.now)) out.old.items)) }
+    ensures { OnOk result (map (fault_reported (serialize specifier.now)) out.new.items
+        ≡ reported_with is_untyped (map (fault_reported (serialize specifier.now)) out.old.items)) }
 {
-    if !is_untyped || is_filled(out.as_slice()) {
+    if !is_untyped || !out.is_empty() {
         return Ok(());
     }
     let specifier = specifier.clone()?;
@@ -175,7 +169,7 @@ impl ModuleFaults {
         ensures { OnOk result (AddsTo (entry_fault fault ∷ []) self.old self.new) }
     {
         let text = RcStr::from_str(alloc, "")?;
-        add_fault(&mut self.others, ToldFault::OfEntry(fault), text)
+        add_fault(&mut self.others, ReportedFault::OfEntry(fault), text)
     }
 
     /// Adds what is wrong with what was demanded of the module. A fault stands at the first declaration of its symbol, and one whose symbol has

@@ -1,8 +1,9 @@
-use Rattle.std.proofs.Common.{◌∙◌, refl, sym, ap, subst, List, [], ◌++◌, map, ℕ, ◌||◌}
+use Rattle.std.proofs.Common.{◌≡◌, ◌==◌, length, vec_len, arith, ◌∙◌, refl, sym, ap, subst, List, [], ◌++◌, map, ℕ, ◌||◌}
 use Rattle.std.specs.List.{flat_map, list_any}
 use Rattle.url.specs.Parts.{Parts}
 use Rattle.fast_check_packages.specs.Package.{nv_of}
 use Rattle.fast_check_demands.specs.worklists.Demands.{same_nv}
+use Rattle.fast_check_symbols.proofs.Witness.{nil_of}
 use Rattle.fast_check_package_ranges.specs.findings.Found.{module_yields, entrance_yields, dependency_yields, untyped_yields, package_yields}
 use Rattle.fast_check_package_ranges.specs.declared.modules.ModuleParts.{ModuleParts}
 use Rattle.fast_check_package_ranges.specs.Answers.{is_filled}
@@ -10,16 +11,21 @@ use Rattle.fast_check_package_ranges.specs.Parts.{is_package, named_at, AreModul
 use Rattle.fast_check_package_ranges.proofs.Answered.{by_item, by_parts}
 use Rattle.fast_check_package_ranges.proofs.Followed.{silent_of_modules}
 use Rattle.fast_check_package_ranges.proofs.Joined.{joined_none, joins_then, joins_silent}
+use Rattle.fast_check_package_ranges.proofs.Lists.{filled_from}
 use Rattle.fast_check_package_ranges.proofs.packages.answer_of.Goals as goal
 
-pub returns-then-has_modules : goal.returns-then-has_modules
-returns-then-has_modules c = λ nv.
+pub returns-then-not-is_empty : goal.returns-then-not-is_empty
+returns-then-not-is_empty c = λ nv.
+    let items = c.in_ok-answer.answer.cache_items in
+    let len : length items.items ≡ vec_len items = omega arith in
     by_item (map nv_of c.args.packages.now) nv c.args.found c.in_ok-answer.answer c.in_ok-answer.ensures.answer
-    (sym (c.has_modules.ensures ∙ ap is_filled c.as_slice.ensures.value) ∙ c.if-has_modules.true)
+    (filled_from items.items (ap (λ n. n == 0) len ∙ (sym c.is_empty.ensures ∙ c.if-not-is_empty.true)))
 
 pub returns : goal.returns
 returns c = λ nv.
     let packages = map nv_of c.args.packages.now in
+    let items = c.in_ok-answer.answer.cache_items in
+    let len : length items.items ≡ vec_len items = omega arith in
     let found = c.args.found in
     let e = entrance_yields nv found.entrance in
     let d = flat_map (dependency_yields packages nv) found.dependencies.items in
@@ -35,9 +41,9 @@ returns c = λ nv.
     (joins_then m u m1 m2 m3 (c.in_ok-add_all_followed.ensures nv) (c.in_ok-add_all_untyped.ensures nv)))
     [] (subst (λ (es : List (Parts × ModuleParts)). AreModules [] es) (sym c.new-modules.ensures.empty) joined_none) in
     by_parts packages nv found c.in_ok-answer.answer _ c.in_ok-answer.ensures.answer
-    (sym (c.has_modules.ensures ∙ ap is_filled c.as_slice.ensures.value) ∙ c.if-has_modules.false)
+    (ap is_filled (nil_of items.items (ap (λ n. n == 0) len ∙ (sym c.is_empty.ensures ∙ c.if-not-is_empty.false))))
     refl refl
     (λ d. c.in_ok-add_dependencies.ensures d
     ∙ ap (λ (ks : List ℕ). list_any (is_package d) c.in_ok-answer.answer.dependencies.keys || list_any (same_nv d) (named_at packages ks))
-    c.as_slice-2.ensures.value)
+    c.as_slice.ensures.value)
     (c.in_ok-answer-2.ensures (package_yields packages nv found) modules)

@@ -166,5 +166,5 @@ returns-in_err-enter_next-in-None-pop-clause-refused g c =
     let f = c.in_err-enter_next-in-None-pop.field-0.0 in
     let i = c.turns.invariant in
     passed_on c.from_residual-in_err-enter_next-in-None-pop.result f (IsRefusal k rs) c.from_residual-in_err-enter_next-in-None-pop.ensures.1
-    (refusal k rs (map nv_of c.turns.finder.packages) (packages_chained k rs i.done (search_of c.turns.finder) i.on.way.kept) f
+    (refusal k rs (map nv_of c.turns.finder.packages) (packages_chained k rs i.done (search_of c.turns.finder) i.on.way.accounted) f
     c.in_err-enter_next-in-None-pop.ensures.refused)

@@ -2,7 +2,7 @@ use Rattle.std.proofs.Common.{List, map}
 use Rattle.fast_check_packages.specs.Package.{nv_of}
 use Rattle.fast_check_packages.specs.MembersIn.{members_in}
 use Rattle.fast_check_cache.specs.CachedPackages.{used_item}
-use Rattle.fast_check_package_ranges.specs.entries.Kept.{AreKept}
+use Rattle.fast_check_package_ranges.specs.entries.MemberEntries.{AreMemberEntries}
 use Rattle.fast_check_demands.specs.worklists.Demands.{Demand}
 use Rattle.fast_check_demands.specs.sources.Sources.{known, with_used}
 use Rattle.fast_check_range_finder.specs.Finder.{search_of}
@@ -21,7 +21,7 @@ invariant-turns g l =
     record {
       done : List Demand;
       on : IsOn k (map nv_of l.roots) done l.finder;
-      members : AreKept (members_in l.input.sources.workspace_members.now) l.members;
+      members : AreMemberEntries (members_in l.input.sources.workspace_members.now) l.members;
     }
 
 abbrev pub decreases-turns : goal.decreases-turns

@@ -2,11 +2,13 @@ use Rattle.std.proofs.Common.{◌∙◌, sym, ap, refl, [], ◌∷◌, ◌++◌,
 use Rattle.std.specs.Prelude.{slice_get}
 use Rattle.url.specs.Parts.{serialize}
 use Rattle.indexmap.proofs.CallerLemmas.{insert_entry-new}
+use Rattle.fast_check_package_ranges.proofs.findings.Lists.{none_found}
 use Rattle.fast_check_range_finder.specs.declared.demand.Place.{Place}
 use Rattle.fast_check_range_finder.specs.contracts.demand.PlacePartialEq.TheImpl as place_eq
 use Rattle.fast_check_range_finder.specs.Finder.{Modules}
 use Rattle.fast_check_range_finder.proofs.Followed.{place_is}
-use Rattle.fast_check_range_finder.proofs.PlaceKeys.{tells_places, found_place, get_last, none_from}
+use Rattle.fast_check_range_finder.proofs.PlaceKeys.{tells_places, found_place}
+use Rattle.fast_check_range_finder.proofs.Lists.{get_last}
 use Rattle.fast_check_range_finder.proofs.finder.place_of.Goals as goal
 
 pub returns-in-Some : goal.returns-in-Some
@@ -28,7 +30,7 @@ returns c =
     let key : Place = record { «package» = c.args.owner; specifier = c.specifier.result } in
     let es = c.args.modules.now.entries in
     let value = c.new.result in
-    let none = none_from _ (sym c.get_index_of.ensures.found ∙ ap is_some c.in_default.is) in
+    let none = none_found _ (sym c.get_index_of.ensures.found ∙ ap is_some c.in_default.is) in
     let all = c.in_ok-insert.ensures.entries ∙ insert_entry-new place_eq.eq-value.it c.args.modules.now key value none in
     record {
       followed = (key, value);

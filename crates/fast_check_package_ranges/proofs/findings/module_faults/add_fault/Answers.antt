@@ -1,7 +1,7 @@
 use Rattle.std.proofs.Common.{◌∙◌, sym, subst, List, [], ◌∷◌, ◌++◌}
 use Rattle.std.specs.declared.alloc.Global.{Global}
 use Rattle.std.specs.declared.rc.RcStr.{RcStr}
-use Rattle.fast_check_package_ranges.specs.declared.findings.module_faults.ToldFault.{ToldFault}
+use Rattle.fast_check_package_ranges.specs.declared.findings.module_faults.ReportedFault.{ReportedFault}
 use Rattle.fast_check_package_ranges.specs.findings.ModuleFaults.{fault_of, AreFaults}
 use Rattle.fast_check_package_ranges.proofs.findings.Lists.{none_found}
 use Rattle.fast_check_package_ranges.proofs.findings.Collected.{added, stood}
@@ -13,6 +13,6 @@ returns-then-contains_key c = λ fs a.
 
 pub returns : goal.returns
 returns c = λ fs a.
-    subst (λ (es : List (ToldFault × RcStr Global)). AreFaults (fs ++ fault_of (c.args.fault, c.args.text) ∷ []) es)
+    subst (λ (es : List (ReportedFault × RcStr Global)). AreFaults (fs ++ fault_of (c.args.fault, c.args.text) ∷ []) es)
     (sym c.in_ok-insert.ensures.entries)
     (added fs c.args.others.now.entries c.args.fault c.args.text a (none_found _ (sym c.contains_key.ensures ∙ c.if-contains_key.false)))

@@ -17,13 +17,13 @@ use Rattle.fast_check_range_finder.proofs.finder.Finder.enter_known.Goals as goa
 pub returns-in-None : goal.returns-in-None
 returns-in-None g c =
     let nv = nv_of c.args.nv.now in
-    let graph = c.args.input.sources.graph.now in
+    let graph = c.args.lent.input.sources.graph.now in
     let keys : c.deref.result.now ≡ c.args.entry_points.value = search rules in
-    let used = used_of c.args.cache (λ x. let n = goal.FastCheckCache-dyn g x.now in
-    used_item (n.hash_of x.now.1 c.args.input.seed.now) (n.stored x.now.1) c.args.input.sources.graph.now) in
+    let used = used_of c.args.lent.cache (λ x. let n = goal.FastCheckCache-dyn g x.now in
+    used_item (n.hash_of x.now.1 c.args.lent.input.seed.now) (n.stored x.now.1) c.args.lent.input.sources.graph.now) in
     let urls = c.args.entry_points.value.keys in
-    let is = ap (option_map item_of) (sym c.in-None.is) ∙ (looked_up c.args.cache (λ x. let n = goal.FastCheckCache-dyn g x.now in
-    used_item (n.hash_of x.now.1 c.args.input.seed.now) (n.stored x.now.1) graph) nv c.deref.result.now.keys (option_map item_of c.in_ok-look_up.field-0)
+    let is = ap (option_map item_of) (sym c.in-None.is) ∙ (looked_up c.args.lent.cache (λ x. let n = goal.FastCheckCache-dyn g x.now in
+    used_item (n.hash_of x.now.1 c.args.lent.input.seed.now) (n.stored x.now.1) graph) nv c.deref.result.now.keys (option_map item_of c.in_ok-look_up.field-0)
     c.in_ok-look_up.ensures ∙ ap (λ (s : BTreeSet Parts). used nv s.keys) keys) in
     subst (λ (item : Option ItemView). OnOk c.enter_at.result ((h : ModuleGraph) (r : RootSymbol) → IsSound h r c.args.self.now →
     CanEnter nv c.args.self.now → Goes h r (entered_wants graph nv urls item) (entered_yields graph nv urls item) c.args.self.now c.enter_at.new.self))
@@ -32,14 +32,14 @@ returns-in-None g c =
 pub returns-in-Some : goal.returns-in-Some
 returns-in-Some g c =
     let nv = nv_of c.args.nv.now in
-    let graph = c.args.input.sources.graph.now in
+    let graph = c.args.lent.input.sources.graph.now in
     let keys : c.deref.result.now ≡ c.args.entry_points.value = search rules in
-    let used = used_of c.args.cache (λ x. let n = goal.FastCheckCache-dyn g x.now in
-    used_item (n.hash_of x.now.1 c.args.input.seed.now) (n.stored x.now.1) c.args.input.sources.graph.now) in
+    let used = used_of c.args.lent.cache (λ x. let n = goal.FastCheckCache-dyn g x.now in
+    used_item (n.hash_of x.now.1 c.args.lent.input.seed.now) (n.stored x.now.1) c.args.lent.input.sources.graph.now) in
     let urls = c.args.entry_points.value.keys in
-    let is = ap (option_map item_of) (sym c.in-Some.is) ∙ (looked_up c.args.cache (λ x. let n = goal.FastCheckCache-dyn g x.now in
-    used_item (n.hash_of x.now.1 c.args.input.seed.now) (n.stored x.now.1) graph) nv c.deref.result.now.keys (option_map item_of c.in_ok-look_up.field-0)
+    let is = ap (option_map item_of) (sym c.in-Some.is) ∙ (looked_up c.args.lent.cache (λ x. let n = goal.FastCheckCache-dyn g x.now in
+    used_item (n.hash_of x.now.1 c.args.lent.input.seed.now) (n.stored x.now.1) graph) nv c.deref.result.now.keys (option_map item_of c.in_ok-look_up.field-0)
     c.in_ok-look_up.ensures ∙ ap (λ (s : BTreeSet Parts). used nv s.keys) keys) in
-    subst (λ (item : Option ItemView). OnOk c.enter_kept.result ((h : ModuleGraph) (r : RootSymbol) → IsSound h r c.args.self.now →
-    CanEnter nv c.args.self.now → Goes h r (entered_wants graph nv urls item) (entered_yields graph nv urls item) c.args.self.now c.enter_kept.new.self))
-    is c.enter_kept.ensures
+    subst (λ (item : Option ItemView). OnOk c.enter_cached.result ((h : ModuleGraph) (r : RootSymbol) → IsSound h r c.args.self.now →
+    CanEnter nv c.args.self.now → Goes h r (entered_wants graph nv urls item) (entered_yields graph nv urls item) c.args.self.now c.enter_cached.new.self))
+    is c.enter_cached.ensures

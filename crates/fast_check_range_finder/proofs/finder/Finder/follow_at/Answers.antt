@@ -23,7 +23,8 @@ use Rattle.fast_check_range_finder.proofs.Gained.{get_in}
 use Rattle.fast_check_range_finder.proofs.OwnAsked.{each_kept, each_append, all_names, same_aliases}
 use Rattle.fast_check_range_finder.proofs.PlaceKeys.{tells_places}
 use Rattle.fast_check_range_finder.proofs.Steps.{same_added}
-use Rattle.fast_check_range_finder.proofs.Within.{get_value, symbol_within}
+use Rattle.fast_check_range_finder.proofs.Within.{symbol_within}
+use Rattle.fast_check_range_finder.proofs.Lists.{get_value}
 use Rattle.fast_check_range_finder.proofs.finder.Finder.follow_at.Goals as goal
 
 pub returns : goal.returns

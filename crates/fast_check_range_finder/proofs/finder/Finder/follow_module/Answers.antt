@@ -27,20 +27,20 @@ pub follow_names_at-requires-clause-sound : goal.follow_names_at-requires-clause
 follow_names_at-requires-clause-sound g c =
     let f = c.args.self.now in
     let b : Finder = record f { modules = c.place_of.new.modules } in
-    (placed_goes c.args.sources.graph.now c.args.sources.root_symbol.now f b c.requires.sound (nv_of c.in_ok-copy_of.field-0) c.args.info.now c.requires.own
+    (placed_goes c.args.lent.input.sources.graph.now c.args.lent.input.sources.root_symbol.now f b c.requires.sound (nv_of c.in_ok-copy_of.field-0) c.args.info.now c.requires.own
     c.in_ok-place.place c.in_ok-place.ensures
     (record { packages = refl; entered = refl; handled = refl; names = refl; symbols = refl; entrances = refl; dependencies = refl; untyped = refl })).sound
 
 pub loop-want-init : goal.loop-want-init
 loop-want-init g c sound =
-    let m = goal.JsrUrlProvider-dyn g c.args.provider.now in
-    let k = known c.args.sources (m.url_of c.args.provider.now.1) (m.nv_at c.args.provider.now.1) in
+    let m = goal.JsrUrlProvider-dyn g c.args.lent.provider.now in
+    let k = known c.args.lent.input.sources (m.url_of c.args.lent.provider.now.1) (m.nv_at c.args.lent.provider.now.1) in
     goes_nowhere k.graph k.root_symbol c.follow_names_at.new.self sound
 
 pub loop-want-preserved : goal.loop-want-preserved
 loop-want-preserved g c sound =
-    let m = goal.JsrUrlProvider-dyn g c.args.provider.now in
-    let k = known c.args.sources (m.url_of c.args.provider.now.1) (m.nv_at c.args.provider.now.1) in
+    let m = goal.JsrUrlProvider-dyn g c.args.lent.provider.now in
+    let k = known c.args.lent.input.sources (m.url_of c.args.lent.provider.now.1) (m.nv_at c.args.lent.provider.now.1) in
     let nv = nv_of c.args.nv in
     let h = left_wants k nv (traced_as k c.args.info.now) in
     let xs = c.as_slice-want-items.result.now in
@@ -50,14 +50,14 @@ loop-want-preserved g c sound =
     let more : map want_of (take (i + 1) xs) ≡ map want_of (take i xs) ++ want_of x ∷ [] =
     ap (map want_of) (take_more xs i x c.loop-want-test.true ∙ ap (λ (y : ModuleWant). take i xs ++ y ∷ []) (sym c.want-item.is)) ∙
     map-append want_of (take i xs) (x ∷ []) in
-    subst (λ (ds : List WantSeen). AsksFor k.graph k.root_symbol nv (flat_map h ds) c.follow_names_at.new.self c.ask_left.new.self) (sym more)
+    subst (λ (ds : List WantSeen). AsksFor k.graph k.root_symbol nv (flat_map h ds) c.follow_names_at.new.self c.ask_re_exported.new.self) (sym more)
     (goes_more k.graph k.root_symbol h nv (map want_of (take i xs)) (want_of x) c.follow_names_at.new.self c.loop-want.self
-    c.ask_left.new.self s (c.in_ok-ask_left.ensures s.sound))
+    c.ask_re_exported.new.self s (c.in_ok-ask_re_exported.ensures s.sound))
 
 pub returns : goal.returns
 returns g c =
-    let m = goal.JsrUrlProvider-dyn g c.args.provider.now in
-    let k = known c.args.sources (m.url_of c.args.provider.now.1) (m.nv_at c.args.provider.now.1) in
+    let m = goal.JsrUrlProvider-dyn g c.args.lent.provider.now in
+    let k = known c.args.lent.input.sources (m.url_of c.args.lent.provider.now.1) (m.nv_at c.args.lent.provider.now.1) in
     let f = c.args.self.now in
     let b : Finder = record f { modules = c.place_of.new.modules } in
     let nv = nv_of c.args.nv in

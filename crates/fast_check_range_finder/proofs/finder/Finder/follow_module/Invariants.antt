@@ -10,7 +10,7 @@ use Rattle.fast_check_range_finder.proofs.finder.Finder.follow_module.Given as g
 
 abbrev pub invariant-loop-want : goal.invariant-loop-want
 invariant-loop-want g l =
-    let m = goal.JsrUrlProvider-dyn g l.provider.now in
-    let k = known l.sources (m.url_of l.provider.now.1) (m.nv_at l.provider.now.1) in
+    let m = goal.JsrUrlProvider-dyn g l.lent.provider.now in
+    let k = known l.lent.input.sources (m.url_of l.lent.provider.now.1) (m.nv_at l.lent.provider.now.1) in
     let ws = flat_map (left_wants k (nv_of l.nv) (traced_as k l.info)) (map want_of (take l.want-index l.want-items)) in
     IsSound k.graph k.root_symbol l.initial.self → Goes k.graph k.root_symbol ws (dependencies (nv_of l.nv) ws) l.initial.self l.self

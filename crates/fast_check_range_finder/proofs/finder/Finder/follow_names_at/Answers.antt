@@ -16,7 +16,8 @@ use Rattle.fast_check_range_finder.specs.Yields.{public_at}
 use Rattle.fast_check_range_finder.proofs.Gained.{get_in}
 use Rattle.fast_check_range_finder.proofs.PlaceKeys.{tells_places}
 use Rattle.fast_check_range_finder.proofs.OwnAsked.{each_kept, same_aliases}
-use Rattle.fast_check_range_finder.proofs.Within.{with_ok, get_value, value_in, names_within}
+use Rattle.fast_check_range_finder.proofs.Within.{with_ok, value_in, names_within}
+use Rattle.fast_check_range_finder.proofs.Lists.{get_value}
 use Rattle.fast_check_range_finder.proofs.finder.Finder.follow_names_at.Goals as goal
 
 pub follow_names_in-requires-clause-index : goal.follow_names_in-requires-clause-index

@@ -19,14 +19,14 @@ use Rattle.fast_check_range_finder.proofs.finder.Finder.follow_symbol.Goals as g
 
 pub loop-want-init : goal.loop-want-init
 loop-want-init g c sound =
-    let m = goal.JsrUrlProvider-dyn g c.args.provider.now in
-    let k = known c.args.sources (m.url_of c.args.provider.now.1) (m.nv_at c.args.provider.now.1) in
+    let m = goal.JsrUrlProvider-dyn g c.args.lent.provider.now in
+    let k = known c.args.lent.input.sources (m.url_of c.args.lent.provider.now.1) (m.nv_at c.args.lent.provider.now.1) in
     goes_nowhere k.graph k.root_symbol c.follow_at.new.self sound
 
 pub loop-want-preserved : goal.loop-want-preserved
 loop-want-preserved g c sound =
-    let m = goal.JsrUrlProvider-dyn g c.args.provider.now in
-    let k = known c.args.sources (m.url_of c.args.provider.now.1) (m.nv_at c.args.provider.now.1) in
+    let m = goal.JsrUrlProvider-dyn g c.args.lent.provider.now in
+    let k = known c.args.lent.input.sources (m.url_of c.args.lent.provider.now.1) (m.nv_at c.args.lent.provider.now.1) in
     let nv = nv_of c.in_ok-nv.nv in
     let h = file_wants k nv (traced_as k c.in-Some.followed.now.found.info.now) in
     let xs = c.as_slice-want-items.result.now in
@@ -36,14 +36,14 @@ loop-want-preserved g c sound =
     let more : map file_demand_of (take (i + 1) xs) ≡ map file_demand_of (take i xs) ++ file_demand_of x ∷ [] =
     ap (map file_demand_of) (take_more xs i x c.loop-want-test.true ∙ ap (λ (y : FileWant). take i xs ++ y ∷ []) (sym c.want-item.is)) ∙
     map-append file_demand_of (take i xs) (x ∷ []) in
-    subst (λ (ds : List FileDemand). AsksFor k.graph k.root_symbol nv (flat_map h ds) c.follow_at.new.self c.ask_want.new.self) (sym more)
+    subst (λ (ds : List FileDemand). AsksFor k.graph k.root_symbol nv (flat_map h ds) c.follow_at.new.self c.ask_dependency.new.self) (sym more)
     (goes_more k.graph k.root_symbol h nv (map file_demand_of (take i xs)) (file_demand_of x) c.follow_at.new.self c.loop-want.self
-    c.ask_want.new.self s (c.in_ok-ask_want.ensures s.sound))
+    c.ask_dependency.new.self s (c.in_ok-ask_dependency.ensures s.sound))
 
 pub returns : goal.returns
 returns g c e here sound =
-    let m = goal.JsrUrlProvider-dyn g c.args.provider.now in
-    let k = known c.args.sources (m.url_of c.args.provider.now.1) (m.nv_at c.args.provider.now.1) in
+    let m = goal.JsrUrlProvider-dyn g c.args.lent.provider.now in
+    let k = known c.args.lent.input.sources (m.url_of c.args.lent.provider.now.1) (m.nv_at c.args.lent.provider.now.1) in
     let x : Followed = (c.in-Some.place.now, c.in-Some.followed.now) in
     let same : e ≡ x = some_is e x (sym here ∙ (sym c.get_index.ensures.entry ∙ ap (option_map deref_pair) c.in-Some.is)) in
     let nv = nv_of c.in_ok-nv.nv in

@@ -20,7 +20,7 @@ use Rattle.fast_check_range_finder.specs.declared.demand.NamesAt.{NamesAt}
 use Rattle.fast_check_range_finder.specs.declared.demand.SymbolAt.{SymbolAt}
 use Rattle.fast_check_range_finder.specs.declared.finder.Finder.{Finder}
 use Rattle.fast_check_range_finder.specs.Once.{AreOnce}
-use Rattle.fast_check_range_finder.specs.Finder.{Modules, names_seen, seen_at, search_in, search_of, entered_yields, entered_nv, depends, followed_yields, noted_yields, yields_by, yields_in, IsSound, CanEnter, Goes}
+use Rattle.fast_check_range_finder.specs.Finder.{Modules, names_seen, seen_at, search_in, search_of, entered_yields, entered_nv, depends, followed_yields, untyped_yields_of, yields_by, yields_in, IsSound, CanEnter, Goes}
 use Rattle.fast_check_range_finder.proofs.Followed.{once_same}
 use Rattle.fast_check_range_finder.proofs.Steps.{same_itself}
 use Rattle.fast_check_range_finder.proofs.Joins.{joins_left, joins_right, joins_last}
@@ -96,11 +96,11 @@ module _ (f b : Finder) (w : IsAskedAlike f b) where
           ap (λ (x : List (PackageNv × Parts)). yields_by f.entrances.items f.dependencies.keys f.modules.entries x) more)))
           (joins_right (untyped_yields (nv_of p) url) _ _ (flat_map entered_yields f.entrances.items)
           (joins_right (untyped_yields (nv_of p) url) _ _ (map depends f.dependencies.keys)
-          (joins_right (untyped_yields (nv_of p) url) (flat_map noted_yields f.untyped.items)
-          (flat_map noted_yields (f.untyped.items ++ (p, url) ∷ [])) (flat_map followed_yields f.modules.entries)
-          (subst (λ (ys : List Yield). Joins (untyped_yields (nv_of p) url) (flat_map noted_yields f.untyped.items) ys)
-          (sym (flat_map-append noted_yields f.untyped.items ((p, url) ∷ []) ∙
-          ap (λ (ys : List Yield). flat_map noted_yields f.untyped.items ++ ys) (append-nil (noted_yields (p, url)))))
-          (joins_last (untyped_yields (nv_of p) url) (flat_map noted_yields f.untyped.items))))));
+          (joins_right (untyped_yields (nv_of p) url) (flat_map untyped_yields_of f.untyped.items)
+          (flat_map untyped_yields_of (f.untyped.items ++ (p, url) ∷ [])) (flat_map followed_yields f.modules.entries)
+          (subst (λ (ys : List Yield). Joins (untyped_yields (nv_of p) url) (flat_map untyped_yields_of f.untyped.items) ys)
+          (sym (flat_map-append untyped_yields_of f.untyped.items ((p, url) ∷ []) ∙
+          ap (λ (ys : List Yield). flat_map untyped_yields_of f.untyped.items ++ ys) (append-nil (untyped_yields_of (p, url)))))
+          (joins_last (untyped_yields (nv_of p) url) (flat_map untyped_yields_of f.untyped.items))))));
       sound = still (subst (λ (xs : List (PackageNv × Entrance)). AreOnce (map nv_of f.packages) f.entered (map entered_nv xs)) (sym same) sound.once);
     }

@@ -14,8 +14,8 @@ use Rattle.fast_check_package_ranges.specs.entries.Entries.{member_exports, entr
 use Rattle.fast_check_package_ranges.specs.declared.entries.members.MemberEntries.{MemberEntries}
 
 -- under a name the entry points of the first member of this name that has no version
-abbrev pub AreKept : List WorkspaceMember → MemberEntries → Type 0
-AreKept members kept = (name : String Global) (urls : Rc (BTreeSet Parts) Global) →
-    get string_cmp kept.by_name name ≡ Some urls → (m : WorkspaceMember) →
+abbrev pub AreMemberEntries : List WorkspaceMember → MemberEntries → Type 0
+AreMemberEntries members entries = (name : String Global) (urls : Rc (BTreeSet Parts) Global) →
+    get string_cmp entries.by_name name ≡ Some urls → (m : WorkspaceMember) →
     find (is_of_name (string_bytes name)) members ≡ Some m →
     entrance_by m.base (Some (member_exports m)) ≡ entered urls.value.keys

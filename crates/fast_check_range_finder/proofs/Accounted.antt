@@ -15,21 +15,20 @@ use Rattle.fast_check_lattice.specs.Imports.{default_name, imported, is_star, Na
 use Rattle.fast_check_demands.specs.symbol_demands.Demands.{Demand as SymbolDemand}
 use Rattle.fast_check_demands.specs.worklists.Demands.{Text, same_nv, asked_by, one, Want, to_package, to_module, to_symbol}
 use Rattle.fast_check_demands.specs.worklists.Demands.{Demand, of_package, of_module, of_symbol, World, Gives}
+use Rattle.fast_check_demands.proofs.worklists.Taken.{bytes_same}
+use Rattle.fast_check_demands.proofs.Elements.{in_any}
 use Rattle.fast_check_range_finder.specs.Account.{is_package, is_of, names_at, joined, meets, IsStarred, Chained, widen, narrow}
 use Rattle.fast_check_range_finder.specs.Search.{Search, handled_at, IsAsked, MeetsSame, IsPut, IsTaken, AsksPackage, IsMarked, AsksSymbol, AsksNames, WaitsFor, Asks}
 use Rattle.fast_check_range_finder.specs.Search.{AsksAll}
-use Rattle.fast_check_range_finder.specs.Turn.{members, HasStar, IsKept}
+use Rattle.fast_check_range_finder.specs.Turn.{members, HasStar, IsAccounted}
 use Rattle.fast_check_demands.proofs.worklists.Maps.{none_in, first_in, rest_in, split_in, some_is}
-use Rattle.fast_check_range_finder.proofs.Lists.{any_some, any_from, any_more, put_right}
+use Rattle.fast_check_range_finder.proofs.Lists.{any_some, any_more, put_right}
 use Rattle.fast_check_demands.proofs.worklists.Single.{asked_in}
 use Rattle.fast_check_range_finder.proofs.Parts.{part_within}
 use Rattle.fast_check_range_finder.proofs.Added.{Gains, gains, IsWidenedFrom, default_of}
 
 pub nv_itself : (p : Nv) → same_nv p p ≡ true
 nv_itself p = (eq_by_cmp_equiv nv_total).refl p
-
-pub text_itself : (t : Text) → bytes_eq t t ≡ true
-text_itself t = (bytes_eq-Decides t t).1 refl
 
 pub text_is : (t u : Text) → bytes_eq t u ≡ true → t ≡ u
 text_is t u h = (bytes_eq-Decides t u).0 h
@@ -53,10 +52,10 @@ more_star xs ys t g h = (h.0, h.1, g (of_module h.0 t h.1) h.2, h.3)
 
 module _ (world : World) (roots : List Nv) (done : List Demand) where
   -- what was asked is the same, and the members are, in some order
-  pub kept_same : (more : List Demand) (a b : Search) → b.packages ≡ a.packages → b.handled ≡ a.handled → MeetsSame a b →
-      IsWithinList (members done a) (members more b) → IsWithinList (members more b) (members done a) → IsKept world roots done a →
-      IsKept world roots more b
-  kept_same more a b p h s on back k = record {
+  pub accounted_same : (more : List Demand) (a b : Search) → b.packages ≡ a.packages → b.handled ≡ a.handled → MeetsSame a b →
+      IsWithinList (members done a) (members more b) → IsWithinList (members more b) (members done a) → IsAccounted world roots done a →
+      IsAccounted world roots more b
+  accounted_same more a b p h s on back k = record {
     chained = λ e c. k.chained e (back e c);
     packages = λ q c. any_more (is_package q) (members done a) (members more b) on
         (k.packages q (subst (λ (x : List Nv). list_any (same_nv q) x ≡ true) p c));
@@ -71,7 +70,7 @@ module _ (world : World) (roots : List Nv) (done : List Demand) where
       old : (t : Text) (x : ImportedExports) → handled_at b.handled t ≡ Some x → handled_at a.handled t ≡ Some x
       old t x e = subst (λ (y : _). handled_at y t ≡ Some x) h e
 
-  module _ (a b : Search) (k : IsKept world roots done a) where
+  module _ (a b : Search) (k : IsAccounted world roots done a) where
     abbrev before : List Demand
     before = members done a
 
@@ -81,9 +80,9 @@ module _ (world : World) (roots : List Nv) (done : List Demand) where
     put_members : (d : Demand) → IsPut d a.waiting b.waiting → IsPut d before after
     put_members d w = put_right d a.waiting b.waiting done w
 
-    nothing_new : b.packages ≡ a.packages → b.handled ≡ a.handled → MeetsSame a b → b.waiting ≡ a.waiting → IsKept world roots done b
+    nothing_new : b.packages ≡ a.packages → b.handled ≡ a.handled → MeetsSame a b → b.waiting ≡ a.waiting → IsAccounted world roots done b
     nothing_new p h s w =
-        kept_same done a b p h s (λ e c. subst (λ (x : List Demand). Contains (done ++ x) e) (sym w) c)
+        accounted_same done a b p h s (λ e c. subst (λ (x : List Demand). Contains (done ++ x) e) (sym w) c)
         (λ e c. subst (λ (x : List Demand). Contains (done ++ x) e) w c) k
 
     -- a package
@@ -92,7 +91,7 @@ module _ (world : World) (roots : List Nv) (done : List Demand) where
     more_package p asks (of_package q) t =
         ⊎_elim (λ same. subst (λ (x : List Nv). list_any (same_nv q) x ≡ true) (sym same.1) t)
         (λ n. subst (λ (x : List Nv). list_any (same_nv q) x ≡ true) (sym n.1)
-        (let s = any_some (same_nv q) a.packages t in any_from (same_nv q) (a.packages ++ p ∷ []) s.0
+        (let s = any_some (same_nv q) a.packages t in in_any (same_nv q) (a.packages ++ p ∷ []) s.0
         (Contains-append_left a.packages (p ∷ []) s.0 s.1) s.2))
         asks.put
     more_package p asks (of_module nv u d) t =
@@ -103,23 +102,23 @@ module _ (world : World) (roots : List Nv) (done : List Demand) where
     now_package p asks =
         ⊎_elim (λ same. subst (λ (x : List Nv). list_any (same_nv p) x ≡ true) (sym same.1) same.0)
         (λ n. subst (λ (x : List Nv). list_any (same_nv p) x ≡ true) (sym n.1)
-        (any_from (same_nv p) (a.packages ++ p ∷ []) p (Contains-append_right a.packages (p ∷ []) p (first_in p [])) (nv_itself p)))
+        (in_any (same_nv p) (a.packages ++ p ∷ []) p (Contains-append_right a.packages (p ∷ []) p (first_in p [])) (nv_itself p)))
         asks.put
 
-    kept_package : (p : Nv) → Chained world roots (of_package p) → AsksPackage p a b → IsKept world roots done b
-    kept_package p chain asks = ⊎_elim (λ same. nothing_new same.1 asks.handled asks.symbols same.2) (λ n. new n.1 (put_members (of_package p) n.2))
+    accounted_package : (p : Nv) → Chained world roots (of_package p) → AsksPackage p a b → IsAccounted world roots done b
+    accounted_package p chain asks = ⊎_elim (λ same. nothing_new same.1 asks.handled asks.symbols same.2) (λ n. new n.1 (put_members (of_package p) n.2))
         asks.put
       where
         old : (t : Text) (x : ImportedExports) → handled_at b.handled t ≡ Some x → handled_at a.handled t ≡ Some x
         old t x e = subst (λ (y : _). handled_at y t ≡ Some x) asks.handled e
 
-        new : b.packages ≡ a.packages ++ p ∷ [] → IsPut (of_package p) before after → IsKept world roots done b
+        new : b.packages ≡ a.packages ++ p ∷ [] → IsPut (of_package p) before after → IsAccounted world roots done b
         new is m = record {
           chained = λ e c. ⊎_elim (λ o. k.chained e o) (λ s. subst (Chained world roots) s chain) (m.sound e c);
           packages = λ q c.
               let s = any_some (same_nv q) b.packages c in
-              ⊎_elim (λ o. any_more (is_package q) before after m.kept (k.packages q (any_from (same_nv q) a.packages s.0 o s.2)))
-              (λ e. any_from (is_package q) after (of_package p) m.here (subst (λ (x : Nv). same_nv q x ≡ true) (sym e) s.2))
+              ⊎_elim (λ o. any_more (is_package q) before after m.kept (k.packages q (in_any (same_nv q) a.packages s.0 o s.2)))
+              (λ e. in_any (is_package q) after (of_package p) m.here (subst (λ (x : Nv). same_nv q x ≡ true) (sym e) s.2))
               (Contains-push_cases a.packages p s.0 (subst (λ (x : List Nv). Contains x s.0) is s.1));
           symbols = λ nv t d c. any_more (meets nv t d) before after m.kept
               (k.symbols nv t d (sym (asks.symbols nv t d) ∙ c));
@@ -142,23 +141,23 @@ module _ (world : World) (roots : List Nv) (done : List Demand) where
     now_symbol nv t d asks = λ x i.
         ⊎_elim (λ same. same.1 nv t x ∙ same.0 x i) (λ n. n.1.now x i) asks.put
 
-    kept_symbol : (nv : Nv) (t : Text) (d : SymbolDemand) → Chained world roots (of_symbol nv t d) → AsksSymbol nv t d a b →
-        IsKept world roots done b
-    kept_symbol nv t d chain asks =
+    accounted_symbol : (nv : Nv) (t : Text) (d : SymbolDemand) → Chained world roots (of_symbol nv t d) → AsksSymbol nv t d a b →
+        IsAccounted world roots done b
+    accounted_symbol nv t d chain asks =
         ⊎_elim (λ same. nothing_new asks.packages asks.handled same.1 same.2)
         (λ n. new n.0 n.1 (put_members (of_symbol nv t n.0) n.2)) asks.put
       where
         old : (t : Text) (x : ImportedExports) → handled_at b.handled t ≡ Some x → handled_at a.handled t ≡ Some x
         old t x e = subst (λ (y : _). handled_at y t ≡ Some x) asks.handled e
 
-        new : (n : SymbolDemand) → IsMarked nv t d n a b → IsPut (of_symbol nv t n) before after → IsKept world roots done b
+        new : (n : SymbolDemand) → IsMarked nv t d n a b → IsPut (of_symbol nv t n) before after → IsAccounted world roots done b
         new n s m = record {
           chained = λ e c. ⊎_elim (λ o. k.chained e o) (λ same. subst (Chained world roots) same chain_new) (m.sound e c);
           packages = λ q c. any_more (is_package q) before after m.kept
               (k.packages q (subst (λ (x : List Nv). list_any (same_nv q) x ≡ true) asks.packages c));
           symbols = λ p u c h.
               ⊎_elim (λ o. any_more (meets p u c) before after m.kept (k.symbols p u c o))
-              (λ met. any_from (meets p u c) after (of_symbol nv t n) m.here met) (s.only p u c h);
+              (λ met. in_any (meets p u c) after (of_symbol nv t n) m.here met) (s.only p u c h);
           some = λ u x e. any_more (is_of u) before after m.kept (k.some u x (old u x e));
           names = λ u x e part q g. any_more (λ y. names_at u y part q) before after m.kept (k.names u x (old u x e) part q g);
           stars = λ u x e i. more_star before after u m.kept (k.stars u x (old u x e) i);
@@ -239,7 +238,7 @@ module _ (world : World) (roots : List Nv) (done : List Demand) where
                   (record { starred = i; default = default_of s f.1; under = inl refl; to = w.to })
 
       module _ (chain : Chained world roots (of_module nv t d)) where
-        no_new : asks.new ≡ None → b.waiting ≡ a.waiting → IsKept world roots done b
+        no_new : asks.new ≡ None → b.waiting ≡ a.waiting → IsAccounted world roots done b
         no_new none w = record {
           chained = λ e c. k.chained e (back e c);
           packages = λ q c. any_more (is_package q) before after on
@@ -271,7 +270,7 @@ module _ (world : World) (roots : List Nv) (done : List Demand) where
                 clash : {X : Type 0} {x : X} → None ≡ Some x → ⊥
                 clash e = cc
 
-        some_new : (n : NameDemand) → asks.new ≡ Some n → IsPut (of_module nv t n) before after → IsKept world roots done b
+        some_new : (n : NameDemand) → asks.new ≡ Some n → IsPut (of_module nv t n) before after → IsAccounted world roots done b
         some_new n is m = record {
           chained = λ e c. ⊎_elim (λ o. k.chained e o) (λ same. subst (Chained world roots) same (chain_new chain n is)) (m.sound e c);
           packages = λ q c. any_more (is_package q) before after m.kept
@@ -279,12 +278,12 @@ module _ (world : World) (roots : List Nv) (done : List Demand) where
           symbols = λ p u s c. any_more (meets p u s) before after m.kept
               (k.symbols p u s (sym (asks.symbols p u s) ∙ c));
           some = λ u x e. here_or (λ v y. list_any (is_of v) after ≡ true) u x e
-              (any_from (is_of t) after (of_module nv t n) m.here (text_itself t))
+              (in_any (is_of t) after (of_module nv t n) m.here (bytes_same t))
               (λ o. any_more (is_of u) before after m.kept (k.some u x o));
           names = λ u x e. here_or (λ v y. IsBelow (imported y) (joined after v)) u x e
               (λ part q i. ⊎_elim (λ o. any_more (λ y. names_at t y part q) before after m.kept (k.names t o.0 o.1 part q o.2))
-              (λ f. any_from (λ y. names_at t y part q) after (of_module nv t n) m.here
-              (and_from (bytes_eq t t) (one n part q) (text_itself t)
+              (λ f. in_any (λ y. names_at t y part q) after (of_module nv t n) m.here
+              (and_from (bytes_eq t t) (one n part q) (bytes_same t)
               (subst (λ (c : NameDemand). one c part q ≡ true) (some_is f.0 n (sym f.1 ∙ is)) f.2)))
               (g.only part q i))
               (λ o part q i. any_more (λ y. names_at u y part q) before after m.kept (k.names u x o part q i));
@@ -296,10 +295,10 @@ module _ (world : World) (roots : List Nv) (done : List Demand) where
               (λ same. subst (IsAsked b) same (g.state, g.now_is, g.new_below n is)) (m.sound e c);
         }
 
-        kept_names : IsKept world roots done b
-        kept_names = go asks.new refl asks.waits
+        accounted_names : IsAccounted world roots done b
+        accounted_names = go asks.new refl asks.waits
           where
-            go : (o : Option NameDemand) → asks.new ≡ o → WaitsFor nv t o a.waiting b.waiting → IsKept world roots done b
+            go : (o : Option NameDemand) → asks.new ≡ o → WaitsFor nv t o a.waiting b.waiting → IsAccounted world roots done b
             go None e w = no_new e w
             go (Some n) e w = some_new n e (put_members (of_module nv t n) w)
 
@@ -325,32 +324,32 @@ module _ (world : World) (roots : List Nv) (done : List Demand) where
         subst (λ (x : SymbolDemand). IsAsked b (of_symbol q u x)) h.2
         (subst (λ (v : Text). IsAsked b (of_symbol q v s)) h.1 (subst (λ (x : Nv). IsAsked b (of_symbol x t s)) h.0 (now_symbol p t s asks)))
 
-    kept_one : (w : Want) → ((e : Demand) → Gives w e → Chained world roots e) → Asks w a b → IsKept world roots done b
-    kept_one (to_package p) chain asks = kept_package p (chain (of_package p) refl) asks
-    kept_one (to_module p t w) chain asks =
-        kept_names p asks.0 asks.1 asks.4 asks.5
+    accounted_one : (w : Want) → ((e : Demand) → Gives w e → Chained world roots e) → Asks w a b → IsAccounted world roots done b
+    accounted_one (to_package p) chain asks = accounted_package p (chain (of_package p) refl) asks
+    accounted_one (to_module p t w) chain asks =
+        accounted_names p asks.0 asks.1 asks.4 asks.5
         (chain (of_module p (serialize asks.0) asks.1) (refl, sym asks.2, sym (ap (λ (f : NameDemand → Bool). f asks.1) asks.3) ∙ asks.4))
-    kept_one (to_symbol p t s) chain asks = kept_symbol p t s (chain (of_symbol p t s) (refl, refl, refl)) asks
+    accounted_one (to_symbol p t s) chain asks = accounted_symbol p t s (chain (of_symbol p t s) (refl, refl, refl)) asks
 
-  pub kept_all : (ws : List Want) (a b : Search) → IsKept world roots done a →
-      ((w : Want) (e : Demand) → Contains ws w → Gives w e → Chained world roots e) → AsksAll ws a b → IsKept world roots done b
-  kept_all [] a b k chain asks = subst (IsKept world roots done) (sym asks) k
-  kept_all (w ∷ ws) a b k chain asks =
-      kept_all ws asks.0 b (kept_one a asks.0 k w (λ e h. chain w e (first_in w ws) h) asks.1) (λ v e c h. chain v e (rest_in w v ws c) h) asks.2
+  pub accounted_all : (ws : List Want) (a b : Search) → IsAccounted world roots done a →
+      ((w : Want) (e : Demand) → Contains ws w → Gives w e → Chained world roots e) → AsksAll ws a b → IsAccounted world roots done b
+  accounted_all [] a b k chain asks = subst (IsAccounted world roots done) (sym asks) k
+  accounted_all (w ∷ ws) a b k chain asks =
+      accounted_all ws asks.0 b (accounted_one a asks.0 k w (λ e h. chain w e (first_in w ws) h) asks.1) (λ v e c h. chain v e (rest_in w v ws c) h) asks.2
 
-  pub more_all : (ws : List Want) (a b : Search) → IsKept world roots done a →
+  pub more_all : (ws : List Want) (a b : Search) → IsAccounted world roots done a →
       ((w : Want) (e : Demand) → Contains ws w → Gives w e → Chained world roots e) → AsksAll ws a b → IsMore a b
   more_all [] a b k chain asks = λ e h. subst (λ (x : Search). IsAsked x e) (sym asks) h
   more_all (w ∷ ws) a b k chain asks = λ e h.
-      more_all ws asks.0 b (kept_one a asks.0 k w (λ e h. chain w e (first_in w ws) h) asks.1) (λ v e c h. chain v e (rest_in w v ws c) h) asks.2
+      more_all ws asks.0 b (accounted_one a asks.0 k w (λ e h. chain w e (first_in w ws) h) asks.1) (λ v e c h. chain v e (rest_in w v ws c) h) asks.2
       e (more_one a asks.0 k w asks.1 e h)
 
-  pub now_all : (ws : List Want) (a b : Search) → IsKept world roots done a →
+  pub now_all : (ws : List Want) (a b : Search) → IsAccounted world roots done a →
       ((w : Want) (e : Demand) → Contains ws w → Gives w e → Chained world roots e) → AsksAll ws a b → (w : Want) → Contains ws w → (e : Demand) →
       Gives w e → IsAsked b e
   now_all [] a b k chain asks w c e h = absurd (none_in w c)
   now_all (v ∷ ws) a b k chain asks w c e h =
-      let k2 = kept_one a asks.0 k v (λ e h. chain v e (first_in v ws) h) asks.1 in
+      let k2 = accounted_one a asks.0 k v (λ e h. chain v e (first_in v ws) h) asks.1 in
       let chain2 = λ (x : Want) (e : Demand) (c : Contains ws x) (h : Gives x e). chain x e (rest_in v x ws c) h in
       ⊎_elim
       (λ same. more_all ws asks.0 b k2 chain2 asks.2 e (now_one a asks.0 k v asks.1 e (subst (λ (x : Want). Gives x e) (sym same) h)))
@@ -358,8 +357,8 @@ module _ (world : World) (roots : List Nv) (done : List Demand) where
       (split_in v w ws c)
 
   -- a demand that was taken counts among those that are followed
-  pub kept_taken : (d : Demand) (a b : Search) → IsKept world roots done a → IsTaken d a b → IsKept world roots (done ++ d ∷ []) b
-  kept_taken d a b k t = kept_same (done ++ d ∷ []) a b t.packages t.handled t.symbols on back k
+  pub accounted_taken : (d : Demand) (a b : Search) → IsAccounted world roots done a → IsTaken d a b → IsAccounted world roots (done ++ d ∷ []) b
+  accounted_taken d a b k t = accounted_same (done ++ d ∷ []) a b t.packages t.handled t.symbols on back k
     where
       back : IsWithinList (members (done ++ d ∷ []) b) (members done a)
       back e c =

@@ -2,14 +2,14 @@ use Rattle.std.proofs.Common.{sym, refl, subst, [], ◌∷◌, ◌++◌, List, m
 use Rattle.std.proofs.lemmas.List.{append-nil}
 use Rattle.fast_check_packages.specs.Package.{Nv, nv_of}
 use Rattle.fast_check_cache.specs.Cache.{item_of}
-use Rattle.fast_check_package_ranges.specs.findings.Yields.{kept}
-use Rattle.fast_check_package_ranges.specs.declared.findings.found.Entrance.TheVariants.{Kept}
+use Rattle.fast_check_package_ranges.specs.findings.Yields.{cached}
+use Rattle.fast_check_package_ranges.specs.declared.findings.found.Entrance.TheVariants.{Cached}
 use Rattle.fast_check_demands.specs.worklists.Demands.{Want, to_package}
 use Rattle.fast_check_range_finder.specs.declared.finder.Finder.{Finder}
 use Rattle.fast_check_range_finder.specs.Finder.{CanEnter, Goes}
-use Rattle.fast_check_range_finder.proofs.Noted.{entrance_goes}
+use Rattle.fast_check_range_finder.proofs.Reported.{entrance_goes}
 use Rattle.fast_check_range_finder.proofs.Steps.{goes_then}
-use Rattle.fast_check_range_finder.proofs.finder.Finder.enter_kept.Goals as goal
+use Rattle.fast_check_range_finder.proofs.finder.Finder.enter_cached.Goals as goal
 
 pub returns : goal.returns
 returns c g r sound can =
@@ -21,8 +21,8 @@ returns c g r sound can =
     let first = c.in_ok-ask_packages.ensures.goes g r sound in
     let last = entrance_goes mid b
     (record { packages = refl; entered = refl; handled = refl; names = refl; modules = refl; symbols = refl; dependencies = refl }) g r first.sound
-    p (Kept c.args.entry_points c.args.item)
+    p (Cached c.args.entry_points c.args.item)
     (subst (λ (n : Nv). CanEnter n mid) (sym c.in_ok-package.ensures) (c.in_ok-ask_packages.ensures.enters nv can)) c.in_ok-push.ensures.items refl in
-    subst (λ (vs : List Want). Goes g r vs (kept nv c.args.entry_points.value.keys (item_of c.args.item) ∷ []) c.args.self.now b) (append-nil ws)
-    (subst (λ (n : Nv). Goes g r (ws ++ []) (kept n c.args.entry_points.value.keys (item_of c.args.item) ∷ []) c.args.self.now b) c.in_ok-package.ensures
-    (goes_then g r ws [] [] (kept (nv_of p) c.args.entry_points.value.keys (item_of c.args.item) ∷ []) c.args.self.now mid b first last))
+    subst (λ (vs : List Want). Goes g r vs (cached nv c.args.entry_points.value.keys (item_of c.args.item) ∷ []) c.args.self.now b) (append-nil ws)
+    (subst (λ (n : Nv). Goes g r (ws ++ []) (cached n c.args.entry_points.value.keys (item_of c.args.item) ∷ []) c.args.self.now b) c.in_ok-package.ensures
+    (goes_then g r ws [] [] (cached (nv_of p) c.args.entry_points.value.keys (item_of c.args.item) ∷ []) c.args.self.now mid b first last))

@@ -1,7 +1,7 @@
 use Rattle.std.proofs.Common.{rules}
 use Rattle.fast_check_packages.specs.Package.{nv_of}
 use Rattle.fast_check_package_ranges.proofs.entries.Named.{kept_more}
-use Rattle.fast_check_package_ranges.proofs.entries.members.MemberEntries.keep.Goals as goal
+use Rattle.fast_check_package_ranges.proofs.entries.members.MemberEntries.insert.Goals as goal
 
 pub returns : goal.returns
 returns c = λ members named none are kept.

@@ -10,12 +10,12 @@ use Rattle.fast_check_demands.specs.worklists.Demands.{asked_by}
 use Rattle.fast_check_demands.specs.sources.Sources.{known, traced_as}
 use Rattle.fast_check_demands.specs.sources.Wants.{behind, resolved, left_wants}
 use Rattle.fast_check_range_finder.proofs.Owners.{AsksFor, asks_none}
-use Rattle.fast_check_range_finder.proofs.finder.Finder.ask_left.Goals as goal
+use Rattle.fast_check_range_finder.proofs.finder.Finder.ask_re_exported.Goals as goal
 
 pub returns-in-None : goal.returns-in-None
 returns-in-None g c sound =
-    let m = goal.JsrUrlProvider-dyn g c.args.provider.now in
-    let k = known c.args.sources (m.url_of c.args.provider.now.1) (m.nv_at c.args.provider.now.1) in
+    let m = goal.JsrUrlProvider-dyn g c.args.lent.provider.now in
+    let k = known c.args.lent.input.sources (m.url_of c.args.lent.provider.now.1) (m.nv_at c.args.lent.provider.now.1) in
     let nv = nv_of c.args.nv.now in
     subst (λ (w : ModuleWant). AsksFor k.graph k.root_symbol nv (left_wants k nv (traced_as k c.args.info.now) (want_of w)) c.args.self.now c.args.self.now)
     (sym c.in-ReExported.is)
