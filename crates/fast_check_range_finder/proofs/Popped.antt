@@ -1,21 +1,25 @@
 -- A turn: what waits last is taken and followed.
-use Rattle.std.proofs.Common.{◌≡◌, ◌∙◌, sym, ap, subst, Bool, List, [], ◌∷◌, ◌++◌, Some, map, slice_get}
+use Rattle.std.proofs.Common.{◌≡◌, ◌∙◌, ◌<◌, sym, ap, subst, Bool, true, List, [], ◌∷◌, ◌++◌, Some, map, slice_get}
 use Rattle.std.specs.List.{Contains}
 use Rattle.std.proofs.lemmas.List.{append-nil, map-append}
 use Rattle.std.proofs.lemmas.List.Elements.{Contains-push, Contains-append_left}
-use Rattle.fast_check_packages.specs.Package.{nv_of}
+use Rattle.fast_check_packages.specs.Package.{Nv, nv_of}
 use Rattle.fast_check_lattice.specs.Traces.{handled}
 use Rattle.fast_check_demands.specs.symbol_demands.Demands.{demand_of}
-use Rattle.fast_check_demands.specs.worklists.Demands.{of_symbol}
+use Rattle.fast_check_demands.specs.worklists.Demands.{Demand, of_symbol}
 use Rattle.fast_check_demands.specs.sources.Sources.{Known}
 use Rattle.fast_check_range_finder.specs.declared.demand.NamesAt.{NamesAt}
 use Rattle.fast_check_range_finder.specs.declared.demand.SymbolAt.{SymbolAt}
 use Rattle.fast_check_range_finder.specs.declared.finder.Finder.{Finder}
 use Rattle.fast_check_range_finder.specs.Finder.{Followed, place_nv, place_text, names_seen, seen_at, search_in, search_of, IsSound, Goes, Turns, TurnsTo}
+use Rattle.fast_check_range_finder.specs.Measure.{left}
+use Rattle.fast_check_range_finder.specs.Reach.{reach}
 use Rattle.fast_check_range_finder.specs.Rules.{world}
 use Rattle.fast_check_range_finder.specs.Search.{IsTaken}
 use Rattle.fast_check_range_finder.specs.Yields.{gives}
 use Rattle.fast_check_range_finder.specs.Finder.{yields_in}
+use Rattle.fast_check_range_finder.proofs.Loop.{IsOn, on_turned, on_falls}
+use Rattle.fast_check_range_finder.proofs.Reach.{HasDependencies, universe}
 use Rattle.fast_check_range_finder.proofs.Taken.{get_some, symbol_taken, names_taken, turns_from, turns_by}
 
 module _ (k : Known) (f mid b : Finder) (sound : IsSound k.graph k.root_symbol f) where
@@ -69,3 +73,29 @@ pub past_names : (k : Known) (f mid b : Finder) → mid ≡ record f { names = m
 past_names k f mid b same items more t = turns_from k f mid b
     (ap search_of same ∙ ap (λ (xs : List NamesAt). search_in (map nv_of f.packages) f.entered (handled f.handled) (map names_seen xs)
     f.modules.entries (map seen_at f.symbols.items)) (sym (items ∙ append-nil mid.names.items))) (ap yields_in same) more t
+
+-- the same while the loop goes on
+module _ {k : Known} {roots : List Nv} {done : List Demand} {f : Finder} (on : IsOn k roots done f) where
+  pub after_symbol : (mid b : Finder) → mid ≡ record f { symbols = mid.symbols } → (at : SymbolAt) → f.symbols.items ≡ mid.symbols.items ++ at ∷ [] →
+      ((e : Followed) → slice_get mid.modules.entries at.place ≡ Some e → IsSound k.graph k.root_symbol mid →
+      let d = of_symbol (place_nv e) (place_text e) (demand_of at.demand) in Goes k.graph k.root_symbol (world k d) (gives k d) mid b) → Turns k f b
+  after_symbol mid b same at items follows = turn_of_symbol k f mid b on.sound same at items follows
+
+  -- no symbol waits
+  module _ (one two b : Finder) (first : one ≡ record f { symbols = one.symbols }) (none : f.symbols.items ≡ one.symbols.items ++ [])
+      (second : two ≡ record one { names = two.names }) where
+    pub after_names : (at : NamesAt) → one.names.items ≡ two.names.items ++ at ∷ [] →
+        Goes k.graph k.root_symbol (world k (names_seen at)) (gives k (names_seen at)) two b → Turns k f b
+    after_names at items follows = past_symbols k f one b first none true (turn_of_names k one two b second at items follows)
+
+    -- and no name
+    pub after_package : one.names.items ≡ two.names.items ++ [] → (more : Bool) → TurnsTo k more two b → TurnsTo k more f b
+    after_package items more t = past_symbols k f one b first none more (past_names k one two b second items more t)
+
+  module _ {b : Finder} (t : Turns k f b) where
+    pub turned_on : IsOn k roots (done ++ t.turn.demand ∷ []) b
+    turned_on = on_turned k roots done f b on t
+
+    pub less_left : (stored : List Nv) → HasDependencies k.used stored →
+        left (reach k stored roots) (search_of b) < left (reach k stored roots) (search_of f)
+    less_left stored has = on_falls k roots (reach k stored roots) (universe k stored roots has) done f b on t

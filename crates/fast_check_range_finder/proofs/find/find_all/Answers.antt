@@ -6,13 +6,11 @@ use Rattle.fast_check_packages.specs.MembersIn.{members_in}
 use Rattle.fast_check_package_ranges.proofs.entries.Passed.{passed_on}
 use Rattle.fast_check_range_finder.specs.declared.demand.SymbolAt.{SymbolAt}
 use Rattle.fast_check_range_finder.specs.declared.finder.Finder.{Finder}
-use Rattle.fast_check_range_finder.specs.Finder.{search_of, Turns, Rests}
+use Rattle.fast_check_range_finder.specs.Finder.{search_of}
 use Rattle.fast_check_range_finder.specs.Lent.{known_with}
-use Rattle.fast_check_range_finder.specs.Reach.{lent_dependencies, reach}
 use Rattle.fast_check_range_finder.specs.Refusals.{IsRefusal}
-use Rattle.fast_check_range_finder.proofs.Loop.{packages_chained, on_begun, on_turned, on_falls, on_ended}
-use Rattle.fast_check_range_finder.proofs.Popped.{turn_of_symbol, turn_of_names, past_symbols, past_names}
-use Rattle.fast_check_range_finder.proofs.Reach.{universe}
+use Rattle.fast_check_range_finder.proofs.Loop.{packages_chained, on_begun, on_ended}
+use Rattle.fast_check_range_finder.proofs.Popped.{after_symbol, after_names, after_package, turned_on, less_left}
 use Rattle.fast_check_range_finder.proofs.Refused.{refusal}
 use Rattle.fast_check_range_finder.proofs.Stored.{has_lent}
 use Rattle.fast_check_range_finder.proofs.find.find_all.Goals as goal
@@ -34,128 +32,67 @@ follow_symbol-requires g c = c.turns.invariant.on.sound.symbols c.in-Some.at
 
 pub turns-smaller-in_ok-follow_symbol-in-Some : goal.turns-smaller-in_ok-follow_symbol-in-Some
 turns-smaller-in_ok-follow_symbol-in-Some g c =
-    let m = goal.JsrUrlProvider-dyn g c.args.provider.now in
-    let k = known_with c.args.input (m.url_of c.args.provider.now.1) (m.nv_at c.args.provider.now.1) c.args.cache
-    (λ x. (goal.FastCheckCache-dyn g x.now).hash_of x.now.1) (λ x. (goal.FastCheckCache-dyn g x.now).stored x.now.1) in
-    let ds = lent_dependencies c.args.cache (λ x. (goal.FastCheckCache-dyn g x.now).stored x.now.1) in
+    let i = c.turns.invariant in
+    let mid : Finder = record c.turns.finder { symbols = c.pop.new.self } in
     let has = has_lent c.args.cache (λ x. (goal.FastCheckCache-dyn g x.now).hash_of x.now.1 c.args.input.seed.now)
     (λ x. (goal.FastCheckCache-dyn g x.now).stored x.now.1) c.args.input.sources.graph.now in
-    let i = c.turns.invariant in
-    let rs = map nv_of c.args.roots.now in
-    let f = c.turns.finder in
-    let mid : Finder = record f { symbols = c.pop.new.self } in
-    let t : Turns k f c.follow_symbol.new.self =
-    turn_of_symbol k f mid c.follow_symbol.new.self i.on.sound refl c.in-Some.at c.in-Some.ensures.items c.in_ok-follow_symbol-in-Some.ensures in
-    on_falls k rs (reach k ds rs) (universe k ds rs has) i.done f c.follow_symbol.new.self i.on t
+    less_left i.on (after_symbol i.on mid c.follow_symbol.new.self refl c.in-Some.at c.in-Some.ensures.items c.in_ok-follow_symbol-in-Some.ensures)
+    _ has
 
 pub turns-preserved-in_ok-follow_symbol-in-Some : goal.turns-preserved-in_ok-follow_symbol-in-Some
 turns-preserved-in_ok-follow_symbol-in-Some g c =
-    let m = goal.JsrUrlProvider-dyn g c.args.provider.now in
-    let k = known_with c.args.input (m.url_of c.args.provider.now.1) (m.nv_at c.args.provider.now.1) c.args.cache
-    (λ x. (goal.FastCheckCache-dyn g x.now).hash_of x.now.1) (λ x. (goal.FastCheckCache-dyn g x.now).stored x.now.1) in
     let i = c.turns.invariant in
-    let rs = map nv_of c.args.roots.now in
-    let f = c.turns.finder in
-    let mid : Finder = record f { symbols = c.pop.new.self } in
-    let t : Turns k f c.follow_symbol.new.self =
-    turn_of_symbol k f mid c.follow_symbol.new.self i.on.sound refl c.in-Some.at c.in-Some.ensures.items c.in_ok-follow_symbol-in-Some.ensures in
-    record {
-      done = i.done ++ t.turn.demand ∷ [];
-      on = on_turned k rs i.done f c.follow_symbol.new.self i.on t;
-      members = i.members;
-    }
+    let mid : Finder = record c.turns.finder { symbols = c.pop.new.self } in
+    let t = after_symbol i.on mid c.follow_symbol.new.self refl c.in-Some.at c.in-Some.ensures.items c.in_ok-follow_symbol-in-Some.ensures in
+    record { done = i.done ++ t.turn.demand ∷ []; on = turned_on i.on t; members = i.members }
 
 pub turns-smaller-in_ok-follow_names-in-Some-pop : goal.turns-smaller-in_ok-follow_names-in-Some-pop
 turns-smaller-in_ok-follow_names-in-Some-pop g c =
-    let m = goal.JsrUrlProvider-dyn g c.args.provider.now in
-    let k = known_with c.args.input (m.url_of c.args.provider.now.1) (m.nv_at c.args.provider.now.1) c.args.cache
-    (λ x. (goal.FastCheckCache-dyn g x.now).hash_of x.now.1) (λ x. (goal.FastCheckCache-dyn g x.now).stored x.now.1) in
-    let ds = lent_dependencies c.args.cache (λ x. (goal.FastCheckCache-dyn g x.now).stored x.now.1) in
+    let i = c.turns.invariant in
+    let one : Finder = record c.turns.finder { symbols = c.pop.new.self } in
+    let two : Finder = record one { names = c.pop-in-None.new.self } in
     let has = has_lent c.args.cache (λ x. (goal.FastCheckCache-dyn g x.now).hash_of x.now.1 c.args.input.seed.now)
     (λ x. (goal.FastCheckCache-dyn g x.now).stored x.now.1) c.args.input.sources.graph.now in
-    let i = c.turns.invariant in
-    let rs = map nv_of c.args.roots.now in
-    let f = c.turns.finder in
-    let one : Finder = record f { symbols = c.pop.new.self } in
-    let two : Finder = record one { names = c.pop-in-None.new.self } in
-    let b = c.follow_names.new.self in
-    let t : Turns k f b = past_symbols k f one b refl c.in-None.ensures.items true
-    (turn_of_names k one two b refl c.in-Some-pop.at c.in-Some-pop.ensures.items c.in_ok-follow_names-in-Some-pop.ensures) in
-    on_falls k rs (reach k ds rs) (universe k ds rs has) i.done f b i.on t
+    less_left i.on (after_names i.on one two c.follow_names.new.self refl c.in-None.ensures.items refl c.in-Some-pop.at c.in-Some-pop.ensures.items
+    c.in_ok-follow_names-in-Some-pop.ensures) _ has
 
 pub turns-preserved-in_ok-follow_names-in-Some-pop : goal.turns-preserved-in_ok-follow_names-in-Some-pop
 turns-preserved-in_ok-follow_names-in-Some-pop g c =
-    let m = goal.JsrUrlProvider-dyn g c.args.provider.now in
-    let k = known_with c.args.input (m.url_of c.args.provider.now.1) (m.nv_at c.args.provider.now.1) c.args.cache
-    (λ x. (goal.FastCheckCache-dyn g x.now).hash_of x.now.1) (λ x. (goal.FastCheckCache-dyn g x.now).stored x.now.1) in
     let i = c.turns.invariant in
-    let rs = map nv_of c.args.roots.now in
-    let f = c.turns.finder in
-    let one : Finder = record f { symbols = c.pop.new.self } in
+    let one : Finder = record c.turns.finder { symbols = c.pop.new.self } in
     let two : Finder = record one { names = c.pop-in-None.new.self } in
-    let b = c.follow_names.new.self in
-    let t : Turns k f b = past_symbols k f one b refl c.in-None.ensures.items true
-    (turn_of_names k one two b refl c.in-Some-pop.at c.in-Some-pop.ensures.items c.in_ok-follow_names-in-Some-pop.ensures) in
-    record {
-      done = i.done ++ t.turn.demand ∷ [];
-      on = on_turned k rs i.done f b i.on t;
-      members = i.members;
-    }
+    let t = after_names i.on one two c.follow_names.new.self refl c.in-None.ensures.items refl c.in-Some-pop.at c.in-Some-pop.ensures.items
+    c.in_ok-follow_names-in-Some-pop.ensures in
+    record { done = i.done ++ t.turn.demand ∷ []; on = turned_on i.on t; members = i.members }
 
 pub turns-smaller : goal.turns-smaller
 turns-smaller g c =
-    let m = goal.JsrUrlProvider-dyn g c.args.provider.now in
-    let k = known_with c.args.input (m.url_of c.args.provider.now.1) (m.nv_at c.args.provider.now.1) c.args.cache
-    (λ x. (goal.FastCheckCache-dyn g x.now).hash_of x.now.1) (λ x. (goal.FastCheckCache-dyn g x.now).stored x.now.1) in
-    let ds = lent_dependencies c.args.cache (λ x. (goal.FastCheckCache-dyn g x.now).stored x.now.1) in
+    let i = c.turns.invariant in
+    let one : Finder = record c.turns.finder { symbols = c.pop.new.self } in
+    let two : Finder = record one { names = c.pop-in-None.new.self } in
     let has = has_lent c.args.cache (λ x. (goal.FastCheckCache-dyn g x.now).hash_of x.now.1 c.args.input.seed.now)
     (λ x. (goal.FastCheckCache-dyn g x.now).stored x.now.1) c.args.input.sources.graph.now in
-    let i = c.turns.invariant in
-    let rs = map nv_of c.args.roots.now in
-    let f = c.turns.finder in
-    let one : Finder = record f { symbols = c.pop.new.self } in
-    let two : Finder = record one { names = c.pop-in-None.new.self } in
-    let b = c.enter_next.new.self in
-    let t : Turns k f b = past_symbols k f one b refl c.in-None.ensures.items true
-    (past_names k one two b refl c.in-None-pop.ensures.items true
-    (rw c.if-not-branch.false at (c.in_ok-enter_next-in-None-pop.ensures.turned i.members).0)) in
-    on_falls k rs (reach k ds rs) (universe k ds rs has) i.done f b i.on t
+    less_left i.on (after_package i.on one two c.enter_next.new.self refl c.in-None.ensures.items refl c.in-None-pop.ensures.items true
+    (rw c.if-not-branch.false at (c.in_ok-enter_next-in-None-pop.ensures.turned i.members).0)) _ has
 
 pub turns-preserved : goal.turns-preserved
 turns-preserved g c =
-    let m = goal.JsrUrlProvider-dyn g c.args.provider.now in
-    let k = known_with c.args.input (m.url_of c.args.provider.now.1) (m.nv_at c.args.provider.now.1) c.args.cache
-    (λ x. (goal.FastCheckCache-dyn g x.now).hash_of x.now.1) (λ x. (goal.FastCheckCache-dyn g x.now).stored x.now.1) in
     let i = c.turns.invariant in
-    let rs = map nv_of c.args.roots.now in
-    let f = c.turns.finder in
-    let one : Finder = record f { symbols = c.pop.new.self } in
+    let one : Finder = record c.turns.finder { symbols = c.pop.new.self } in
     let two : Finder = record one { names = c.pop-in-None.new.self } in
-    let b = c.enter_next.new.self in
-    let t : Turns k f b = past_symbols k f one b refl c.in-None.ensures.items true
-    (past_names k one two b refl c.in-None-pop.ensures.items true
-    (rw c.if-not-branch.false at (c.in_ok-enter_next-in-None-pop.ensures.turned i.members).0)) in
-    record {
-      done = i.done ++ t.turn.demand ∷ [];
-      on = on_turned k rs i.done f b i.on t;
-      members = (c.in_ok-enter_next-in-None-pop.ensures.turned i.members).1;
-    }
+    let next = c.in_ok-enter_next-in-None-pop.ensures.turned i.members in
+    let t = after_package i.on one two c.enter_next.new.self refl c.in-None.ensures.items refl c.in-None-pop.ensures.items true
+    (rw c.if-not-branch.false at next.0) in
+    record { done = i.done ++ t.turn.demand ∷ []; on = turned_on i.on t; members = next.1 }
 
 pub returns-clause-found : goal.returns-clause-found
 returns-clause-found g c =
-    let m = goal.JsrUrlProvider-dyn g c.args.provider.now in
-    let k = known_with c.args.input (m.url_of c.args.provider.now.1) (m.nv_at c.args.provider.now.1) c.args.cache
-    (λ x. (goal.FastCheckCache-dyn g x.now).hash_of x.now.1) (λ x. (goal.FastCheckCache-dyn g x.now).stored x.now.1) in
     let i = c.turns.invariant in
-    let rs = map nv_of c.args.roots.now in
-    let f = c.turns.finder in
-    let one : Finder = record f { symbols = c.pop.new.self } in
+    let one : Finder = record c.turns.finder { symbols = c.pop.new.self } in
     let two : Finder = record one { names = c.pop-in-None.new.self } in
-    let b = c.enter_next.new.self in
-    let t : Rests k f b = past_symbols k f one b refl c.in-None.ensures.items false
-    (past_names k one two b refl c.in-None-pop.ensures.items false
-    (rw c.if-not-branch.true at (c.in_ok-enter_next-in-None-pop.ensures.turned i.members).0)) in
-    on_ended k rs i.done f b i.on t c.in_ok-into_found.field-0.entries (c.in_ok-into_found.ensures t.sound.once.apart)
+    let t = after_package i.on one two c.enter_next.new.self refl c.in-None.ensures.items refl c.in-None-pop.ensures.items false
+    (rw c.if-not-branch.true at (c.in_ok-enter_next-in-None-pop.ensures.turned i.members).0) in
+    on_ended _ _ i.done _ _ i.on t c.in_ok-into_found.field-0.entries (c.in_ok-into_found.ensures t.sound.once.apart)
 
 pub returns-in_err-enter_next-in-None-pop-clause-refused : goal.returns-in_err-enter_next-in-None-pop-clause-refused
 returns-in_err-enter_next-in-None-pop-clause-refused g c =

@@ -12,10 +12,7 @@ use Rattle.fast_check_range_finder.proofs.finder.Finder.ask_behind.Goals as goal
 
 pub returns-in-None : goal.returns-in-None
 returns-in-None g c sound =
-    let m = goal.JsrUrlProvider-dyn g c.args.lent.provider.now in
-    let k = known c.args.lent.input.sources (m.url_of c.args.lent.provider.now.1) (m.nv_at c.args.lent.provider.now.1) in
-    let t = serialize c.args.url.now in
-    behind_none k.graph k.root_symbol (nv_of c.args.nv.now) t (asked_by (names_of c.args.names)) (k.owner t) c.args.self.now sound
+    behind_none _ _ (nv_of c.args.nv.now) (serialize c.args.url.now) (asked_by (names_of c.args.names)) _ c.args.self.now sound
     (sym c.in_ok-owner_of.ensures ∙ ap (option_map nv_of) c.in-None.is)
 
 pub returns-else-is_same_package : goal.returns-else-is_same_package

@@ -3,14 +3,10 @@ use Rattle.url.specs.Parts.{serialize}
 use Rattle.fast_check_packages.specs.Package.{nv_of}
 use Rattle.fast_check_demands.specs.name_demands.Files.{names_of}
 use Rattle.fast_check_demands.specs.worklists.Demands.{asked_by}
-use Rattle.fast_check_demands.specs.sources.Sources.{known}
 use Rattle.fast_check_range_finder.proofs.Owners.{file_none}
 use Rattle.fast_check_range_finder.proofs.finder.Finder.ask_file.Goals as goal
 
 pub returns-in-None : goal.returns-in-None
 returns-in-None g c sound =
-    let m = goal.JsrUrlProvider-dyn g c.args.lent.provider.now in
-    let k = known c.args.lent.input.sources (m.url_of c.args.lent.provider.now.1) (m.nv_at c.args.lent.provider.now.1) in
-    let t = serialize c.args.url.now in
-    file_none k.graph k.root_symbol (nv_of c.args.nv.now) t (asked_by (names_of c.args.names)) (k.owner t) c.args.self.now sound
+    file_none _ _ (nv_of c.args.nv.now) (serialize c.args.url.now) (asked_by (names_of c.args.names)) _ c.args.self.now sound
     (sym c.in_ok-owner_of.ensures ∙ ap (option_map nv_of) c.in-None.is)

@@ -32,10 +32,7 @@ follow_names_at-requires-clause-sound g c =
     (record { packages = refl; entered = refl; handled = refl; names = refl; symbols = refl; entrances = refl; dependencies = refl; untyped = refl })).sound
 
 pub loop-want-init : goal.loop-want-init
-loop-want-init g c sound =
-    let m = goal.JsrUrlProvider-dyn g c.args.lent.provider.now in
-    let k = known c.args.lent.input.sources (m.url_of c.args.lent.provider.now.1) (m.nv_at c.args.lent.provider.now.1) in
-    goes_nowhere k.graph k.root_symbol c.follow_names_at.new.self sound
+loop-want-init g c sound = goes_nowhere _ _ c.follow_names_at.new.self sound
 
 pub loop-want-preserved : goal.loop-want-preserved
 loop-want-preserved g c sound =
