@@ -1,8 +1,8 @@
 #!/usr/bin/env python3
 """Says which calls that can want memory answer `Ok` in a run with ample memory, and lists those that do not.
 
-A body that always answers want of memory meets its contract, so a run has to show that the call succeeds. The calls are all functions of the crates, but
-for those of cases, whose result is a `Result` with an error that may be want of memory, and the copies that a derive writes. The program of all cases
+A body that always answers that memory ran out meets its contract, so a run has to show that the call succeeds. The calls are all functions of the crates, but
+for those of cases, whose result is a `Result` with an error that may be out of memory, and the copies that a derive writes. The program of all cases
 and `fast-check`, whole and with one command, are compiled without being proved, each such function noting its answer where it returns, and run: the first
 on all that it reads, with what it prints compared, the others on the examples. A generic function is reached if it is at one type. Where one has no code
 in these programs, nothing calls it.
@@ -50,7 +50,7 @@ class Call:
 
 
 def errors():
-    """The error types that may be want of memory."""
+    """The error types that may be out of memory."""
     found = {"AllocError", "io::Error"}
     for file in sorted(TOP.glob("crates/*/src/**/*.rt")):
         for name, body in re.findall(r"\benum (\w+)\s*\{(.*?)\n\}", file.read_text(), re.S):

@@ -1,5 +1,5 @@
 #!/usr/bin/env python3
-"""Runs a program with each of its requests for memory refused in turn, and tells which runs do not end as a want of memory has to.
+"""Runs a program with each of its requests for memory refused in turn, and tells which runs do not end as out of memory has to.
 
     bench/check/refuse.py PROGRAM COMMAND FILE..
     bench/check/refuse.py --where NUMBER PROGRAM COMMAND FILE
@@ -9,7 +9,7 @@ PROGRAM COMMAND FILE is run with its first request refused, then with its second
 the request that it was to be refused; each once with this request refused alone, and once with all from there on. Each run has to end with
 status 3, the line `error: out of memory`, and nothing on standard output.
 A line for each file says how many requests there are, how many runs were made, and how many differ; the lines below it say in what.
-A run that answers as if nothing had been refused has passed a want of memory over, or has asked again for less: it differs too. The status is 1
+A run that answers as if nothing had been refused has passed over that memory ran out, or has asked again for less: it differs too. The status is 1
 where any run differs, and where no request was counted: then the program has an allocator of its own, and nothing was tried.
 
 `--stored COUNT` takes so many of the stored runs of a command on less than 20 KB, evenly spread. A line for all files stands below.
@@ -104,7 +104,7 @@ def tell_where(file, program, number, calls):
         library, place = line.rsplit(" ", 1)
         below = [name for start, name in known if start <= int(place, 16)]
         print(f"  {below[-1]}" if below and os.path.samefile(library, file) else f"  {library}")
-    print(outcome(ended, program.run(0)[0]) if ended != WANT else "the run ends as a want of memory has to")
+    print(outcome(ended, program.run(0)[0]) if ended != WANT else "the run ends as out of memory has to")
 
 
 def stored_runs(command, count):

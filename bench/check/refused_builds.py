@@ -1,13 +1,13 @@
 #!/usr/bin/env python3
-"""Refuses each request for memory of builds with a cache in turn, and tells where the answer is another one than want of memory.
+"""Refuses each request for memory of builds with a cache in turn, and tells where the answer is another one than out of memory.
 
 The program of all cases (`fast_check_vectors`) makes two of the runs of its part `cached_builds`, each by itself: one whose first build fills the cache
 that the second uses, and one whose cache has an item from the start. Each request of a run is refused alone, and once with all from there on, until a run
-ends before. What is printed then has to be what is printed without, or to have a want of memory said: of the run as a whole, or of a build, whose cache
+ends before. What is printed then has to be what is printed without, or to say out of memory: of the run as a whole, or of a build, whose cache
 has got nothing then that no build of the run sets. A build behind it answers as it does without, but for what it finds in the cache.
 
 One line is printed: how many requests there are, how many runs were made, how many of them change nothing, and how many differ; lines below it say in
-what. The status is 1 where any differs, or no run says a want of memory.
+what. The status is 1 where any differs, or no run says out of memory.
 
 Usage: bench/check/refused_builds.py PROGRAM
 """
@@ -47,7 +47,7 @@ def builds_of(lines):
 
 
 def is_said(out, wanted):
-    """Whether what is printed has a want of memory said, and is no other answer beside it."""
+    """Whether what is printed says out of memory, and is no other answer beside it."""
     lines, stated = out.splitlines(), builds_of(wanted.splitlines())
     builds, may_be_set = builds_of(lines), {line for build in stated for line in build.sets}
     if lines[:1] != wanted.splitlines()[:1] or len(builds) != len(stated):

@@ -14,12 +14,12 @@ use Rattle.fast_check_package_ranges.specs.Answers.{about, about_module, IsModul
 use Rattle.fast_check_package_ranges.proofs.Shown.{shown, implemented, module_stands}
 use Rattle.fast_check_range_finder.specs.demands.sources.Sources.{Known}
 use Rattle.fast_check_range_finder.specs.Account.{Account, IsYield}
-use Rattle.fast_check_range_finder.specs.Yields.{gives}
+use Rattle.fast_check_range_finder.specs.Yields.{demand_yields}
 use Rattle.fast_check_range_finder.specs.Own.{IsOwnYield}
 use Rattle.fast_check_range_finder.proofs.OwnYields.{own_yields}
 use Rattle.fast_check_build.specs.Found.{OwnsRanges}
 
-module _ (k : Known) (account : Account) (yields : List Yield) (of_account : IsYield (gives k) account yields)
+module _ (k : Known) (account : Account) (yields : List Yield) (of_account : IsYield (demand_yields k) account yields)
     (found : AreFoundByOwnNames k.root_symbol) where
   own : (y : Yield) → Contains yields y → IsOwnYield k.root_symbol y
   own y h = let s = of_account.sound y h in own_yields k found s.0 y s.2

@@ -13,7 +13,7 @@ use Rattle.fast_check_package_ranges.specs.findings.Yields.{Yield}
 use Rattle.fast_check_package_ranges.specs.Answers.{package_of as answered_of, about, is_filled, lookup_package, IsPackageAnswer, StandsFor, AreAnswers}
 use Rattle.fast_check_range_finder.specs.demands.sources.Sources.{Known}
 use Rattle.fast_check_range_finder.specs.Account.{Account, HasHomes, IsYield, package_of, is_package}
-use Rattle.fast_check_range_finder.specs.Yields.{gives}
+use Rattle.fast_check_range_finder.specs.Yields.{demand_yields}
 use Rattle.fast_check_range_finder.proofs.OfPackage.{of_demand}
 use Rattle.fast_check_range_finder.proofs.Lists.{any_some}
 use Rattle.fast_check_range_finder.proofs.Places.{nv_is}
@@ -34,7 +34,7 @@ is_asked nv (of_package q) h = ap of_package (sym (nv_is nv q h))
 is_asked nv (of_module p t d) h = absurd (false≢true h)
 is_asked nv (of_symbol p t s) h = absurd (false≢true h)
 
-module _ (k : Known) (account : Account) (yields : List Yield) (of_account : IsYield (gives k) account yields) (homes : HasHomes account) where
+module _ (k : Known) (account : Account) (yields : List Yield) (of_account : IsYield (demand_yields k) account yields) (homes : HasHomes account) where
   asked_for : (nv : Nv) → is_filled (about nv yields) ≡ true → Contains account (of_package nv)
   asked_for nv h =
       let y = some_passes (λ y. same_nv nv (answered_of y)) yields h in

@@ -11,8 +11,8 @@ use Rattle.fast_check_package_ranges.specs.Answers.{AreAnswers}
 use Rattle.fast_check_range_finder.specs.demands.sources.Sources.{Used, with_used, Known}
 use Rattle.fast_check_range_finder.specs.Lent.{used_of}
 use Rattle.fast_check_range_finder.specs.Account.{Account, HasHomes, IsAccount, IsYield}
-use Rattle.fast_check_range_finder.specs.Rules.{world}
-use Rattle.fast_check_range_finder.specs.Yields.{gives}
+use Rattle.fast_check_range_finder.specs.Rules.{followers}
+use Rattle.fast_check_range_finder.specs.Yields.{demand_yields}
 use Rattle.fast_check_range_finder.specs.Refusals.{JoinAll}
 use Rattle.fast_check_graph.specs.Root.{AreFoundByOwnNames}
 use Rattle.fast_check_build.specs.Found.{IsFound}
@@ -20,7 +20,7 @@ use Rattle.fast_check_build.proofs.OwnRanges.{own_answers}
 use Rattle.fast_check_build.proofs.Packages.{all_asked}
 
 pub found_public : (k : Known) (roots : List Nv) (found : List (PackageNv × FoundPackage)) (answers : BTreeMap PackageNv PackagePublicRanges) →
-    ((account : Account) × IsAccount (world k) roots account × IsYield (gives k) account (found_yields found) × JoinAll k account ×
+    ((account : Account) × IsAccount (followers k) roots account × IsYield (demand_yields k) account (found_yields found) × JoinAll k account ×
     HasHomes account) →
     AreAnswers (found_yields found) answers → AreFoundByOwnNames k.root_symbol → IsFound k roots answers
 found_public k roots found answers a says named = record {
@@ -34,7 +34,7 @@ found_public k roots found answers a says named = record {
   own = own_answers k a.0 (found_yields found) a.2 named answers says;
 }
 
--- what holds by the items that a lent cache gives under a seed holds by those under its own seed
+-- what holds by the items that a lent cache demand_yields under a seed holds by those under its own seed
 pub with_lent : {C : Type 0} (lent : Option C) (own : C → List ℕ) (by : C → List ℕ → Used) (seed : List ℕ) (k : Known)
     (So : Known → Type 0) → MatchOption lent ⊤ (λ c. seed ≡ own c) → So (with_used (used_of lent (λ c. by c seed)) k) →
     So (with_used (used_of lent (λ c. by c (own c))) k)

@@ -37,7 +37,7 @@ pub record IsCutShort (k : Known) (roots : List Nv) (first : Bool) (key : Nv →
   pub count : ℕ
   pub set : new ≡ sets key first k.graph k.root_symbol (take count ranges.entries) old
 
--- a build with a cache stops where packages are looked for, and nothing is set; or behind that, for want of memory
+-- a build with a cache stops where packages are looked for, and nothing is set; or behind that, where memory runs out
 abbrev pub IsStopped : Known → List Nv → Bool → (Nv → List (List ℕ) → ℕ) → (ℕ → Option ItemView) →
     (ℕ → Option ItemView) → BuildFault → Type 0
 IsStopped k roots first key old new fault =

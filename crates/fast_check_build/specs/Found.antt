@@ -16,8 +16,8 @@ use Rattle.fast_check_package_ranges.specs.findings.Yields.{Yield}
 use Rattle.fast_check_package_ranges.specs.Answers.{AreAnswers, lookup_package, module_answer}
 use Rattle.fast_check_range_finder.specs.demands.sources.Sources.{none_used, Known, owner_by, named_at}
 use Rattle.fast_check_range_finder.specs.Account.{Account, IsAccount, IsYield}
-use Rattle.fast_check_range_finder.specs.Rules.{world}
-use Rattle.fast_check_range_finder.specs.Yields.{gives}
+use Rattle.fast_check_range_finder.specs.Rules.{followers}
+use Rattle.fast_check_range_finder.specs.Yields.{demand_yields}
 use Rattle.fast_check_range_finder.specs.Own.{IsOwnRange}
 use Rattle.fast_check_range_finder.specs.Refusals.{JoinAll}
 
@@ -39,12 +39,12 @@ pub record OwnsRanges (root : RootSymbol) (t : Text) (m : PublicRanges) : Type 0
 
 -- There is an account of demands, from the packages that are handed in, whose export texts all join; and the answers
 -- say what its demands give, and nothing else, each of a package of the account. A package whose item is used demands
--- what the item depends on, and gives the item. What is public in a module is declared in it, so that the module admits it.
+-- what the item depends on, and demand_yields the item. What is public in a module is declared in it, so that the module admits it.
 pub record IsFound (k : Known) (roots : List Nv) (answers : BTreeMap PackageNv PackagePublicRanges) : Type 0 where
   pub account : Account
   pub yields : List Yield
-  pub is_account : IsAccount (world k) roots account
-  pub is_yield : IsYield (gives k) account yields
+  pub is_account : IsAccount (followers k) roots account
+  pub is_yield : IsYield (demand_yields k) account yields
   pub join : JoinAll k account
   pub says : AreAnswers yields answers
   pub packages : (nv : Nv) → IfSome (lookup_package nv answers.entries) (λ p. Contains account (of_package nv))

@@ -1,4 +1,4 @@
--- A text that is told piece by piece: its bytes, or None once a piece was left out for want of memory.
+-- A text that is told piece by piece: its bytes, or None once a piece was left out where memory ran out.
 use Rattle.std.specs.Prelude.{◌≡◌, ℕ, List, ◌++◌, Option, option_map, OnSome, Bool, true, false, codes}
 
 abbrev pub SaidText : Type 0

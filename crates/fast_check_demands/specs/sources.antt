@@ -1,2 +1,2 @@
 pub mod Sources
-pub mod Wants
+pub mod Followers

@@ -1,4 +1,4 @@
 pub mod Modules
 pub mod Roots
-pub mod Wants
+pub mod ReExports
 pub mod Origins

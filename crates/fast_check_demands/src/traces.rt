@@ -7,7 +7,7 @@ mod re_exports;
 mod roots;
 
 pub use crate::name_demands::NameDemand;
-pub use crate::traces::list::{ModuleWant, ModuleWants};
+pub use crate::traces::list::{ReExportDemand, ReExportDemands};
 pub use crate::traces::modules::{TracedModule, own_export, tables_of};
 pub use crate::traces::origins::ReExportIndex;
 pub use crate::traces::re_exports::{PublicReExports, ReExports, push_all_ranges, re_exports_of};

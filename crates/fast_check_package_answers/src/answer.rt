@@ -239,7 +239,7 @@ fn answer_found(
 /// finder found wrong with the first faulty module, or by its first fault.
 ///
 /// This is what `build_fast_check_type_graph` of deno_graph does with each package where no cache is lent. What is public in a module with a syntax
-/// tree has to be declared in it, as it is where it was found. An `Err` is want of memory.
+/// tree has to be declared in it, as it is where it was found. An `Err` says that memory ran out.
 #[tactic(auto, using(crate::proofs::Turns::by_found, crate::proofs::Turns::by_used))]
 pub fn answer_package(
     alloc: Global,

@@ -56,11 +56,11 @@ joins_none old ys a = subst (λ (x : List Yield). AreModules x old) (sym (append
 pub joins_then : (xs ys : List Yield) (a b c : Modules) → Joins xs a b → Joins ys b c → Joins (xs ++ ys) a c
 joins_then xs ys a b c p q zs h = subst (λ (x : List Yield). AreModules x c) (append_assoc zs xs ys) (q (zs ++ xs) (p zs h))
 
-pub joins_more : {S : Type 0} (gives : S → List Yield) (ss : List S) (s : S) (a b c : Modules) → Joins (flat_map gives ss) a b →
-    Joins (gives s) b c → Joins (flat_map gives (ss ++ s ∷ [])) a c
-joins_more gives ss s a b c p q = subst (λ (x : List Yield). Joins x a c)
-    (sym (flat_map-append gives ss (s ∷ []) ∙ ap (λ x. flat_map gives ss ++ x) (append-nil (gives s))))
-    (joins_then (flat_map gives ss) (gives s) a b c p q)
+pub joins_more : {S : Type 0} (demand_yields : S → List Yield) (ss : List S) (s : S) (a b c : Modules) → Joins (flat_map demand_yields ss) a b →
+    Joins (demand_yields s) b c → Joins (flat_map demand_yields (ss ++ s ∷ [])) a c
+joins_more demand_yields ss s a b c p q = subst (λ (x : List Yield). Joins x a c)
+    (sym (flat_map-append demand_yields ss (s ∷ []) ∙ ap (λ x. flat_map demand_yields ss ++ x) (append-nil (demand_yields s))))
+    (joins_then (flat_map demand_yields ss) (demand_yields s) a b c p q)
 
 -- yields about no module
 pub joins_silent : (more : List Yield) → AllByRecursion (λ y. modules_of y ≡ []) more → (old : Modules) → Joins more old old

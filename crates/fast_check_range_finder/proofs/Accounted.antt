@@ -13,8 +13,8 @@ use Rattle.fast_check_packages.specs.PackageOrder.{nv_total}
 use Rattle.fast_check_lattice.specs.Names.{Touched, IsBelow}
 use Rattle.fast_check_lattice.specs.Imports.{default_name, imported, is_star, NameDemand}
 use Rattle.fast_check_demands.specs.symbol_demands.Demands.{Demand as SymbolDemand}
-use Rattle.fast_check_demands.specs.worklists.Demands.{Text, same_nv, asked_by, one, Want, to_package, to_module, to_symbol}
-use Rattle.fast_check_demands.specs.worklists.Demands.{Demand, of_package, of_module, of_symbol, World, Gives}
+use Rattle.fast_check_demands.specs.worklists.Demands.{Text, same_nv, asked_by, one, DemandSet, to_package, to_module, to_symbol}
+use Rattle.fast_check_demands.specs.worklists.Demands.{Demand, of_package, of_module, of_symbol, Followers, Includes}
 use Rattle.fast_check_demands.proofs.worklists.Taken.{bytes_same}
 use Rattle.fast_check_demands.proofs.Elements.{in_any}
 use Rattle.fast_check_range_finder.specs.Account.{is_package, is_of, names_at, joined, meets, IsStarred, Chained, widen, narrow}
@@ -50,11 +50,11 @@ same_asked a b p h s (of_symbol nv u d) t = λ x c. s nv u x ∙ t x c
 more_star : (xs ys : List Demand) (t : Text) → IsWithinList xs ys → HasStar xs t → HasStar ys t
 more_star xs ys t g h = (h.0, h.1, g (of_module h.0 t h.1) h.2, h.3)
 
-module _ (world : World) (roots : List Nv) (done : List Demand) where
+module _ (followers : Followers) (roots : List Nv) (done : List Demand) where
   -- what was asked is the same, and the members are, in some order
   pub accounted_same : (more : List Demand) (a b : Search) → b.packages ≡ a.packages → b.handled ≡ a.handled → MeetsSame a b →
-      IsWithinList (members done a) (members more b) → IsWithinList (members more b) (members done a) → IsAccounted world roots done a →
-      IsAccounted world roots more b
+      IsWithinList (members done a) (members more b) → IsWithinList (members more b) (members done a) → IsAccounted followers roots done a →
+      IsAccounted followers roots more b
   accounted_same more a b p h s on back k = record {
     chained = λ e c. k.chained e (back e c);
     packages = λ q c. any_more (is_package q) (members done a) (members more b) on
@@ -70,7 +70,7 @@ module _ (world : World) (roots : List Nv) (done : List Demand) where
       old : (t : Text) (x : ImportedExports) → handled_at b.handled t ≡ Some x → handled_at a.handled t ≡ Some x
       old t x e = subst (λ (y : _). handled_at y t ≡ Some x) h e
 
-  module _ (a b : Search) (k : IsAccounted world roots done a) where
+  module _ (a b : Search) (k : IsAccounted followers roots done a) where
     abbrev before : List Demand
     before = members done a
 
@@ -80,7 +80,7 @@ module _ (world : World) (roots : List Nv) (done : List Demand) where
     put_members : (d : Demand) → IsPut d a.waiting b.waiting → IsPut d before after
     put_members d w = put_right d a.waiting b.waiting done w
 
-    nothing_new : b.packages ≡ a.packages → b.handled ≡ a.handled → MeetsSame a b → b.waiting ≡ a.waiting → IsAccounted world roots done b
+    nothing_new : b.packages ≡ a.packages → b.handled ≡ a.handled → MeetsSame a b → b.waiting ≡ a.waiting → IsAccounted followers roots done b
     nothing_new p h s w =
         accounted_same done a b p h s (λ e c. subst (λ (x : List Demand). Contains (done ++ x) e) (sym w) c)
         (λ e c. subst (λ (x : List Demand). Contains (done ++ x) e) w c) k
@@ -105,16 +105,16 @@ module _ (world : World) (roots : List Nv) (done : List Demand) where
         (in_any (same_nv p) (a.packages ++ p ∷ []) p (Contains-append_right a.packages (p ∷ []) p (first_in p [])) (nv_itself p)))
         asks.put
 
-    accounted_package : (p : Nv) → Chained world roots (of_package p) → AsksPackage p a b → IsAccounted world roots done b
+    accounted_package : (p : Nv) → Chained followers roots (of_package p) → AsksPackage p a b → IsAccounted followers roots done b
     accounted_package p chain asks = ⊎_elim (λ same. nothing_new same.1 asks.handled asks.symbols same.2) (λ n. new n.1 (put_members (of_package p) n.2))
         asks.put
       where
         old : (t : Text) (x : ImportedExports) → handled_at b.handled t ≡ Some x → handled_at a.handled t ≡ Some x
         old t x e = subst (λ (y : _). handled_at y t ≡ Some x) asks.handled e
 
-        new : b.packages ≡ a.packages ++ p ∷ [] → IsPut (of_package p) before after → IsAccounted world roots done b
+        new : b.packages ≡ a.packages ++ p ∷ [] → IsPut (of_package p) before after → IsAccounted followers roots done b
         new is m = record {
-          chained = λ e c. ⊎_elim (λ o. k.chained e o) (λ s. subst (Chained world roots) s chain) (m.sound e c);
+          chained = λ e c. ⊎_elim (λ o. k.chained e o) (λ s. subst (Chained followers roots) s chain) (m.sound e c);
           packages = λ q c.
               let s = any_some (same_nv q) b.packages c in
               ⊎_elim (λ o. any_more (is_package q) before after m.kept (k.packages q (in_any (same_nv q) a.packages s.0 o s.2)))
@@ -141,8 +141,8 @@ module _ (world : World) (roots : List Nv) (done : List Demand) where
     now_symbol nv t d asks = λ x i.
         ⊎_elim (λ same. same.1 nv t x ∙ same.0 x i) (λ n. n.1.now x i) asks.put
 
-    accounted_symbol : (nv : Nv) (t : Text) (d : SymbolDemand) → Chained world roots (of_symbol nv t d) → AsksSymbol nv t d a b →
-        IsAccounted world roots done b
+    accounted_symbol : (nv : Nv) (t : Text) (d : SymbolDemand) → Chained followers roots (of_symbol nv t d) → AsksSymbol nv t d a b →
+        IsAccounted followers roots done b
     accounted_symbol nv t d chain asks =
         ⊎_elim (λ same. nothing_new asks.packages asks.handled same.1 same.2)
         (λ n. new n.0 n.1 (put_members (of_symbol nv t n.0) n.2)) asks.put
@@ -150,9 +150,9 @@ module _ (world : World) (roots : List Nv) (done : List Demand) where
         old : (t : Text) (x : ImportedExports) → handled_at b.handled t ≡ Some x → handled_at a.handled t ≡ Some x
         old t x e = subst (λ (y : _). handled_at y t ≡ Some x) asks.handled e
 
-        new : (n : SymbolDemand) → IsMarked nv t d n a b → IsPut (of_symbol nv t n) before after → IsAccounted world roots done b
+        new : (n : SymbolDemand) → IsMarked nv t d n a b → IsPut (of_symbol nv t n) before after → IsAccounted followers roots done b
         new n s m = record {
-          chained = λ e c. ⊎_elim (λ o. k.chained e o) (λ same. subst (Chained world roots) same chain_new) (m.sound e c);
+          chained = λ e c. ⊎_elim (λ o. k.chained e o) (λ same. subst (Chained followers roots) same chain_new) (m.sound e c);
           packages = λ q c. any_more (is_package q) before after m.kept
               (k.packages q (subst (λ (x : List Nv). list_any (same_nv q) x ≡ true) asks.packages c));
           symbols = λ p u c h.
@@ -165,8 +165,8 @@ module _ (world : World) (roots : List Nv) (done : List Demand) where
               (m.sound e c);
         }
           where
-            chain_new : Chained world roots (of_symbol nv t n)
-            chain_new = ⊎_elim (λ same. subst (λ (x : SymbolDemand). Chained world roots (of_symbol nv t x)) (sym same) chain) (λ part. narrow chain part)
+            chain_new : Chained followers roots (of_symbol nv t n)
+            chain_new = ⊎_elim (λ same. subst (λ (x : SymbolDemand). Chained followers roots (of_symbol nv t x)) (sym same) chain) (λ part. narrow chain part)
                 s.within
 
             now_new : IsAsked b (of_symbol nv t n)
@@ -213,11 +213,11 @@ module _ (world : World) (roots : List Nv) (done : List Demand) where
       now_names p c h = (g.state, g.now_is, λ part q i. g.above_new part q (asked_in d c h part q i))
 
       -- what is new is chained
-      chain_new : Chained world roots (of_module nv t d) → (e : NameDemand) → asks.new ≡ Some e → Chained world roots (of_module nv t e)
+      chain_new : Chained followers roots (of_module nv t d) → (e : NameDemand) → asks.new ≡ Some e → Chained followers roots (of_module nv t e)
       chain_new chain e h =
-          ⊎_elim (λ same. subst (λ (c : NameDemand). Chained world roots (of_module nv t c)) (sym same) chain) (λ w. widened w) (g.from e h)
+          ⊎_elim (λ same. subst (λ (c : NameDemand). Chained followers roots (of_module nv t c)) (sym same) chain) (λ w. widened w) (g.from e h)
         where
-          widened : IsWidenedFrom d (handled_at a.handled t) e → Chained world roots (of_module nv t e)
+          widened : IsWidenedFrom d (handled_at a.handled t) e → Chained followers roots (of_module nv t e)
           widened w =
               ⊎_elim
               (λ l.
@@ -229,16 +229,16 @@ module _ (world : World) (roots : List Nv) (done : List Demand) where
               w.by
             where
               of_default : IsStarred d → (y : Demand) → Contains before y → names_at t y Touched (default_name ∷ []) ≡ true →
-                  Chained world roots (of_module nv t e)
+                  Chained followers roots (of_module nv t e)
               of_default i (of_package p) c h = absurd (false≢true h)
               of_default i (of_symbol p u s) c h = absurd (false≢true h)
               of_default i (of_module p u s) c h =
                   let f = and_parts (bytes_eq t u) (one s Touched (default_name ∷ [])) h in
-                  widen chain (subst (λ (v : Text). Chained world roots (of_module p v s)) (sym (text_is t u f.0)) (k.chained (of_module p u s) c))
+                  widen chain (subst (λ (v : Text). Chained followers roots (of_module p v s)) (sym (text_is t u f.0)) (k.chained (of_module p u s) c))
                   (record { starred = i; default = default_of s f.1; under = inl refl; to = w.to })
 
-      module _ (chain : Chained world roots (of_module nv t d)) where
-        no_new : asks.new ≡ None → b.waiting ≡ a.waiting → IsAccounted world roots done b
+      module _ (chain : Chained followers roots (of_module nv t d)) where
+        no_new : asks.new ≡ None → b.waiting ≡ a.waiting → IsAccounted followers roots done b
         no_new none w = record {
           chained = λ e c. k.chained e (back e c);
           packages = λ q c. any_more (is_package q) before after on
@@ -270,9 +270,9 @@ module _ (world : World) (roots : List Nv) (done : List Demand) where
                 clash : {X : Type 0} {x : X} → None ≡ Some x → ⊥
                 clash e = cc
 
-        some_new : (n : NameDemand) → asks.new ≡ Some n → IsPut (of_module nv t n) before after → IsAccounted world roots done b
+        some_new : (n : NameDemand) → asks.new ≡ Some n → IsPut (of_module nv t n) before after → IsAccounted followers roots done b
         some_new n is m = record {
-          chained = λ e c. ⊎_elim (λ o. k.chained e o) (λ same. subst (Chained world roots) same (chain_new chain n is)) (m.sound e c);
+          chained = λ e c. ⊎_elim (λ o. k.chained e o) (λ same. subst (Chained followers roots) same (chain_new chain n is)) (m.sound e c);
           packages = λ q c. any_more (is_package q) before after m.kept
               (k.packages q (subst (λ (x : List Nv). list_any (same_nv q) x ≡ true) asks.packages c));
           symbols = λ p u s c. any_more (meets p u s) before after m.kept
@@ -295,21 +295,21 @@ module _ (world : World) (roots : List Nv) (done : List Demand) where
               (λ same. subst (IsAsked b) same (g.state, g.now_is, g.new_below n is)) (m.sound e c);
         }
 
-        accounted_names : IsAccounted world roots done b
+        accounted_names : IsAccounted followers roots done b
         accounted_names = go asks.new refl asks.waits
           where
-            go : (o : Option NameDemand) → asks.new ≡ o → WaitsFor nv t o a.waiting b.waiting → IsAccounted world roots done b
+            go : (o : Option NameDemand) → asks.new ≡ o → WaitsFor nv t o a.waiting b.waiting → IsAccounted followers roots done b
             go None e w = no_new e w
             go (Some n) e w = some_new n e (put_members (of_module nv t n) w)
 
-    -- any want
+    -- any set
 
-    more_one : (w : Want) → Asks w a b → IsMore a b
+    more_one : (w : DemandSet) → Asks w a b → IsMore a b
     more_one (to_package p) asks = more_package p asks
     more_one (to_module p t w) asks = more_names p asks.0 asks.1 asks.4 asks.5
     more_one (to_symbol p t s) asks = more_symbol p t s asks
 
-    now_one : (w : Want) → Asks w a b → (e : Demand) → Gives w e → IsAsked b e
+    now_one : (w : DemandSet) → Asks w a b → (e : Demand) → Includes w e → IsAsked b e
     now_one (to_package p) asks (of_package q) h = subst (λ (x : Nv). IsAsked b (of_package x)) h (now_package p asks)
     now_one (to_package p) asks (of_module q t d) h = absurd h
     now_one (to_package p) asks (of_symbol q t s) h = absurd h
@@ -324,40 +324,40 @@ module _ (world : World) (roots : List Nv) (done : List Demand) where
         subst (λ (x : SymbolDemand). IsAsked b (of_symbol q u x)) h.2
         (subst (λ (v : Text). IsAsked b (of_symbol q v s)) h.1 (subst (λ (x : Nv). IsAsked b (of_symbol x t s)) h.0 (now_symbol p t s asks)))
 
-    accounted_one : (w : Want) → ((e : Demand) → Gives w e → Chained world roots e) → Asks w a b → IsAccounted world roots done b
+    accounted_one : (w : DemandSet) → ((e : Demand) → Includes w e → Chained followers roots e) → Asks w a b → IsAccounted followers roots done b
     accounted_one (to_package p) chain asks = accounted_package p (chain (of_package p) refl) asks
     accounted_one (to_module p t w) chain asks =
         accounted_names p asks.0 asks.1 asks.4 asks.5
         (chain (of_module p (serialize asks.0) asks.1) (refl, sym asks.2, sym (ap (λ (f : NameDemand → Bool). f asks.1) asks.3) ∙ asks.4))
     accounted_one (to_symbol p t s) chain asks = accounted_symbol p t s (chain (of_symbol p t s) (refl, refl, refl)) asks
 
-  pub accounted_all : (ws : List Want) (a b : Search) → IsAccounted world roots done a →
-      ((w : Want) (e : Demand) → Contains ws w → Gives w e → Chained world roots e) → AsksAll ws a b → IsAccounted world roots done b
-  accounted_all [] a b k chain asks = subst (IsAccounted world roots done) (sym asks) k
+  pub accounted_all : (ws : List DemandSet) (a b : Search) → IsAccounted followers roots done a →
+      ((w : DemandSet) (e : Demand) → Contains ws w → Includes w e → Chained followers roots e) → AsksAll ws a b → IsAccounted followers roots done b
+  accounted_all [] a b k chain asks = subst (IsAccounted followers roots done) (sym asks) k
   accounted_all (w ∷ ws) a b k chain asks =
       accounted_all ws asks.0 b (accounted_one a asks.0 k w (λ e h. chain w e (first_in w ws) h) asks.1) (λ v e c h. chain v e (rest_in w v ws c) h) asks.2
 
-  pub more_all : (ws : List Want) (a b : Search) → IsAccounted world roots done a →
-      ((w : Want) (e : Demand) → Contains ws w → Gives w e → Chained world roots e) → AsksAll ws a b → IsMore a b
+  pub more_all : (ws : List DemandSet) (a b : Search) → IsAccounted followers roots done a →
+      ((w : DemandSet) (e : Demand) → Contains ws w → Includes w e → Chained followers roots e) → AsksAll ws a b → IsMore a b
   more_all [] a b k chain asks = λ e h. subst (λ (x : Search). IsAsked x e) (sym asks) h
   more_all (w ∷ ws) a b k chain asks = λ e h.
       more_all ws asks.0 b (accounted_one a asks.0 k w (λ e h. chain w e (first_in w ws) h) asks.1) (λ v e c h. chain v e (rest_in w v ws c) h) asks.2
       e (more_one a asks.0 k w asks.1 e h)
 
-  pub now_all : (ws : List Want) (a b : Search) → IsAccounted world roots done a →
-      ((w : Want) (e : Demand) → Contains ws w → Gives w e → Chained world roots e) → AsksAll ws a b → (w : Want) → Contains ws w → (e : Demand) →
-      Gives w e → IsAsked b e
+  pub now_all : (ws : List DemandSet) (a b : Search) → IsAccounted followers roots done a →
+      ((w : DemandSet) (e : Demand) → Contains ws w → Includes w e → Chained followers roots e) → AsksAll ws a b → (w : DemandSet) → Contains ws w → (e : Demand) →
+      Includes w e → IsAsked b e
   now_all [] a b k chain asks w c e h = absurd (none_in w c)
   now_all (v ∷ ws) a b k chain asks w c e h =
       let k2 = accounted_one a asks.0 k v (λ e h. chain v e (first_in v ws) h) asks.1 in
-      let chain2 = λ (x : Want) (e : Demand) (c : Contains ws x) (h : Gives x e). chain x e (rest_in v x ws c) h in
+      let chain2 = λ (x : DemandSet) (e : Demand) (c : Contains ws x) (h : Includes x e). chain x e (rest_in v x ws c) h in
       ⊎_elim
-      (λ same. more_all ws asks.0 b k2 chain2 asks.2 e (now_one a asks.0 k v asks.1 e (subst (λ (x : Want). Gives x e) (sym same) h)))
+      (λ same. more_all ws asks.0 b k2 chain2 asks.2 e (now_one a asks.0 k v asks.1 e (subst (λ (x : DemandSet). Includes x e) (sym same) h)))
       (λ rest. now_all ws asks.0 b k2 chain2 asks.2 w rest e h)
       (split_in v w ws c)
 
   -- a demand that was taken counts among those that are followed
-  pub accounted_taken : (d : Demand) (a b : Search) → IsAccounted world roots done a → IsTaken d a b → IsAccounted world roots (done ++ d ∷ []) b
+  pub accounted_taken : (d : Demand) (a b : Search) → IsAccounted followers roots done a → IsTaken d a b → IsAccounted followers roots (done ++ d ∷ []) b
   accounted_taken d a b k t = accounted_same (done ++ d ∷ []) a b t.packages t.handled t.symbols on back k
     where
       back : IsWithinList (members (done ++ d ∷ []) b) (members done a)

@@ -8,7 +8,7 @@ use Rattle.fast_check_cache.specs.Cache.{ItemView}
 use Rattle.fast_check_graph.specs.declared.graph.ModuleGraph.{ModuleGraph}
 use Rattle.fast_check_graph.specs.declared.root_symbol.RootSymbol.{RootSymbol}
 use Rattle.fast_check_package_ranges.specs.declared.findings.found.EntryFault.{EntryFault}
-use Rattle.fast_check_demands.specs.worklists.Demands.{Want}
+use Rattle.fast_check_demands.specs.worklists.Demands.{DemandSet}
 use Rattle.fast_check_demands.specs.sources.Sources.{Used}
 use Rattle.fast_check_range_finder.specs.declared.finder.Finder.{Finder}
 use Rattle.fast_check_range_finder.specs.Finder.{IsSound, Goes}
@@ -23,10 +23,10 @@ looked_up None by nv urls found h = h
 looked_up (Some c) by nv urls found h = h
 
 -- entry points are asked for where none of them is faulty
-module _ (g : ModuleGraph) (r : RootSymbol) (a : Finder) (wants : List Want) where
-  pub none_faulty : (faults : List (Parts × EntryFault)) (b : Finder) → faults ≡ [] → Goes g r wants [] a b → Goes g r (unless_faulty faults wants) [] a b
-  none_faulty faults b none goes = subst (λ (fs : List (Parts × EntryFault)). Goes g r (unless_faulty fs wants) [] a b) (sym none) goes
+module _ (g : ModuleGraph) (r : RootSymbol) (a : Finder) (demand_sets : List DemandSet) where
+  pub none_faulty : (faults : List (Parts × EntryFault)) (b : Finder) → faults ≡ [] → Goes g r demand_sets [] a b → Goes g r (unless_faulty faults demand_sets) [] a b
+  none_faulty faults b none goes = subst (λ (fs : List (Parts × EntryFault)). Goes g r (unless_faulty fs demand_sets) [] a b) (sym none) goes
 
-  pub some_faulty : (faults : List (Parts × EntryFault)) → (length faults == 0) ≡ false → IsSound g r a → Goes g r (unless_faulty faults wants) [] a a
+  pub some_faulty : (faults : List (Parts × EntryFault)) → (length faults == 0) ≡ false → IsSound g r a → Goes g r (unless_faulty faults demand_sets) [] a a
   some_faulty [] some sound = absurd (false≢true (sym some))
   some_faulty (f ∷ faults) some sound = goes_nowhere g r a sound

@@ -11,10 +11,10 @@ use Rattle.fast_check_packages.specs.Package.{Nv}
 use Rattle.fast_check_lattice.specs.Imports.{NameDemand}
 use Rattle.fast_check_demands.specs.symbol_demands.Demands.{Demand as SymbolDemand}
 use Rattle.fast_check_demands.specs.Account.{parts}
-use Rattle.fast_check_demands.specs.worklists.Demands.{Text, same_nv, asked_by, Want, to_package, to_module, to_symbol, World, Demand}
+use Rattle.fast_check_demands.specs.worklists.Demands.{Text, same_nv, asked_by, DemandSet, to_package, to_module, to_symbol, Followers, Demand}
 use Rattle.fast_check_demands.proofs.Elements.{in_any}
 use Rattle.fast_check_range_finder.specs.Search.{Search, handled_at, MeetsSame, IsTaken, AsksPackage, IsMarked, AsksSymbol, AsksNames, WaitsFor, Asks, AsksAll}
-use Rattle.fast_check_range_finder.specs.Measure.{Universe, IsWithin, IsWantInside, IsUniverse, cost, total, rank, ranks, packages_left, symbols_left, left}
+use Rattle.fast_check_range_finder.specs.Measure.{Universe, IsWithin, IsSetInside, IsUniverse, cost, total, rank, ranks, packages_left, symbols_left, left}
 use Rattle.fast_check_demands.proofs.worklists.Maps.{first_in, rest_in}
 use Rattle.fast_check_range_finder.proofs.Lists.{any_more}
 use Rattle.fast_check_demands.proofs.worklists.Ranks.{cost_le, total_le, total_less}
@@ -124,7 +124,7 @@ module _ (u : Universe) where
 
   -- names
 
-  module _ {roots : List Nv} {world : World} (is : IsUniverse world roots u) (nv : Nv) (url : Parts) (d : NameDemand) (a b : Search)
+  module _ {roots : List Nv} {followers : Followers} (is : IsUniverse followers roots u) (nv : Nv) (url : Parts) (d : NameDemand) (a b : Search)
       (proper : asked_by d d ≡ true) (inside : Contains u.texts (serialize url))
       (within : (c : NameDemand) → asked_by d c ≡ true → IsWithin u.paths c) (asks : AsksNames nv url d a b) where
     abbrev t : Text
@@ -176,15 +176,15 @@ module _ (u : Universe) where
 
   -- all
 
-  module _ {roots : List Nv} {world : World} (is : IsUniverse world roots u) where
-    falls_one : (w : Want) (a b : Search) → IsWantInside u w → Asks w a b → left u b ≤ left u a
+  module _ {roots : List Nv} {followers : Followers} (is : IsUniverse followers roots u) where
+    falls_one : (w : DemandSet) (a b : Search) → IsSetInside u w → Asks w a b → left u b ≤ left u a
     falls_one (to_package p) a b i asks = falls_package p a b i asks
     falls_one (to_module p t w) a b i asks =
         falls_names is p asks.0 asks.1 a b asks.4 (subst (Contains u.texts) (sym asks.2) i.1)
         (λ c h. i.2 c (sym (ap (λ (f : NameDemand → Bool). f c) asks.3) ∙ h)) asks.5
     falls_one (to_symbol p t s) a b i asks = falls_symbol p t s a b i.0 i.1 (λ x c. is.narrowed s x i.2 c) asks
 
-    pub falls_all : (ws : List Want) (a b : Search) → ((w : Want) → Contains ws w → IsWantInside u w) → AsksAll ws a b → left u b ≤ left u a
+    pub falls_all : (ws : List DemandSet) (a b : Search) → ((w : DemandSet) → Contains ws w → IsSetInside u w) → AsksAll ws a b → left u b ≤ left u a
     falls_all [] a b i asks = let e : left u b ≡ left u a = ap (left u) asks in omega (arith, e)
     falls_all (w ∷ ws) a b i asks =
         let x = falls_one w a asks.0 (i w (first_in w ws)) asks.1 in

@@ -126,12 +126,12 @@ module _ (g : ModuleGraph) (r : RootSymbol) (f b : Finder) (sound : IsSound g r 
 
     module _ (eq : Place → Place → Bool) (tells : TellsPlaces eq) (unique : IsDistinct eq (keys_of f.modules.entries)) where
       -- these demands of its symbols are asked
-      pub further_goes : (ds wants : List SymbolDemand) (ys : List Yield) → AreSame ds wants →
+      pub further_goes : (ds demand_sets : List SymbolDemand) (ys : List Yield) → AreSame ds demand_sets →
           AsksEach place ds e.1.asked m.asked f.symbols.items b.symbols.items → Joins ys (followed_yields e) (followed_yields (e.0, m)) →
-          Goes g r (map (to_symbol (place_nv e) (place_text e)) wants) ys f b
-      further_goes ds wants ys same asks j = record {
+          Goes g r (map (to_symbol (place_nv e) (place_text e)) demand_sets) ys f b
+      further_goes ds demand_sets ys same asks j = record {
         asked = map (to_symbol (place_nv e) (place_text e)) ds;
-        are = same_map (to_symbol (place_nv e) (place_text e)) ds wants same;
+        are = same_map (to_symbol (place_nv e) (place_text e)) ds demand_sets same;
         asks = subst (λ (s : Search). AsksAll (map (to_symbol (place_nv e) (place_text e)) ds) (search_of f) s) (sym last)
             (asked_of_module eq (place_laws eq tells) tells (map nv_of f.packages) f.entered (handled f.handled) (map names_seen f.names.items)
             f.modules.entries place e here unique ds f.symbols.items b.symbols.items m asks);

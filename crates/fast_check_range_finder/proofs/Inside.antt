@@ -7,10 +7,10 @@ use Rattle.std.proofs.lemmas.Slice.Eq.{bytes_eq-Decides}
 use Rattle.fast_check_packages.specs.Package.{Nv}
 use Rattle.fast_check_lattice.specs.Names.{Name, Path, whole_path, has_whole}
 use Rattle.fast_check_lattice.specs.Imports.{default_name, NameDemand, names_but_default, each_name, subset_at, whole_at}
-use Rattle.fast_check_demands.specs.worklists.Demands.{asked_by, Want, to_package, to_module, to_symbol, Demand, of_package, of_module, of_symbol}
-use Rattle.fast_check_demands.specs.worklists.Demands.{World, Gives}
+use Rattle.fast_check_demands.specs.worklists.Demands.{asked_by, DemandSet, to_package, to_module, to_symbol, Demand, of_package, of_module, of_symbol}
+use Rattle.fast_check_demands.specs.worklists.Demands.{Followers, Includes}
 use Rattle.fast_check_range_finder.specs.Account.{Chained, root, step, widen, narrow}
-use Rattle.fast_check_range_finder.specs.Measure.{Universe, IsWithin, IsInside, IsWantInside, IsUniverse}
+use Rattle.fast_check_range_finder.specs.Measure.{Universe, IsWithin, IsInside, IsSetInside, IsUniverse}
 use Rattle.fast_check_demands.proofs.worklists.Single.{whole_covered}
 
 module _ (ps : List Path) (default : Contains ps (default_name ∷ [])) (empty : Contains ps []) where
@@ -36,22 +36,22 @@ module _ (ps : List Path) (default : Contains ps (default_name ∷ [])) (empty :
   default_within (whole_at []) h = absurd (false≢true h)
   default_within (whole_at (n ∷ p)) h = whole_default n p h
 
-module _ (world : World) (roots : List Nv) (u : Universe) (is : IsUniverse world roots u) where
-  gives_inside : (w : Want) (e : Demand) → IsWantInside u w → Gives w e → IsInside u e
-  gives_inside (to_package p) (of_package q) i g = subst (Contains u.packages) g i
-  gives_inside (to_package p) (of_module q t d) i g = absurd g
-  gives_inside (to_package p) (of_symbol q t s) i g = absurd g
-  gives_inside (to_module p t w) (of_package q) i g = absurd g
-  gives_inside (to_module p t w) (of_module q v d) i g = (subst (Contains u.packages) g.0 i.0, subst (Contains u.texts) g.1 i.1, i.2 d g.2)
-  gives_inside (to_module p t w) (of_symbol q v s) i g = absurd g
-  gives_inside (to_symbol p t s) (of_package q) i g = absurd g
-  gives_inside (to_symbol p t s) (of_module q v d) i g = absurd g
-  gives_inside (to_symbol p t s) (of_symbol q v e) i g =
+module _ (followers : Followers) (roots : List Nv) (u : Universe) (is : IsUniverse followers roots u) where
+  included_inside : (w : DemandSet) (e : Demand) → IsSetInside u w → Includes w e → IsInside u e
+  included_inside (to_package p) (of_package q) i g = subst (Contains u.packages) g i
+  included_inside (to_package p) (of_module q t d) i g = absurd g
+  included_inside (to_package p) (of_symbol q t s) i g = absurd g
+  included_inside (to_module p t w) (of_package q) i g = absurd g
+  included_inside (to_module p t w) (of_module q v d) i g = (subst (Contains u.packages) g.0 i.0, subst (Contains u.texts) g.1 i.1, i.2 d g.2)
+  included_inside (to_module p t w) (of_symbol q v s) i g = absurd g
+  included_inside (to_symbol p t s) (of_package q) i g = absurd g
+  included_inside (to_symbol p t s) (of_module q v d) i g = absurd g
+  included_inside (to_symbol p t s) (of_symbol q v e) i g =
       (subst (Contains u.packages) g.0 i.0, subst (Contains u.own_texts) g.1 i.1, subst (Contains u.symbols) g.2 i.2)
 
-  pub inside : (d : Demand) → Chained world roots d → IsInside u d
+  pub inside : (d : Demand) → Chained followers roots d → IsInside u d
   inside d (root {p = p} c) = is.has_roots p c
-  inside d (step {d = c} h f) = gives_inside f.want d (is.closed c f.want (inside c h) f.among) f.gives
+  inside d (step {d = c} h f) = included_inside f.demand_set d (is.closed c f.demand_set (inside c h) f.among) f.includes
   inside d (widen {p = p} {q = q} {r = r} {t = t} {a = a} {b = b} {c = c} f g w) =
       let i = inside (of_module p t a) f in
       let j = inside (of_module q t b) g in (

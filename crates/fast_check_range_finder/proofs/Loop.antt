@@ -19,9 +19,9 @@ use Rattle.fast_check_range_finder.specs.Finder.{search_of, yields_in, IsSound, 
 use Rattle.fast_check_range_finder.specs.Search.{Search, IsFresh}
 use Rattle.fast_check_range_finder.specs.Measure.{Universe, IsUniverse, left}
 use Rattle.fast_check_range_finder.specs.Refusals.{JoinAll}
-use Rattle.fast_check_range_finder.specs.Rules.{world}
+use Rattle.fast_check_range_finder.specs.Rules.{followers}
 use Rattle.fast_check_range_finder.specs.Turn.{AreSame, members, IsAccounted, IsOnTheWay}
-use Rattle.fast_check_range_finder.specs.Yields.{gives}
+use Rattle.fast_check_range_finder.specs.Yields.{demand_yields}
 use Rattle.fast_check_range_finder.proofs.Homed.{IsHomed, homed_begun, homed_turned, homed_ended}
 use Rattle.fast_check_range_finder.proofs.Accounted.{nv_itself}
 use Rattle.fast_check_range_finder.proofs.Lists.{any_some}
@@ -31,20 +31,20 @@ use Rattle.fast_check_range_finder.proofs.Refused.{found_join, all_join}
 use Rattle.fast_check_range_finder.proofs.Turns.{begun, turned, falls, ended}
 
 -- each package that was asked for is chained
-module _ (k : Known) (roots : List Nv) (done : List Demand) (s : Search) (kept : IsAccounted (world k) roots done s) where
-  by_demand : (p : Nv) (d : Demand) → is_package p d ≡ true → Chained (world k) roots d → Chained (world k) roots (of_package p)
-  by_demand p (of_package q) h c = subst (λ (x : Nv). Chained (world k) roots (of_package x)) (sym (nv_is p q h)) c
+module _ (k : Known) (roots : List Nv) (done : List Demand) (s : Search) (kept : IsAccounted (followers k) roots done s) where
+  by_demand : (p : Nv) (d : Demand) → is_package p d ≡ true → Chained (followers k) roots d → Chained (followers k) roots (of_package p)
+  by_demand p (of_package q) h c = subst (λ (x : Nv). Chained (followers k) roots (of_package x)) (sym (nv_is p q h)) c
   by_demand p (of_module q t d) h c = absurd (false≢true h)
   by_demand p (of_symbol q t d) h c = absurd (false≢true h)
 
-  pub packages_chained : (p : Nv) → Contains s.packages p → Chained (world k) roots (of_package p)
+  pub packages_chained : (p : Nv) → Contains s.packages p → Chained (followers k) roots (of_package p)
   packages_chained p c =
       let m = any_some (is_package p) (members done s) (kept.packages p (in_any (same_nv p) s.packages p c (nv_itself p))) in
       by_demand p m.0 m.2 (kept.chained m.0 m.1)
 
 -- these demands were followed, and what is kept is right
 pub record IsOn (k : Known) (roots : List Nv) (done : List Demand) (f : Finder) : Type 0 where
-  pub way : IsOnTheWay (world k) (gives k) roots done (search_of f) (yields_in f)
+  pub way : IsOnTheWay (followers k) (demand_yields k) roots done (search_of f) (yields_in f)
   pub homed : IsHomed done (search_of f)
   pub sound : IsSound k.graph k.root_symbol f
 
@@ -58,7 +58,7 @@ begins_from g r roots a b fresh none goes = record {
   begun = record {
     first = search_of a;
     fresh = fresh;
-    wants = goes.asked;
+    demand_sets = goes.asked;
     are = λ w c. let o = of_map to_package roots w (goes.are.sound w c) in (o.0, o.1, sym o.2);
     all = λ p c. goes.are.complete (to_package p) (in_map to_package roots p c);
     asks = goes.asks;
@@ -71,34 +71,34 @@ begins_from g r roots a b fresh none goes = record {
 module _ (k : Known) (roots : List Nv) where
   pub on_begun : (f : Finder) → Begins k.graph k.root_symbol roots f → IsOn k roots [] f
   on_begun f b = record {
-    way = subst (λ (ys : List Yield). IsOnTheWay (world k) (gives k) roots [] (search_of f) ys) (sym b.found)
-        (begun (world k) (gives k) roots (search_of f) b.begun);
+    way = subst (λ (ys : List Yield). IsOnTheWay (followers k) (demand_yields k) roots [] (search_of f) ys) (sym b.found)
+        (begun (followers k) (demand_yields k) roots (search_of f) b.begun);
     homed = homed_begun roots (search_of f) b.begun;
     sound = b.sound;
   }
 
   pub on_turned : (done : List Demand) (a b : Finder) → IsOn k roots done a → (t : Turns k a b) → IsOn k roots (done ++ t.turn.demand ∷ []) b
   on_turned done a b on t = record {
-    way = turned (world k) (gives k) roots done (search_of a) (search_of b) (yields_in a) (yields_in b) on.way t.turn;
-    homed = homed_turned k (gives k) done (search_of a) (search_of b) (yields_in a) (yields_in b) t.turn on.homed;
+    way = turned (followers k) (demand_yields k) roots done (search_of a) (search_of b) (yields_in a) (yields_in b) on.way t.turn;
+    homed = homed_turned k (demand_yields k) done (search_of a) (search_of b) (yields_in a) (yields_in b) t.turn on.homed;
     sound = t.sound;
   }
 
-  pub on_falls : (u : Universe) → IsUniverse (world k) roots u → (done : List Demand) (a b : Finder) → IsOn k roots done a → Turns k a b →
+  pub on_falls : (u : Universe) → IsUniverse (followers k) roots u → (done : List Demand) (a b : Finder) → IsOn k roots done a → Turns k a b →
       left u (search_of b) < left u (search_of a)
   on_falls u is done a b on t =
-      falls (world k) (gives k) roots done (search_of a) (search_of b) (yields_in a) (yields_in b) on.way t.turn u is
+      falls (followers k) (demand_yields k) roots done (search_of a) (search_of b) (yields_in a) (yields_in b) on.way t.turn u is
 
   pub on_ended : (done : List Demand) (a f : Finder) → IsOn k roots done a → Rests k a f → (found : List (PackageNv × FoundPackage)) →
       AreSame (found_yields found) (yields_in f) →
-      (account : Account) × IsAccount (world k) roots account × IsYield (gives k) account (found_yields found) × JoinAll k account ×
+      (account : Account) × IsAccount (followers k) roots account × IsYield (demand_yields k) account (found_yields found) × JoinAll k account ×
       HasHomes account
   on_ended done a f on rests found same =
-      let way = subst (λ (ys : List Yield). IsOnTheWay (world k) (gives k) roots done (search_of f) ys) (sym rests.found)
-      (subst (λ (s : Search). IsOnTheWay (world k) (gives k) roots done s (yields_in a)) (sym rests.search) on.way) in
+      let way = subst (λ (ys : List Yield). IsOnTheWay (followers k) (demand_yields k) roots done (search_of f) ys) (sym rests.found)
+      (subst (λ (s : Search). IsOnTheWay (followers k) (demand_yields k) roots done s (yields_in a)) (sym rests.search) on.way) in
       let homed = subst (IsHomed done) (sym rests.search) on.homed in
-      let e = ended (world k) (gives k) roots done (search_of f) (yields_in f) rests.none way in
-      let yields = same_yield (gives k) done (found_yields found) (yields_in f) same e.1 in (
+      let e = ended (followers k) (demand_yields k) roots done (search_of f) (yields_in f) rests.none way in
+      let yields = same_yield (demand_yields k) done (found_yields found) (yields_in f) same e.1 in (
         done,
         e.0,
         yields,

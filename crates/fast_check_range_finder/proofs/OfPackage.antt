@@ -1,4 +1,4 @@
--- What a demand gives is of its package.
+-- What a demand demand_yields is of its package.
 use Rattle.std.proofs.Common.{◌≡◌, refl, List, [], ◌∷◌, ◌++◌, map, Option, Some, None}
 use Rattle.std.specs.Prelude.{option_to_list}
 use Rattle.std.specs.List.{flat_map}
@@ -13,8 +13,8 @@ use Rattle.fast_check_demands.proofs.Each.{Each, each_nil, each_one, each_append
 use Rattle.fast_check_demands.proofs.Each.{each_cond, each_each_of}
 use Rattle.fast_check_demands.specs.declared.traces.modules.TracedModule.{TracedModule}
 use Rattle.fast_check_demands.specs.traces.Modules.{own_tables}
-use Rattle.fast_check_demands.specs.traces.Wants.{re_export_ranges}
-use Rattle.fast_check_demands.specs.worklists.Demands.{Text, Want, to_package, to_module, to_symbol, Demand, of_package, of_module, of_symbol}
+use Rattle.fast_check_demands.specs.traces.ReExports.{re_export_ranges}
+use Rattle.fast_check_demands.specs.worklists.Demands.{Text, DemandSet, to_package, to_module, to_symbol, Demand, of_package, of_module, of_symbol}
 use Rattle.fast_check_package_ranges.specs.findings.Yields.{Yield, known_package, entry_point, refused_export, dependency}
 use Rattle.fast_check_package_ranges.specs.findings.Yields.{recorded, public, implementing, faulty, untyped_module, cached}
 use Rattle.fast_check_package_ranges.specs.findings.Findings.{faulty_module, entry_fault, placed_yield}
@@ -23,19 +23,19 @@ use Rattle.fast_check_package_ranges.specs.findings.Yields.{package_of as answer
 use Rattle.fast_check_package_ranges.specs.entries.Entries.{Entrance, passed_over, refused, entered, all_faults}
 use Rattle.fast_check_demands.specs.sources.Sources.{Known, module_at, untyped_at}
 use Rattle.fast_check_range_finder.specs.Account.{package_of}
-use Rattle.fast_check_range_finder.specs.Rules.{own_text, module_of, names_wants, symbol_wants, entrance_at}
+use Rattle.fast_check_range_finder.specs.Rules.{own_text, module_of, names_followers, symbol_followers, entrance_at}
 use Rattle.fast_check_range_finder.specs.Yields.{dependency_of, dependencies, public_at, implementing_at, names_yields, source_in}
 use Rattle.fast_check_range_finder.specs.Yields.{faults_at, fault_yields, symbol_yields, untyped_yields, entry_fault_yields, entered_yields}
-use Rattle.fast_check_range_finder.specs.Yields.{entry_yields, gives}
+use Rattle.fast_check_range_finder.specs.Yields.{entry_yields, demand_yields}
 
 module _ (nv : Nv) where
   abbrev pub IsOf : Yield → Type 0
   IsOf y = answered_of y ≡ nv
 
-  of_dependencies : (ws : List Want) → Each IsOf (dependencies nv ws)
+  of_dependencies : (ws : List DemandSet) → Each IsOf (dependencies nv ws)
   of_dependencies ws = each_flat IsOf (dependency_of nv) ws (λ w c. one w)
     where
-      one : (w : Want) → Each IsOf (dependency_of nv w)
+      one : (w : DemandSet) → Each IsOf (dependency_of nv w)
       one (to_package p) = each_one IsOf (dependency nv p) refl
       one (to_module p t w) = each_nil IsOf
       one (to_symbol p t s) = each_nil IsOf
@@ -45,9 +45,9 @@ module _ (nv : Nv) where
     of_public found = each_map IsOf (public nv (own_text m)) found (λ r c. refl)
 
     of_names : (d : NameDemand) → Each IsOf (names_yields k nv d m)
-    of_names d = each_cons IsOf (recorded nv (own_text m)) (public_at nv m (re_export_ranges m d) ++ dependencies nv (names_wants k nv d m)) refl
-        (each_append IsOf (public_at nv m (re_export_ranges m d)) (dependencies nv (names_wants k nv d m)) (of_public (re_export_ranges m d))
-        (of_dependencies (names_wants k nv d m)))
+    of_names d = each_cons IsOf (recorded nv (own_text m)) (public_at nv m (re_export_ranges m d) ++ dependencies nv (names_followers k nv d m)) refl
+        (each_append IsOf (public_at nv m (re_export_ranges m d)) (dependencies nv (names_followers k nv d m)) (of_public (re_export_ranges m d))
+        (of_dependencies (names_followers k nv d m)))
 
     of_faults : (found : List Fault) → Each IsOf (faults_at nv m found)
     of_faults found = each_flat IsOf (fault_yields nv m) found
@@ -58,11 +58,11 @@ module _ (nv : Nv) where
         let shown = ranges (own_tables m) s in
         let inner = implementations (own_tables m) s in
         let wrong = faults (own_tables m) s in
-        let asked = dependencies nv (symbol_wants k nv s m) in
+        let asked = dependencies nv (symbol_followers k nv s m) in
         each_append IsOf (public_at nv m shown) (implementing_at nv m inner ++ (faults_at nv m wrong ++ asked)) (of_public shown)
         (each_append IsOf (implementing_at nv m inner) (faults_at nv m wrong ++ asked)
         (each_map IsOf (implementing nv (own_text m)) inner (λ r c. refl))
-        (each_append IsOf (faults_at nv m wrong) asked (of_faults wrong) (of_dependencies (symbol_wants k nv s m))))
+        (each_append IsOf (faults_at nv m wrong) asked (of_faults wrong) (of_dependencies (symbol_followers k nv s m))))
 
   of_untyped : (k : Known) (t : Text) → Each IsOf (untyped_yields k.graph nv t)
   of_untyped k t = each_cond IsOf (untyped_at k.graph t) (faulty_module nv t untyped_module) []
@@ -84,7 +84,7 @@ module _ (nv : Nv) where
   of_entry k (refused text) = each_one IsOf (refused_export nv text) refl
   of_entry k (entered urls) = of_entered k urls (k.used nv urls)
 
-pub of_demand : (k : Known) (d : Demand) → Each (IsOf (package_of d)) (gives k d)
+pub of_demand : (k : Known) (d : Demand) → Each (IsOf (package_of d)) (demand_yields k d)
 of_demand k (of_package nv) = of_entry nv k (entrance_at k nv)
 of_demand k (of_module nv t d) = each_append (IsOf nv) _ (untyped_yields k.graph nv t)
     (each_each_of (IsOf nv) (names_yields k nv d) (module_at k t) (λ m e. of_names nv k m d)) (of_untyped nv k t)

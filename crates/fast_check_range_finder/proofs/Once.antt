@@ -9,7 +9,7 @@ use Rattle.std.proofs.lemmas.List.{take-append-le}
 use Rattle.std.proofs.lemmas.List.Elements.{Contains-push_cases, Contains-push}
 use Rattle.fast_check_packages.specs.Package.{Nv}
 use Rattle.fast_check_demands.proofs.Elements.{no_element, first, later, cases, in_any}
-use Rattle.fast_check_demands.specs.worklists.Demands.{same_nv, Want, to_package, to_module, to_symbol, Demand}
+use Rattle.fast_check_demands.specs.worklists.Demands.{same_nv, DemandSet, to_package, to_module, to_symbol, Demand}
 use Rattle.fast_check_demands.proofs.worklists.Maps.{some_is}
 use Rattle.fast_check_range_finder.specs.Account.{Account, IsYield}
 use Rattle.fast_check_range_finder.specs.Search.{Search, AsksPackage, Asks, AsksAll}
@@ -125,20 +125,20 @@ once_asked p a b n entrances asks o = ⊎_elim
     (λ c. false≢true (sym new.0 ∙ in_any (same_nv p) a.packages p c (nv_itself p)))))
     asks.put
 
-pub once_all : (wants : List Want) (a b : Search) (n : ℕ) (entrances : List Nv) → AsksAll wants a b → AreOnce a.packages n entrances →
+pub once_all : (demand_sets : List DemandSet) (a b : Search) (n : ℕ) (entrances : List Nv) → AsksAll demand_sets a b → AreOnce a.packages n entrances →
     AreOnce b.packages n entrances
 once_all [] a b n entrances same o = subst (λ (s : Search). AreOnce s.packages n entrances) (sym same) o
-once_all (w ∷ wants) a b n entrances h o = once_all wants h.0 b n entrances h.2 (one w h.1)
+once_all (w ∷ demand_sets) a b n entrances h o = once_all demand_sets h.0 b n entrances h.2 (one w h.1)
   where
-    one : (w : Want) → Asks w a h.0 → AreOnce h.0.packages n entrances
+    one : (w : DemandSet) → Asks w a h.0 → AreOnce h.0.packages n entrances
     one (to_package p) asks = once_asked p a h.0 n entrances asks o
     one (to_module p t d) asks = subst (λ (ps : List Nv). AreOnce ps n entrances) (sym asks.5.packages) o
     one (to_symbol p t s) asks = subst (λ (ps : List Nv). AreOnce ps n entrances) (sym asks.packages) o
 
 -- what is found, in any order
-pub same_yield : {Y : Type 0} (gives : Demand → List Y) (account : Account) (these those : List Y) → AreSame these those →
-    IsYield gives account those → IsYield gives account these
-same_yield gives account these those same yields = record {
+pub same_yield : {Y : Type 0} (demand_yields : Demand → List Y) (account : Account) (these those : List Y) → AreSame these those →
+    IsYield demand_yields account those → IsYield demand_yields account these
+same_yield demand_yields account these those same yields = record {
   sound = λ y c. yields.sound y (same.sound y c);
   complete = λ d y c g. same.complete y (yields.complete d y c g);
 }

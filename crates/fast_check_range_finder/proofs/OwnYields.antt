@@ -22,18 +22,18 @@ use Rattle.fast_check_demands.proofs.Own.{own_ranges, own_implementations}
 use Rattle.fast_check_package_ranges.specs.findings.Faults.{PlacedFault, placed}
 use Rattle.fast_check_demands.specs.declared.traces.modules.TracedModule.{TracedModule}
 use Rattle.fast_check_demands.specs.traces.Modules.{own_tables}
-use Rattle.fast_check_demands.specs.traces.Wants.{re_export_ranges}
+use Rattle.fast_check_demands.specs.traces.ReExports.{re_export_ranges}
 use Rattle.fast_check_demands.proofs.traces.OwnRanges.{own_demand}
-use Rattle.fast_check_demands.specs.worklists.Demands.{Text, Want, to_package, to_module, to_symbol, Demand, of_package, of_module, of_symbol}
+use Rattle.fast_check_demands.specs.worklists.Demands.{Text, DemandSet, to_package, to_module, to_symbol, Demand, of_package, of_module, of_symbol}
 use Rattle.fast_check_package_ranges.specs.findings.Yields.{Yield, known_package, entry_point, refused_export, dependency, public, implementing}
 use Rattle.fast_check_package_ranges.specs.findings.Yields.{ModuleFault, recorded, faulty, untyped_module, cached}
 use Rattle.fast_check_package_ranges.specs.findings.Findings.{faulty_module, entry_fault, placed_yield, placed_yields}
 use Rattle.fast_check_package_ranges.specs.entries.Entries.{Entrance, passed_over, refused, entered, all_faults}
 use Rattle.fast_check_demands.specs.sources.Sources.{Known, is_text, node_at, named_at, traced_as, typed_info, info_at, module_at, untyped_at}
-use Rattle.fast_check_range_finder.specs.Rules.{own_text, module_of, names_wants, symbol_wants, entrance_at}
+use Rattle.fast_check_range_finder.specs.Rules.{own_text, module_of, names_followers, symbol_followers, entrance_at}
 use Rattle.fast_check_range_finder.specs.Yields.{dependency_of, dependencies, public_at, implementing_at, names_yields, source_in}
 use Rattle.fast_check_range_finder.specs.Yields.{faults_at, fault_yields, symbol_yields, untyped_yields, entry_fault_yields, entered_yields}
-use Rattle.fast_check_range_finder.specs.Yields.{entry_yields, gives}
+use Rattle.fast_check_range_finder.specs.Yields.{entry_yields, demand_yields}
 use Rattle.fast_check_range_finder.specs.Own.{IsOwnRange, IsOwnYield}
 use Rattle.fast_check_demands.proofs.Each.{Each, each_nil, each_one, each_append, each_cons, each_map, each_flat}
 use Rattle.fast_check_demands.proofs.Each.{each_cond, each_each_of}
@@ -120,13 +120,13 @@ module _ (k : Known) (found : AreFoundByOwnNames k.root_symbol) where
 
   -- what else is given
 
-  one_dependency : (nv : Nv) (w : Want) → Each Q (dependency_of nv w)
+  one_dependency : (nv : Nv) (w : DemandSet) → Each Q (dependency_of nv w)
   one_dependency nv (to_package p) = each_one Q (dependency nv p) tt
   one_dependency nv (to_module p t w) = each_nil Q
   one_dependency nv (to_symbol p t s) = each_nil Q
 
-  all_dependencies : (nv : Nv) (wants : List Want) → Each Q (dependencies nv wants)
-  all_dependencies nv wants = each_flat Q (dependency_of nv) wants (λ w _. one_dependency nv w)
+  all_dependencies : (nv : Nv) (demand_sets : List DemandSet) → Each Q (dependencies nv demand_sets)
+  all_dependencies nv demand_sets = each_flat Q (dependency_of nv) demand_sets (λ w _. one_dependency nv w)
 
   all_placed : (nv : Nv) (t : Text) (fs : List PlacedFault) → Each Q (placed_yields nv t fs)
   all_placed nv t fs = each_map Q (placed_yield nv t) fs (λ f c. tt)
@@ -142,21 +142,21 @@ module _ (k : Known) (found : AreFoundByOwnNames k.root_symbol) where
 
   of_names : (nv : Nv) (d : NameDemand) (m : TracedModule) → IsFollowed m → Each Q (names_yields k nv d m)
   of_names nv d m h =
-      each_cons Q (recorded nv (own_text m)) (public_at nv m (re_export_ranges m d) ++ dependencies nv (names_wants k nv d m)) tt
-      (each_append Q (public_at nv m (re_export_ranges m d)) (dependencies nv (names_wants k nv d m))
-      (publics nv m h (re_export_ranges m d) (own_demand m d)) (all_dependencies nv (names_wants k nv d m)))
+      each_cons Q (recorded nv (own_text m)) (public_at nv m (re_export_ranges m d) ++ dependencies nv (names_followers k nv d m)) tt
+      (each_append Q (public_at nv m (re_export_ranges m d)) (dependencies nv (names_followers k nv d m))
+      (publics nv m h (re_export_ranges m d) (own_demand m d)) (all_dependencies nv (names_followers k nv d m)))
 
   of_symbols : (nv : Nv) (s : SymbolDemand) (m : TracedModule) → IsFollowed m → Each Q (symbol_yields k nv s m)
   of_symbols nv s m h =
       let publics_of = public_at nv m (ranges (own_tables m) s) in
       let implementing_of = implementing_at nv m (implementations (own_tables m) s) in
       let faults_of = faults_at nv m (faults (own_tables m) s) in
-      let depends = dependencies nv (symbol_wants k nv s m) in
+      let depends = dependencies nv (symbol_followers k nv s m) in
       each_append Q publics_of (implementing_of ++ (faults_of ++ depends))
       (publics nv m h (ranges (own_tables m) s) (own_ranges (own_tables m) s))
       (each_append Q implementing_of (faults_of ++ depends)
       (implementings nv m h (implementations (own_tables m) s) (own_implementations (own_tables m) s))
-      (each_append Q faults_of depends (all_faults_placed nv m (faults (own_tables m) s)) (all_dependencies nv (symbol_wants k nv s m))))
+      (each_append Q faults_of depends (all_faults_placed nv m (faults (own_tables m) s)) (all_dependencies nv (symbol_followers k nv s m))))
 
   of_entered : (nv : Nv) (urls : List Parts) (item : Option ItemView) → Each Q (entered_yields k.graph nv urls item)
   of_entered nv urls (Some item) = each_one Q (cached nv urls item) tt
@@ -170,7 +170,7 @@ module _ (k : Known) (found : AreFoundByOwnNames k.root_symbol) where
   of_entrance nv (refused text) = each_one Q (refused_export nv text) tt
   of_entrance nv (entered urls) = of_entered nv urls (k.used nv urls)
 
-  pub own_yields : (d : Demand) → Each Q (gives k d)
+  pub own_yields : (d : Demand) → Each Q (demand_yields k d)
   own_yields (of_package nv) = of_entrance nv (entrance_at k nv)
   own_yields (of_module nv t d) = each_append Q (each_of (names_yields k nv d) (module_at k t)) (untyped_yields k.graph nv t)
       (each_each_of Q (names_yields k nv d) (module_at k t) (λ m e. of_names nv d m (followed t m e)))
@@ -178,5 +178,5 @@ module _ (k : Known) (found : AreFoundByOwnNames k.root_symbol) where
   own_yields (of_symbol nv t s) = each_each_of Q (symbol_yields k nv s) (module_of k t) (λ m e. of_symbols nv s m (named t m e))
 
   -- and so is what was found
-  pub own : (account : Account) (yields : List Yield) → IsYield (gives k) account yields → Each Q yields
+  pub own : (account : Account) (yields : List Yield) → IsYield (demand_yields k) account yields → Each Q yields
   own account yields of_account y c = let s = of_account.sound y c in own_yields s.0 y s.2

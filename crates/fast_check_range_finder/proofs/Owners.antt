@@ -5,8 +5,8 @@ use Rattle.fast_check_graph.specs.declared.graph.ModuleGraph.{ModuleGraph}
 use Rattle.fast_check_graph.specs.declared.root_symbol.RootSymbol.{RootSymbol}
 use Rattle.fast_check_demands.specs.symbol_demands.Rules.{each_of}
 use Rattle.fast_check_package_ranges.specs.findings.Yields.{dependency}
-use Rattle.fast_check_demands.specs.worklists.Demands.{Text, Wanted, same_nv, Want, to_package, to_module}
-use Rattle.fast_check_demands.specs.sources.Wants.{file_at, behind}
+use Rattle.fast_check_demands.specs.worklists.Demands.{Text, NameDemands, same_nv, DemandSet, to_package, to_module}
+use Rattle.fast_check_demands.specs.sources.Followers.{file_at, behind}
 use Rattle.fast_check_range_finder.specs.declared.finder.Finder.{Finder}
 use Rattle.fast_check_range_finder.specs.Finder.{IsSound, Goes}
 use Rattle.fast_check_range_finder.specs.Yields.{dependencies}
@@ -14,14 +14,14 @@ use Rattle.fast_check_range_finder.proofs.Steps.{goes_nowhere}
 
 module _ (g : ModuleGraph) (r : RootSymbol) (nv : Nv) where
   -- what is asked, with the packages among it as dependencies
-  abbrev pub AsksFor : List Want → Finder → Finder → Type 0
+  abbrev pub AsksFor : List DemandSet → Finder → Finder → Type 0
   AsksFor ws a b = Goes g r ws (dependencies nv ws) a b
 
   -- what resolves to nothing asks for nothing
-  pub asks_none : {X : Type 0} (h : X → List Want) (o : Option X) (f : Finder) → IsSound g r f → o ≡ None → AsksFor (each_of h o) f f
+  pub asks_none : {X : Type 0} (h : X → List DemandSet) (o : Option X) (f : Finder) → IsSound g r f → o ≡ None → AsksFor (each_of h o) f f
   asks_none {X} h o f sound e = subst (λ (x : Option X). AsksFor (each_of h x) f f) (sym e) (goes_nowhere g r f sound)
 
-  module _ (t : Text) (w : Wanted) (o : Option Nv) where
+  module _ (t : Text) (w : NameDemands) (o : Option Nv) where
     pub file_none : (f : Finder) → IsSound g r f → o ≡ None → AsksFor (file_at nv t w o) f f
     file_none f sound e = subst (λ (x : Option Nv). AsksFor (file_at nv t w x) f f) (sym e) (goes_nowhere g r f sound)
 

@@ -14,9 +14,9 @@ use Rattle.fast_check_range_finder.specs.declared.finder.Finder.{Finder}
 use Rattle.fast_check_range_finder.specs.Finder.{Followed, place_nv, place_text, names_seen, seen_at, search_in, search_of, IsSound, Goes, Turns, TurnsTo}
 use Rattle.fast_check_range_finder.specs.Measure.{left}
 use Rattle.fast_check_range_finder.specs.Reach.{reach}
-use Rattle.fast_check_range_finder.specs.Rules.{world}
+use Rattle.fast_check_range_finder.specs.Rules.{followers}
 use Rattle.fast_check_range_finder.specs.Search.{IsTaken}
-use Rattle.fast_check_range_finder.specs.Yields.{gives}
+use Rattle.fast_check_range_finder.specs.Yields.{demand_yields}
 use Rattle.fast_check_range_finder.specs.Finder.{yields_in}
 use Rattle.fast_check_range_finder.proofs.Loop.{IsOn, on_turned, on_falls}
 use Rattle.fast_check_range_finder.proofs.Reach.{HasDependencies, universe}
@@ -34,7 +34,7 @@ module _ (k : Known) (f mid b : Finder) (sound : IsSound k.graph k.root_symbol f
 
     pub turn_of_symbol :
         ((e : Followed) → slice_get mid.modules.entries at.place ≡ Some e → IsSound k.graph k.root_symbol mid →
-        let d = of_symbol (place_nv e) (place_text e) (demand_of at.demand) in Goes k.graph k.root_symbol (world k d) (gives k d) mid b) →
+        let d = of_symbol (place_nv e) (place_text e) (demand_of at.demand) in Goes k.graph k.root_symbol (followers k d) (demand_yields k d) mid b) →
         Turns k f b
     turn_of_symbol follows =
         let rest = mid.symbols.items in
@@ -51,7 +51,7 @@ module _ (k : Known) (f mid b : Finder) (sound : IsSound k.graph k.root_symbol f
 
 -- names wait
 pub turn_of_names : (k : Known) (f mid b : Finder) → mid ≡ record f { names = mid.names } → (at : NamesAt) →
-    f.names.items ≡ mid.names.items ++ at ∷ [] → Goes k.graph k.root_symbol (world k (names_seen at)) (gives k (names_seen at)) mid b →
+    f.names.items ≡ mid.names.items ++ at ∷ [] → Goes k.graph k.root_symbol (followers k (names_seen at)) (demand_yields k (names_seen at)) mid b →
     Turns k f b
 turn_of_names k f mid b same at items follows =
     let rest = mid.names.items in
@@ -78,14 +78,14 @@ past_names k f mid b same items more t = turns_from k f mid b
 module _ {k : Known} {roots : List Nv} {done : List Demand} {f : Finder} (on : IsOn k roots done f) where
   pub after_symbol : (mid b : Finder) → mid ≡ record f { symbols = mid.symbols } → (at : SymbolAt) → f.symbols.items ≡ mid.symbols.items ++ at ∷ [] →
       ((e : Followed) → slice_get mid.modules.entries at.place ≡ Some e → IsSound k.graph k.root_symbol mid →
-      let d = of_symbol (place_nv e) (place_text e) (demand_of at.demand) in Goes k.graph k.root_symbol (world k d) (gives k d) mid b) → Turns k f b
+      let d = of_symbol (place_nv e) (place_text e) (demand_of at.demand) in Goes k.graph k.root_symbol (followers k d) (demand_yields k d) mid b) → Turns k f b
   after_symbol mid b same at items follows = turn_of_symbol k f mid b on.sound same at items follows
 
   -- no symbol waits
   module _ (one two b : Finder) (first : one ≡ record f { symbols = one.symbols }) (none : f.symbols.items ≡ one.symbols.items ++ [])
       (second : two ≡ record one { names = two.names }) where
     pub after_names : (at : NamesAt) → one.names.items ≡ two.names.items ++ at ∷ [] →
-        Goes k.graph k.root_symbol (world k (names_seen at)) (gives k (names_seen at)) two b → Turns k f b
+        Goes k.graph k.root_symbol (followers k (names_seen at)) (demand_yields k (names_seen at)) two b → Turns k f b
     after_names at items follows = past_symbols k f one b first none true (turn_of_names k one two b second at items follows)
 
     -- and no name

@@ -23,17 +23,17 @@ use Rattle.fast_check_demands.specs.name_demands.Files.{files}
 use Rattle.fast_check_demands.specs.declared.traces.modules.TracedModule.{TracedModule}
 use Rattle.fast_check_demands.specs.traces.Modules.{tables_in, own_export, led_to, answer_of, first_with, answer_to}
 use Rattle.fast_check_demands.specs.traces.Roots.{roots}
-use Rattle.fast_check_demands.specs.traces.Wants.{Want as ModuleWant, re_exported, answered, all_wants, answered_at, path_wants, module_wants}
-use Rattle.fast_check_demands.specs.worklists.Demands.{Text, same_nv, asked_by, Want, to_package, to_module, to_symbol, Demand, of_package}
+use Rattle.fast_check_demands.specs.traces.ReExports.{ModuleDemand, re_exported, answered, all_re_exported, answered_at, path_followers, module_followers}
+use Rattle.fast_check_demands.specs.worklists.Demands.{Text, same_nv, asked_by, DemandSet, to_package, to_module, to_symbol, Demand, of_package}
 use Rattle.fast_check_demands.specs.worklists.Demands.{of_module, of_symbol}
 use Rattle.fast_check_demands.proofs.worklists.Maps.{first_in, found_in}
 use Rattle.fast_check_package_ranges.specs.declared.findings.found.EntryFault.{EntryFault}
 use Rattle.fast_check_package_ranges.specs.entries.Entries.{Entrance, passed_over, refused, entered, all_faults}
 use Rattle.fast_check_demands.specs.sources.Sources.{Used, Known, named_at, info_at, traced_as}
-use Rattle.fast_check_demands.specs.sources.Wants.{file_at, behind, resolved, file_wants, left_wants}
-use Rattle.fast_check_range_finder.specs.Measure.{IsWithin, IsInside, IsWantInside, IsUniverse}
-use Rattle.fast_check_range_finder.specs.Rules.{own_text, names_wants, symbol_wants, entry_want, unless_faulty, entrance_at}
-use Rattle.fast_check_range_finder.specs.Rules.{entered_wants, entry_wants, world}
+use Rattle.fast_check_demands.specs.sources.Followers.{file_at, behind, resolved, file_followers, re_export_followers}
+use Rattle.fast_check_range_finder.specs.Measure.{IsWithin, IsInside, IsSetInside, IsUniverse}
+use Rattle.fast_check_range_finder.specs.Rules.{own_text, names_followers, symbol_followers, entry_demands, unless_faulty, entrance_at}
+use Rattle.fast_check_range_finder.specs.Rules.{entered_followers, entry_followers, followers}
 use Rattle.fast_check_range_finder.specs.Universe.{IsAmong}
 use Rattle.fast_check_range_finder.specs.Reach.{all_names, paths_up_to, symbol_paths, all_ids, targets, answers}
 use Rattle.fast_check_range_finder.specs.Reach.{entry_texts, outer_texts, all_packages, urls_in, reach}
@@ -53,8 +53,8 @@ module _ (k : Known) (stored roots_in : List Nv) (has_all : HasDependencies k.us
   abbrev L : ℕ
   L = length (all_names k)
 
-  abbrev In : Want → Type 0
-  In = IsWantInside (reach k stored roots_in)
+  abbrev In : DemandSet → Type 0
+  In = IsSetInside (reach k stored roots_in)
 
   -- of a module that was found
   each_traced : {Y : Type 0} (P : Y → Type 0) (f : TracedModule → List Y) (o : Option AnyModuleInfo) →
@@ -130,63 +130,63 @@ module _ (k : Known) (stored roots_in : List Nv) (has_all : HasDependencies k.us
     abbrev SymbolIn : SymbolDemand → Type 0
     SymbolIn = IsAmong (all_ids k) (symbol_paths k)
 
-    in_left : (nv : Nv) (text : List ℕ) → Each In (left_wants k nv m (re_exported text))
+    in_left : (nv : Nv) (text : List ℕ) → Each In (re_export_followers k nv m (re_exported text))
     in_left nv text = each_each_of In (λ url. behind nv (serialize url) (asked_by names_but_default) (k.owner (serialize url)))
         (resolved m text)
         (λ url e. in_behind nv (serialize url) names_but_default (k.owner (serialize url)) refl (target_in info text url e) tt)
 
-    in_all : (nv : Nv) → Each In (flat_map (left_wants k nv m) (all_wants T.re_exports))
+    in_all : (nv : Nv) → Each In (flat_map (re_export_followers k nv m) (all_re_exported T.re_exports))
     in_all nv = go T.re_exports
       where
-        go : (xs : List ReExportAllNode) → Each In (flat_map (left_wants k nv m) (all_wants xs))
+        go : (xs : List ReExportAllNode) → Each In (flat_map (re_export_followers k nv m) (all_re_exported xs))
         go [] = each_nil In
-        go (x ∷ xs) = each_append In (left_wants k nv m (re_exported (string_bytes x.specifier)))
-            (flat_map (left_wants k nv m) (all_wants xs))
+        go (x ∷ xs) = each_append In (re_export_followers k nv m (re_exported (string_bytes x.specifier)))
+            (flat_map (re_export_followers k nv m) (all_re_exported xs))
             (in_left nv (string_bytes x.specifier)) (go xs)
 
-    in_path : (nv : Nv) (n : Name) (d : NameDemand) → Within d → Each In (flat_map (left_wants k nv m) (path_wants m n d))
-    in_path nv n d h = each_flat In (left_wants k nv m) (path_wants m n d) (λ v c. go v
+    in_path : (nv : Nv) (n : Name) (d : NameDemand) → Within d → Each In (flat_map (re_export_followers k nv m) (path_followers m n d))
+    in_path nv n d h = each_flat In (re_export_followers k nv m) (path_followers m n d) (λ v c. go v
         (each_cond Ans (is_some (own_export T n)) [] (answered_at d (answer_to m n)) (each_nil Ans)
         (each_each_of Ans (λ url. answered url d ∷ []) (answer_to m n)
         (λ url e. each_one Ans (answered url d) (answer_in info n url e, refl))) v c))
       where
-        Ans : ModuleWant → Type 0
+        Ans : ModuleDemand → Type 0
         Ans (re_exported text) = ⊥
         Ans (answered url e) = Contains (outer_texts k) (serialize url) × (e ≡ d)
 
-        go : (v : ModuleWant) → Ans v → Each In (left_wants k nv m v)
+        go : (v : ModuleDemand) → Ans v → Each In (re_export_followers k nv m v)
         go (re_exported text) a = absurd a
         go (answered url e) a = in_behind nv (serialize url) e (k.owner (serialize url)) refl a.0 (subst Within (sym a.1) h)
 
-    wants_in : (nv : Nv) (d : NameDemand) → Within d → Each In (flat_map (left_wants k nv m) (module_wants m d))
-    wants_in nv names_but_default h = in_all nv
-    wants_in nv each_name h = in_all nv
-    wants_in nv (subset_at []) h = each_nil In
-    wants_in nv (subset_at (n ∷ p)) h = in_path nv n (subset_at (n ∷ p)) h
-    wants_in nv (whole_at []) h = each_nil In
-    wants_in nv (whole_at (n ∷ p)) h = in_path nv n (whole_at (n ∷ p)) h
+    sets_in : (nv : Nv) (d : NameDemand) → Within d → Each In (flat_map (re_export_followers k nv m) (module_followers m d))
+    sets_in nv names_but_default h = in_all nv
+    sets_in nv each_name h = in_all nv
+    sets_in nv (subset_at []) h = each_nil In
+    sets_in nv (subset_at (n ∷ p)) h = in_path nv n (subset_at (n ∷ p)) h
+    sets_in nv (whole_at []) h = each_nil In
+    sets_in nv (whole_at (n ∷ p)) h = in_path nv n (whole_at (n ∷ p)) h
 
     in_own : (nv : Nv) → Contains (all_packages k stored roots_in) nv → (found : List SymbolDemand) → Each SymbolIn found →
         Each In (map (to_symbol nv (own_text m)) found)
     in_own nv p found h = each_map In (to_symbol nv (own_text m)) found
         (λ s c. (p, own_text_in k info is, in_demands (all_ids k) (symbol_paths k) s (h s c)))
 
-    in_names : (nv : Nv) → Contains (all_packages k stored roots_in) nv → (d : NameDemand) → Within d → Each In (names_wants k nv d m)
-    in_names nv p d h = each_append In (map (to_symbol nv (own_text m)) (roots T d)) (flat_map (left_wants k nv m) (module_wants m d))
-        (in_own nv p (roots T d) (roots_within k info is d h)) (wants_in nv d h)
+    in_names : (nv : Nv) → Contains (all_packages k stored roots_in) nv → (d : NameDemand) → Within d → Each In (names_followers k nv d m)
+    in_names nv p d h = each_append In (map (to_symbol nv (own_text m)) (roots T d)) (flat_map (re_export_followers k nv m) (module_followers m d))
+        (in_own nv p (roots T d) (roots_within k info is d h)) (sets_in nv d h)
 
     in_symbols : (nv : Nv) → Contains (all_packages k stored roots_in) nv → (s : SymbolDemand) → SymbolIn s →
-        Each In (symbol_wants k nv s m)
-    in_symbols nv p s h = each_append In (map (to_symbol nv (own_text m)) (names T s)) (flat_map (file_wants k nv m) (files T s))
+        Each In (symbol_followers k nv s m)
+    in_symbols nv p s h = each_append In (map (to_symbol nv (own_text m)) (names T s)) (flat_map (file_followers k nv m) (files T s))
         (in_own nv p (names T s) (names_in k info is s h))
-        (each_flat In (file_wants k nv m) (files T s) (λ f c.
+        (each_flat In (file_followers k nv m) (files T s) (λ f c.
         each_each_of In (λ url. file_at nv (serialize url) (asked_by f.names) (k.owner (serialize url))) (resolved m f.text)
         (λ url e. in_file nv (serialize url) f.names (k.owner (serialize url)) refl (target_in info f.text url e)
         (files_within k info is s h.asked f c))))
 
   entry_in : (nv : Nv) → Contains (all_packages k stored roots_in) nv → (urls : List Parts) → entrance_at k nv ≡ entered urls →
       (url : Parts) → Contains urls url →
-      In (entry_want nv url)
+      In (entry_demands nv url)
   entry_in nv i urls e url c = (
     i,
     Contains-append_right (outer_texts k) (entry_texts k (all_packages k stored roots_in)) (serialize url)
@@ -195,35 +195,35 @@ module _ (k : Known) (stored roots_in : List Nv) (has_all : HasDependencies k.us
     all_within A (suc L),
   )
 
-  entries_in : (nv : Nv) → Contains (all_packages k stored roots_in) nv → Each In (world k (of_package nv))
+  entries_in : (nv : Nv) → Contains (all_packages k stored roots_in) nv → Each In (followers k (of_package nv))
   entries_in nv i = go (entrance_at k nv) refl
     where
       sound : (urls : List Parts) → entrance_at k nv ≡ entered urls → (faults : List (Parts × EntryFault)) →
-          Each In (unless_faulty faults (map (entry_want nv) urls))
-      sound urls e [] = each_map In (entry_want nv) urls (λ url c. entry_in nv i urls e url c)
+          Each In (unless_faulty faults (map (entry_demands nv) urls))
+      sound urls e [] = each_map In (entry_demands nv) urls (λ url c. entry_in nv i urls e url c)
       sound urls e (f ∷ faults) = each_nil In
 
       by_item : (urls : List Parts) → entrance_at k nv ≡ entered urls → (item : Option ItemView) → k.used nv urls ≡ item →
-          Each In (entered_wants k.graph nv urls item)
+          Each In (entered_followers k.graph nv urls item)
       by_item urls e None h = sound urls e (all_faults k.graph urls)
       by_item urls e (Some item) h = each_map In to_package item.0
           (λ p c. Contains-append_right roots_in (owners ++ stored) p
           (Contains-append_right owners stored p (has_all nv urls item h p c)))
 
-      go : (entrance : Entrance) → entrance_at k nv ≡ entrance → Each In (entry_wants k.graph k.used nv entrance)
+      go : (entrance : Entrance) → entrance_at k nv ≡ entrance → Each In (entry_followers k.graph k.used nv entrance)
       go passed_over e = each_nil In
       go (refused text) e = each_nil In
       go (entered urls) e = by_item urls e (k.used nv urls) refl
 
-  closed : (d : Demand) → IsInside (reach k stored roots_in) d → Each In (world k d)
+  closed : (d : Demand) → IsInside (reach k stored roots_in) d → Each In (followers k d)
   closed (of_package nv) i = entries_in nv i
   closed (of_module nv t d) i =
-      each_traced In (names_wants k nv d) (info_at k.graph k.root_symbol t) (info_in k t) (λ info is. in_names info is nv i.0 d i.2)
+      each_traced In (names_followers k nv d) (info_at k.graph k.root_symbol t) (info_in k t) (λ info is. in_names info is nv i.0 d i.2)
   closed (of_symbol nv t s) i =
-      each_traced In (symbol_wants k nv s) (named_at k.root_symbol t) (named_info k t)
+      each_traced In (symbol_followers k nv s) (named_at k.root_symbol t) (named_info k t)
       (λ info is. in_symbols info is nv i.0 s (of_demands (all_ids k) (symbol_paths k) s i.2))
 
-  pub universe : IsUniverse (world k) roots_in (reach k stored roots_in)
+  pub universe : IsUniverse (followers k) roots_in (reach k stored roots_in)
   universe = record {
     has_roots = λ p c. Contains-append_left roots_in _ p c;
     default = fits_in A (suc L) (default_name ∷ []) (fits_more A default_name L [] (first_in default_name _) (fits_empty A L));

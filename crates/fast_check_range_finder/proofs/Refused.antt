@@ -26,8 +26,8 @@ use Rattle.fast_check_demands.specs.sources.Sources.{Known}
 use Rattle.fast_check_demands.proofs.Each.{Each, each_nil, each_one, each_append, each_cons, each_map, each_flat}
 use Rattle.fast_check_demands.proofs.worklists.Maps.{first_in}
 use Rattle.fast_check_range_finder.specs.Account.{Account, Chained, IsYield}
-use Rattle.fast_check_range_finder.specs.Rules.{entrance_at, world}
-use Rattle.fast_check_range_finder.specs.Yields.{entry_yields, gives}
+use Rattle.fast_check_range_finder.specs.Rules.{entrance_at, followers}
+use Rattle.fast_check_range_finder.specs.Yields.{entry_yields, demand_yields}
 use Rattle.fast_check_range_finder.specs.Refusals.{IsRefusal, IsNotRefused, JoinAll, NotRefusedYield, IsRefusedOf}
 
 -- what is found tells of no text that does not join
@@ -68,7 +68,7 @@ pub found_join : (found : List (PackageNv × FoundPackage)) → Each NotRefusedY
 found_join found = each_flat NotRefusedYield (λ e. package_yields (map (λ x. nv_of x.0) found) (nv_of e.0) e.1) found
     (λ e c. package_joins (map (λ x. nv_of x.0) found) (nv_of e.0) e.1)
 
-pub all_join : (k : Known) (account : Account) (found : List Yield) → Each NotRefusedYield found → IsYield (gives k) account found →
+pub all_join : (k : Known) (account : Account) (found : List Yield) → Each NotRefusedYield found → IsYield (demand_yields k) account found →
     JoinAll k account
 all_join k account found joins y nv c = go (entrance_at k nv) refl
   where
@@ -93,7 +93,7 @@ refused_of k packages i p nv le is e (InvalidExport q text) t = (
 )
 
 -- and so is demanded
-pub refusal : (k : Known) (roots packages : List Nv) → ((p : Nv) → Contains packages p → Chained (world k) roots (of_package p)) →
+pub refusal : (k : Known) (roots packages : List Nv) → ((p : Nv) → Contains packages p → Chained (followers k) roots (of_package p)) →
     (f : BuildFault) →
     IsRefusedOf k packages f → IsRefusal k roots f
 refusal k roots packages chained OutOfMemory t = tt

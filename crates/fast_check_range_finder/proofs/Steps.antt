@@ -9,7 +9,7 @@ use Rattle.fast_check_graph.specs.declared.graph.ModuleGraph.{ModuleGraph}
 use Rattle.fast_check_graph.specs.declared.root_symbol.RootSymbol.{RootSymbol}
 use Rattle.fast_check_demands.specs.Yields.{Adds}
 use Rattle.fast_check_package_ranges.specs.findings.Yields.{Yield}
-use Rattle.fast_check_demands.specs.worklists.Demands.{Want}
+use Rattle.fast_check_demands.specs.worklists.Demands.{DemandSet}
 use Rattle.fast_check_range_finder.specs.declared.finder.Finder.{Finder}
 use Rattle.fast_check_range_finder.specs.Search.{Search, AsksAll}
 use Rattle.fast_check_range_finder.specs.Turn.{AreSame}
@@ -17,7 +17,7 @@ use Rattle.fast_check_range_finder.specs.Finder.{search_of, yields_in, IsSound, 
 use Rattle.fast_check_range_finder.specs.Yields.{dependency_of, dependencies}
 use Rattle.fast_check_range_finder.proofs.Joins.{joins_none, joins_then}
 
-pub asks_then : (ws vs : List Want) (a b c : Search) → AsksAll ws a b → AsksAll vs b c → AsksAll (ws ++ vs) a c
+pub asks_then : (ws vs : List DemandSet) (a b c : Search) → AsksAll ws a b → AsksAll vs b c → AsksAll (ws ++ vs) a c
 asks_then [] vs a b c h k = subst (λ (x : Search). AsksAll vs x c) h k
 asks_then (w ∷ ws) vs a b c h k = (h.0, h.1, asks_then ws vs h.0 b c h.2 k)
 
@@ -51,7 +51,7 @@ module _ (g : ModuleGraph) (r : RootSymbol) where
     sound = sound;
   }
 
-  pub goes_then : (ws vs : List Want) (ys zs : List Yield) (a b c : Finder) → Goes g r ws ys a b → Goes g r vs zs b c →
+  pub goes_then : (ws vs : List DemandSet) (ys zs : List Yield) (a b c : Finder) → Goes g r ws ys a b → Goes g r vs zs b c →
       Goes g r (ws ++ vs) (ys ++ zs) a c
   goes_then ws vs ys zs a b c s t = record {
     asked = s.asked ++ t.asked;
@@ -62,12 +62,12 @@ module _ (g : ModuleGraph) (r : RootSymbol) where
   }
 
   -- what each of some things asks for, and one thing more
-  pub goes_more : {X : Type 0} (h : X → List Want) (nv : Nv) (xs : List X) (x : X) (a b c : Finder) →
+  pub goes_more : {X : Type 0} (h : X → List DemandSet) (nv : Nv) (xs : List X) (x : X) (a b c : Finder) →
       Goes g r (flat_map h xs) (dependencies nv (flat_map h xs)) a b → Goes g r (h x) (dependencies nv (h x)) b c →
       Goes g r (flat_map h (xs ++ x ∷ [])) (dependencies nv (flat_map h (xs ++ x ∷ []))) a c
-  goes_more h nv xs x a b c s t = subst (λ (ws : List Want). Goes g r ws (dependencies nv ws) a c) (sym last)
+  goes_more h nv xs x a b c s t = subst (λ (ws : List DemandSet). Goes g r ws (dependencies nv ws) a c) (sym last)
       (subst (λ (ys : List Yield). Goes g r (flat_map h xs ++ h x) ys a c) (sym (flat_map-append (dependency_of nv) (flat_map h xs) (h x)))
       (goes_then (flat_map h xs) (h x) (dependencies nv (flat_map h xs)) (dependencies nv (h x)) a b c s t))
     where
       last : flat_map h (xs ++ x ∷ []) ≡ flat_map h xs ++ h x
-      last = flat_map-append h xs (x ∷ []) ∙ ap (λ (ws : List Want). flat_map h xs ++ ws) (append-nil (h x))
+      last = flat_map-append h xs (x ∷ []) ∙ ap (λ (ws : List DemandSet). flat_map h xs ++ ws) (append-nil (h x))

@@ -18,8 +18,8 @@ use Rattle.fast_check_range_finder.specs.declared.finder.Finder.{Finder}
 use Rattle.fast_check_range_finder.specs.Search.{Search, IsPut, IsTaken}
 use Rattle.fast_check_range_finder.specs.Turn.{IsTurn}
 use Rattle.fast_check_range_finder.specs.Finder.{Followed, Modules, place_nv, place_text, place_of, places, symbol_at, symbols_at, search_in, search_of, yields_in, Goes, Turns, TurnsTo}
-use Rattle.fast_check_range_finder.specs.Rules.{world}
-use Rattle.fast_check_range_finder.specs.Yields.{gives}
+use Rattle.fast_check_range_finder.specs.Rules.{followers}
+use Rattle.fast_check_range_finder.specs.Yields.{demand_yields}
 use Rattle.fast_check_range_finder.proofs.Lists.{put_last, put_left, put_right}
 
 place_at : (es : Modules) (i : ℕ) (e : Followed) → slice_get es i ≡ Some e → slice_get (places es) i ≡ Some (place_of e.0)
@@ -96,8 +96,8 @@ get_some (y ∷ ys) (suc i) h = get_some ys i (omega (arith, h))
 pub turns_from : (k : Known) (a mid b : Finder) → search_of mid ≡ search_of a → yields_in mid ≡ yields_in a → (more : Bool) → TurnsTo k more mid b →
     TurnsTo k more a b
 turns_from k a mid b same found true t = record {
-  turn = subst (λ (s : Search). IsTurn (world k) (gives k) s (search_of b) (yields_in a) (yields_in b)) same
-      (subst (λ (ys : List Yield). IsTurn (world k) (gives k) (search_of mid) (search_of b) ys (yields_in b)) found t.turn);
+  turn = subst (λ (s : Search). IsTurn (followers k) (demand_yields k) s (search_of b) (yields_in a) (yields_in b)) same
+      (subst (λ (ys : List Yield). IsTurn (followers k) (demand_yields k) (search_of mid) (search_of b) ys (yields_in b)) found t.turn);
   sound = t.sound;
 }
 turns_from k a mid b same found false t = record {
@@ -109,17 +109,17 @@ turns_from k a mid b same found false t = record {
 
 -- and followed
 pub turns_by : (k : Known) (d : Demand) (a mid b : Finder) → IsTaken d (search_of a) (search_of mid) → yields_in mid ≡ yields_in a →
-    Goes k.graph k.root_symbol (world k d) (gives k d) mid b → Turns k a b
+    Goes k.graph k.root_symbol (followers k d) (demand_yields k d) mid b → Turns k a b
 turns_by k d a mid b taken same goes = record {
   turn = record {
     demand = d;
     mid = search_of mid;
     taken = taken;
     followed = record {
-      wants = goes.asked;
+      demand_sets = goes.asked;
       are = goes.are;
       asks = goes.asks;
-      yields = subst (λ (ys : List Yield). Joins (gives k d) ys (yields_in b)) same goes.found;
+      yields = subst (λ (ys : List Yield). Joins (demand_yields k d) ys (yields_in b)) same goes.found;
     };
   };
   sound = goes.sound;

@@ -29,10 +29,10 @@ use Rattle.fast_check_demands.specs.symbol_demands.Demands.{Demand as SymbolDema
 use Rattle.fast_check_demands.specs.Yields.{Joins}
 use Rattle.fast_check_demands.proofs.Elements.{in_map, of_map}
 use Rattle.fast_check_package_ranges.specs.findings.Yields.{Yield, dependency}
-use Rattle.fast_check_demands.specs.declared.name_demands.want.NameDemand.{NameDemand as Single}
-use Rattle.fast_check_demands.specs.declared.name_demands.want.NameDemand.TheVariants as singles
+use Rattle.fast_check_demands.specs.declared.name_demands.name_demand.NameDemand.{NameDemand as Single}
+use Rattle.fast_check_demands.specs.declared.name_demands.name_demand.NameDemand.TheVariants as singles
 use Rattle.fast_check_demands.specs.name_demands.Files.{names_of, path_demand}
-use Rattle.fast_check_demands.specs.worklists.Demands.{same_nv, begins, asked_by, Demand, of_package, of_module, Want, to_package, to_module}
+use Rattle.fast_check_demands.specs.worklists.Demands.{same_nv, begins, asked_by, Demand, of_package, of_module, DemandSet, to_package, to_module}
 use Rattle.fast_check_demands.specs.worklists.State.{AddsPackage}
 use Rattle.fast_check_range_finder.specs.declared.demand.Dependency.{Dependency}
 use Rattle.fast_check_range_finder.specs.declared.demand.NamesAt.{NamesAt}
@@ -164,15 +164,15 @@ module _ (packages : List Nv) (entered : ℕ) (ms : Modules) (symbols : List (�
   }
 
 module _ (g : ModuleGraph) (r : RootSymbol) (f : Finder) (sound : IsSound g r f) (p : Nv) (url : Parts) (d : Single) where
-  abbrev want : Want
-  want = to_module p (serialize url) (asked_by (names_of d))
+  abbrev demand_set : DemandSet
+  demand_set = to_module p (serialize url) (asked_by (names_of d))
 
   -- what is asked of names alone
   pub names_goes : (b : Finder) → AsksNames p url (names_of d) (search_of f) (search_of b) → yields_in b ≡ yields_in f → IsSound g r b →
-      Goes g r (want ∷ []) [] f b
+      Goes g r (demand_set ∷ []) [] f b
   names_goes b asks same still = record {
-    asked = want ∷ [];
-    are = same_itself (want ∷ []);
+    asked = demand_set ∷ [];
+    are = same_itself (demand_set ∷ []);
     asks = (search_of b, (url, names_of d, refl, refl, proper d, asks), refl);
     found = subst (λ (ys : List Yield). Joins [] (yields_in f) ys) (sym same) (joins_none (yields_in f));
     sound = still;

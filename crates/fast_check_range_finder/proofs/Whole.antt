@@ -19,16 +19,16 @@ use Rattle.fast_check_demands.specs.name_demands.Files.{FileDemand, files}
 use Rattle.fast_check_demands.specs.declared.traces.modules.TracedModule.{TracedModule}
 use Rattle.fast_check_demands.specs.traces.Modules.{own_tables}
 use Rattle.fast_check_demands.specs.traces.Roots.{roots}
-use Rattle.fast_check_demands.specs.traces.Wants.{Want as ModuleWant, re_export_ranges, module_wants}
+use Rattle.fast_check_demands.specs.traces.ReExports.{ModuleDemand, re_export_ranges, module_followers}
 use Rattle.fast_check_package_ranges.specs.findings.Findings.{faulty_module}
 use Rattle.fast_check_package_ranges.specs.findings.Yields.{Yield, recorded, untyped_module}
-use Rattle.fast_check_demands.specs.worklists.Demands.{Text, of_symbol, of_module, Want, to_symbol}
+use Rattle.fast_check_demands.specs.worklists.Demands.{Text, of_symbol, of_module, DemandSet, to_symbol}
 use Rattle.fast_check_demands.specs.sources.Sources.{Known, named_at, traced_as, node_at, typed_info, info_at, is_untyped, untyped_at}
-use Rattle.fast_check_demands.specs.sources.Wants.{file_wants, left_wants}
+use Rattle.fast_check_demands.specs.sources.Followers.{file_followers, re_export_followers}
 use Rattle.fast_check_range_finder.specs.declared.finder.Finder.{Finder}
 use Rattle.fast_check_range_finder.specs.Finder.{Followed, place_nv, place_text, IsModuleOf, Goes}
-use Rattle.fast_check_range_finder.specs.Rules.{own_text, names_wants, symbol_wants, world}
-use Rattle.fast_check_range_finder.specs.Yields.{dependency_of, dependencies, public_at, implementing_at, faults_at, names_yields, symbol_yields, untyped_yields, gives}
+use Rattle.fast_check_range_finder.specs.Rules.{own_text, names_followers, symbol_followers, followers}
+use Rattle.fast_check_range_finder.specs.Yields.{dependency_of, dependencies, public_at, implementing_at, faults_at, names_yields, symbol_yields, untyped_yields, demand_yields}
 use Rattle.fast_check_range_finder.proofs.Steps.{goes_then}
 
 -- demands of symbols are no dependencies
@@ -37,27 +37,27 @@ no_dependencies : (nv : Nv) (t : Text) (ds : List SymbolDemand) → dependencies
 no_dependencies nv t [] = refl
 no_dependencies nv t (d ∷ ds) = no_dependencies nv t ds
 
-behind_symbols : (nv : Nv) (t : Text) (ds : List SymbolDemand) (ws : List Want) →
+behind_symbols : (nv : Nv) (t : Text) (ds : List SymbolDemand) (ws : List DemandSet) →
     dependencies nv (map (to_symbol nv t) ds ++ ws) ≡ dependencies nv ws
 behind_symbols nv t ds ws = flat_map-append (dependency_of nv) (map (to_symbol nv t) ds) ws ∙
     ap (λ (ys : List Yield). ys ++ dependencies nv ws) (no_dependencies nv t ds)
 
 module _ (k : Known) (nv : Nv) (m : TracedModule) (a b c : Finder) where
-  abbrev Step : List Want → List Yield → Finder → Finder → Type 0
+  abbrev Step : List DemandSet → List Yield → Finder → Finder → Type 0
   Step = Goes k.graph k.root_symbol
 
   -- a demand of a symbol
   pub symbol_steps : (s : SymbolDemand) →
       Step (map (to_symbol nv (own_text m)) (names (own_tables m) s))
       (public_at nv m (ranges (own_tables m) s) ++ (implementing_at nv m (implementations (own_tables m) s) ++ faults_at nv m (faults (own_tables m) s))) a b →
-      Step (flat_map (file_wants k nv m) (files (own_tables m) s)) (dependencies nv (flat_map (file_wants k nv m) (files (own_tables m) s))) b c →
-      Step (symbol_wants k nv s m) (symbol_yields k nv s m) a c
-  symbol_steps s here there = subst (λ (ys : List Yield). Step (symbol_wants k nv s m) ys a c) is
+      Step (flat_map (file_followers k nv m) (files (own_tables m) s)) (dependencies nv (flat_map (file_followers k nv m) (files (own_tables m) s))) b c →
+      Step (symbol_followers k nv s m) (symbol_yields k nv s m) a c
+  symbol_steps s here there = subst (λ (ys : List Yield). Step (symbol_followers k nv s m) ys a c) is
       (goes_then k.graph k.root_symbol (map (to_symbol nv (own_text m)) (names (own_tables m) s)) files_asked (A ++ (B ++ F)) (dependencies nv files_asked) a b c
       here there)
     where
-      files_asked : List Want
-      files_asked = flat_map (file_wants k nv m) (files (own_tables m) s)
+      files_asked : List DemandSet
+      files_asked = flat_map (file_followers k nv m) (files (own_tables m) s)
 
       A : List Yield
       A = public_at nv m (ranges (own_tables m) s)
@@ -68,7 +68,7 @@ module _ (k : Known) (nv : Nv) (m : TracedModule) (a b c : Finder) where
       F : List Yield
       F = faults_at nv m (faults (own_tables m) s)
 
-      is : (A ++ (B ++ F)) ++ dependencies nv files_asked ≡ A ++ (B ++ (F ++ dependencies nv (symbol_wants k nv s m)))
+      is : (A ++ (B ++ F)) ++ dependencies nv files_asked ≡ A ++ (B ++ (F ++ dependencies nv (symbol_followers k nv s m)))
       is = append_assoc A (B ++ F) (dependencies nv files_asked) ∙
           (ap (λ (ys : List Yield). A ++ ys) (append_assoc B F (dependencies nv files_asked)) ∙
           ap (λ (ys : List Yield). A ++ (B ++ (F ++ ys))) (sym (behind_symbols nv (own_text m) (names (own_tables m) s) files_asked)))
@@ -76,25 +76,25 @@ module _ (k : Known) (nv : Nv) (m : TracedModule) (a b c : Finder) where
   -- names of a module that has its place
   pub names_steps : (d : NameDemand) →
       Step (map (to_symbol nv (own_text m)) (roots (own_tables m) d)) (public_at nv m (re_export_ranges m d)) a b →
-      Step (flat_map (left_wants k nv m) (module_wants m d)) (dependencies nv (flat_map (left_wants k nv m) (module_wants m d))) b c →
-      Step (names_wants k nv d m) (public_at nv m (re_export_ranges m d) ++ dependencies nv (names_wants k nv d m)) a c
+      Step (flat_map (re_export_followers k nv m) (module_followers m d)) (dependencies nv (flat_map (re_export_followers k nv m) (module_followers m d))) b c →
+      Step (names_followers k nv d m) (public_at nv m (re_export_ranges m d) ++ dependencies nv (names_followers k nv d m)) a c
   names_steps d here there = subst
-      (λ (ys : List Yield). Step (names_wants k nv d m) (public_at nv m (re_export_ranges m d) ++ ys) a c)
+      (λ (ys : List Yield). Step (names_followers k nv d m) (public_at nv m (re_export_ranges m d) ++ ys) a c)
       (sym (behind_symbols nv (own_text m) (roots (own_tables m) d) left))
       (goes_then k.graph k.root_symbol (map (to_symbol nv (own_text m)) (roots (own_tables m) d)) left (public_at nv m (re_export_ranges m d))
       (dependencies nv left) a b c here there)
     where
-      left : List Want
-      left = flat_map (left_wants k nv m) (module_wants m d)
+      left : List DemandSet
+      left = flat_map (re_export_followers k nv m) (module_followers m d)
 
 module _ (k : Known) (a b : Finder) where
   -- of a symbol of the module at a place
   pub symbol_at_place : (e : Followed) → IsModuleOf k.graph k.root_symbol e → (s : SymbolDemand) →
-      Goes k.graph k.root_symbol (symbol_wants k (place_nv e) s (traced_as k e.1.found.info.now))
+      Goes k.graph k.root_symbol (symbol_followers k (place_nv e) s (traced_as k e.1.found.info.now))
       (symbol_yields k (place_nv e) s (traced_as k e.1.found.info.now)) a b →
-      Goes k.graph k.root_symbol (world k (of_symbol (place_nv e) (place_text e) s)) (gives k (of_symbol (place_nv e) (place_text e) s)) a b
+      Goes k.graph k.root_symbol (followers k (of_symbol (place_nv e) (place_text e) s)) (demand_yields k (of_symbol (place_nv e) (place_text e) s)) a b
   symbol_at_place e own s goes = subst
-      (λ (o : Option TracedModule). Goes k.graph k.root_symbol (each_of (symbol_wants k (place_nv e) s) o) (each_of (symbol_yields k (place_nv e) s) o) a b)
+      (λ (o : Option TracedModule). Goes k.graph k.root_symbol (each_of (symbol_followers k (place_nv e) s) o) (each_of (symbol_yields k (place_nv e) s) o) a b)
       (sym (ap (option_map (traced_as k)) own.named)) goes
 
   -- of names of a module that has tables
@@ -121,22 +121,22 @@ module _ (k : Known) (a b : Finder) where
       go (Some n) h = either (is_typed_module n) (is_external n) (typed_is (is_typed_module n) (named_at k.root_symbol t) info h)
 
   pub names_of_module : (nv : Nv) (t : Text) (d : NameDemand) (info : AnyModuleInfo) → info_at k.graph k.root_symbol t ≡ Some info →
-      Goes k.graph k.root_symbol (names_wants k nv d (traced_as k info)) (names_yields k nv d (traced_as k info)) a b →
-      Goes k.graph k.root_symbol (world k (of_module nv t d)) (gives k (of_module nv t d)) a b
+      Goes k.graph k.root_symbol (names_followers k nv d (traced_as k info)) (names_yields k nv d (traced_as k info)) a b →
+      Goes k.graph k.root_symbol (followers k (of_module nv t d)) (demand_yields k (of_module nv t d)) a b
   names_of_module nv t d info e goes = subst
-      (λ (o : Option TracedModule). Goes k.graph k.root_symbol (each_of (names_wants k nv d) o)
+      (λ (o : Option TracedModule). Goes k.graph k.root_symbol (each_of (names_followers k nv d) o)
       (each_of (names_yields k nv d) o ++ untyped_yields k.graph nv t) a b)
       (sym (ap (option_map (traced_as k)) e))
-      (subst (λ (ys : List Yield). Goes k.graph k.root_symbol (names_wants k nv d (traced_as k info)) ys a b)
+      (subst (λ (ys : List Yield). Goes k.graph k.root_symbol (names_followers k nv d (traced_as k info)) ys a b)
       (sym (ap (λ (u : Bool). names_yields k nv d (traced_as k info) ++ cond u (faulty_module nv t untyped_module) []) (not_untyped t info e) ∙
       append-nil (names_yields k nv d (traced_as k info)))) goes)
 
   -- of one that has none
   pub names_of_none : (nv : Nv) (t : Text) (d : NameDemand) → info_at k.graph k.root_symbol t ≡ None →
       Goes k.graph k.root_symbol [] (untyped_yields k.graph nv t) a b →
-      Goes k.graph k.root_symbol (world k (of_module nv t d)) (gives k (of_module nv t d)) a b
+      Goes k.graph k.root_symbol (followers k (of_module nv t d)) (demand_yields k (of_module nv t d)) a b
   names_of_none nv t d e goes = subst
-      (λ (o : Option TracedModule). Goes k.graph k.root_symbol (each_of (names_wants k nv d) o)
+      (λ (o : Option TracedModule). Goes k.graph k.root_symbol (each_of (names_followers k nv d) o)
       (each_of (names_yields k nv d) o ++ untyped_yields k.graph nv t) a b)
       (sym (ap (option_map (traced_as k)) e)) goes
 
@@ -148,39 +148,39 @@ module _ (k : Known) (a mid b : Finder) where
       Goes k.graph k.root_symbol (map (to_symbol (place_nv e) (own_text m)) (names (own_tables m) s))
       (public_at (place_nv e) m (ranges (own_tables m) s) ++ (implementing_at (place_nv e) m (implementations (own_tables m) s) ++
       faults_at (place_nv e) m (faults (own_tables m) s))) a mid →
-      Goes k.graph k.root_symbol (flat_map (file_wants k nv (traced_as k info)) fs)
-      (dependencies nv (flat_map (file_wants k nv (traced_as k info)) fs)) mid b →
-      Goes k.graph k.root_symbol (world k (of_symbol (place_nv e) (place_text e) s)) (gives k (of_symbol (place_nv e) (place_text e) s)) a b
+      Goes k.graph k.root_symbol (flat_map (file_followers k nv (traced_as k info)) fs)
+      (dependencies nv (flat_map (file_followers k nv (traced_as k info)) fs)) mid b →
+      Goes k.graph k.root_symbol (followers k (of_symbol (place_nv e) (place_text e) s)) (demand_yields k (of_symbol (place_nv e) (place_text e) s)) a b
   symbol_all e own s nv info fs is_nv is_info is_files here there =
       let m = traced_as k e.1.found.info.now in
       symbol_at_place k a b e own s (symbol_steps k (place_nv e) m a mid b s here
-      (subst (λ (ds : List FileDemand). Goes k.graph k.root_symbol (flat_map (file_wants k (place_nv e) m) ds)
-      (dependencies (place_nv e) (flat_map (file_wants k (place_nv e) m) ds)) mid b) is_files
-      (subst (λ (i : AnyModuleInfo). Goes k.graph k.root_symbol (flat_map (file_wants k (place_nv e) (traced_as k i)) fs)
-      (dependencies (place_nv e) (flat_map (file_wants k (place_nv e) (traced_as k i)) fs)) mid b) is_info
-      (subst (λ (p : Nv). Goes k.graph k.root_symbol (flat_map (file_wants k p (traced_as k info)) fs)
-      (dependencies p (flat_map (file_wants k p (traced_as k info)) fs)) mid b) is_nv there))))
+      (subst (λ (ds : List FileDemand). Goes k.graph k.root_symbol (flat_map (file_followers k (place_nv e) m) ds)
+      (dependencies (place_nv e) (flat_map (file_followers k (place_nv e) m) ds)) mid b) is_files
+      (subst (λ (i : AnyModuleInfo). Goes k.graph k.root_symbol (flat_map (file_followers k (place_nv e) (traced_as k i)) fs)
+      (dependencies (place_nv e) (flat_map (file_followers k (place_nv e) (traced_as k i)) fs)) mid b) is_info
+      (subst (λ (p : Nv). Goes k.graph k.root_symbol (flat_map (file_followers k p (traced_as k info)) fs)
+      (dependencies p (flat_map (file_followers k p (traced_as k info)) fs)) mid b) is_nv there))))
 
-  pub names_all : (x : Finder) (e : Followed) (d : NameDemand) (nv : Nv) (info : AnyModuleInfo) (ws : List ModuleWant) →
-      place_nv e ≡ nv → e.1.found.info.now ≡ info → ws ≡ module_wants (traced_as k e.1.found.info.now) d →
+  pub names_all : (x : Finder) (e : Followed) (d : NameDemand) (nv : Nv) (info : AnyModuleInfo) (ws : List ModuleDemand) →
+      place_nv e ≡ nv → e.1.found.info.now ≡ info → ws ≡ module_followers (traced_as k e.1.found.info.now) d →
       Goes k.graph k.root_symbol [] (recorded nv (serialize (specifier_of info)) ∷ []) x a →
       (let m = traced_as k e.1.found.info.now in
       Goes k.graph k.root_symbol (map (to_symbol (place_nv e) (own_text m)) (roots (own_tables m) d)) (public_at (place_nv e) m (re_export_ranges m d)) a mid) →
-      Goes k.graph k.root_symbol (flat_map (left_wants k nv (traced_as k info)) ws) (dependencies nv (flat_map (left_wants k nv (traced_as k info)) ws)) mid b →
-      Goes k.graph k.root_symbol (names_wants k nv d (traced_as k info)) (names_yields k nv d (traced_as k info)) x b
-  names_all x e d nv info ws is_nv is_info is_wants first here there = go (place_nv e) e.1.found.info.now is_nv is_info is_wants here
+      Goes k.graph k.root_symbol (flat_map (re_export_followers k nv (traced_as k info)) ws) (dependencies nv (flat_map (re_export_followers k nv (traced_as k info)) ws)) mid b →
+      Goes k.graph k.root_symbol (names_followers k nv d (traced_as k info)) (names_yields k nv d (traced_as k info)) x b
+  names_all x e d nv info ws is_nv is_info is_followers first here there = go (place_nv e) e.1.found.info.now is_nv is_info is_followers here
     where
-      go : (p : Nv) (i : AnyModuleInfo) → p ≡ nv → i ≡ info → ws ≡ module_wants (traced_as k i) d →
+      go : (p : Nv) (i : AnyModuleInfo) → p ≡ nv → i ≡ info → ws ≡ module_followers (traced_as k i) d →
           Goes k.graph k.root_symbol (map (to_symbol p (own_text (traced_as k i))) (roots (own_tables (traced_as k i)) d))
           (public_at p (traced_as k i) (re_export_ranges (traced_as k i) d)) a mid →
-          Goes k.graph k.root_symbol (names_wants k nv d (traced_as k info)) (names_yields k nv d (traced_as k info)) x b
+          Goes k.graph k.root_symbol (names_followers k nv d (traced_as k info)) (names_yields k nv d (traced_as k info)) x b
       go p i e f w h =
           let m = traced_as k info in
           let inner = subst (λ (q : Nv). Goes k.graph k.root_symbol (map (to_symbol q (own_text m)) (roots (own_tables m) d))
           (public_at q m (re_export_ranges m d)) a mid) e
           (subst (λ (j : AnyModuleInfo). Goes k.graph k.root_symbol (map (to_symbol p (own_text (traced_as k j))) (roots (own_tables (traced_as k j)) d))
           (public_at p (traced_as k j) (re_export_ranges (traced_as k j) d)) a mid) f h) in
-          let outer = subst (λ (vs : List ModuleWant). Goes k.graph k.root_symbol (flat_map (left_wants k nv m) vs)
-          (dependencies nv (flat_map (left_wants k nv m) vs)) mid b) (w ∙ ap (λ (j : AnyModuleInfo). module_wants (traced_as k j) d) f) there in
-          goes_then k.graph k.root_symbol [] (names_wants k nv d m) (recorded nv (own_text m) ∷ [])
-          (public_at nv m (re_export_ranges m d) ++ dependencies nv (names_wants k nv d m)) x a b first (names_steps k nv m a mid b d inner outer)
+          let outer = subst (λ (vs : List ModuleDemand). Goes k.graph k.root_symbol (flat_map (re_export_followers k nv m) vs)
+          (dependencies nv (flat_map (re_export_followers k nv m) vs)) mid b) (w ∙ ap (λ (j : AnyModuleInfo). module_followers (traced_as k j) d) f) there in
+          goes_then k.graph k.root_symbol [] (names_followers k nv d m) (recorded nv (own_text m) ∷ [])
+          (public_at nv m (re_export_ranges m d) ++ dependencies nv (names_followers k nv d m)) x a b first (names_steps k nv m a mid b d inner outer)

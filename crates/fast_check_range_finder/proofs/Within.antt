@@ -21,7 +21,7 @@ use Rattle.fast_check_demands.specs.declared.traces.modules.TracedModule.{Traced
 use Rattle.fast_check_demands.specs.traces.Modules.{tables_in, own_tables}
 use Rattle.fast_check_demands.specs.traces.Origins.{IsIndexOf}
 use Rattle.fast_check_demands.specs.traces.Roots.{roots}
-use Rattle.fast_check_demands.specs.traces.Wants.{node_ranges, re_export_ranges}
+use Rattle.fast_check_demands.specs.traces.ReExports.{node_ranges, re_export_ranges}
 use Rattle.fast_check_demands.specs.declared.traces.origins.ReExportIndex.{ReExportIndex}
 use Rattle.fast_check_demands.proofs.worklists.Maps.{some_is}
 use Rattle.fast_check_package_ranges.specs.findings.Yields.{Yield}
@@ -71,7 +71,7 @@ module _ (g : ModuleGraph) (r : RootSymbol) (f b : Finder) (sound : IsSound g r 
     aliases = aliases;
   }
 
-  -- what it gives is of the same module
+  -- what it demand_yields is of the same module
   new_parts : followed_yields (e.0, m) ≡ parts (place_nv e) t m.found.ranges.items m.found.implementations.items (map fault_seen m.found.faults.items)
   new_parts = parts_of g r (place_nv e) m.found ∙ ap (λ (i : AnyModuleInfo). parts (place_nv e) (traced_in g r i) m.found.ranges.items
       m.found.implementations.items (map fault_seen m.found.faults.items)) info

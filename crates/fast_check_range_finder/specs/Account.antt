@@ -8,7 +8,7 @@ use Rattle.fast_check_lattice.specs.Imports.{NameDemand}
 use Rattle.fast_check_demands.specs.symbol_demands.Demands.{Demand as SymbolDemand}
 use Rattle.fast_check_demands.specs.Account.{alike, referred, parts}
 use Rattle.fast_check_demands.specs.worklists.Demands.{Text, same_nv, one, Demand, of_package, of_module}
-use Rattle.fast_check_demands.specs.worklists.Demands.{of_symbol, World, Follows}
+use Rattle.fast_check_demands.specs.worklists.Demands.{of_symbol, Followers, Follows}
 pub use Rattle.fast_check_demands.specs.worklists.Account.{IsStarred, HasDefault, IsWidening, Chained, root, step, widen, narrow}
 
 abbrev pub Account : Type 0
@@ -59,10 +59,10 @@ IsCovered account (of_package p) = IsTrue (list_any (is_package p) account)
 IsCovered account (of_module nv t d) = IsTrue (list_any (is_of t) account) × IsBelow (one d) (joined account t)
 IsCovered account (of_symbol nv t s) = (x : SymbolDemand) → Contains (parts s) x → IsTrue (list_any (meets nv t x) account)
 
-pub record IsAccount (world : World) (roots : List Nv) (account : Account) : Type 0 where
-  pub chained : (d : Demand) → Contains account d → Chained world roots d
+pub record IsAccount (followers : Followers) (roots : List Nv) (account : Account) : Type 0 where
+  pub chained : (d : Demand) → Contains account d → Chained followers roots d
   pub has_roots : (p : Nv) → Contains roots p → IsCovered account (of_package p)
-  pub closed : (d e : Demand) → Contains account d → Follows world d e → IsCovered account e
+  pub closed : (d e : Demand) → Contains account d → Follows followers d e → IsCovered account e
   pub widened : (p q r : Nv) (t : Text) (a b c : NameDemand) → Contains account (of_module p t a) →
       Contains account (of_module q t b) →
       IsWidening p q a b r c → IsCovered account (of_module r t c)
@@ -72,6 +72,6 @@ abbrev pub HasHomes : Account → Type 0
 HasHomes account = (d : Demand) → Contains account d → IsTrue (list_any (is_package (package_of d)) account)
 
 -- what was found is what demands of the account give, no more and no less
-pub record IsYield {Y : Type 0} (gives : Demand → List Y) (account : Account) (found : List Y) : Type 0 where
-  pub sound : (y : Y) → Contains found y → (d : Demand) × Contains account d × Contains (gives d) y
-  pub complete : (d : Demand) (y : Y) → Contains account d → Contains (gives d) y → Contains found y
+pub record IsYield {Y : Type 0} (demand_yields : Demand → List Y) (account : Account) (found : List Y) : Type 0 where
+  pub sound : (y : Y) → Contains found y → (d : Demand) × Contains account d × Contains (demand_yields d) y
+  pub complete : (d : Demand) (y : Y) → Contains account d → Contains (demand_yields d) y → Contains found y

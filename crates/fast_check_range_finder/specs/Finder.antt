@@ -22,11 +22,11 @@ use Rattle.fast_check_demands.specs.name_demands.Files.{names_of}
 use Rattle.fast_check_demands.specs.declared.traces.modules.TracedModule.{TracedModule}
 use Rattle.fast_check_demands.specs.traces.Modules.{tables_in}
 use Rattle.fast_check_demands.specs.traces.Origins.{IsIndexOf}
-use Rattle.fast_check_demands.specs.traces.Wants.{node_ranges}
+use Rattle.fast_check_demands.specs.traces.ReExports.{node_ranges}
 use Rattle.fast_check_package_ranges.specs.findings.Found.{entrance_yields, module_yields, untyped_yields}
 use Rattle.fast_check_package_ranges.specs.findings.Yields.{Yield, dependency}
 use Rattle.fast_check_package_ranges.specs.declared.findings.found.Entrance.{Entrance}
-use Rattle.fast_check_demands.specs.worklists.Demands.{Text, same_nv, Want, Demand, of_package, of_module, of_symbol}
+use Rattle.fast_check_demands.specs.worklists.Demands.{Text, same_nv, DemandSet, Demand, of_package, of_module, of_symbol}
 use Rattle.fast_check_demands.specs.sources.Sources.{Known, named_at, lent}
 use Rattle.fast_check_range_finder.specs.declared.asked.AskedAlias.{AskedAlias}
 use Rattle.fast_check_range_finder.specs.declared.demand.Place.{Place}
@@ -39,8 +39,8 @@ use Rattle.fast_check_range_finder.specs.Asked.{covers, AddsDemand}
 use Rattle.fast_check_range_finder.specs.Once.{AreOnce}
 use Rattle.fast_check_range_finder.specs.Search.{Search, AsksAll}
 use Rattle.fast_check_range_finder.specs.Turn.{AreSame, IsBegun, IsTurn}
-use Rattle.fast_check_range_finder.specs.Rules.{world}
-use Rattle.fast_check_range_finder.specs.Yields.{gives}
+use Rattle.fast_check_range_finder.specs.Rules.{followers}
+use Rattle.fast_check_range_finder.specs.Yields.{demand_yields}
 
 -- modules that are followed, each for a package
 abbrev pub Followed : Type 0
@@ -187,9 +187,9 @@ pub record Shows (more : List SourceRange) (a b : FollowedModule) : Type 0 where
   pub shown : AreShown b
 
 -- these are asked, and this is found
-pub record Goes (g : ModuleGraph) (r : RootSymbol) (wants : List Want) (yields : List Yield) (a b : Finder) : Type 0 where
-  pub asked : List Want
-  pub are : AreSame asked wants
+pub record Goes (g : ModuleGraph) (r : RootSymbol) (demand_sets : List DemandSet) (yields : List Yield) (a b : Finder) : Type 0 where
+  pub asked : List DemandSet
+  pub are : AreSame asked demand_sets
   pub asks : AsksAll asked (search_of a) (search_of b)
   pub found : Joins yields (yields_in a) (yields_in b)
   pub sound : IsSound g r b
@@ -202,7 +202,7 @@ pub record Begins (g : ModuleGraph) (r : RootSymbol) (roots : List Nv) (f : Find
 
 -- a demand that waits is followed; what is kept stays right
 pub record Turns (k : Known) (a b : Finder) : Type 0 where
-  pub turn : IsTurn (world k) (gives k) (search_of a) (search_of b) (yields_in a) (yields_in b)
+  pub turn : IsTurn (followers k) (demand_yields k) (search_of a) (search_of b) (yields_in a) (yields_in b)
   pub sound : IsSound k.graph k.root_symbol b
 
 -- as much is asked and found as before, and nothing waits

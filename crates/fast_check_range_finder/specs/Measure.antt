@@ -7,8 +7,8 @@ use Rattle.fast_check_lattice.specs.Names.{Path}
 use Rattle.fast_check_lattice.specs.Imports.{default_name, NameDemand}
 use Rattle.fast_check_demands.specs.symbol_demands.Demands.{Demand as SymbolDemand}
 use Rattle.fast_check_demands.specs.Account.{parts}
-use Rattle.fast_check_demands.specs.worklists.Demands.{Text, same_nv, Want, to_package, to_module, to_symbol, Demand}
-use Rattle.fast_check_demands.specs.worklists.Demands.{of_package, of_module, of_symbol, World}
+use Rattle.fast_check_demands.specs.worklists.Demands.{Text, same_nv, DemandSet, to_package, to_module, to_symbol, Demand}
+use Rattle.fast_check_demands.specs.worklists.Demands.{of_package, of_module, of_symbol, Followers}
 use Rattle.fast_check_range_finder.specs.Search.{Search, handled_at}
 pub use Rattle.fast_check_demands.specs.worklists.Measure.{IsWithin, total, cost, missing, rank}
 
@@ -25,18 +25,18 @@ IsInside u (of_package p) = Contains u.packages p
 IsInside u (of_module p t d) = Contains u.packages p × Contains u.texts t × IsWithin u.paths d
 IsInside u (of_symbol p t s) = Contains u.packages p × Contains u.own_texts t × Contains u.symbols s
 
--- a want is inside with all that it stands for
-abbrev pub IsWantInside : Universe → Want → Type 0
-IsWantInside u (to_package p) = Contains u.packages p
-IsWantInside u (to_module p t w) = Contains u.packages p × Contains u.texts t × ((d : NameDemand) → IsTrue (w d) → IsWithin u.paths d)
-IsWantInside u (to_symbol p t s) = Contains u.packages p × Contains u.own_texts t × Contains u.symbols s
+-- a set is inside with all its demands
+abbrev pub IsSetInside : Universe → DemandSet → Type 0
+IsSetInside u (to_package p) = Contains u.packages p
+IsSetInside u (to_module p t w) = Contains u.packages p × Contains u.texts t × ((d : NameDemand) → IsTrue (w d) → IsWithin u.paths d)
+IsSetInside u (to_symbol p t s) = Contains u.packages p × Contains u.own_texts t × Contains u.symbols s
 
 -- what follows from what is inside is inside
-pub record IsUniverse (world : World) (roots : List Nv) (u : Universe) : Type 0 where
+pub record IsUniverse (followers : Followers) (roots : List Nv) (u : Universe) : Type 0 where
   pub has_roots : (p : Nv) → Contains roots p → Contains u.packages p
   pub default : Contains u.paths (default_name ∷ [])
   pub empty : Contains u.paths []
-  pub closed : (d : Demand) (w : Want) → IsInside u d → Contains (world d) w → IsWantInside u w
+  pub closed : (d : Demand) (w : DemandSet) → IsInside u d → Contains (followers d) w → IsSetInside u w
   pub narrowed : (d x : SymbolDemand) → Contains u.symbols d → Contains (parts d) x → Contains u.symbols x
 
 unfoldable pub ranks : Universe → Search → ℕ

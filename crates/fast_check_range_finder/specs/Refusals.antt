@@ -9,11 +9,11 @@ use Rattle.fast_check_range_finder.specs.Account.{Account, Chained}
 use Rattle.fast_check_package_ranges.specs.findings.Yields.{Yield, refused_export}
 use Rattle.fast_check_package_ranges.specs.entries.Entries.{Entrance, passed_over, refused, entered}
 use Rattle.fast_check_demands.specs.sources.Sources.{Known}
-use Rattle.fast_check_range_finder.specs.Rules.{entrance_at, world}
+use Rattle.fast_check_range_finder.specs.Rules.{entrance_at, followers}
 
--- a package that is demanded, and its first export text that does not join. Of want of memory nothing is said
+-- a package that is demanded, and its first export text that does not join. Where memory runs out nothing is said
 abbrev pub IsRefusal : Known → List Nv → BuildFault → Type 0
-IsRefusal k roots (InvalidExport nv text) = Chained (world k) roots (of_package (nv_of nv)) ×
+IsRefusal k roots (InvalidExport nv text) = Chained (followers k) roots (of_package (nv_of nv)) ×
     (entrance_at k (nv_of nv) ≡ refused (string_bytes text))
 IsRefusal k roots OutOfMemory = Unit {0}
 

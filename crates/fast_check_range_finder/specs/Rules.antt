@@ -13,13 +13,13 @@ use Rattle.fast_check_demands.specs.name_demands.Files.{files}
 use Rattle.fast_check_demands.specs.declared.traces.modules.TracedModule.{TracedModule}
 use Rattle.fast_check_demands.specs.traces.Modules.{own_tables}
 use Rattle.fast_check_demands.specs.traces.Roots.{roots}
-use Rattle.fast_check_demands.specs.traces.Wants.{module_wants}
+use Rattle.fast_check_demands.specs.traces.ReExports.{module_followers}
 use Rattle.fast_check_package_ranges.specs.declared.findings.found.EntryFault.{EntryFault}
 use Rattle.fast_check_package_ranges.specs.entries.Entries.{Entrance, passed_over, refused, entered, all_faults, entrance_of}
-use Rattle.fast_check_demands.specs.worklists.Demands.{Text, asked_by, Want, to_package, to_module, to_symbol, of_package}
-use Rattle.fast_check_demands.specs.worklists.Demands.{of_module, of_symbol, World}
+use Rattle.fast_check_demands.specs.worklists.Demands.{Text, asked_by, DemandSet, to_package, to_module, to_symbol, of_package}
+use Rattle.fast_check_demands.specs.worklists.Demands.{of_module, of_symbol, Followers}
 use Rattle.fast_check_demands.specs.sources.Sources.{Used, Known, named_at, traced_as, module_at}
-use Rattle.fast_check_demands.specs.sources.Wants.{file_wants, left_wants}
+use Rattle.fast_check_demands.specs.sources.Followers.{file_followers, re_export_followers}
 
 -- the module's own name
 abbrev pub own_text : TracedModule → Text
@@ -30,22 +30,22 @@ abbrev pub module_of : Known → Text → Option TracedModule
 module_of k t = option_map (traced_as k) (named_at k.root_symbol t)
 
 -- names of a module, for a package. Demands of its symbols go by its own name, whatever it was asked for under
-abbrev pub names_wants : Known → Nv → NameDemand → TracedModule → List Want
-names_wants k nv d m = map (to_symbol nv (own_text m)) (roots (own_tables m) d) ++ flat_map (left_wants k nv m)
-    (module_wants m d)
+abbrev pub names_followers : Known → Nv → NameDemand → TracedModule → List DemandSet
+names_followers k nv d m = map (to_symbol nv (own_text m)) (roots (own_tables m) d) ++ flat_map (re_export_followers k nv m)
+    (module_followers m d)
 
 -- a demand of a symbol of the module
-abbrev pub symbol_wants : Known → Nv → SymbolDemand → TracedModule → List Want
-symbol_wants k nv s m = map (to_symbol nv (own_text m)) (names (own_tables m) s) ++ flat_map (file_wants k nv m)
+abbrev pub symbol_followers : Known → Nv → SymbolDemand → TracedModule → List DemandSet
+symbol_followers k nv s m = map (to_symbol nv (own_text m)) (names (own_tables m) s) ++ flat_map (file_followers k nv m)
     (files (own_tables m) s)
 
 -- all names of an entry point
-abbrev pub entry_want : Nv → Parts → Want
-entry_want nv url = to_module nv (serialize url) (asked_by each_name)
+abbrev pub entry_demands : Nv → Parts → DemandSet
+entry_demands nv url = to_module nv (serialize url) (asked_by each_name)
 
-abbrev pub unless_faulty : List (Parts × EntryFault) → List Want → List Want
-unless_faulty [] wants = wants
-unless_faulty (f ∷ faults) wants = []
+abbrev pub unless_faulty : List (Parts × EntryFault) → List DemandSet → List DemandSet
+unless_faulty [] demand_sets = demand_sets
+unless_faulty (f ∷ faults) demand_sets = []
 
 -- the entry points of a package
 abbrev pub entrance_at : Known → Nv → Entrance
@@ -53,16 +53,16 @@ entrance_at k nv = entrance_of k.graph k.workspace_members k.url_of nv
 
 -- a package whose item is used asks for its dependencies; another for its entry points, unless something is wrong with
 -- one of them
-abbrev pub entered_wants : ModuleGraph → Nv → List Parts → Option ItemView → List Want
-entered_wants g nv urls (Some item) = map to_package item.0
-entered_wants g nv urls None = unless_faulty (all_faults g urls) (map (entry_want nv) urls)
+abbrev pub entered_followers : ModuleGraph → Nv → List Parts → Option ItemView → List DemandSet
+entered_followers g nv urls (Some item) = map to_package item.0
+entered_followers g nv urls None = unless_faulty (all_faults g urls) (map (entry_demands nv) urls)
 
-abbrev pub entry_wants : ModuleGraph → Used → Nv → Entrance → List Want
-entry_wants g used nv passed_over = []
-entry_wants g used nv (refused text) = []
-entry_wants g used nv (entered urls) = entered_wants g nv urls (used nv urls)
+abbrev pub entry_followers : ModuleGraph → Used → Nv → Entrance → List DemandSet
+entry_followers g used nv passed_over = []
+entry_followers g used nv (refused text) = []
+entry_followers g used nv (entered urls) = entered_followers g nv urls (used nv urls)
 
-abbrev pub world : Known → World
-world k (of_package nv) = entry_wants k.graph k.used nv (entrance_at k nv)
-world k (of_module nv t d) = each_of (names_wants k nv d) (module_at k t)
-world k (of_symbol nv t s) = each_of (symbol_wants k nv s) (module_of k t)
+abbrev pub followers : Known → Followers
+followers k (of_package nv) = entry_followers k.graph k.used nv (entrance_at k nv)
+followers k (of_module nv t d) = each_of (names_followers k nv d) (module_at k t)
+followers k (of_symbol nv t s) = each_of (symbol_followers k nv s) (module_of k t)

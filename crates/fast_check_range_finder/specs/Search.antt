@@ -12,7 +12,7 @@ use Rattle.fast_check_lattice.specs.Imports.{default_name, imported, NameDemand,
 use Rattle.fast_check_packages.specs.Package.{Nv}
 use Rattle.fast_check_lattice.specs.Traces.{is_module, Handles}
 use Rattle.fast_check_demands.specs.symbol_demands.Demands.{Demand as SymbolDemand}
-use Rattle.fast_check_demands.specs.worklists.Demands.{Text, same_nv, asked, asked_by, one, Want, to_package, to_module, to_symbol}
+use Rattle.fast_check_demands.specs.worklists.Demands.{Text, same_nv, asked, asked_by, one, DemandSet, to_package, to_module, to_symbol}
 use Rattle.fast_check_demands.specs.worklists.Demands.{Demand, of_package, of_module, of_symbol}
 use Rattle.fast_check_demands.specs.Account.{parts}
 use Rattle.fast_check_range_finder.specs.Account.{meets}
@@ -131,15 +131,15 @@ pub record AsksNames (nv : Nv) (url : Parts) (d : NameDemand) (a b : Search) : T
 
 -- all
 
--- a want is asked for. Names are asked for at once, by the demand that stands for them
-abbrev pub Asks : Want → Search → Search → Type 0
+-- a set of demands is asked for. Names are asked for at once, by the demand that stands for them
+abbrev pub Asks : DemandSet → Search → Search → Type 0
 Asks (to_package p) a b = AsksPackage p a b
 Asks (to_module p t w) a b = (url : Parts) × (d : NameDemand) × (serialize url ≡ t) × (asked_by d ≡ w) × IsTrue (asked_by d d) ×
     AsksNames p url d a b
 Asks (to_symbol p t s) a b = AsksSymbol p t s a b
 
--- each of these wants in turn
-abbrev pub AsksAll : List Want → Search → Search → Type 0
+-- each of these sets in turn
+abbrev pub AsksAll : List DemandSet → Search → Search → Type 0
 AsksAll [] a b = b ≡ a
 AsksAll (w ∷ ws) a b = (mid : Search) × Asks w a mid × AsksAll ws mid b
 

@@ -1,4 +1,4 @@
--- What a demand gives.
+-- What a demand demand_yields.
 use Rattle.std.specs.Prelude.{ℕ, cond, List, [], ◌∷◌, ◌++◌, map, Option, Some, None, option_to_list}
 use Rattle.std.specs.List.{flat_map}
 use Rattle.std.specs.Rc.{rc_str_bytes}
@@ -17,8 +17,8 @@ use Rattle.fast_check_demands.specs.Yields.{ranges, implementations, Fault, faul
 use Rattle.fast_check_package_ranges.specs.findings.Faults.{FaultSource, placed}
 use Rattle.fast_check_demands.specs.declared.traces.modules.TracedModule.{TracedModule}
 use Rattle.fast_check_demands.specs.traces.Modules.{own_tables}
-use Rattle.fast_check_demands.specs.traces.Wants.{re_export_ranges}
-use Rattle.fast_check_demands.specs.worklists.Demands.{Text, Want, to_package, to_module, to_symbol, Demand, of_package}
+use Rattle.fast_check_demands.specs.traces.ReExports.{re_export_ranges}
+use Rattle.fast_check_demands.specs.worklists.Demands.{Text, DemandSet, to_package, to_module, to_symbol, Demand, of_package}
 use Rattle.fast_check_demands.specs.worklists.Demands.{of_module, of_symbol}
 use Rattle.fast_check_package_ranges.specs.declared.findings.found.EntryFault.{EntryFault}
 use Rattle.fast_check_package_ranges.specs.findings.Yields.{Yield, known_package, entry_point, refused_export, dependency}
@@ -26,16 +26,16 @@ use Rattle.fast_check_package_ranges.specs.findings.Yields.{recorded, public, im
 use Rattle.fast_check_package_ranges.specs.findings.Findings.{faulty_module, entry_fault, placed_yields}
 use Rattle.fast_check_package_ranges.specs.entries.Entries.{Entrance, passed_over, refused, entered, all_faults}
 use Rattle.fast_check_demands.specs.sources.Sources.{Used, Known, module_at, untyped_at}
-use Rattle.fast_check_range_finder.specs.Rules.{own_text, module_of, names_wants, symbol_wants, entrance_at}
+use Rattle.fast_check_range_finder.specs.Rules.{own_text, module_of, names_followers, symbol_followers, entrance_at}
 
 -- a package that is asked for is a dependency
-abbrev pub dependency_of : Nv → Want → List Yield
+abbrev pub dependency_of : Nv → DemandSet → List Yield
 dependency_of nv (to_package p) = dependency nv p ∷ []
 dependency_of nv (to_module p t w) = []
 dependency_of nv (to_symbol p t s) = []
 
-abbrev pub dependencies : Nv → List Want → List Yield
-dependencies nv wants = flat_map (dependency_of nv) wants
+abbrev pub dependencies : Nv → List DemandSet → List Yield
+dependencies nv demand_sets = flat_map (dependency_of nv) demand_sets
 
 abbrev pub public_at : Nv → TracedModule → List SourceRange → List Yield
 public_at nv m found = map (public nv (own_text m)) found
@@ -45,7 +45,7 @@ implementing_at nv m found = map (implementing nv (own_text m)) found
 
 abbrev pub names_yields : Known → Nv → NameDemand → TracedModule → List Yield
 names_yields k nv d m = recorded nv (own_text m) ∷ (public_at nv m (re_export_ranges m d) ++ dependencies nv
-    (names_wants k nv d m))
+    (names_followers k nv d m))
 
 -- the source text of a module; one of JSON has none
 abbrev pub text_of : AnyModuleInfo → List ℕ
@@ -70,7 +70,7 @@ symbol_yields k nv s m =
     public_at nv m (ranges (own_tables m) s)
     ++ (implementing_at nv m (implementations (own_tables m) s)
     ++ (faults_at nv m (faults (own_tables m) s)
-    ++ dependencies nv (symbol_wants k nv s m)))
+    ++ dependencies nv (symbol_followers k nv s m)))
 
 -- an untyped module is recorded under the name by which it was asked for
 abbrev pub untyped_yields : ModuleGraph → Nv → Text → List Yield
@@ -79,7 +79,7 @@ untyped_yields g nv t = cond (untyped_at g t) (faulty_module nv t untyped_module
 abbrev pub entry_fault_yields : Nv → Parts × EntryFault → List Yield
 entry_fault_yields nv f = faulty_module nv (serialize f.0) (entry_fault f.1)
 
--- a package whose item is used gives the item, and nothing of its entry points
+-- a package whose item is used demand_yields the item, and nothing of its entry points
 abbrev pub entered_yields : ModuleGraph → Nv → List Parts → Option ItemView → List Yield
 entered_yields g nv urls (Some item) = cached nv urls item ∷ []
 entered_yields g nv urls None =
@@ -91,7 +91,7 @@ entry_yields g used nv passed_over = []
 entry_yields g used nv (refused text) = refused_export nv text ∷ []
 entry_yields g used nv (entered urls) = entered_yields g nv urls (used nv urls)
 
-abbrev pub gives : Known → Demand → List Yield
-gives k (of_package nv) = entry_yields k.graph k.used nv (entrance_at k nv)
-gives k (of_module nv t d) = each_of (names_yields k nv d) (module_at k t) ++ untyped_yields k.graph nv t
-gives k (of_symbol nv t s) = each_of (symbol_yields k nv s) (module_of k t)
+abbrev pub demand_yields : Known → Demand → List Yield
+demand_yields k (of_package nv) = entry_yields k.graph k.used nv (entrance_at k nv)
+demand_yields k (of_module nv t d) = each_of (names_yields k nv d) (module_at k t) ++ untyped_yields k.graph nv t
+demand_yields k (of_symbol nv t s) = each_of (symbol_yields k nv s) (module_of k t)

@@ -14,8 +14,8 @@ ghost use Rattle.fast_check_demands.specs.worklists.Demands.{of_package, to_pack
 ghost use Rattle.fast_check_demands.specs.sources.Sources.{known};
 ghost use Rattle.fast_check_range_finder.specs.Finder.{IsSound, CanEnter, Goes};
 ghost use Rattle.fast_check_range_finder.specs.Lent.{used_of, known_with};
-ghost use Rattle.fast_check_range_finder.specs.Rules.{entry_want, unless_faulty, entered_wants, entry_wants, entrance_at, world};
-ghost use Rattle.fast_check_range_finder.specs.Yields.{entered_yields, entry_yields, gives};
+ghost use Rattle.fast_check_range_finder.specs.Rules.{entry_demands, unless_faulty, entered_followers, entry_followers, entrance_at, followers};
+ghost use Rattle.fast_check_range_finder.specs.Yields.{entered_yields, entry_yields, demand_yields};
 
 use crate::finder::Finder;
 use crate::options::{FinderInput, Lent};
@@ -53,7 +53,7 @@ impl<'a> Finder<'a> {
         entry_points: &BTreeSet<Url>,
     ) -> Result<(), AllocError>
         ensures goes { OnOk result ((g : ModuleGraphSeen) (r : RootSymbolSeen) → IsSound g r self.old
-            → Goes g r (map (entry_want (nv_of nv.now)) entry_points.now.keys) [] self.old self.new) }
+            → Goes g r (map (entry_demands (nv_of nv.now)) entry_points.now.keys) [] self.old self.new) }
         ensures enters { OnOk result ((nv : NvSeen) → CanEnter nv self.old → CanEnter nv self.new) }
     {
         for url in entry_points {
@@ -88,7 +88,7 @@ impl<'a> Finder<'a> {
         entry_points: Rc<BTreeSet<Url>>,
     ) -> Result<(), AllocError>
         ensures { OnOk result ((g : ModuleGraphSeen) (r : RootSymbolSeen) → IsSound g r self.old → CanEnter (nv_of nv.now) self.old
-            → Goes g r (entered_wants graph.now (nv_of nv.now) entry_points.value.keys None)
+            → Goes g r (entered_followers graph.now (nv_of nv.now) entry_points.value.keys None)
             (entered_yields graph.now (nv_of nv.now) entry_points.value.keys None) self.old self.new) }
     {
         let faults = entry_faults(alloc, graph, &entry_points)?;
@@ -115,7 +115,7 @@ impl<'a> Finder<'a> {
             let used = used_of lent.entry.cache (λ c. used_item (hash_of c.now i.seed.now) (stored c.now) i.sources.graph.now) in
             let urls = entry_points.value.keys in
             OnOk result ((g : ModuleGraphSeen) (r : RootSymbolSeen) → IsSound g r self.old → CanEnter (nv_of nv.now) self.old
-            → Goes g r (entered_wants i.sources.graph.now (nv_of nv.now) urls (used (nv_of nv.now) urls))
+            → Goes g r (entered_followers i.sources.graph.now (nv_of nv.now) urls (used (nv_of nv.now) urls))
             (entered_yields i.sources.graph.now (nv_of nv.now) urls (used (nv_of nv.now) urls))
             self.old self.new) }
     {
@@ -138,7 +138,7 @@ impl<'a> Finder<'a> {
             lent.entry.cache (λ c. hash_of c.now) (λ c. stored c.now) in
             let d = of_package (nv_of nv.now) in
             OnOk result (AreMemberEntries k.workspace_members members.old → AreMemberEntries k.workspace_members members.new × (IsSound k.graph k.root_symbol self.old
-            → CanEnter (nv_of nv.now) self.old → Goes k.graph k.root_symbol (world k d) (gives k d) self.old self.new)) }
+            → CanEnter (nv_of nv.now) self.old → Goes k.graph k.root_symbol (followers k d) (demand_yields k d) self.old self.new)) }
         ensures refused { IfErr result (DiagnosesRefused (nv_of nv.now)
             (entrance_at (known lent.entry.input.sources (url_of lent.entry.provider.now) (nv_at lent.entry.provider.now)) (nv_of nv.now))) }
     {

@@ -11,8 +11,8 @@ ghost use Rattle.fast_check_range_finder.specs.Account.{Account, HasHomes, IsAcc
 ghost use Rattle.fast_check_range_finder.specs.Finder.{IsSound, Begins, TurnsTo};
 ghost use Rattle.fast_check_range_finder.specs.Lent.{known_with};
 ghost use Rattle.fast_check_range_finder.specs.Refusals.{IsRefusal, IsRefusedOf, JoinAll};
-ghost use Rattle.fast_check_range_finder.specs.Rules.{world};
-ghost use Rattle.fast_check_range_finder.specs.Yields.{gives};
+ghost use Rattle.fast_check_range_finder.specs.Rules.{followers};
+ghost use Rattle.fast_check_range_finder.specs.Yields.{demand_yields};
 
 use crate::finder::Finder;
 use crate::options::{FinderInput, FinderOptions, Lent};
@@ -77,8 +77,8 @@ pub fn find_all<'a>(
     roots: &[PackageNv],
 ) -> Result<IndexMap<PackageNv, FoundPackage<'a>>, BuildFault>
     ensures found { let k = known_with input.entry (url_of provider.now) (nv_at provider.now) cache.entry (λ c. hash_of c.now) (λ c. stored c.now) in
-        IfOk result (λ found. (account : Account) × IsAccount (world k) (map nv_of roots.now) account
-        × IsYield (gives k) account (found_yields found.entries) × JoinAll k account × HasHomes account) }
+        IfOk result (λ found. (account : Account) × IsAccount (followers k) (map nv_of roots.now) account
+        × IsYield (demand_yields k) account (found_yields found.entries) × JoinAll k account × HasHomes account) }
     ensures refused { let k = known_with input.entry (url_of provider.now) (nv_at provider.now) cache.entry (λ c. hash_of c.now) (λ c. stored c.now) in
         IfErr result (IsRefusal k (map nv_of roots.now)) }
 {

@@ -14,22 +14,22 @@ ghost use Rattle.fast_check_demands.specs.name_demands.Files.{names_of, files, f
 ghost use Rattle.fast_check_demands.specs.traces.Modules.{tables_in, own_tables};
 ghost use Rattle.fast_check_demands.specs.traces.Origins.{IsIndexOf};
 ghost use Rattle.fast_check_demands.specs.traces.Roots.{roots};
-ghost use Rattle.fast_check_demands.specs.traces.Wants.{module_wants, want_of, shown_ranges, re_export_ranges};
+ghost use Rattle.fast_check_demands.specs.traces.ReExports.{module_followers, module_demand_of, shown_ranges, re_export_ranges};
 ghost use Rattle.fast_check_demands.specs.worklists.Demands.{asked_by, of_symbol, to_symbol};
 ghost use Rattle.fast_check_demands.specs.sources.Sources.{known, named_at, traced_as};
-ghost use Rattle.fast_check_demands.specs.sources.Wants.{file_at, behind, file_wants, left_wants};
+ghost use Rattle.fast_check_demands.specs.sources.Followers.{file_at, behind, file_followers, re_export_followers};
 ghost use Rattle.fast_check_range_finder.specs.Finder.{Followed, place_nv, place_text, names_seen, traced_in, AsksEach, AreAliasesAsked, AsksOwn, AreShown, Shows, IsSound, Goes};
-ghost use Rattle.fast_check_range_finder.specs.Rules.{own_text, world, names_wants};
-ghost use Rattle.fast_check_range_finder.specs.Yields.{dependencies, public_at, implementing_at, faults_at, names_yields, gives};
+ghost use Rattle.fast_check_range_finder.specs.Rules.{own_text, followers, names_followers};
+ghost use Rattle.fast_check_range_finder.specs.Yields.{dependencies, public_at, implementing_at, faults_at, names_yields, demand_yields};
 
 use crate::asked::AskedAlias;
 use crate::demand::{NamesAt, SymbolAt};
 use crate::finder::{Finder, FollowedModule, ask_each, place_of};
 use crate::options::Lent;
-use fast_check_demands::name_demands::{FileWant, FileWants, NameDemand, files_of};
+use fast_check_demands::name_demands::{FileDependencies, FileDependency, NameDemand, files_of};
 use fast_check_demands::sources::{Sources, info_of, is_untyped, owner_of};
 use fast_check_demands::traces::{
-    ModuleWant, ModuleWants, PublicReExports, TracedModule, push_all_ranges, re_exports_of,
+    PublicReExports, ReExportDemand, ReExportDemands, TracedModule, push_all_ranges, re_exports_of,
     roots_of, tables_of,
 };
 use fast_check_demands::worklists::{copy_of, is_same_package};
@@ -41,7 +41,7 @@ use fast_check_packages::PackageNv;
 use std::alloc::{AllocError, Global};
 use url::Url;
 
-/// Adds what a demand of a symbol of a module gives.
+/// Adds what a demand of a symbol of a module demand_yields.
 fn add_yields<'a>(at: SymbolAt<'a>, followed: &mut FollowedModule<'a>) -> Result<(), AllocError>
     ensures ranges { OnOk result (followed.new.found.ranges.items
         ≡ followed.old.found.ranges.items ++ ranges (tables_in followed.old.found.info.now) (demand_of at.entry.demand)) }
@@ -140,10 +140,10 @@ fn follow_names_in<'a>(
     names: NameDemand<'a>,
     followed: &mut FollowedModule<'a>,
     symbols: &mut Vec<SymbolAt<'a>>,
-) -> Result<ModuleWants<'a>, AllocError>
+) -> Result<ReExportDemands<'a>, AllocError>
     requires info { followed.old.found.info.now ≡ traced.info.now }
     requires index { IfSome followed.old.index (IsIndexOf traced) }
-    ensures wants { IfOk result (λ out. out ≡ module_wants traced.entry (names_of names.entry)) }
+    ensures demand_sets { IfOk result (λ out. out ≡ module_followers traced.entry (names_of names.entry)) }
     ensures asks { OnOk result (AsksEach place (roots (own_tables traced.entry) (names_of names.entry)) followed.old.asked followed.new.asked
         symbols.old.items symbols.new.items) }
     ensures shows { OnOk result (AreShown followed.old → Shows (re_export_ranges traced.entry (names_of names.entry)) followed.old followed.new) }
@@ -154,7 +154,7 @@ fn follow_names_in<'a>(
     ask_each(place, &roots, &mut followed.asked, symbols)?;
     let re_exports = re_exports_of(alloc, traced, names, &mut followed.index)?;
     show(followed, re_exports.public)?;
-    Ok(re_exports.wants)
+    Ok(re_exports.demand_sets)
 }
 
 impl<'a> Finder<'a> {
@@ -187,16 +187,16 @@ impl<'a> Finder<'a> {
         lent: Lent<'a, '_>,
         nv: &PackageNv,
         info: &'a AnyModuleInfo,
-        want: FileWant<'a>,
+        demand_set: FileDependency<'a>,
     ) -> Result<(), AllocError>
         ensures { let k = known lent.entry.input.sources (url_of lent.entry.provider.now) (nv_at lent.entry.provider.now) in
-            let ws = file_wants k (nv_of nv.now) (traced_as k info.now) (file_demand_of want.entry) in
+            let ws = file_followers k (nv_of nv.now) (traced_as k info.now) (file_demand_of demand_set.entry) in
             OnOk result (IsSound k.graph k.root_symbol self.old → Goes k.graph k.root_symbol ws (dependencies (nv_of nv.now) ws) self.old self.new) }
     {
         let graph = lent.input.sources.graph;
-        match graph.resolve_dependency(want.specifier, info.specifier()) {
+        match graph.resolve_dependency(demand_set.specifier, info.specifier()) {
             None => Ok(()),
-            Some(url) => self.ask_file(lent, nv, url, want.names),
+            Some(url) => self.ask_file(lent, nv, url, demand_set.names),
         }
     }
 
@@ -230,15 +230,15 @@ impl<'a> Finder<'a> {
         lent: Lent<'a, '_>,
         nv: &PackageNv,
         info: &'a AnyModuleInfo,
-        want: ModuleWant<'a>,
+        demand_set: ReExportDemand<'a>,
     ) -> Result<(), AllocError>
         ensures { let k = known lent.entry.input.sources (url_of lent.entry.provider.now) (nv_at lent.entry.provider.now) in
-            let ws = left_wants k (nv_of nv.now) (traced_as k info.now) (want_of want.entry) in
+            let ws = re_export_followers k (nv_of nv.now) (traced_as k info.now) (module_demand_of demand_set.entry) in
             OnOk result (IsSound k.graph k.root_symbol self.old → Goes k.graph k.root_symbol ws (dependencies (nv_of nv.now) ws) self.old self.new) }
     {
-        match want {
-            ModuleWant::Answered(url, names) => self.ask_behind(lent, nv, url, names),
-            ModuleWant::ReExported(text) => {
+        match demand_set {
+            ReExportDemand::Answered(url, names) => self.ask_behind(lent, nv, url, names),
+            ReExportDemand::ReExported(text) => {
                 let graph = lent.input.sources.graph;
                 match graph.resolve_dependency(text, info.specifier()) {
                     None => Ok(()),
@@ -248,8 +248,12 @@ impl<'a> Finder<'a> {
         }
     }
 
-    /// What a demand of a symbol gives, and what follows from it within its module. Answers what it asks of other files.
-    fn follow_at(&mut self, alloc: Global, at: SymbolAt<'a>) -> Result<FileWants<'a>, AllocError>
+    /// What a demand of a symbol demand_yields, and what follows from it within its module. Answers what it asks of other files.
+    fn follow_at(
+        &mut self,
+        alloc: Global,
+        at: SymbolAt<'a>,
+    ) -> Result<FileDependencies<'a>, AllocError>
         requires { at.place < length self.old.modules.entries }
         ensures { IfOk result (λ out. (g : ModuleGraphSeen) (r : RootSymbolSeen) (e : Followed) → slice_get self.old.modules.entries at.entry.place ≡ Some e
             → IsSound g r self.old → let m = traced_in g r e.1.found.info.now in let s = demand_of at.entry.demand in
@@ -258,7 +262,7 @@ impl<'a> Finder<'a> {
             ++ faults_at (place_nv e) m (faults (own_tables m) s))) self.old self.new) }
     {
         let Some(followed) = self.modules.get_index_mut(at.place) else {
-            return Ok(FileWants::new(alloc));
+            return Ok(FileDependencies::new(alloc));
         };
         add_yields(at, followed)?;
         let tables = tables_of(followed.found.info);
@@ -274,16 +278,16 @@ impl<'a> Finder<'a> {
         ensures { let k = known lent.entry.input.sources (url_of lent.entry.provider.now) (nv_at lent.entry.provider.now) in
             OnOk result ((e : Followed) → slice_get self.old.modules.entries at.entry.place ≡ Some e → IsSound k.graph k.root_symbol self.old
             → let d = of_symbol (place_nv e) (place_text e) (demand_of at.entry.demand) in
-            Goes k.graph k.root_symbol (world k d) (gives k d) self.old self.new) }
+            Goes k.graph k.root_symbol (followers k d) (demand_yields k d) self.old self.new) }
     {
         let Some((place, followed)) = self.modules.get_index(at.place) else {
             return Ok(());
         };
         let nv = copy_of(&place.package)?;
         let info = followed.found.info;
-        let wants = self.follow_at(lent.alloc, at)?;
-        for want in wants.as_slice() {
-            self.ask_dependency(lent, &nv, info, *want)?;
+        let demand_sets = self.follow_at(lent.alloc, at)?;
+        for demand_set in demand_sets.as_slice() {
+            self.ask_dependency(lent, &nv, info, *demand_set)?;
         }
         Ok(())
     }
@@ -295,17 +299,17 @@ impl<'a> Finder<'a> {
         sources: Sources<'a>,
         place: usize,
         names: NameDemand<'a>,
-    ) -> Result<ModuleWants<'a>, AllocError>
+    ) -> Result<ReExportDemands<'a>, AllocError>
         requires within { place < length self.old.modules.entries }
         requires sound { IsSound sources.graph.now sources.root_symbol.now self.old }
         ensures { IfOk result (λ out. (e : Followed) → slice_get self.old.modules.entries place ≡ Some e
             → let g = sources.entry.graph.now in let r = sources.entry.root_symbol.now in
             let m = traced_in g r e.1.found.info.now in let d = names_of names.entry in
-            (out ≡ module_wants m d) × Goes g r (map (to_symbol (place_nv e) (own_text m)) (roots (own_tables m) d))
+            (out ≡ module_followers m d) × Goes g r (map (to_symbol (place_nv e) (own_text m)) (roots (own_tables m) d))
             (public_at (place_nv e) m (re_export_ranges m d)) self.old self.new) }
     {
         let Some(followed) = self.modules.get_index_mut(place) else {
-            return Ok(ModuleWants::new(alloc));
+            return Ok(ReExportDemands::new(alloc));
         };
         let traced = TracedModule {
             graph: sources.graph,
@@ -327,12 +331,12 @@ impl<'a> Finder<'a> {
         requires own { named_at lent.input.sources.root_symbol.now (serialize (specifier_of info.now)) ≡ Some info.now }
         ensures { let k = known lent.entry.input.sources (url_of lent.entry.provider.now) (nv_at lent.entry.provider.now) in
             OnOk result (let m = traced_as k info.now in let d = names_of names.entry in
-            Goes k.graph k.root_symbol (names_wants k (nv_of nv) d m) (names_yields k (nv_of nv) d m) self.old self.new) }
+            Goes k.graph k.root_symbol (names_followers k (nv_of nv) d m) (names_yields k (nv_of nv) d m) self.old self.new) }
     {
         let place = place_of(lent.alloc, &mut self.modules, copy_of(&nv)?, info)?;
-        let wants = self.follow_names_at(lent.alloc, lent.input.sources, place, names)?;
-        for want in wants.as_slice() {
-            self.ask_re_exported(lent, &nv, info, *want)?;
+        let demand_sets = self.follow_names_at(lent.alloc, lent.input.sources, place, names)?;
+        for demand_set in demand_sets.as_slice() {
+            self.ask_re_exported(lent, &nv, info, *demand_set)?;
         }
         Ok(())
     }
@@ -341,7 +345,7 @@ impl<'a> Finder<'a> {
     pub fn follow_names(&mut self, lent: Lent<'a, '_>, at: NamesAt<'a>) -> Result<(), AllocError>
         requires { IsSound lent.input.sources.graph.now lent.input.sources.root_symbol.now self.old }
         ensures { let k = known lent.entry.input.sources (url_of lent.entry.provider.now) (nv_at lent.entry.provider.now) in
-            let d = names_seen at.entry in OnOk result (Goes k.graph k.root_symbol (world k d) (gives k d) self.old self.new) }
+            let d = names_seen at.entry in OnOk result (Goes k.graph k.root_symbol (followers k d) (demand_yields k d) self.old self.new) }
     {
         let NamesAt {
             package,

@@ -16,7 +16,7 @@ use Rattle.fast_check_requests.specs.declared.refusal.Refusal.TheVariants.{Unwri
 abbrev pub line_end : List ℕ
 line_end = codes "\n"
 
--- the line of a fault of tables, by its number; want of memory is told as everywhere
+-- the line of a fault of tables, by its number; out of memory is reported as everywhere
 abbrev pub line_of_fault : table_fault.TableFault → List ℕ
 line_of_fault table_faults.MissingSymbol = codes "error: input refused: table-fault 1" ++ line_end
 line_of_fault table_faults.SymbolWithoutDecl = codes "error: input refused: table-fault 2" ++ line_end

@@ -29,7 +29,7 @@ pub struct TransformOptions {
 /// The skeleton of a module: what is public of it, with a type in place of each value. Where a public declaration shows
 /// no type, the answer is the list of its faults in reading order, or the first of them alone under the option.
 ///
-/// This is `transform` of deno_graph's fast check. An `Err` outside is want of memory. The module has to admit the
+/// This is `transform` of deno_graph's fast check. An `Err` outside says that memory ran out. The module has to admit the
 /// public ranges.
 pub fn transform(
     alloc: Global,

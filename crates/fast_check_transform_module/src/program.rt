@@ -41,7 +41,7 @@ fn surroundings_of<'a>(
 }
 
 /// What is public of the module with these tables, the comments that stay with it, and what is wrong with it: of a module with faults
-/// the tree is not to be used. `transform` and `FastCheckTransformer` answer what this finds. An `Err` is want of memory.
+/// the tree is not to be used. `transform` and `FastCheckTransformer` answer what this finds. An `Err` says that memory ran out.
 pub fn transform_es_module(
     alloc: Global,
     graph: &ModuleGraph,

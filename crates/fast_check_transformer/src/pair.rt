@@ -17,7 +17,7 @@ use std::alloc::{AllocError, Global};
 type ModuleAnswer = Result<FastCheckModule, Vec<FastCheckDiagnostic>>;
 
 /// The skeletons of two modules of one graph, as `transform` answers each: so two versions of one file are compared. Either module has to admit
-/// its public ranges. An `Err` outside is want of memory.
+/// its public ranges. An `Err` outside says that memory ran out.
 ///
 /// Where the modules agree but for what is hidden, under a renaming of positions and scope numbers, the answers are the same under it: two
 /// skeletons of the same items, but for the module's own span, with the same comments at renamed positions and the same sources, or as many

@@ -56,7 +56,7 @@ impl<'a> FastCheckTransformer<'a> {
     /// earlier call go. The skeleton of a module with faults is not to be used. Under the option the first fault is answered in its place, and no
     /// diagnostics are kept.
     ///
-    /// An `Err` outside is want of memory, after which the diagnostics may be any.
+    /// An `Err` outside says that memory ran out, after which the diagnostics may be any.
     pub fn transform(
         &mut self,
         alloc: Global,

@@ -9,7 +9,7 @@ use Rattle.fast_check_demands.specs.declared.traces.modules.TracedModule.{Traced
 use Rattle.fast_check_demands.specs.declared.traces.re_exports.PublicReExports.{PublicReExports}
 use Rattle.fast_check_demands.specs.traces.Modules.{own_tables, own_export, first_with, answer_to}
 use Rattle.fast_check_demands.specs.traces.Origins.{Answered, own_origin}
-use Rattle.fast_check_demands.specs.traces.Wants.{Want, shown_ranges, first_range, path_ranges, answered_at, path_wants}
+use Rattle.fast_check_demands.specs.traces.ReExports.{ModuleDemand, shown_ranges, first_range, path_ranges, answered_at, path_followers}
 use Rattle.fast_check_demands.proofs.traces.Firsts.{first_node, first_answer}
 
 module _ (m : TracedModule) (name : Name) (t : Tables) (is : t ≡ own_tables m) (none : None ≡ own_export t name) (o : Option Answered)
@@ -28,8 +28,8 @@ module _ (m : TracedModule) (name : Name) (t : Tables) (is : t ≡ own_tables m)
       ∙ (ap (first_range nodes) (first_node m name nodes)
       ∙ ap (λ (x : Option SymbolId). cond (is_some x) [] (first_range nodes (first_with m name nodes))) no_export))
 
-  pub named_wants : (d : NameDemand) (wants : List Want) → wants ≡ answered_at d (option_map (λ a. a.1) o) → wants ≡ path_wants m name d
-  named_wants d wants e =
+  pub named_followers : (d : NameDemand) (demand_sets : List ModuleDemand) → demand_sets ≡ answered_at d (option_map (λ a. a.1) o) → demand_sets ≡ path_followers m name d
+  named_followers d demand_sets e =
       e
       ∙ (ap (λ (p : Option Answered). answered_at d (option_map (λ a. a.1) p)) from
       ∙ (ap (answered_at d) (first_answer m name nodes)

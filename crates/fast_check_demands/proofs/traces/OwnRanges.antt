@@ -13,7 +13,7 @@ use Rattle.fast_check_demands.proofs.Elements.{first, later, in_map}
 use Rattle.fast_check_demands.proofs.Each.{Each, each_nil, each_one, each_map, each_cond}
 use Rattle.fast_check_demands.specs.declared.traces.modules.TracedModule.{TracedModule}
 use Rattle.fast_check_demands.specs.traces.Modules.{own_tables, own_export, answer_of, first_with}
-use Rattle.fast_check_demands.specs.traces.Wants.{node_ranges, first_range, path_ranges, re_export_ranges}
+use Rattle.fast_check_demands.specs.traces.ReExports.{node_ranges, first_range, path_ranges, re_export_ranges}
 
 -- what is found is there
 found_inside : {X : Type 0} (test : X → Bool) (xs : List X) (x : X) → find test xs ≡ Some x → Contains xs x

@@ -21,17 +21,17 @@ use Rattle.fast_check_demands.specs.declared.symbol_demands.demand.Extent.TheVar
 use Rattle.fast_check_demands.specs.symbol_demands.Demands.{Demand, Asked, by_reference, as_child, by_path}
 use Rattle.fast_check_demands.specs.symbol_demands.Decls.{binds, is_implementation}
 use Rattle.fast_check_demands.specs.symbol_demands.Rules.{each_of}
-use Rattle.fast_check_demands.specs.declared.name_demands.want.NameDemand.{NameDemand as Single}
-use Rattle.fast_check_demands.specs.declared.name_demands.want.NameDemand.TheVariants as singles
-use Rattle.fast_check_demands.specs.declared.name_demands.want.FileWant.{FileWant}
+use Rattle.fast_check_demands.specs.declared.name_demands.name_demand.NameDemand.{NameDemand as Single}
+use Rattle.fast_check_demands.specs.declared.name_demands.name_demand.NameDemand.TheVariants as singles
+use Rattle.fast_check_demands.specs.declared.name_demands.name_demand.FileDependency.{FileDependency}
 
 -- what is asked of the file that a text names
 pub record FileDemand : Type 0 where
   pub text : List ℕ
   pub names : NameDemand
 
-abbrev pub wants : List ℕ → NameDemand → FileDemand
-wants text names = record { text = text; names = names }
+abbrev pub file_demand : List ℕ → NameDemand → FileDemand
+file_demand text names = record { text = text; names = names }
 
 -- what a path asks of a module; without names, that the module is there
 abbrev pub path_demand : Path → Extent → NameDemand
@@ -46,8 +46,8 @@ names_of singles.All = each_name
 names_of singles.There = subset_at []
 names_of (singles.Path first rest extent) = path_demand (first.now ∷ path_of rest.now) extent
 
-abbrev pub file_demand_of : FileWant → FileDemand
-file_demand_of w = wants w.specifier.now (names_of w.names)
+abbrev pub file_demand_of : FileDependency → FileDemand
+file_demand_of w = file_demand w.specifier.now (names_of w.names)
 
 -- an alias of a file's export asks for the export whole, and one of all of a file's exports for all but `default`
 abbrev pub reference_demand : FileDepName → NameDemand
@@ -69,7 +69,7 @@ import_demand (n ∷ p) = whole_at (n ∷ p)
 abbrev pub dep_files : SymbolDep → List FileDemand
 dep_files (deps.Id id) = []
 dep_files (deps.QualifiedId id parts) = []
-dep_files (deps.ImportType specifier parts) = wants (string_bytes specifier) (import_demand (path_of parts.items)) ∷ []
+dep_files (deps.ImportType specifier parts) = file_demand (string_bytes specifier) (import_demand (path_of parts.items)) ∷ []
 
 abbrev pub deps_files : List SymbolNodeDep → List FileDemand
 deps_files listed = flat_map (λ x. dep_files x.dep) listed
@@ -77,7 +77,7 @@ deps_files listed = flat_map (λ x. dep_files x.dep) listed
 abbrev pub kind_files : SymbolDeclKind → List FileDemand
 kind_files (Target id) = []
 kind_files (QualifiedTarget id parts) = []
-kind_files (FileRef specifier name) = wants (string_bytes specifier) (reference_demand name) ∷ []
+kind_files (FileRef specifier name) = file_demand (string_bytes specifier) (reference_demand name) ∷ []
 kind_files (Definition None) = []
 kind_files (Definition (Some node)) = deps_files node.deps.items
 
@@ -94,7 +94,7 @@ symbol_files n s = cond s.is_private_member [] (flat_map (decl_files n) s.decls.
 abbrev pub alias_files : Path → Extent → SymbolDeclKind → List FileDemand
 alias_files p x (Target id) = []
 alias_files p x (QualifiedTarget id parts) = []
-alias_files p x (FileRef specifier name) = wants (string_bytes specifier) (path_in_file name p x) ∷ []
+alias_files p x (FileRef specifier name) = file_demand (string_bytes specifier) (path_in_file name p x) ∷ []
 alias_files p x (Definition _) = []
 
 -- all

@@ -9,7 +9,7 @@ use Rattle.fast_check_lattice.specs.Imports.{whole_at}
 use Rattle.fast_check_demands.specs.symbol_demands.Demands.{Demand as SymbolDemand}
 use Rattle.fast_check_demands.specs.Account.{parts}
 use Rattle.fast_check_demands.specs.worklists.Demands.{Text, asked_by, Demand, of_package, of_module, of_symbol}
-use Rattle.fast_check_demands.specs.worklists.Demands.{World, Follows}
+use Rattle.fast_check_demands.specs.worklists.Demands.{Followers, Follows}
 
 abbrev pub IsStarred : NameDemand → Type 0
 IsStarred names_but_default = Unit {0}
@@ -26,7 +26,7 @@ HasDefault each_name = Unit {0}
 HasDefault (subset_at p) = BeginsWithDefault p
 HasDefault (whole_at p) = BeginsWithDefault p
 
--- beside a star, `default` or something below it gives `default` whole and all names, under the package of either
+-- beside a star, `default` or something below it demand_yields `default` whole and all names, under the package of either
 pub record IsWidening (p q : Nv) (a b : NameDemand) (r : Nv) (c : NameDemand) : Type 0 where
   pub starred : IsStarred a
   pub default : HasDefault b
@@ -34,11 +34,11 @@ pub record IsWidening (p q : Nv) (a b : NameDemand) (r : Nv) (c : NameDemand) : 
   pub to : IsTrue (asked_by (whole_at (default_name ∷ [])) c) ⊎ (c ≡ each_name)
 
 -- a finite derivation leads from a handed-in package to the demand
-pub data Chained (world : World) (roots : List Nv) : Demand → Type 0 where
-  root : {p : Nv} → Contains roots p → Chained world roots (of_package p)
-  step : {d e : Demand} → Chained world roots d → Follows world d e → Chained world roots e
-  widen : {p q r : Nv} {t : Text} {a b c : NameDemand} → Chained world roots (of_module p t a) →
-      Chained world roots (of_module q t b) →
-      IsWidening p q a b r c → Chained world roots (of_module r t c)
-  narrow : {p : Nv} {t : Text} {d e : SymbolDemand} → Chained world roots (of_symbol p t d) → Contains (parts d) e →
-      Chained world roots (of_symbol p t e)
+pub data Chained (followers : Followers) (roots : List Nv) : Demand → Type 0 where
+  root : {p : Nv} → Contains roots p → Chained followers roots (of_package p)
+  step : {d e : Demand} → Chained followers roots d → Follows followers d e → Chained followers roots e
+  widen : {p q r : Nv} {t : Text} {a b c : NameDemand} → Chained followers roots (of_module p t a) →
+      Chained followers roots (of_module q t b) →
+      IsWidening p q a b r c → Chained followers roots (of_module r t c)
+  narrow : {p : Nv} {t : Text} {d e : SymbolDemand} → Chained followers roots (of_symbol p t d) → Contains (parts d) e →
+      Chained followers roots (of_symbol p t e)

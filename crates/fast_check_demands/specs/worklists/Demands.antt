@@ -21,12 +21,12 @@ abbrev pub same_nv : Nv → Nv → Bool
 same_nv a b = is_eq (nv_cmp a b)
 
 -- for each single demand of names, whether it is among those that are asked for
-abbrev pub Wanted : Type 0
-Wanted = NameDemand → Bool
+abbrev pub NameDemands : Type 0
+NameDemands = NameDemand → Bool
 
 -- the single demands of a name set: the empty path touched, each path that holds a subset touched, and each path that
 -- is whole
-abbrev pub set_demands : NameSet → Wanted
+abbrev pub set_demands : NameSet → NameDemands
 set_demands f names_but_default = false
 set_demands f each_name = false
 set_demands f (subset_at []) = true
@@ -34,7 +34,7 @@ set_demands f (subset_at (n ∷ p)) = has_subset f (n ∷ p)
 set_demands f (whole_at p) = has_whole f p
 
 -- the single demands of what is asked of a module
-abbrev pub asked : ImportedExports → Wanted
+abbrev pub asked : ImportedExports → NameDemands
 asked Star names_but_default = true
 asked StarWithDefault each_name = true
 asked (Subset s) d = set_demands (paths s) d
@@ -59,7 +59,7 @@ one (subset_at p) = touched_path p
 one (whole_at p) = whole_path p
 
 -- what is asked for where a single demand is: a path as a name set, with its beginnings touched
-abbrev pub asked_by : NameDemand → Wanted
+abbrev pub asked_by : NameDemand → NameDemands
 asked_by names_but_default = asked Star
 asked_by each_name = asked StarWithDefault
 asked_by (subset_at p) = set_demands (touched_path p)
@@ -72,25 +72,25 @@ pub data Demand : Type 0 where
   of_module : Nv → Text → NameDemand → Demand
   of_symbol : Nv → Text → SymbolDemand → Demand
 
--- what a demand names: a package, names of a module for a package, or a demand of a symbol
-pub data Want : Type 0 where
-  to_package : Nv → Want
-  to_module : Nv → Text → Wanted → Want
-  to_symbol : Nv → Text → SymbolDemand → Want
+-- demands that are asked for at once: of a package, of names of a module for a package, or one of a symbol
+pub data DemandSet : Type 0 where
+  to_package : Nv → DemandSet
+  to_module : Nv → Text → NameDemands → DemandSet
+  to_symbol : Nv → Text → SymbolDemand → DemandSet
 
--- what each demand names
-abbrev pub World : Type 0
-World = Demand → List Want
+-- the demands that follow from each demand
+abbrev pub Followers : Type 0
+Followers = Demand → List DemandSet
 
--- the single demands that a want stands for
-abbrev pub Gives : Want → Demand → Type 0
-Gives (to_package p) (of_package q) = p ≡ q
-Gives (to_module p t w) (of_module q u d) = (p ≡ q) × (t ≡ u) × IsTrue (w d)
-Gives (to_symbol p t s) (of_symbol q u e) = (p ≡ q) × (t ≡ u) × (s ≡ e)
-Gives _ _ = ⊥
+-- a demand is one of the set
+abbrev pub Includes : DemandSet → Demand → Type 0
+Includes (to_package p) (of_package q) = p ≡ q
+Includes (to_module p t w) (of_module q u d) = (p ≡ q) × (t ≡ u) × IsTrue (w d)
+Includes (to_symbol p t s) (of_symbol q u e) = (p ≡ q) × (t ≡ u) × (s ≡ e)
+Includes _ _ = ⊥
 
 -- e follows from d
-pub record Follows (world : World) (d e : Demand) : Type 0 where
-  pub want : Want
-  pub among : Contains (world d) want
-  pub gives : Gives want e
+pub record Follows (followers : Followers) (d e : Demand) : Type 0 where
+  pub demand_set : DemandSet
+  pub among : Contains (followers d) demand_set
+  pub includes : Includes demand_set e

@@ -2,17 +2,17 @@
 ghost use Rattle.std.specs.Prelude.{◌≡◌, [], ◌∷◌, ◌++◌, map, OnOk};
 ghost use Rattle.fast_check_demands.specs.name_demands.Files.{file_demand_of};
 
-use crate::name_demands::want::{FileWant, NameDemand};
+use crate::name_demands::name_demand::{FileDependency, NameDemand};
 use std::alloc::{AllocError, Global};
 use std::marker::Model;
 
 /// What is asked of other files, in the order in which it came.
 #[derive(Drop)]
-pub struct FileWants<'a> {
-    items: Vec<FileWant<'a>>,
+pub struct FileDependencies<'a> {
+    items: Vec<FileDependency<'a>>,
 }
 
-impl<'a> Model for FileWants<'a> {
+impl<'a> Model for FileDependencies<'a> {
     ghost use Rattle.std.specs.Prelude.{List, map};
     ghost use Rattle.fast_check_demands.specs.name_demands.Files.{FileDemand, file_demand_of};
 
@@ -21,28 +21,28 @@ impl<'a> Model for FileWants<'a> {
     ghost view = { λ w. map file_demand_of w.items.items };
 }
 
-impl<'a> FileWants<'a> {
-    ghost use Rattle.fast_check_demands.specs.name_demands.Files.{wants, names_of};
+impl<'a> FileDependencies<'a> {
+    ghost use Rattle.fast_check_demands.specs.name_demands.Files.{file_demand, names_of};
 
     /// Nothing.
-    pub fn new(alloc: Global) -> FileWants<'a>
+    pub fn new(alloc: Global) -> FileDependencies<'a>
         ensures { result ≡ [] }
     {
-        FileWants {
+        FileDependencies {
             items: Vec::new(alloc),
         }
     }
 
     /// One more.
     pub fn push(&mut self, specifier: &'a str, names: NameDemand<'a>) -> Result<(), AllocError>
-        ensures { OnOk result (self.new ≡ self.old ++ wants specifier.now (names_of names.entry) ∷ []) }
+        ensures { OnOk result (self.new ≡ self.old ++ file_demand specifier.now (names_of names.entry) ∷ []) }
     {
-        self.items.push(FileWant { specifier, names })?;
+        self.items.push(FileDependency { specifier, names })?;
         Ok(())
     }
 
     /// All of it.
-    pub fn as_slice(&self) -> &[FileWant<'a>]
+    pub fn as_slice(&self) -> &[FileDependency<'a>]
         ensures { map file_demand_of result.now ≡ self.now }
     {
         self.items.as_slice()

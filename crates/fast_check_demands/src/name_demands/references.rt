@@ -5,15 +5,15 @@ ghost use Rattle.fast_check_lattice.specs.Names.{path_of};
 ghost use Rattle.fast_check_demands.specs.symbol_demands.Demands.{asked_of, demand_of};
 ghost use Rattle.fast_check_demands.specs.name_demands.Files.{dep_files, deps_files, kind_files, decl_files, symbol_files, alias_files, asked_files, files};
 
-use crate::name_demands::list::FileWants;
-use crate::name_demands::want::{by_import, by_path_in_file, by_reference};
+use crate::name_demands::list::FileDependencies;
+use crate::name_demands::name_demand::{by_import, by_path_in_file, by_reference};
 use crate::{Ask, CheckedTables, Extent, Namespaces, SymbolDemand, binds};
 use fast_check_symbols::{
     Symbol, SymbolDecl, SymbolDeclKind, SymbolDecls, SymbolDep, SymbolNodeDep,
 };
 use std::alloc::{AllocError, Global};
 
-fn push_dep<'a>(dep: &'a SymbolDep, out: &mut FileWants<'a>) -> Result<(), AllocError>
+fn push_dep<'a>(dep: &'a SymbolDep, out: &mut FileDependencies<'a>) -> Result<(), AllocError>
     ensures { OnOk result (out.new ≡ out.old ++ dep_files dep.now) }
 {
     match dep {
@@ -24,7 +24,10 @@ fn push_dep<'a>(dep: &'a SymbolDep, out: &mut FileWants<'a>) -> Result<(), Alloc
     }
 }
 
-fn push_deps<'a>(deps: &'a [SymbolNodeDep], out: &mut FileWants<'a>) -> Result<(), AllocError>
+fn push_deps<'a>(
+    deps: &'a [SymbolNodeDep],
+    out: &mut FileDependencies<'a>,
+) -> Result<(), AllocError>
     ensures { OnOk result (out.new ≡ out.old ++ deps_files deps.now) }
 {
     for dep in deps {
@@ -33,7 +36,7 @@ fn push_deps<'a>(deps: &'a [SymbolNodeDep], out: &mut FileWants<'a>) -> Result<(
     Ok(())
 }
 
-fn push_kind<'a>(kind: &'a SymbolDeclKind, out: &mut FileWants<'a>) -> Result<(), AllocError>
+fn push_kind<'a>(kind: &'a SymbolDeclKind, out: &mut FileDependencies<'a>) -> Result<(), AllocError>
     ensures { OnOk result (out.new ≡ out.old ++ kind_files kind.now) }
 {
     match kind {
@@ -50,7 +53,7 @@ fn push_kind<'a>(kind: &'a SymbolDeclKind, out: &mut FileWants<'a>) -> Result<()
 fn push_decl<'a>(
     namespaces: Namespaces,
     decl: &'a SymbolDecl,
-    out: &mut FileWants<'a>,
+    out: &mut FileDependencies<'a>,
 ) -> Result<(), AllocError>
     ensures { OnOk result (out.new ≡ out.old ++ decl_files namespaces decl.now) }
 {
@@ -64,7 +67,7 @@ fn push_decl<'a>(
 fn push_decls<'a>(
     namespaces: Namespaces,
     decls: &'a [SymbolDecl],
-    out: &mut FileWants<'a>,
+    out: &mut FileDependencies<'a>,
 ) -> Result<(), AllocError>
     ensures { OnOk result (out.new ≡ out.old ++ flat_map (decl_files namespaces) decls.now) }
 {
@@ -77,7 +80,7 @@ fn push_decls<'a>(
 fn push_symbol<'a>(
     namespaces: Namespaces,
     symbol: &'a Symbol,
-    out: &mut FileWants<'a>,
+    out: &mut FileDependencies<'a>,
 ) -> Result<(), AllocError>
     ensures { OnOk result (out.new ≡ out.old ++ symbol_files namespaces symbol.now) }
 {
@@ -91,7 +94,7 @@ fn push_alias<'a>(
     names: &'a [String],
     extent: Extent,
     kind: &'a SymbolDeclKind,
-    out: &mut FileWants<'a>,
+    out: &mut FileDependencies<'a>,
 ) -> Result<(), AllocError>
     ensures { OnOk result (out.new ≡ out.old ++ alias_files (path_of names.now) extent kind.now) }
 {
@@ -109,7 +112,7 @@ fn push_aliases<'a>(
     names: &'a [String],
     extent: Extent,
     decls: &'a [SymbolDecl],
-    out: &mut FileWants<'a>,
+    out: &mut FileDependencies<'a>,
 ) -> Result<(), AllocError>
     ensures { OnOk result (out.new ≡ out.old ++ flat_map (λ d. alias_files (path_of names.now) extent d.kind) decls.now) }
 {
@@ -124,7 +127,7 @@ fn push_path<'a>(
     names: &'a [String],
     extent: Extent,
     decls: &'a SymbolDecls,
-    out: &mut FileWants<'a>,
+    out: &mut FileDependencies<'a>,
 ) -> Result<(), AllocError>
     ensures { OnOk result (out.new ≡ out.old ++ flat_map (λ d. alias_files (path_of names.now) extent d.kind) decls.now.items) }
 {
@@ -137,7 +140,7 @@ fn push_path<'a>(
 fn push_asked<'a>(
     ask: Ask<'a>,
     symbol: &'a Symbol,
-    out: &mut FileWants<'a>,
+    out: &mut FileDependencies<'a>,
 ) -> Result<(), AllocError>
     ensures { OnOk result (out.new ≡ out.old ++ asked_files (asked_of ask.entry) symbol.now) }
 {
@@ -152,10 +155,10 @@ pub fn files_of<'a>(
     alloc: Global,
     tables: &'a CheckedTables,
     demand: SymbolDemand<'a>,
-) -> Result<FileWants<'a>, AllocError>
+) -> Result<FileDependencies<'a>, AllocError>
     ensures { IfOk result (λ out. out ≡ files tables.now (demand_of demand.entry)) }
 {
-    let mut out = FileWants::new(alloc);
+    let mut out = FileDependencies::new(alloc);
     if let Some(symbol) = tables.symbol(demand.symbol) {
         push_asked(demand.ask, symbol, &mut out)?;
     }

@@ -1,6 +1,6 @@
 //! A list of what is asked of other modules.
 ghost use Rattle.std.specs.Prelude.{◌≡◌, [], ◌∷◌, ◌++◌, map, OnOk};
-ghost use Rattle.fast_check_demands.specs.traces.Wants.{want_of};
+ghost use Rattle.fast_check_demands.specs.traces.ReExports.{module_demand_of};
 
 use crate::name_demands::NameDemand;
 use std::alloc::{AllocError, Global};
@@ -9,7 +9,7 @@ use url::Url;
 
 /// What a module that is followed asks of another, of whatever package.
 #[derive(Clone, Copy)]
-pub enum ModuleWant<'a> {
+pub enum ReExportDemand<'a> {
     /// Each export but `default` of the file that a text names, since all of it is exported again.
     ReExported(&'a str),
     /// A name of the module that answers it.
@@ -18,40 +18,40 @@ pub enum ModuleWant<'a> {
 
 /// What is asked of other modules, in the order in which it came.
 #[derive(Drop)]
-pub struct ModuleWants<'a> {
-    items: Vec<ModuleWant<'a>>,
+pub struct ReExportDemands<'a> {
+    items: Vec<ReExportDemand<'a>>,
 }
 
-impl<'a> Model for ModuleWants<'a> {
+impl<'a> Model for ReExportDemands<'a> {
     ghost use Rattle.std.specs.Prelude.{List, map};
-    ghost use Rattle.fast_check_demands.specs.traces.Wants.{Want, want_of};
+    ghost use Rattle.fast_check_demands.specs.traces.ReExports.{ModuleDemand, module_demand_of};
 
-    ghost Value = { List Want };
+    ghost Value = { List ModuleDemand };
 
-    ghost view = { λ w. map want_of w.items.items };
+    ghost view = { λ w. map module_demand_of w.items.items };
 }
 
-impl<'a> ModuleWants<'a> {
+impl<'a> ReExportDemands<'a> {
     /// Nothing.
-    pub fn new(alloc: Global) -> ModuleWants<'a>
+    pub fn new(alloc: Global) -> ReExportDemands<'a>
         ensures { result ≡ [] }
     {
-        ModuleWants {
+        ReExportDemands {
             items: Vec::new(alloc),
         }
     }
 
     /// One more.
-    pub fn push(&mut self, want: ModuleWant<'a>) -> Result<(), AllocError>
-        ensures { OnOk result (self.new ≡ self.old ++ want_of want.entry ∷ []) }
+    pub fn push(&mut self, demand_set: ReExportDemand<'a>) -> Result<(), AllocError>
+        ensures { OnOk result (self.new ≡ self.old ++ module_demand_of demand_set.entry ∷ []) }
     {
-        self.items.push(want)?;
+        self.items.push(demand_set)?;
         Ok(())
     }
 
     /// All of it.
-    pub fn as_slice(&self) -> &[ModuleWant<'a>]
-        ensures { map want_of result.now ≡ self.now }
+    pub fn as_slice(&self) -> &[ReExportDemand<'a>]
+        ensures { map module_demand_of result.now ≡ self.now }
     {
         self.items.as_slice()
     }

@@ -3,12 +3,12 @@ ghost use Rattle.std.specs.Prelude.{◌≡◌, [], ◌++◌, map, option_map, On
 ghost use Rattle.fast_check_demands.specs.name_demands.Files.{names_of};
 ghost use Rattle.fast_check_demands.specs.declared.traces.re_exports.PublicReExports.TheVariants.{Nothing};
 ghost use Rattle.fast_check_demands.specs.traces.Modules.{own_tables as tables_at};
-ghost use Rattle.fast_check_demands.specs.traces.Wants.{node_ranges, shown_ranges, first_range, path_ranges, re_export_ranges};
-ghost use Rattle.fast_check_demands.specs.traces.Wants.{answered_at, path_wants, all_wants, module_wants};
+ghost use Rattle.fast_check_demands.specs.traces.ReExports.{node_ranges, shown_ranges, first_range, path_ranges, re_export_ranges};
+ghost use Rattle.fast_check_demands.specs.traces.ReExports.{answered_at, path_followers, all_re_exported, module_followers};
 ghost use Rattle.fast_check_demands.specs.traces.Origins.{origin_of, IsIndexOf};
 
 use crate::name_demands::NameDemand;
-use crate::traces::list::{ModuleWant, ModuleWants};
+use crate::traces::list::{ReExportDemand, ReExportDemands};
 use crate::traces::modules::{TracedModule, own_export, own_tables};
 use crate::traces::origins::{Origin, ReExportIndex, origin_by};
 use crate::{CheckedTables, SourceRange};
@@ -28,7 +28,7 @@ pub enum PublicReExports {
 #[derive(Drop)]
 pub struct ReExports<'a> {
     pub public: PublicReExports,
-    pub wants: ModuleWants<'a>,
+    pub demand_sets: ReExportDemands<'a>,
 }
 
 fn push_ranges(nodes: &[ReExportAllNode], out: &mut Vec<SourceRange>) -> Result<(), AllocError>
@@ -47,14 +47,14 @@ pub fn push_all_ranges(tables: &CheckedTables, out: &mut Vec<SourceRange>) -> Re
     push_ranges(tables.re_export_all_nodes(), out)
 }
 
-fn push_all_wants<'a>(
+fn push_all_re_exported<'a>(
     nodes: &'a [ReExportAllNode],
-    out: &mut ModuleWants<'a>,
+    out: &mut ReExportDemands<'a>,
 ) -> Result<(), AllocError>
-    ensures { OnOk result (out.new ≡ out.old ++ all_wants nodes.now) }
+    ensures { OnOk result (out.new ≡ out.old ++ all_re_exported nodes.now) }
 {
     for node in nodes {
-        out.push(ModuleWant::ReExported(node.specifier.as_str()))?;
+        out.push(ReExportDemand::ReExported(node.specifier.as_str()))?;
     }
     Ok(())
 }
@@ -65,23 +65,23 @@ fn star_re_exports<'a>(
     tables: &'a CheckedTables,
 ) -> Result<ReExports<'a>, AllocError>
     ensures public { IfOk result (λ r. shown_ranges tables.now.re_exports r.public ≡ node_ranges tables.now.re_exports) }
-    ensures wants { IfOk result (λ r. r.wants ≡ all_wants tables.now.re_exports) }
+    ensures demand_sets { IfOk result (λ r. r.demand_sets ≡ all_re_exported tables.now.re_exports) }
 {
-    let mut wants = ModuleWants::new(alloc);
-    push_all_wants(tables.re_export_all_nodes(), &mut wants)?;
+    let mut demand_sets = ReExportDemands::new(alloc);
+    push_all_re_exported(tables.re_export_all_nodes(), &mut demand_sets)?;
     Ok(ReExports {
         public: PublicReExports::All,
-        wants,
+        demand_sets,
     })
 }
 
 fn no_re_exports<'a>(alloc: Global) -> ReExports<'a>
     ensures public { result.public ≡ Nothing }
-    ensures wants { result.wants ≡ [] }
+    ensures demand_sets { result.demand_sets ≡ [] }
 {
     ReExports {
         public: PublicReExports::Nothing,
-        wants: ModuleWants::new(alloc),
+        demand_sets: ReExportDemands::new(alloc),
     }
 }
 
@@ -94,7 +94,7 @@ fn re_exports_at<'a>(
 ) -> Result<ReExports<'a>, AllocError>
     ensures public { IfOk result (λ r. shown_ranges tables.now.re_exports r.public
         ≡ first_range tables.now.re_exports (option_map (λ a. a.0) (option_map origin_of origin.entry))) }
-    ensures wants { IfOk result (λ r. r.wants ≡ answered_at (names_of demand.entry) (option_map (λ a. a.1) (option_map origin_of origin.entry))) }
+    ensures demand_sets { IfOk result (λ r. r.demand_sets ≡ answered_at (names_of demand.entry) (option_map (λ a. a.1) (option_map origin_of origin.entry))) }
 {
     let mut found = no_re_exports(alloc);
     match origin {
@@ -102,8 +102,8 @@ fn re_exports_at<'a>(
         Some(origin) => {
             found.public = PublicReExports::First(origin.node.range);
             found
-                .wants
-                .push(ModuleWant::Answered(origin.module, demand))?;
+                .demand_sets
+                .push(ReExportDemand::Answered(origin.module, demand))?;
         }
     }
     Ok(found)
@@ -120,7 +120,7 @@ fn named_re_exports<'a, 'm: 'a>(
     requires { IfSome index.old (IsIndexOf traced) }
     ensures index { OnOk result (IfSome index.new (IsIndexOf traced.entry)) }
     ensures public { IfOk result (λ r. shown_ranges (tables_at traced.entry).re_exports r.public ≡ path_ranges traced.entry first.now) }
-    ensures wants { IfOk result (λ r. r.wants ≡ path_wants traced.entry first.now (names_of demand.entry)) }
+    ensures demand_sets { IfOk result (λ r. r.demand_sets ≡ path_followers traced.entry first.now (names_of demand.entry)) }
 {
     let tables = own_tables(traced);
     match own_export(tables, first) {
@@ -143,7 +143,7 @@ pub fn re_exports_of<'a, 'm: 'a>(
     requires { IfSome index.old (IsIndexOf traced) }
     ensures index { OnOk result (IfSome index.new (IsIndexOf traced.entry)) }
     ensures public { IfOk result (λ r. shown_ranges (tables_at traced.entry).re_exports r.public ≡ re_export_ranges traced.entry (names_of demand.entry)) }
-    ensures wants { IfOk result (λ r. r.wants ≡ module_wants traced.entry (names_of demand.entry)) }
+    ensures demand_sets { IfOk result (λ r. r.demand_sets ≡ module_followers traced.entry (names_of demand.entry)) }
 {
     match demand {
         NameDemand::AllButDefault | NameDemand::All => star_re_exports(alloc, own_tables(traced)),

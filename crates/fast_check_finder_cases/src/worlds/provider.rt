@@ -6,7 +6,7 @@ use std::alloc::AllocError;
 use std::cell::Cell;
 use url::Url;
 
-/// Packages that are listed with their URLs. A caller may have their calls refused from one on, for want of memory.
+/// Packages that are listed with their URLs. A caller may have their calls refused from one on, as if memory ran out.
 #[derive(Drop)]
 pub struct RefusingProvider {
     listed: ListedPackages,

@@ -51,7 +51,7 @@ pub fn say_found(
     }
 }
 
-/// Refuses the calls of the provider behind so many, and tells where that is another answer than want of memory. Where none is left to be refused, the answer
+/// Refuses the calls of the provider behind so many, and tells where that is another answer than out of memory. Where none is left to be refused, the answer
 /// has to be the one that was said without. Answers whether a call was refused.
 fn refuse_behind(
     alloc: Global,

@@ -98,15 +98,15 @@ pub adds_then : (xs ys : List ModuleFault) (a b c : Reported) → AddsFaults xs 
 adds_then xs ys a b c p q fs h = subst (λ (x : List ModuleFault). AreFaults x c) (append_assoc fs xs ys) (q (fs ++ xs) (p fs h))
 
 -- those of one more of a list
-pub adds_more : {S : Type 0} (gives : S → List PlacedFault) (ss : List S) (i : ℕ) (a b c : Reported) {s : S} → i < length ss → s ≡ get_or ss i s →
-    AddsFaults (map of_demand (flat_map gives (take i ss))) a b → AddsFaults (map of_demand (gives s)) b c →
-    AddsFaults (map of_demand (flat_map gives (take (i + 1) ss))) a c
-adds_more {S} gives ss i a b c {s} h e p q =
+pub adds_more : {S : Type 0} (demand_yields : S → List PlacedFault) (ss : List S) (i : ℕ) (a b c : Reported) {s : S} → i < length ss → s ≡ get_or ss i s →
+    AddsFaults (map of_demand (flat_map demand_yields (take i ss))) a b → AddsFaults (map of_demand (demand_yields s)) b c →
+    AddsFaults (map of_demand (flat_map demand_yields (take (i + 1) ss))) a c
+adds_more {S} demand_yields ss i a b c {s} h e p q =
     subst (λ (zs : List ModuleFault). AddsFaults zs a c)
-    (sym (ap (λ (ts : List S). map of_demand (flat_map gives ts)) (take_more ss i s h ∙ ap (λ t. take i ss ++ t ∷ []) (sym e))
-    ∙ (ap (map of_demand) (flat_map-append gives (take i ss) (s ∷ []) ∙ ap (λ zs. flat_map gives (take i ss) ++ zs) (append-nil (gives s)))
-    ∙ map-append of_demand (flat_map gives (take i ss)) (gives s))))
-    (adds_then (map of_demand (flat_map gives (take i ss))) (map of_demand (gives s)) a b c p q)
+    (sym (ap (λ (ts : List S). map of_demand (flat_map demand_yields ts)) (take_more ss i s h ∙ ap (λ t. take i ss ++ t ∷ []) (sym e))
+    ∙ (ap (map of_demand) (flat_map-append demand_yields (take i ss) (s ∷ []) ∙ ap (λ zs. flat_map demand_yields (take i ss) ++ zs) (append-nil (demand_yields s)))
+    ∙ map-append of_demand (flat_map demand_yields (take i ss)) (demand_yields s))))
+    (adds_then (map of_demand (flat_map demand_yields (take i ss))) (map of_demand (demand_yields s)) a b c p q)
 
 -- faults but that the types are not known
 abbrev pub AreOthers : List ModuleFault → Type 0

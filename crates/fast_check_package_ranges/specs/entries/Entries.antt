@@ -94,7 +94,7 @@ abbrev pub entrance_seen : Option (Rc (BTreeSet Parts) Global) → Entrance
 entrance_seen None = passed_over
 entrance_seen (Some urls) = entered urls.value.keys
 
--- the fault tells the text of the package, if there is one. Of want of memory nothing is said
+-- the fault tells the text of the package, if there is one. Where memory runs out nothing is said
 abbrev pub Diagnoses : Nv → Option (List ℕ) → BuildFault → Type 0
 Diagnoses nv text (InvalidExport p t) = (nv_of p ≡ nv) × (text ≡ Some (string_bytes t))
 Diagnoses nv text OutOfMemory = Unit {0}

@@ -13,7 +13,7 @@ all_gathered with gathered (x ∷ xs) = all_gathered with (with gathered x) xs
 abbrev pub both_given : {A B : Type 0} → Option A → Option B → Option (A × B)
 both_given first second = given first (λ a. option_map (λ b. (a, b)) second)
 
--- an error beside what else is read: want of memory goes before
+-- an error beside what else is read: out of memory goes before
 abbrev pub error_beside : {B : Type 0} → ReadError → Result B ReadError → ReadError
 error_beside error (Err OutOfMemory) = OutOfMemory
 error_beside error _ = error

@@ -70,7 +70,7 @@ pub fn read_items_by<W, T: FromJsonBy<W>>(alloc: Global, value: &Value) -> Resul
     gather_all::<W, Vec<T>>(alloc, value, Vec::with_capacity(alloc, room)?)
 }
 
-/// An error beside what else is read: want of memory goes before.
+/// An error beside what else is read: out of memory goes before.
 fn error_beside<B: Drop>(error: ReadError, second: Result<B, ReadError>) -> ReadError
     ensures { result ≡ error_beside error second }
 {

@@ -38,7 +38,7 @@ fn resolved<'a>(resolutions: Option<&'a BTreeMap<String, Url>>, text: &str) -> O
 /// relative URL of the module that it resolves to, with `./` before it unless it begins with `../`. None where the text stays as it is
 /// written: where it is not relative, where it resolves to nothing, or where no relative URL leads to the module.
 ///
-/// This is `transform_module_specifier` of deno_graph's fast check. An `Err` is want of memory.
+/// This is `transform_module_specifier` of deno_graph's fast check. An `Err` says that memory ran out.
 pub fn relative_source(
     alloc: Global,
     resolutions: Option<&BTreeMap<String, Url>>,

@@ -2,7 +2,7 @@ use Rattle.std.proofs.Common.{◌≡◌, ◌∙◌, ◌+◌, sym, ap, subst, [],
 use Rattle.std.proofs.lemmas.List.{take_more, take_all, map-append}
 use Rattle.fast_check_packages.specs.Package.{nv_of}
 use Rattle.fast_check_packages.specs.declared.package.PackageNv.{PackageNv}
-use Rattle.fast_check_demands.specs.worklists.Demands.{Want, to_package}
+use Rattle.fast_check_demands.specs.worklists.Demands.{DemandSet, to_package}
 use Rattle.fast_check_range_finder.specs.Finder.{Goes}
 use Rattle.fast_check_range_finder.proofs.Loop.{begins_from}
 use Rattle.fast_check_range_finder.proofs.Steps.{goes_nowhere, goes_then}
@@ -21,7 +21,7 @@ loop-nv-preserved c g r =
     ap (λ (ps : List PackageNv). map to_package (map nv_of ps))
     (take_more xs i x c.loop-nv-test.true ∙ ap (λ (y : PackageNv). take i xs ++ y ∷ []) (sym c.nv-item.is)) ∙
     (ap (map to_package) (map-append nv_of (take i xs) (x ∷ [])) ∙ map-append to_package (map nv_of (take i xs)) (nv_of x ∷ [])) in
-    subst (λ (ws : List Want). Goes g r ws [] c.new-finder.result c.ask_package.new.self) (sym more)
+    subst (λ (ws : List DemandSet). Goes g r ws [] c.new-finder.result c.ask_package.new.self) (sym more)
     (goes_then g r (map to_package (map nv_of (take i xs))) (to_package (nv_of x) ∷ []) [] [] c.new-finder.result c.loop-nv.finder
     c.ask_package.new.self s (c.in_ok-ask_package.ensures.goes g r s.sound))
 

@@ -6,7 +6,7 @@ use Rattle.fast_check_modules.specs.symbols.Tables.{Tables}
 use Rattle.fast_check_demands.specs.Yields.{Joins}
 use Rattle.fast_check_demands.specs.declared.traces.re_exports.PublicReExports.{PublicReExports}
 use Rattle.fast_check_demands.specs.traces.Modules.{tables_in}
-use Rattle.fast_check_demands.specs.traces.Wants.{node_ranges, shown_ranges}
+use Rattle.fast_check_demands.specs.traces.ReExports.{node_ranges, shown_ranges}
 use Rattle.fast_check_range_finder.proofs.Joins.{joins_last}
 use Rattle.fast_check_range_finder.proofs.follow.show.Goals as goal
 

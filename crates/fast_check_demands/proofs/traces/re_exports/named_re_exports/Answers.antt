@@ -2,7 +2,7 @@ use Rattle.std.proofs.Common.{option_map}
 use Rattle.std.proofs.lemmas.Result.{IfOk-weaker}
 use Rattle.fast_check_demands.specs.name_demands.Files.{names_of}
 use Rattle.fast_check_demands.specs.traces.Origins.{origin_of}
-use Rattle.fast_check_demands.proofs.traces.Named.{named_ranges, named_wants}
+use Rattle.fast_check_demands.proofs.traces.Named.{named_ranges, named_followers}
 use Rattle.fast_check_demands.proofs.traces.re_exports.named_re_exports.Goals as goal
 
 pub returns-in_ok-origin-in-None-clause-public : goal.returns-in_ok-origin-in-None-clause-public
@@ -12,9 +12,9 @@ returns-in_ok-origin-in-None-clause-public c =
     (option_map origin_of c.in_ok-origin-in-None.origin) c.in_ok-origin-in-None.ensures.origin r.public e)
     c.re_exports_at.ensures.public
 
-pub returns-in_ok-origin-in-None-clause-wants : goal.returns-in_ok-origin-in-None-clause-wants
-returns-in_ok-origin-in-None-clause-wants c =
+pub returns-in_ok-origin-in-None-clause-demand_sets : goal.returns-in_ok-origin-in-None-clause-demand_sets
+returns-in_ok-origin-in-None-clause-demand_sets c =
     IfOk-weaker c.re_exports_at.result _ _
-    (λ r e. named_wants c.args.traced c.args.first.now c.own_tables-tables.result.now c.own_tables-tables.ensures c.in-None.ensures
-    (option_map origin_of c.in_ok-origin-in-None.origin) c.in_ok-origin-in-None.ensures.origin (names_of c.args.demand) r.wants e)
-    c.re_exports_at.ensures.wants
+    (λ r e. named_followers c.args.traced c.args.first.now c.own_tables-tables.result.now c.own_tables-tables.ensures c.in-None.ensures
+    (option_map origin_of c.in_ok-origin-in-None.origin) c.in_ok-origin-in-None.ensures.origin (names_of c.args.demand) r.demand_sets e)
+    c.re_exports_at.ensures.demand_sets

@@ -1,5 +1,5 @@
 use Rattle.std.proofs.Common.{◌≡◌, ◌++◌, take}
-use Rattle.fast_check_demands.specs.traces.Wants.{node_ranges}
+use Rattle.fast_check_demands.specs.traces.ReExports.{node_ranges}
 use Rattle.fast_check_demands.proofs.traces.re_exports.push_ranges.Given as goal
 
 abbrev pub invariant-loop-node : goal.invariant-loop-node

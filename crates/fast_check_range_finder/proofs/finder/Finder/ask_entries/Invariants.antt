@@ -2,15 +2,15 @@ use Rattle.std.proofs.Common.{◌≡◌, ◌++◌, List, [], map}
 use Rattle.fast_check_packages.specs.Package.{Nv, nv_of}
 use Rattle.fast_check_graph.specs.declared.graph.ModuleGraph.{ModuleGraph}
 use Rattle.fast_check_graph.specs.declared.root_symbol.RootSymbol.{RootSymbol}
-use Rattle.fast_check_demands.specs.worklists.Demands.{Want}
+use Rattle.fast_check_demands.specs.worklists.Demands.{DemandSet}
 use Rattle.fast_check_range_finder.specs.Finder.{IsSound, CanEnter, Goes}
-use Rattle.fast_check_range_finder.specs.Rules.{entry_want}
+use Rattle.fast_check_range_finder.specs.Rules.{entry_demands}
 use Rattle.fast_check_range_finder.proofs.finder.Finder.ask_entries.Given as goal
 
 abbrev pub invariant-loop-url : goal.invariant-loop-url
 invariant-loop-url l = record {
-  asked : List Want;
-  are : asked ++ map (entry_want (nv_of l.nv)) l.url-iterator ≡ map (entry_want (nv_of l.nv)) l.entry_points.keys;
+  asked : List DemandSet;
+  are : asked ++ map (entry_demands (nv_of l.nv)) l.url-iterator ≡ map (entry_demands (nv_of l.nv)) l.entry_points.keys;
   goes : (g : ModuleGraph) (r : RootSymbol) → IsSound g r l.fn.self → Goes g r asked [] l.fn.self l.self;
   enters : (nv : Nv) → CanEnter nv l.fn.self → CanEnter nv l.self;
 }

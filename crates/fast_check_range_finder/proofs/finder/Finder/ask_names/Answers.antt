@@ -2,7 +2,7 @@ use Rattle.std.proofs.Common.{sym, refl, subst, map, Option, Some, None, option_
 use Rattle.fast_check_packages.specs.Package.{nv_of}
 use Rattle.fast_check_lattice.specs.Traces.{handled}
 use Rattle.fast_check_demands.specs.name_demands.Files.{names_of}
-use Rattle.fast_check_demands.specs.declared.name_demands.want.NameDemand.{NameDemand as Single}
+use Rattle.fast_check_demands.specs.declared.name_demands.name_demand.NameDemand.{NameDemand as Single}
 use Rattle.fast_check_demands.specs.worklists.Demands.{Demand}
 use Rattle.fast_check_range_finder.specs.declared.demand.NamesAt.{NamesAt}
 use Rattle.fast_check_range_finder.specs.declared.finder.Finder.{Finder}

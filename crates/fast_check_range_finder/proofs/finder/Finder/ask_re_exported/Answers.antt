@@ -4,11 +4,11 @@ use Rattle.url.specs.Parts.{Parts, serialize}
 use Rattle.fast_check_packages.specs.Package.{nv_of}
 use Rattle.fast_check_graph.specs.Graph.{resolved_to}
 use Rattle.fast_check_lattice.specs.Imports.{names_but_default}
-use Rattle.fast_check_demands.specs.declared.traces.list.ModuleWant.{ModuleWant}
-use Rattle.fast_check_demands.specs.traces.Wants.{want_of}
+use Rattle.fast_check_demands.specs.declared.traces.list.ReExportDemand.{ReExportDemand}
+use Rattle.fast_check_demands.specs.traces.ReExports.{module_demand_of}
 use Rattle.fast_check_demands.specs.worklists.Demands.{asked_by}
 use Rattle.fast_check_demands.specs.sources.Sources.{known, traced_as}
-use Rattle.fast_check_demands.specs.sources.Wants.{behind, resolved, left_wants}
+use Rattle.fast_check_demands.specs.sources.Followers.{behind, resolved, re_export_followers}
 use Rattle.fast_check_range_finder.proofs.Owners.{AsksFor, asks_none}
 use Rattle.fast_check_range_finder.proofs.finder.Finder.ask_re_exported.Goals as goal
 
@@ -17,7 +17,7 @@ returns-in-None g c sound =
     let m = goal.JsrUrlProvider-dyn g c.args.lent.provider.now in
     let k = known c.args.lent.input.sources (m.url_of c.args.lent.provider.now.1) (m.nv_at c.args.lent.provider.now.1) in
     let nv = nv_of c.args.nv.now in
-    subst (λ (w : ModuleWant). AsksFor k.graph k.root_symbol nv (left_wants k nv (traced_as k c.args.info.now) (want_of w)) c.args.self.now c.args.self.now)
+    subst (λ (w : ReExportDemand). AsksFor k.graph k.root_symbol nv (re_export_followers k nv (traced_as k c.args.info.now) (module_demand_of w)) c.args.self.now c.args.self.now)
     (sym c.in-ReExported.is)
     (asks_none k.graph k.root_symbol nv (λ (url : Parts). behind nv (serialize url) (asked_by names_but_default) (k.owner (serialize url)))
     (resolved (traced_as k c.args.info.now) c.in-ReExported.text.now) c.args.self.now sound

@@ -5,7 +5,7 @@ use Rattle.fast_check_package_ranges.specs.entries.Entries.{Entrance, entrance_s
 use Rattle.fast_check_demands.specs.sources.Sources.{known, with_used}
 use Rattle.fast_check_range_finder.specs.Finder.{Goes}
 use Rattle.fast_check_range_finder.specs.Lent.{used_of}
-use Rattle.fast_check_range_finder.specs.Rules.{entry_wants}
+use Rattle.fast_check_range_finder.specs.Rules.{entry_followers}
 use Rattle.fast_check_range_finder.specs.Yields.{entry_yields}
 use Rattle.fast_check_range_finder.proofs.Steps.{goes_nowhere}
 use Rattle.fast_check_range_finder.proofs.finder.Finder.enter.Goals as goal
@@ -18,7 +18,7 @@ returns-in-None-clause-entered g c mine =
     let k = with_used used (known c.args.lent.input.sources (m.url_of c.args.lent.provider.now.1) (m.nv_at c.args.lent.provider.now.1)) in
     let nv = nv_of c.args.nv.now in (
       c.in_ok-entry_points.ensures.kept mine,
-      λ sound can. subst (λ (e : Entrance). Goes k.graph k.root_symbol (entry_wants k.graph used nv e) (entry_yields k.graph used nv e)
+      λ sound can. subst (λ (e : Entrance). Goes k.graph k.root_symbol (entry_followers k.graph used nv e) (entry_yields k.graph used nv e)
           c.args.self.now c.args.self.now) (sym (c.in_ok-entry_points.ensures.entered mine ∙ ap entrance_seen c.in-None.is))
           (goes_nowhere k.graph k.root_symbol c.args.self.now sound),
     )
@@ -31,7 +31,7 @@ returns-in_ok-enter_known-in-Some-clause-entered g c mine =
     let k = with_used used (known c.args.lent.input.sources (m.url_of c.args.lent.provider.now.1) (m.nv_at c.args.lent.provider.now.1)) in
     let nv = nv_of c.args.nv.now in (
       c.in_ok-entry_points.ensures.kept mine,
-      λ sound can. subst (λ (e : Entrance). Goes k.graph k.root_symbol (entry_wants k.graph used nv e) (entry_yields k.graph used nv e)
+      λ sound can. subst (λ (e : Entrance). Goes k.graph k.root_symbol (entry_followers k.graph used nv e) (entry_yields k.graph used nv e)
           c.args.self.now c.enter_known.new.self) (sym (c.in_ok-entry_points.ensures.entered mine ∙ ap entrance_seen c.in-Some.is))
           (c.in_ok-enter_known-in-Some.ensures k.graph k.root_symbol sound can),
     )

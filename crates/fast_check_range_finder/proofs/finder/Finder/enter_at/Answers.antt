@@ -8,10 +8,10 @@ use Rattle.fast_check_package_ranges.specs.entries.Entries.{all_faults}
 use Rattle.fast_check_package_ranges.specs.findings.Yields.{known_package, entry_point}
 use Rattle.fast_check_package_ranges.specs.declared.findings.found.EntryFault.{EntryFault}
 use Rattle.fast_check_package_ranges.specs.declared.findings.found.Entrance.TheVariants.{Entered}
-use Rattle.fast_check_demands.specs.worklists.Demands.{Want}
+use Rattle.fast_check_demands.specs.worklists.Demands.{DemandSet}
 use Rattle.fast_check_range_finder.specs.declared.finder.Finder.{Finder}
 use Rattle.fast_check_range_finder.specs.Finder.{CanEnter, Goes}
-use Rattle.fast_check_range_finder.specs.Rules.{entry_want, unless_faulty}
+use Rattle.fast_check_range_finder.specs.Rules.{entry_demands, unless_faulty}
 use Rattle.fast_check_range_finder.specs.Yields.{entry_fault_yields}
 use Rattle.fast_check_range_finder.proofs.Reported.{entrance_goes}
 use Rattle.fast_check_range_finder.proofs.Entered.{none_faulty, some_faulty}
@@ -32,13 +32,13 @@ returns c g r sound can =
     let faults : c.in_ok-faults.faults.items ≡ all_faults graph urls =
     c.in_ok-faults.ensures ∙ ap (λ (s : BTreeSet Parts). all_faults graph s.keys) keys in
     let len : length c.in_ok-faults.faults.items ≡ vec_len c.in_ok-faults.faults = omega arith in
-    let all = map (entry_want nv) urls in
+    let all = map (entry_demands nv) urls in
     let ws = unless_faulty (all_faults graph urls) all in
     let asked : Goes g r ws [] c.args.self.now mid × CanEnter nv mid = elim c.if-is_empty.branch [
       | then-is_empty+in_ok-ask_entries w ↦
           let none = nil_of c.in_ok-faults.faults.items (ap (λ n. n == 0) len ∙ (sym c.is_empty.ensures ∙ w.if-is_empty.true)) in
           let same : w.deref-then-is_empty.result.now ≡ c.args.entry_points.value = search rules in
-          let goes = subst (λ (s : BTreeSet Parts). Goes g r (map (entry_want nv) s.keys) [] c.args.self.now w.ask_entries.new.self) same
+          let goes = subst (λ (s : BTreeSet Parts). Goes g r (map (entry_demands nv) s.keys) [] c.args.self.now w.ask_entries.new.self) same
           (w.in_ok-ask_entries.ensures.goes g r sound) in
           subst (λ (x : Finder). Goes g r ws [] c.args.self.now x × CanEnter nv x) (sym w.self-is)
           (none_faulty g r c.args.self.now all (all_faults graph urls) w.ask_entries.new.self (sym faults ∙ none) goes, w.in_ok-ask_entries.ensures.enters nv can)
@@ -52,7 +52,7 @@ returns c g r sound can =
     (record { packages = refl; entered = refl; handled = refl; names = refl; modules = refl; symbols = refl; dependencies = refl }) g r first.sound
     p (Entered c.args.entry_points c.in_ok-faults.faults)
     (subst (λ (n : Nv). CanEnter n mid) (sym c.in_ok-package.ensures) asked.1) c.in_ok-push.ensures.items refl in
-    subst (λ (vs : List Want). Goes g r vs (known_package nv ∷ (map (λ url. entry_point nv (serialize url)) urls ++
+    subst (λ (vs : List DemandSet). Goes g r vs (known_package nv ∷ (map (λ url. entry_point nv (serialize url)) urls ++
     flat_map (entry_fault_yields nv) (all_faults graph urls))) c.args.self.now b) (append-nil ws)
     (subst (λ (fs : List (Parts × EntryFault)). Goes g r (ws ++ []) (known_package nv ∷ (map (λ url. entry_point nv (serialize url)) urls ++
     flat_map (entry_fault_yields nv) fs)) c.args.self.now b) faults

@@ -4,7 +4,7 @@ use Rattle.fast_check_packages.specs.Package.{Nv, nv_of}
 use Rattle.fast_check_cache.specs.Cache.{item_of}
 use Rattle.fast_check_package_ranges.specs.findings.Yields.{cached}
 use Rattle.fast_check_package_ranges.specs.declared.findings.found.Entrance.TheVariants.{Cached}
-use Rattle.fast_check_demands.specs.worklists.Demands.{Want, to_package}
+use Rattle.fast_check_demands.specs.worklists.Demands.{DemandSet, to_package}
 use Rattle.fast_check_range_finder.specs.declared.finder.Finder.{Finder}
 use Rattle.fast_check_range_finder.specs.Finder.{CanEnter, Goes}
 use Rattle.fast_check_range_finder.proofs.Reported.{entrance_goes}
@@ -23,6 +23,6 @@ returns c g r sound can =
     (record { packages = refl; entered = refl; handled = refl; names = refl; modules = refl; symbols = refl; dependencies = refl }) g r first.sound
     p (Cached c.args.entry_points c.args.item)
     (subst (λ (n : Nv). CanEnter n mid) (sym c.in_ok-package.ensures) (c.in_ok-ask_packages.ensures.enters nv can)) c.in_ok-push.ensures.items refl in
-    subst (λ (vs : List Want). Goes g r vs (cached nv c.args.entry_points.value.keys (item_of c.args.item) ∷ []) c.args.self.now b) (append-nil ws)
+    subst (λ (vs : List DemandSet). Goes g r vs (cached nv c.args.entry_points.value.keys (item_of c.args.item) ∷ []) c.args.self.now b) (append-nil ws)
     (subst (λ (n : Nv). Goes g r (ws ++ []) (cached n c.args.entry_points.value.keys (item_of c.args.item) ∷ []) c.args.self.now b) c.in_ok-package.ensures
     (goes_then g r ws [] [] (cached (nv_of p) c.args.entry_points.value.keys (item_of c.args.item) ∷ []) c.args.self.now mid b first last))

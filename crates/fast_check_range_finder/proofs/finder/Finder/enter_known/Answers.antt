@@ -9,7 +9,7 @@ use Rattle.fast_check_graph.specs.declared.graph.ModuleGraph.{ModuleGraph}
 use Rattle.fast_check_graph.specs.declared.root_symbol.RootSymbol.{RootSymbol}
 use Rattle.fast_check_range_finder.specs.Finder.{IsSound, CanEnter, Goes}
 use Rattle.fast_check_range_finder.specs.Lent.{used_of}
-use Rattle.fast_check_range_finder.specs.Rules.{entered_wants}
+use Rattle.fast_check_range_finder.specs.Rules.{entered_followers}
 use Rattle.fast_check_range_finder.specs.Yields.{entered_yields}
 use Rattle.fast_check_range_finder.proofs.Entered.{looked_up}
 use Rattle.fast_check_range_finder.proofs.finder.Finder.enter_known.Goals as goal
@@ -26,7 +26,7 @@ returns-in-None g c =
     used_item (n.hash_of x.now.1 c.args.lent.input.seed.now) (n.stored x.now.1) graph) nv c.deref.result.now.keys (option_map item_of c.in_ok-look_up.field-0)
     c.in_ok-look_up.ensures ∙ ap (λ (s : BTreeSet Parts). used nv s.keys) keys) in
     subst (λ (item : Option ItemView). OnOk c.enter_at.result ((h : ModuleGraph) (r : RootSymbol) → IsSound h r c.args.self.now →
-    CanEnter nv c.args.self.now → Goes h r (entered_wants graph nv urls item) (entered_yields graph nv urls item) c.args.self.now c.enter_at.new.self))
+    CanEnter nv c.args.self.now → Goes h r (entered_followers graph nv urls item) (entered_yields graph nv urls item) c.args.self.now c.enter_at.new.self))
     is c.enter_at.ensures
 
 pub returns-in-Some : goal.returns-in-Some
@@ -41,5 +41,5 @@ returns-in-Some g c =
     used_item (n.hash_of x.now.1 c.args.lent.input.seed.now) (n.stored x.now.1) graph) nv c.deref.result.now.keys (option_map item_of c.in_ok-look_up.field-0)
     c.in_ok-look_up.ensures ∙ ap (λ (s : BTreeSet Parts). used nv s.keys) keys) in
     subst (λ (item : Option ItemView). OnOk c.enter_cached.result ((h : ModuleGraph) (r : RootSymbol) → IsSound h r c.args.self.now →
-    CanEnter nv c.args.self.now → Goes h r (entered_wants graph nv urls item) (entered_yields graph nv urls item) c.args.self.now c.enter_cached.new.self))
+    CanEnter nv c.args.self.now → Goes h r (entered_followers graph nv urls item) (entered_yields graph nv urls item) c.args.self.now c.enter_cached.new.self))
     is c.enter_cached.ensures

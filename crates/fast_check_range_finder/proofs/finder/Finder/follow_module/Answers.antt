@@ -7,10 +7,10 @@ use Rattle.fast_check_packages.specs.Package.{Nv, nv_of}
 use Rattle.fast_check_graph.specs.Root.{specifier_of}
 use Rattle.fast_check_demands.specs.name_demands.Files.{names_of}
 use Rattle.fast_check_package_ranges.specs.findings.Yields.{recorded}
-use Rattle.fast_check_demands.specs.traces.Wants.{Want as WantSeen, want_of}
-use Rattle.fast_check_demands.specs.declared.traces.list.ModuleWant.{ModuleWant}
+use Rattle.fast_check_demands.specs.traces.ReExports.{ModuleDemand, module_demand_of}
+use Rattle.fast_check_demands.specs.declared.traces.list.ReExportDemand.{ReExportDemand}
 use Rattle.fast_check_demands.specs.sources.Sources.{known, traced_as}
-use Rattle.fast_check_demands.specs.sources.Wants.{left_wants}
+use Rattle.fast_check_demands.specs.sources.Followers.{re_export_followers}
 use Rattle.fast_check_range_finder.specs.declared.finder.Finder.{Finder}
 use Rattle.fast_check_range_finder.specs.Finder.{Goes}
 use Rattle.fast_check_range_finder.proofs.Owners.{AsksFor}
@@ -31,24 +31,24 @@ follow_names_at-requires-clause-sound g c =
     c.in_ok-place.place c.in_ok-place.ensures
     (record { packages = refl; entered = refl; handled = refl; names = refl; symbols = refl; entrances = refl; dependencies = refl; untyped = refl })).sound
 
-pub loop-want-init : goal.loop-want-init
-loop-want-init g c sound = goes_nowhere _ _ c.follow_names_at.new.self sound
+pub loop-demand_set-init : goal.loop-demand_set-init
+loop-demand_set-init g c sound = goes_nowhere _ _ c.follow_names_at.new.self sound
 
-pub loop-want-preserved : goal.loop-want-preserved
-loop-want-preserved g c sound =
+pub loop-demand_set-preserved : goal.loop-demand_set-preserved
+loop-demand_set-preserved g c sound =
     let m = goal.JsrUrlProvider-dyn g c.args.lent.provider.now in
     let k = known c.args.lent.input.sources (m.url_of c.args.lent.provider.now.1) (m.nv_at c.args.lent.provider.now.1) in
     let nv = nv_of c.args.nv in
-    let h = left_wants k nv (traced_as k c.args.info.now) in
-    let xs = c.as_slice-want-items.result.now in
-    let i = c.loop-want.want-index in
-    let x = c.want-item.result in
-    let s = c.loop-want.invariant sound in
-    let more : map want_of (take (i + 1) xs) ≡ map want_of (take i xs) ++ want_of x ∷ [] =
-    ap (map want_of) (take_more xs i x c.loop-want-test.true ∙ ap (λ (y : ModuleWant). take i xs ++ y ∷ []) (sym c.want-item.is)) ∙
-    map-append want_of (take i xs) (x ∷ []) in
-    subst (λ (ds : List WantSeen). AsksFor k.graph k.root_symbol nv (flat_map h ds) c.follow_names_at.new.self c.ask_re_exported.new.self) (sym more)
-    (goes_more k.graph k.root_symbol h nv (map want_of (take i xs)) (want_of x) c.follow_names_at.new.self c.loop-want.self
+    let h = re_export_followers k nv (traced_as k c.args.info.now) in
+    let xs = c.as_slice-demand_set-items.result.now in
+    let i = c.loop-demand_set.demand_set-index in
+    let x = c.demand_set-item.result in
+    let s = c.loop-demand_set.invariant sound in
+    let more : map module_demand_of (take (i + 1) xs) ≡ map module_demand_of (take i xs) ++ module_demand_of x ∷ [] =
+    ap (map module_demand_of) (take_more xs i x c.loop-demand_set-test.true ∙ ap (λ (y : ReExportDemand). take i xs ++ y ∷ []) (sym c.demand_set-item.is)) ∙
+    map-append module_demand_of (take i xs) (x ∷ []) in
+    subst (λ (ds : List ModuleDemand). AsksFor k.graph k.root_symbol nv (flat_map h ds) c.follow_names_at.new.self c.ask_re_exported.new.self) (sym more)
+    (goes_more k.graph k.root_symbol h nv (map module_demand_of (take i xs)) (module_demand_of x) c.follow_names_at.new.self c.loop-demand_set.self
     c.ask_re_exported.new.self s (c.in_ok-ask_re_exported.ensures s.sound))
 
 pub returns : goal.returns
@@ -59,16 +59,16 @@ returns g c =
     let b : Finder = record f { modules = c.place_of.new.modules } in
     let nv = nv_of c.args.nv in
     let info = c.args.info.now in
-    let h = left_wants k nv (traced_as k info) in
-    let xs = c.as_slice-want-items.result.now in
+    let h = re_export_followers k nv (traced_as k info) in
+    let xs = c.as_slice-demand_set-items.result.now in
     let p = c.in_ok-place.ensures in
     let first = placed_goes k.graph k.root_symbol f b c.requires.sound (nv_of c.in_ok-copy_of.field-0) info c.requires.own c.in_ok-place.place p
     (record { packages = refl; entered = refl; handled = refl; names = refl; symbols = refl; entrances = refl; dependencies = refl; untyped = refl }) in
-    let here = c.in_ok-wants.ensures p.followed p.here in
-    names_all k b c.follow_names_at.new.self c.loop-want.self f p.followed (names_of c.args.names) nv info (map want_of xs)
+    let here = c.in_ok-demand_sets.ensures p.followed p.here in
+    names_all k b c.follow_names_at.new.self c.loop-demand_set.self f p.followed (names_of c.args.names) nv info (map module_demand_of xs)
     (p.nv_is ∙ c.in_ok-copy_of.ensures)
     (placed_info k.graph k.root_symbol f b c.requires.sound (nv_of c.in_ok-copy_of.field-0) info c.requires.own c.in_ok-place.place p)
-    (c.as_slice-want-items.ensures ∙ here.0)
+    (c.as_slice-demand_set-items.ensures ∙ here.0)
     (subst (λ (q : Nv). Goes k.graph k.root_symbol [] (recorded q (serialize (specifier_of info)) ∷ []) f b) c.in_ok-copy_of.ensures first) here.1
-    (subst (λ (ds : List ModuleWant). AsksFor k.graph k.root_symbol nv (flat_map h (map want_of ds)) c.follow_names_at.new.self c.loop-want.self)
-    (take_all c.loop-want.want-index xs c.loop-want-test.false) (c.loop-want.invariant here.1.sound))
+    (subst (λ (ds : List ReExportDemand). AsksFor k.graph k.root_symbol nv (flat_map h (map module_demand_of ds)) c.follow_names_at.new.self c.loop-demand_set.self)
+    (take_all c.loop-demand_set.demand_set-index xs c.loop-demand_set-test.false) (c.loop-demand_set.invariant here.1.sound))

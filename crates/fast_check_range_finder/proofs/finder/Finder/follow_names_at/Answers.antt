@@ -4,7 +4,7 @@ use Rattle.indexmap.specs.IndexMap.{with_value_at}
 use Rattle.fast_check_demands.specs.name_demands.Files.{names_of}
 use Rattle.fast_check_demands.specs.traces.Modules.{own_tables}
 use Rattle.fast_check_demands.specs.traces.Roots.{roots}
-use Rattle.fast_check_demands.specs.traces.Wants.{module_wants, re_export_ranges}
+use Rattle.fast_check_demands.specs.traces.ReExports.{module_followers, re_export_ranges}
 use Rattle.fast_check_demands.specs.worklists.Demands.{to_symbol}
 use Rattle.fast_check_demands.proofs.worklists.Maps.{some_is}
 use Rattle.fast_check_range_finder.specs.declared.finder.Finder.{Finder}
@@ -26,7 +26,7 @@ follow_names_in-requires-clause-index c =
     (c.requires.sound.modules (v.0, c.in-Some.followed.now) (get_in c.args.self.now.modules.entries c.args.place (v.0, c.in-Some.followed.now) v.1)).index
 
 pub returns : goal.returns
-returns c = with_ok c.follow_names_in.result c.follow_names_in.ensures.wants c.follow_names_in.ensures.asks c.follow_names_in.ensures.shows
+returns c = with_ok c.follow_names_in.result c.follow_names_in.ensures.demand_sets c.follow_names_in.ensures.asks c.follow_names_in.ensures.shows
     c.follow_names_in.ensures.index_of c.follow_names_in.ensures.aliases
     (λ out is asks shows index aliases e here.
     let f = c.args.self.now in
@@ -41,7 +41,7 @@ returns c = with_ok c.follow_names_in.result c.follow_names_in.ensures.wants c.f
     let own = c.requires.sound.modules (e.0, x) (get_in f.modules.entries c.args.place (e.0, x) here_x) in
     let shown = shows own.shown in
     subst (λ (y : FollowedModule). let t = traced_in g r y.found.info.now in
-    (out ≡ module_wants t d) × Goes g r (map (to_symbol (place_nv e) (own_text t)) (roots (own_tables t) d))
+    (out ≡ module_followers t d) × Goes g r (map (to_symbol (place_nv e) (own_text t)) (roots (own_tables t) d))
     (public_at (place_nv e) t (re_export_ranges t d)) f b) (sym same) (
       is,
       names_within g r f b c.requires.sound c.args.place (e.0, x) here_x m

@@ -6,9 +6,9 @@ use Rattle.std.proofs.lemmas.List.{take_more, take_all, map-append}
 use Rattle.fast_check_packages.specs.Package.{nv_of}
 use Rattle.fast_check_demands.specs.symbol_demands.Demands.{demand_of}
 use Rattle.fast_check_demands.specs.name_demands.Files.{FileDemand, file_demand_of}
-use Rattle.fast_check_demands.specs.declared.name_demands.want.FileWant.{FileWant}
+use Rattle.fast_check_demands.specs.declared.name_demands.name_demand.FileDependency.{FileDependency}
 use Rattle.fast_check_demands.specs.sources.Sources.{known, traced_as}
-use Rattle.fast_check_demands.specs.sources.Wants.{file_wants}
+use Rattle.fast_check_demands.specs.sources.Followers.{file_followers}
 use Rattle.fast_check_demands.proofs.worklists.Maps.{some_is}
 use Rattle.fast_check_range_finder.specs.Finder.{Followed, place_nv}
 use Rattle.fast_check_range_finder.proofs.Gained.{get_in}
@@ -17,24 +17,24 @@ use Rattle.fast_check_range_finder.proofs.Steps.{goes_nowhere, goes_more}
 use Rattle.fast_check_range_finder.proofs.Whole.{symbol_all}
 use Rattle.fast_check_range_finder.proofs.finder.Finder.follow_symbol.Goals as goal
 
-pub loop-want-init : goal.loop-want-init
-loop-want-init g c sound = goes_nowhere _ _ c.follow_at.new.self sound
+pub loop-demand_set-init : goal.loop-demand_set-init
+loop-demand_set-init g c sound = goes_nowhere _ _ c.follow_at.new.self sound
 
-pub loop-want-preserved : goal.loop-want-preserved
-loop-want-preserved g c sound =
+pub loop-demand_set-preserved : goal.loop-demand_set-preserved
+loop-demand_set-preserved g c sound =
     let m = goal.JsrUrlProvider-dyn g c.args.lent.provider.now in
     let k = known c.args.lent.input.sources (m.url_of c.args.lent.provider.now.1) (m.nv_at c.args.lent.provider.now.1) in
     let nv = nv_of c.in_ok-nv.nv in
-    let h = file_wants k nv (traced_as k c.in-Some.followed.now.found.info.now) in
-    let xs = c.as_slice-want-items.result.now in
-    let i = c.loop-want.want-index in
-    let x = c.want-item.result in
-    let s = c.loop-want.invariant sound in
+    let h = file_followers k nv (traced_as k c.in-Some.followed.now.found.info.now) in
+    let xs = c.as_slice-demand_set-items.result.now in
+    let i = c.loop-demand_set.demand_set-index in
+    let x = c.demand_set-item.result in
+    let s = c.loop-demand_set.invariant sound in
     let more : map file_demand_of (take (i + 1) xs) ≡ map file_demand_of (take i xs) ++ file_demand_of x ∷ [] =
-    ap (map file_demand_of) (take_more xs i x c.loop-want-test.true ∙ ap (λ (y : FileWant). take i xs ++ y ∷ []) (sym c.want-item.is)) ∙
+    ap (map file_demand_of) (take_more xs i x c.loop-demand_set-test.true ∙ ap (λ (y : FileDependency). take i xs ++ y ∷ []) (sym c.demand_set-item.is)) ∙
     map-append file_demand_of (take i xs) (x ∷ []) in
     subst (λ (ds : List FileDemand). AsksFor k.graph k.root_symbol nv (flat_map h ds) c.follow_at.new.self c.ask_dependency.new.self) (sym more)
-    (goes_more k.graph k.root_symbol h nv (map file_demand_of (take i xs)) (file_demand_of x) c.follow_at.new.self c.loop-want.self
+    (goes_more k.graph k.root_symbol h nv (map file_demand_of (take i xs)) (file_demand_of x) c.follow_at.new.self c.loop-demand_set.self
     c.ask_dependency.new.self s (c.in_ok-ask_dependency.ensures s.sound))
 
 pub returns : goal.returns
@@ -45,12 +45,12 @@ returns g c e here sound =
     let same : e ≡ x = some_is e x (sym here ∙ (sym c.get_index.ensures.entry ∙ ap (option_map deref_pair) c.in-Some.is)) in
     let nv = nv_of c.in_ok-nv.nv in
     let info = c.in-Some.followed.now.found.info.now in
-    let h = file_wants k nv (traced_as k info) in
-    let xs = c.as_slice-want-items.result.now in
-    let first = c.in_ok-wants.ensures k.graph k.root_symbol e here sound in
-    symbol_all k c.args.self.now c.follow_at.new.self c.loop-want.self e
+    let h = file_followers k nv (traced_as k info) in
+    let xs = c.as_slice-demand_set-items.result.now in
+    let first = c.in_ok-demand_sets.ensures k.graph k.root_symbol e here sound in
+    symbol_all k c.args.self.now c.follow_at.new.self c.loop-demand_set.self e
     (sound.modules e (get_in c.args.self.now.modules.entries c.args.at.place e here)) (demand_of c.args.at.demand) nv info (map file_demand_of xs)
     (c.in_ok-nv.ensures ∙ ap (λ (y : Followed). place_nv y) (sym same)) (ap (λ (y : Followed). y.1.found.info.now) (sym same))
-    (c.as_slice-want-items.ensures ∙ first.0) first.1
-    (subst (λ (ds : List FileWant). AsksFor k.graph k.root_symbol nv (flat_map h (map file_demand_of ds)) c.follow_at.new.self c.loop-want.self)
-    (take_all c.loop-want.want-index xs c.loop-want-test.false) (c.loop-want.invariant first.1.sound))
+    (c.as_slice-demand_set-items.ensures ∙ first.0) first.1
+    (subst (λ (ds : List FileDependency). AsksFor k.graph k.root_symbol nv (flat_map h (map file_demand_of ds)) c.follow_at.new.self c.loop-demand_set.self)
+    (take_all c.loop-demand_set.demand_set-index xs c.loop-demand_set-test.false) (c.loop-demand_set.invariant first.1.sound))

@@ -8,17 +8,17 @@ use Rattle.fast_check_graph.specs.Root.{specifier_of}
 use Rattle.fast_check_demands.specs.symbol_demands.Rules.{each_of}
 use Rattle.fast_check_demands.specs.name_demands.Files.{FileDemand}
 use Rattle.fast_check_demands.specs.declared.traces.modules.TracedModule.{TracedModule}
-use Rattle.fast_check_demands.specs.traces.Wants.{Want as ModuleWant, re_exported, answered}
-use Rattle.fast_check_demands.specs.worklists.Demands.{Text, Wanted, same_nv, asked_by, Want, to_package, to_module}
+use Rattle.fast_check_demands.specs.traces.ReExports.{ModuleDemand, re_exported, answered}
+use Rattle.fast_check_demands.specs.worklists.Demands.{Text, NameDemands, same_nv, asked_by, DemandSet, to_package, to_module}
 use Rattle.fast_check_demands.specs.sources.Sources.{Known}
 
 -- a file of the same package is demanded. Of another package only the package is
-abbrev pub file_at : Nv → Text → Wanted → Option Nv → List Want
+abbrev pub file_at : Nv → Text → NameDemands → Option Nv → List DemandSet
 file_at nv t w None = []
 file_at nv t w (Some p) = cond (same_nv nv p) (to_module p t w ∷ []) (to_package p ∷ [])
 
 -- behind a re-export of all a module is demanded of whatever package
-abbrev pub behind : Nv → Text → Wanted → Option Nv → List Want
+abbrev pub behind : Nv → Text → NameDemands → Option Nv → List DemandSet
 behind nv t w None = []
 behind nv t w (Some p) = to_module p t w ∷ cond (same_nv nv p) [] (to_package p ∷ [])
 
@@ -27,12 +27,12 @@ abbrev pub resolved : TracedModule → List ℕ → Option Parts
 resolved m text = resolved_to m.graph.now text (specifier_of m.info.now)
 
 -- what is asked of a file. A text that resolves to nothing, and a module that belongs to no package, ask for nothing
-abbrev pub file_wants : Known → Nv → TracedModule → FileDemand → List Want
-file_wants k nv m f = each_of (λ url. file_at nv (serialize url) (asked_by f.names) (k.owner (serialize url)))
+abbrev pub file_followers : Known → Nv → TracedModule → FileDemand → List DemandSet
+file_followers k nv m f = each_of (λ url. file_at nv (serialize url) (asked_by f.names) (k.owner (serialize url)))
     (resolved m f.text)
 
 -- what is asked by what the module exports again
-abbrev pub left_wants : Known → Nv → TracedModule → ModuleWant → List Want
-left_wants k nv m (re_exported text) =
+abbrev pub re_export_followers : Known → Nv → TracedModule → ModuleDemand → List DemandSet
+re_export_followers k nv m (re_exported text) =
     each_of (λ url. behind nv (serialize url) (asked_by names_but_default) (k.owner (serialize url))) (resolved m text)
-left_wants k nv m (answered url d) = behind nv (serialize url) (asked_by d) (k.owner (serialize url))
+re_export_followers k nv m (answered url d) = behind nv (serialize url) (asked_by d) (k.owner (serialize url))

@@ -8,22 +8,22 @@ use Rattle.fast_check_lattice.specs.Imports.{NameDemand, names_but_default, each
 use Rattle.fast_check_modules.specs.symbols.declared.tables.ReExportAllNode.{ReExportAllNode}
 use Rattle.fast_check_demands.specs.symbol_demands.Rules.{each_of}
 use Rattle.fast_check_demands.specs.name_demands.Files.{names_of}
-use Rattle.fast_check_demands.specs.declared.traces.list.ModuleWant.{ModuleWant}
-use Rattle.fast_check_demands.specs.declared.traces.list.ModuleWant.TheVariants.{ReExported, Answered}
+use Rattle.fast_check_demands.specs.declared.traces.list.ReExportDemand.{ReExportDemand}
+use Rattle.fast_check_demands.specs.declared.traces.list.ReExportDemand.TheVariants.{ReExported, Answered}
 use Rattle.fast_check_demands.specs.declared.traces.modules.TracedModule.{TracedModule}
 use Rattle.fast_check_demands.specs.declared.traces.re_exports.PublicReExports.{PublicReExports}
 use Rattle.fast_check_demands.specs.declared.traces.re_exports.PublicReExports.TheVariants.{Nothing, First, All}
 use Rattle.fast_check_demands.specs.traces.Modules.{own_tables, own_export, first_with, answer_to}
 
 -- all but `default` of the file that a text names, or a name of the module that answers it; both of whatever package
-pub data Want : Type 0 where
-  re_exported : List ℕ → Want
-  answered : Parts → NameDemand → Want
+pub data ModuleDemand : Type 0 where
+  re_exported : List ℕ → ModuleDemand
+  answered : Parts → NameDemand → ModuleDemand
 
 -- what a value of the code stands for
-abbrev pub want_of : ModuleWant → Want
-want_of (ReExported text) = re_exported text.now
-want_of (Answered url demand) = answered url.now (names_of demand)
+abbrev pub module_demand_of : ReExportDemand → ModuleDemand
+module_demand_of (ReExported text) = re_exported text.now
+module_demand_of (Answered url demand) = answered url.now (names_of demand)
 
 -- ranges
 
@@ -55,24 +55,24 @@ shown_ranges nodes Nothing = []
 shown_ranges nodes (First range) = range ∷ []
 shown_ranges nodes All = node_ranges nodes
 
--- wants
+-- demands of other modules
 
-abbrev pub all_wants : List ReExportAllNode → List Want
-all_wants nodes = map (λ x. re_exported (string_bytes x.specifier)) nodes
+abbrev pub all_re_exported : List ReExportAllNode → List ModuleDemand
+all_re_exported nodes = map (λ x. re_exported (string_bytes x.specifier)) nodes
 
-abbrev pub answered_at : NameDemand → Option Parts → List Want
+abbrev pub answered_at : NameDemand → Option Parts → List ModuleDemand
 answered_at demand answer = each_of (λ url. answered url demand ∷ []) answer
 
 -- a name that the module does not export itself is asked of the module that answers it
-abbrev pub path_wants : TracedModule → Name → NameDemand → List Want
-path_wants m name demand = cond (is_some (own_export (own_tables m) name)) [] (answered_at demand (answer_to m name))
+abbrev pub path_followers : TracedModule → Name → NameDemand → List ModuleDemand
+path_followers m name demand = cond (is_some (own_export (own_tables m) name)) [] (answered_at demand (answer_to m name))
 
-abbrev pub named_wants : TracedModule → Path → NameDemand → List Want
-named_wants m [] demand = []
-named_wants m (n ∷ p) demand = path_wants m n demand
+abbrev pub named_followers : TracedModule → Path → NameDemand → List ModuleDemand
+named_followers m [] demand = []
+named_followers m (n ∷ p) demand = path_followers m n demand
 
-abbrev pub module_wants : TracedModule → NameDemand → List Want
-module_wants m names_but_default = all_wants (own_tables m).re_exports
-module_wants m each_name = all_wants (own_tables m).re_exports
-module_wants m (subset_at p) = named_wants m p (subset_at p)
-module_wants m (whole_at p) = named_wants m p (whole_at p)
+abbrev pub module_followers : TracedModule → NameDemand → List ModuleDemand
+module_followers m names_but_default = all_re_exported (own_tables m).re_exports
+module_followers m each_name = all_re_exported (own_tables m).re_exports
+module_followers m (subset_at p) = named_followers m p (subset_at p)
+module_followers m (whole_at p) = named_followers m p (whole_at p)

@@ -21,7 +21,7 @@ pub enum NameDemand<'a> {
 
 /// What is asked of another file.
 #[derive(Clone, Copy)]
-pub struct FileWant<'a> {
+pub struct FileDependency<'a> {
     /// The text that names the file.
     pub specifier: &'a str,
     pub names: NameDemand<'a>,
