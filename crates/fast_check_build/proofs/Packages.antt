@@ -15,8 +15,8 @@ use Rattle.fast_check_range_finder.specs.demands.sources.Sources.{Known}
 use Rattle.fast_check_range_finder.specs.Account.{Account, HasHomes, IsYield, package_of, is_package}
 use Rattle.fast_check_range_finder.specs.Yields.{demand_yields}
 use Rattle.fast_check_range_finder.proofs.OfPackage.{of_demand}
-use Rattle.fast_check_range_finder.proofs.Lists.{any_some}
 use Rattle.fast_check_range_finder.proofs.Places.{nv_is}
+use Rattle.fast_check_symbols.proofs.Witness.{witness as any_some}
 
 -- one that passes a test, where some do
 some_passes : {X : Type 0} (test : X → Bool) (xs : List X) → is_filled (filter test xs) ≡ true → (x : X) × Contains xs x × (test x ≡ true)

@@ -22,7 +22,7 @@ use Rattle.fast_check_demands.proofs.Elements.{first, later, in_map, in_flat}
 use Rattle.fast_check_demands.proofs.Each.{Each, each_nil, each_append, each_map, each_flat, each_cond, each_each_of, each_filter}
 
 -- what is found is there
-last_inside : {X : Type 0} (test : X → Bool) (xs : List X) (x : X) → last_that test xs ≡ Some x → Contains xs x
+pub last_inside : {X : Type 0} (test : X → Bool) (xs : List X) (x : X) → last_that test xs ≡ Some x → Contains xs x
 last_inside test [] x e = absurd (none-some x e)
 last_inside {X} test (y ∷ ys) x e = ⊎_elim
     (λ deep. later y ys x (last_inside test ys x deep))

@@ -3,6 +3,7 @@ use Rattle.std.proofs.Common.{◌≡◌, ◌∙◌, sym, ap, refl, Bool, true, f
 use Rattle.std.proofs.lemmas.Bool.{false≢true}
 use Rattle.fast_check_lattice.specs.Names.{Name, Path, Touched, Covered, NameSet, nothing, subset_of, has_subset, has_whole, IsSame, IsJoin}
 use Rattle.fast_check_lattice.specs.Names.{IsOfSource, at_name, IsOfEither}
+use Rattle.fast_check_symbols.proofs.Witness.{and_right}
 
 both_subsets : (x y u v : Bool) → x ≡ y → u ≡ v → (x && not u) ≡ (y && not v)
 both_subsets x y u v e h = cc
@@ -82,10 +83,6 @@ either_whole : (x y u v : Bool) → (not (x || y) && (u || v)) ≡ true → ((no
 either_whole true y u v h = absurd (false≢true h)
 either_whole false true u v h = absurd (false≢true h)
 either_whole false false u v h = h
-
-and_right : (x y : Bool) → (x && y) ≡ true → y ≡ true
-and_right true y h = h
-and_right false y h = absurd (false≢true h)
 
 and_swap : (x y z : Bool) → (x && y) ≡ true → z ≡ true → (x && z) ≡ true
 and_swap true y z h e = e

@@ -5,6 +5,7 @@ use Rattle.std.specs.Str.{bytes_eq}
 use Rattle.std.specs.Prelude.{Option, Some, None, option_to_list, slice_get}
 use Rattle.url.specs.Parts.{Parts, serialize}
 use Rattle.fast_check_packages.specs.Package.{Nv}
+use Rattle.fast_check_packages.proofs.Found.{or_none}
 use Rattle.fast_check_graph.specs.ModuleNames.{specifier_of}
 use Rattle.fast_check_demands.specs.worklists.Demands.{Text, same_nv}
 use Rattle.fast_check_package_ranges.specs.findings.Faults.{placed_seen}
@@ -17,7 +18,6 @@ use Rattle.fast_check_package_ranges.specs.declared.findings.found.Entrance.{Ent
 use Rattle.fast_check_package_ranges.specs.declared.findings.found.Entrance.TheVariants.{Entered, Cached}
 use Rattle.fast_check_package_ranges.specs.declared.findings.found.FoundModule.{FoundModule}
 use Rattle.fast_check_package_ranges.specs.declared.findings.found.FoundPackage.{FoundPackage}
-use Rattle.fast_check_package_ranges.proofs.findings.Bools.{or_none}
 use Rattle.fast_check_package_ranges.proofs.findings.Collected.{all_weaker}
 use Rattle.fast_check_package_ranges.specs.Answers.{package_of, modules_of, about, about_module}
 use Rattle.fast_check_package_ranges.specs.Parts.{is_text}

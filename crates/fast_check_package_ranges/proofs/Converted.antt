@@ -10,8 +10,8 @@ use Rattle.std.specs.BTreeMap as tree
 use Rattle.std.specs.Map.{lookup, IsKeyTest}
 use Rattle.std.proofs.lemmas.Bool.{cases_Bool, false≢true}
 use Rattle.std.proofs.lemmas.List.Folds.{list_any-append}
-use Rattle.fast_check_package_ranges.proofs.findings.Bools.{or_none}
 use Rattle.fast_check_package_ranges.proofs.Maps.{lookup_key, lookup_after}
+use Rattle.fast_check_packages.proofs.Found.{or_none}
 
 -- a key of these entries passes the test
 abbrev pub passes : {K X : Type 0} → (K → Bool) → List (K × X) → Bool

@@ -1,5 +1,5 @@
 -- What a look-up finds in a map after a change.
-use Rattle.std.proofs.Common.{◌≡◌, ◌∙◌, refl, sym, ap, Bool, true, false, cond, List, [], ◌∷◌, Option, Some, ⊎_elim}
+use Rattle.std.proofs.Common.{◌≡◌, ◌∙◌, sym, Bool, true, false, cond, List, Option, ⊎_elim}
 use Rattle.std.specs.Cmp.{IsTotalOrder, eq_by_cmp_equiv, on_total}
 use Rattle.std.specs.Cmp.Lexicographic.{slice_cmp, nat_list_cmp_total, nat_list_eq_equiv}
 use Rattle.std.specs.Ordering.{is_eq, eq_by_cmp, nat_cmp}
@@ -13,14 +13,9 @@ use Rattle.url.specs.Parts.{Parts, serialize}
 use Rattle.fast_check_packages.specs.Package.{Nv, nv_of, nv_cmp}
 use Rattle.fast_check_packages.specs.PackageOrder.{nv_total}
 use Rattle.fast_check_packages.specs.declared.package.PackageNv.{PackageNv}
+use Rattle.fast_check_packages.proofs.MembersFound.{same_lookup as lookup_alike}
 use Rattle.fast_check_demands.specs.worklists.Demands.{Text}
 use Rattle.fast_check_package_ranges.specs.Parts.{is_text, is_package}
-
--- tests that agree find the same
-pub lookup_alike : {K X : Type 0} (f g : K → Bool) → ((k : K) → f k ≡ g k) → (es : List (K × X)) → lookup f es ≡ lookup g es
-lookup_alike f g h [] = refl
-lookup_alike f g h (e ∷ es) =
-    ap (λ b. cond b (Some e.1) (lookup f es)) (h e.0) ∙ ap (λ o. cond (g e.0) (Some e.1) o) (lookup_alike f g h es)
 
 kept : {K X : Type 0} (eq : K → K → Bool) (test : K → Bool) (old new : List (K × X)) → KeepsOthers eq test old new → (other : K → Bool) →
     IsKeyTest eq other → AreApart test other → lookup other new ≡ lookup other old

@@ -12,6 +12,7 @@ use Rattle.url.specs.Parts.{Parts}
 use Rattle.fast_check_syntax.specs.declared.source.SourceRange.{SourceRange}
 use Rattle.fast_check_packages.specs.Package.{Nv}
 use Rattle.fast_check_packages.specs.declared.package.PackageNv.{PackageNv}
+use Rattle.fast_check_packages.proofs.Found.{or_none}
 use Rattle.fast_check_cache.specs.Cache.{ItemView}
 use Rattle.fast_check_cache.specs.declared.package_ranges.PackagePublicRanges.{PackagePublicRanges}
 use Rattle.fast_check_diagnostics.specs.PublicRanges.{PublicRanges, same_range}
@@ -19,11 +20,10 @@ use Rattle.fast_check_demands.specs.worklists.Demands.{Text, same_nv}
 use Rattle.fast_check_modules.proofs.FaultsFound.{exact_range}
 use Rattle.fast_check_package_ranges.specs.findings.Yields.{Yield, known_package, entry_point, refused_export, dependency, recorded, public}
 use Rattle.fast_check_package_ranges.specs.findings.Yields.{implementing, faulty, cached}
-use Rattle.fast_check_package_ranges.proofs.findings.Bools.{or_none}
-use Rattle.fast_check_package_ranges.proofs.findings.Lists.{any_flat}
 use Rattle.fast_check_package_ranges.specs.Answers.{package_of, modules_of, about, about_module, ranges_of, implementations_of, items_of}
 use Rattle.fast_check_package_ranges.specs.Answers.{StandsFor, lookup_text, lookup_package, IsModuleAnswer, IsAnswerBy}
 use Rattle.fast_check_package_ranges.specs.Answers.{IsPackageAnswer, AreAnswers, module_answer}
+use Rattle.fast_check_symbols.proofs.Witness.{any_inside as any_flat}
 
 -- one that passes a test
 record Witness {X : Type 0} (test : X → Bool) (xs : List X) : Type 0 where

@@ -52,7 +52,7 @@ put_here text asked place old new here y =
     ∙ (or_first (place_of asked old) place
     ∙ ap (λ o. option_or (place_of asked old) o) (sym (cond-true (bytes_eq text asked) (Some place) None y)))
 
-or_none : (o : Option ℕ) → o ≡ option_or o None
+pub or_none : (o : Option ℕ) → o ≡ option_or o None
 or_none None = refl
 or_none (Some x) = refl
 

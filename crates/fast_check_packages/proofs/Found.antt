@@ -183,7 +183,7 @@ found_longest texts es text (Some i) are h =
 
 -- ---- one text more
 
-or_none : (b : Bool) → (b || false) ≡ b
+pub or_none : (b : Bool) → (b || false) ≡ b
 or_none true = refl
 or_none false = refl
 

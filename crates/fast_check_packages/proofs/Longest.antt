@@ -17,7 +17,7 @@ no_item [] i e lt = no_place i lt
 no_item (x ∷ xs) zero e lt = true≢false (ap is_some e)
 no_item (x ∷ xs) (suc i) e lt = no_item xs i e (next_below i (length xs) lt)
 
-item : {X : Type 0} (xs : List X) (i : ℕ) → i < length xs → (x : X) × (slice_get xs i ≡ Some x)
+pub item : {X : Type 0} (xs : List X) (i : ℕ) → i < length xs → (x : X) × (slice_get xs i ≡ Some x)
 item {X = X} xs i lt = got (slice_get xs i) refl
   where
     got : (o : Option X) → slice_get xs i ≡ o → (x : X) × (slice_get xs i ≡ Some x)

@@ -31,13 +31,14 @@ use Rattle.fast_check_packages.specs.Texts.{place_of}
 use Rattle.fast_check_packages.specs.declared.member_places.MemberPlaces.{MemberPlaces}
 use Rattle.fast_check_packages.proofs.First.{first_push, first_same, first_of_either, first_mapped, found_there}
 use Rattle.fast_check_packages.proofs.Rows.{item_at}
+use Rattle.fast_check_packages.proofs.Beginnings.{or_none}
 
 -- ---- a package that is put
 
 abbrev Places : Type 0
 Places = BTreeMap PackageNv ℕ
 
-same_lookup : {K X : Type 0} (f g : K → Bool) → ((k : K) → f k ≡ g k) → (es : List (K × X)) → lookup f es ≡ lookup g es
+pub same_lookup : {K X : Type 0} (f g : K → Bool) → ((k : K) → f k ≡ g k) → (es : List (K × X)) → lookup f es ≡ lookup g es
 same_lookup f g e [] = refl
 same_lookup f g e (x ∷ es) = ap (λ b. cond b (Some x.1) (lookup f es)) (e x.0) ∙ ap (λ o. cond (g x.0) (Some x.1) o) (same_lookup f g e es)
 
@@ -89,10 +90,6 @@ pub record Puts (member : WorkspaceMember) (place : ℕ) (old new : MemberPlaces
       (cond (is_of_name asked member) (Some place) None)
   pub nv : (asked : PackageNv) → get package_cmp new.by_package asked
       ≡ option_or (get package_cmp old.by_package asked) (cond (is_of_package (nv_of asked) member) (Some place) None)
-
-or_none : (o : Option ℕ) → o ≡ option_or o None
-or_none None = refl
-or_none (Some x) = refl
 
 pub named_put : (m : WorkspaceMember) (place : ℕ) (text : List ℕ) (old new : MemberPlaces) → m.version ≡ None → text ≡ string_bytes m.name
     → ((asked : List ℕ) → place_of asked new.by_name

@@ -20,11 +20,11 @@ use Rattle.fast_check_packages.proofs.First.{found_there, first_mapped}
 
 -- ---- one row more
 
-last_got : {X : Type 0} (xs : List X) (x : X) → slice_get (xs ++ x ∷ []) (length xs) ≡ Some x
+pub last_got : {X : Type 0} (xs : List X) (x : X) → slice_get (xs ++ x ∷ []) (length xs) ≡ Some x
 last_got [] x = refl
 last_got (y ∷ xs) x = last_got xs x
 
-got_before : {X : Type 0} (xs : List X) (x : X) (i : ℕ) → i < length xs → slice_get (xs ++ x ∷ []) i ≡ slice_get xs i
+pub got_before : {X : Type 0} (xs : List X) (x : X) (i : ℕ) → i < length xs → slice_get (xs ++ x ∷ []) i ≡ slice_get xs i
 got_before [] x i lt = absurd (omega arith)
 got_before (y ∷ xs) x zero lt = refl
 got_before (y ∷ xs) x (suc i) lt = got_before xs x i (omega arith)

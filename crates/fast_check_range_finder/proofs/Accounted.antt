@@ -22,10 +22,11 @@ use Rattle.fast_check_range_finder.specs.Search.{Search, handled_at, IsAsked, Me
 use Rattle.fast_check_range_finder.specs.Search.{AsksAll}
 use Rattle.fast_check_range_finder.specs.Turn.{members, HasStar, IsAccounted}
 use Rattle.fast_check_demands.proofs.worklists.Maps.{none_in, first_in, rest_in, split_in, some_is}
-use Rattle.fast_check_range_finder.proofs.Lists.{any_some, any_more, put_right}
+use Rattle.fast_check_range_finder.proofs.Lists.{any_more, put_right}
 use Rattle.fast_check_demands.proofs.worklists.Single.{asked_in}
 use Rattle.fast_check_range_finder.proofs.Parts.{part_within}
 use Rattle.fast_check_range_finder.proofs.Added.{Gains, gains, IsWidenedFrom, default_of}
+use Rattle.fast_check_symbols.proofs.Witness.{witness as any_some}
 
 pub nv_itself : (p : Nv) → same_nv p p ≡ true
 nv_itself p = (eq_by_cmp_equiv nv_total).refl p

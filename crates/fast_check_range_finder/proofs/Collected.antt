@@ -17,6 +17,7 @@ use Rattle.indexmap.specs.IndexMap.{set_value_at}
 use Rattle.url.specs.Parts.{Parts}
 use Rattle.fast_check_packages.specs.Package.{Nv, nv_of}
 use Rattle.fast_check_packages.specs.declared.package.PackageNv.{PackageNv}
+use Rattle.fast_check_packages.proofs.Rows.{last_got as get_last}
 use Rattle.fast_check_demands.specs.Yields.{Joins}
 use Rattle.fast_check_demands.proofs.Elements.{no_element, first, later, cases, in_map, of_map}
 use Rattle.fast_check_demands.proofs.worklists.Maps.{some_is}
@@ -30,7 +31,7 @@ use Rattle.fast_check_range_finder.specs.Once.{AreApart}
 use Rattle.fast_check_range_finder.specs.Packages.{Found, Entered, IsNew, IsNumbered, HasPlaces, Adds, IsEntered}
 use Rattle.fast_check_range_finder.specs.Turn.{AreSame}
 use Rattle.fast_check_range_finder.proofs.Joins.{joins_none, joins_first, joins_then, joins_left, joins_right, joins_push, joins_more}
-use Rattle.fast_check_range_finder.proofs.Lists.{get_last, get_value}
+use Rattle.fast_check_range_finder.proofs.Lists.{get_value}
 
 -- elements by their places
 

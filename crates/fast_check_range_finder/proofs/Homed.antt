@@ -16,9 +16,10 @@ use Rattle.fast_check_range_finder.specs.Account.{package_of, is_package}
 use Rattle.fast_check_range_finder.specs.Search.{Search, IsPut, AsksPackage, WaitsFor, Asks, AsksAll}
 use Rattle.fast_check_range_finder.specs.Turn.{IsTurn, IsBegun, members, IsAccounted}
 use Rattle.fast_check_range_finder.specs.Rules.{followers}
-use Rattle.fast_check_range_finder.proofs.Lists.{any_some, any_more}
+use Rattle.fast_check_range_finder.proofs.Lists.{any_more}
 use Rattle.fast_check_range_finder.proofs.Accounted.{nv_itself}
 use Rattle.fast_check_range_finder.proofs.Homes.{IsAtHome, at_home}
+use Rattle.fast_check_symbols.proofs.Witness.{witness as any_some}
 
 abbrev pub HasPackage : Search → Nv → Type 0
 HasPackage s p = IsTrue (list_any (same_nv p) s.packages)

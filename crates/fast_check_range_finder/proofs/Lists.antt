@@ -1,20 +1,15 @@
 -- Lists: tests that some element passes, and one element more.
-use Rattle.std.proofs.Common.{◌≡◌, ap, refl, ℕ, zero, suc, Bool, true, List, [], ◌∷◌, ◌++◌, Option, Some, None, length, inl, inr, ⊎_elim}
+use Rattle.std.proofs.Common.{◌≡◌, ap, refl, ℕ, zero, suc, Bool, true, List, [], ◌∷◌, ◌++◌, Option, Some, None, inl, inr, ⊎_elim}
 use Rattle.std.proofs.Common.{option_map, arith, length-append}
 use Rattle.std.specs.Prelude.{slice_get}
 use Rattle.std.specs.Map.{values_of}
 use Rattle.std.specs.List.{list_any, Contains}
-use Rattle.std.proofs.lemmas.Bool.{false≢true, or_cases}
 use Rattle.std.proofs.lemmas.List.Elements.{Contains-push_cases, Contains-push, Contains-append_left, Contains-append_right, Contains-append_cases}
 use Rattle.std.proofs.lemmas.Option.{none-some}
 use Rattle.fast_check_demands.proofs.Elements.{in_any}
 use Rattle.fast_check_range_finder.specs.Search.{IsPut}
-use Rattle.fast_check_demands.proofs.worklists.Maps.{first_in, rest_in, some_is}
-
-pub any_some : {X : Type 0} (f : X → Bool) (xs : List X) → list_any f xs ≡ true → (x : X) × Contains xs x × (f x ≡ true)
-any_some f [] h = absurd (false≢true h)
-any_some f (x ∷ xs) h =
-    ⊎_elim (λ l. (x, first_in x xs, l)) (λ r. let s = any_some f xs r in (s.0, rest_in x s.0 xs s.1, s.2)) (or_cases (f x) (list_any f xs) h)
+use Rattle.fast_check_demands.proofs.worklists.Maps.{some_is}
+use Rattle.fast_check_symbols.proofs.Witness.{witness as any_some}
 
 pub any_more : {X : Type 0} (f : X → Bool) (xs ys : List X) → ((x : X) → Contains xs x → Contains ys x) → list_any f xs ≡ true →
     list_any f ys ≡ true
@@ -51,10 +46,6 @@ put_right {X} x xs ys zs p = record {
   here = Contains-append_right zs ys x p.here;
   count = omega (arith, length-append zs xs, length-append zs ys, p.count);
 }
-
-pub get_last : {X : Type 0} (xs : List X) (x : X) → slice_get (xs ++ x ∷ []) (length xs) ≡ Some x
-get_last [] x = refl
-get_last (y ∷ ys) x = get_last ys x
 
 pub get_value : {K X : Type 0} (es : List (K × X)) (i : ℕ) (e : K × X) → slice_get es i ≡ Some e → slice_get (values_of es) i ≡ Some e.1
 get_value [] i e h = absurd (none-some e h)

@@ -24,11 +24,11 @@ use Rattle.fast_check_range_finder.specs.Turn.{AreSame, members, IsAccounted, Is
 use Rattle.fast_check_range_finder.specs.Yields.{demand_yields}
 use Rattle.fast_check_range_finder.proofs.Homed.{IsHomed, homed_begun, homed_turned, homed_ended}
 use Rattle.fast_check_range_finder.proofs.Accounted.{nv_itself}
-use Rattle.fast_check_range_finder.proofs.Lists.{any_some}
 use Rattle.fast_check_range_finder.proofs.Once.{same_yield}
 use Rattle.fast_check_range_finder.proofs.Places.{nv_is}
 use Rattle.fast_check_range_finder.proofs.Refused.{found_join, all_join}
 use Rattle.fast_check_range_finder.proofs.Turns.{begun, turned, falls, ended}
+use Rattle.fast_check_symbols.proofs.Witness.{witness as any_some}
 
 -- each package that was asked for is chained
 module _ (k : Known) (roots : List Nv) (done : List Demand) (s : Search) (kept : IsAccounted (followers k) roots done s) where

@@ -1,11 +1,11 @@
 -- What a demand of a symbol names is made of the ids and paths of which it is made, and of those that the tables write.
 use Rattle.std.proofs.Common.{◌≡◌, sym, refl, subst, Bool, true, false, cond, ◌&&◌, not, List, [], ◌∷◌, ◌++◌, Option, Some, None, ◌⊎◌, inl, inr}
-use Rattle.std.proofs.Common.{⊎_elim, string_bytes}
+use Rattle.std.proofs.Common.{string_bytes}
 use Rattle.std.specs.Prelude.{option_to_list}
 use Rattle.std.specs.Option.{option_or, option_and_then}
 use Rattle.std.specs.Str.{bytes_eq}
-use Rattle.std.specs.Map.{values_of, lookup}
-use Rattle.std.specs.List.{Contains, flat_map, find}
+use Rattle.std.specs.Map.{values_of}
+use Rattle.std.specs.List.{Contains, flat_map}
 use Rattle.std.proofs.lemmas.List.Elements.{Contains-append_left, Contains-append_right}
 use Rattle.std.proofs.lemmas.Option.{none-some}
 use Rattle.fast_check_lattice.specs.Names.{Name, Path, path_of}
@@ -18,10 +18,10 @@ use Rattle.fast_check_symbols.specs.declared.decl.SymbolDeclKind.TheVariants.{Ta
 use Rattle.fast_check_symbols.specs.declared.node.ReferenceNamespace.{ReferenceNamespace}
 use Rattle.fast_check_symbols.specs.declared.node.SymbolDep.{SymbolDep}
 use Rattle.fast_check_symbols.specs.declared.node.SymbolDep.TheVariants as deps
-use Rattle.fast_check_symbols.specs.Entries.{last_that}
 use Rattle.fast_check_symbols.specs.Symbols.{symbol_of, has_id, mentioned_by}
 use Rattle.fast_check_symbols.specs.Exports.{export_named}
 use Rattle.fast_check_symbols.specs.Tables.{Tables, symbol_of_swc, symbol_id_of}
+use Rattle.fast_check_symbols.proofs.TableFaults.{value_found as looked_inside}
 use Rattle.fast_check_demands.specs.declared.symbol_demands.demand.Namespaces.{Namespaces}
 use Rattle.fast_check_demands.specs.declared.symbol_demands.demand.Namespaces.TheVariants.{Both}
 use Rattle.fast_check_demands.specs.declared.symbol_demands.demand.Extent.{Extent}
@@ -35,7 +35,9 @@ use Rattle.fast_check_demands.specs.symbol_demands.Rules.{symbol_is_named, membe
 use Rattle.fast_check_demands.specs.symbol_demands.Rules.{is_prototype, first_names, path_names, asked_names, names}
 use Rattle.fast_check_demands.proofs.Elements.{later, in_map, in_flat}
 use Rattle.fast_check_demands.proofs.Each.{Each, each_nil, each_one, each_append, each_cons, each_map, each_flat, each_cond, each_each_of}
-use Rattle.fast_check_demands.proofs.worklists.Maps.{some_is, first_in, found_in}
+use Rattle.fast_check_demands.proofs.worklists.Maps.{some_is, first_in}
+use Rattle.fast_check_demands.proofs.Own.{last_inside}
+use Rattle.fast_check_demands.proofs.traces.OwnRanges.{found_inside}
 use Rattle.fast_check_range_finder.specs.Universe.{symbol_ids, IsAskedAmong, IsAmong}
 use Rattle.fast_check_range_finder.proofs.Lists.{mapped_some}
 
@@ -43,24 +45,6 @@ last_or_this : {X : Type 0} (o : Option X) (b : Bool) (y x : X) → option_or o 
 last_or_this None true y x e = inr (some_is y x e)
 last_or_this None false y x e = inl e
 last_or_this (Some z) b y x e = inl e
-
--- what is found is there
-pub last_inside : {X : Type 0} (test : X → Bool) (xs : List X) (x : X) → last_that test xs ≡ Some x → Contains xs x
-last_inside test [] x e = absurd (none-some x e)
-last_inside {X} test (y ∷ ys) x e = ⊎_elim (λ deep. later y ys x (last_inside test ys x deep))
-    (λ here. subst (λ (z : X). Contains (y ∷ ys) z) here (first_in y ys))
-    (last_or_this (last_that test ys) (test y) y x e)
-
-pub found_inside : {X : Type 0} (test : X → Bool) (xs : List X) (x : X) → find test xs ≡ Some x → Contains xs x
-found_inside test [] x e = absurd (none-some x e)
-found_inside {X} test (y ∷ ys) x e = go (test y) (found_inside test ys x) e
-  where
-    go : (b : Bool) → (find test ys ≡ Some x → Contains ys x) → cond b (Some y) (find test ys) ≡ Some x → Contains (y ∷ ys) x
-    go true below h = subst (λ (z : X). Contains (y ∷ ys) z) (some_is y x h) (first_in y ys)
-    go false below h = later y ys x (below h)
-
-pub looked_inside : {K X : Type 0} (test : K → Bool) (es : List (K × X)) (x : X) → lookup test es ≡ Some x → Contains (values_of es) x
-looked_inside test es x e = let f = found_in test es x e in in_map (λ y. y.1) es (f.0, x) f.1
 
 -- the paths that a declaration writes for symbols of its own module
 

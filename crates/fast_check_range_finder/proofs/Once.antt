@@ -17,6 +17,7 @@ use Rattle.fast_check_range_finder.specs.Once.{AreApart, AreOnce}
 use Rattle.fast_check_range_finder.specs.Turn.{AreSame}
 use Rattle.fast_check_range_finder.proofs.Collected.{none_split, apart_none}
 use Rattle.fast_check_range_finder.proofs.Accounted.{nv_itself}
+use Rattle.fast_check_symbols.proofs.Aliased.{joined}
 
 -- lists of which each element stands once
 
@@ -25,9 +26,6 @@ heads x y xs ys e = cc
 
 tails : {X : Type 0} (x y : X) (xs ys : List X) → x ∷ xs ≡ y ∷ ys → xs ≡ ys
 tails x y xs ys e = cc
-
-joined : {X : Type 0} (x y : X) (xs ys : List X) → x ≡ y → xs ≡ ys → x ∷ xs ≡ y ∷ ys
-joined x y xs ys e f = cc
 
 -- with one element more behind, an element is that one, or stood where it stands
 last_split : {X : Type 0} (xs : List X) (x : X) (front back : List X) (y : X) → xs ++ x ∷ [] ≡ front ++ y ∷ back →

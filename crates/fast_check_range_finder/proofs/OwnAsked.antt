@@ -7,6 +7,7 @@ use Rattle.std.specs.Ordering.{is_eq, nat_cmp}
 use Rattle.std.proofs.lemmas.Bool.{false≢true, and_parts, eqb-true}
 use Rattle.std.proofs.lemmas.List.Elements.{Contains-append_left, Contains-append_right, Contains-append_cases}
 use Rattle.fast_check_symbols.specs.Tables.{Tables}
+use Rattle.fast_check_symbols.proofs.Witness.{witness as any_some}
 use Rattle.fast_check_graph.specs.declared.root_symbol.AnyModuleInfo.{AnyModuleInfo}
 use Rattle.fast_check_demands.specs.symbol_demands.Demands.{Demand as SymbolDemand}
 use Rattle.fast_check_demands.specs.symbol_demands.Rules.{names}
@@ -23,7 +24,7 @@ use Rattle.fast_check_range_finder.specs.Asked.{covers, AddsDemand}
 use Rattle.fast_check_range_finder.specs.Finder.{seen_at, put_at, AsksEach, AreAliasesAsked}
 use Rattle.fast_check_range_finder.specs.Turn.{AreSame}
 use Rattle.fast_check_range_finder.proofs.Compared.{then_equal, numbers_compare, key_only}
-use Rattle.fast_check_range_finder.proofs.Lists.{any_some, any_more}
+use Rattle.fast_check_range_finder.proofs.Lists.{any_more}
 
 -- what is asked one behind another
 

@@ -4,6 +4,7 @@ use Rattle.std.specs.List.{Contains}
 use Rattle.std.proofs.lemmas.List.{append-nil, map-append}
 use Rattle.std.proofs.lemmas.List.Elements.{Contains-push, Contains-append_left}
 use Rattle.fast_check_packages.specs.Package.{Nv, nv_of}
+use Rattle.fast_check_packages.proofs.Longest.{item as get_some}
 use Rattle.fast_check_lattice.specs.Traces.{handled}
 use Rattle.fast_check_demands.specs.symbol_demands.Demands.{demand_of}
 use Rattle.fast_check_demands.specs.worklists.Demands.{Demand, of_symbol}
@@ -20,7 +21,7 @@ use Rattle.fast_check_range_finder.specs.Yields.{demand_yields}
 use Rattle.fast_check_range_finder.specs.Finder.{yields_in}
 use Rattle.fast_check_range_finder.proofs.Loop.{IsOn, on_turned, on_falls}
 use Rattle.fast_check_range_finder.proofs.Reach.{HasDependencies, universe}
-use Rattle.fast_check_range_finder.proofs.Taken.{get_some, symbol_taken, names_taken, turns_from, turns_by}
+use Rattle.fast_check_range_finder.proofs.Taken.{symbol_taken, names_taken, turns_from, turns_by}
 
 module _ (k : Known) (f mid b : Finder) (sound : IsSound k.graph k.root_symbol f) where
   -- a symbol waits

@@ -26,9 +26,10 @@ use Rattle.fast_check_range_finder.specs.Asked.{covers, IsNew, AddsDemand}
 use Rattle.fast_check_range_finder.specs.Search.{Search, IsPut, IsMarked, AsksSymbol, AsksAll}
 use Rattle.fast_check_range_finder.specs.Finder.{Followed, Modules, place_nv, place_text, has_symbol, places, place_of, seen_at, symbol_at, symbols_at, search_in, put_at, AsksOne, AsksEach}
 use Rattle.fast_check_range_finder.proofs.Accounted.{nv_itself}
-use Rattle.fast_check_range_finder.proofs.Lists.{any_some, any_more, put_last, put_right}
+use Rattle.fast_check_range_finder.proofs.Lists.{any_more, put_last, put_right}
 use Rattle.fast_check_range_finder.proofs.Parts.{covers_essence}
 use Rattle.fast_check_range_finder.proofs.Places.{get_set, set_itself, keys_set, any_set, any_of_set, any_set_same, one_entry}
+use Rattle.fast_check_symbols.proofs.Witness.{witness as any_some}
 
 -- one demand more
 pub each_more : (place : ℕ) (ds : List SymbolDemand) (d : SymbolDemand) (a b c : List SymbolDemand) (old mid new : List SymbolAt) →

@@ -1,5 +1,5 @@
 -- A demand that waits is taken.
-use Rattle.std.proofs.Common.{◌≡◌, ◌∙◌, sym, ap, refl, subst, ℕ, ◌+◌, ◌<◌, zero, suc, Bool, true, false, List, [], ◌∷◌, ◌++◌, Option, Some, map, length, drop, slice_get, arith}
+use Rattle.std.proofs.Common.{◌≡◌, ◌∙◌, sym, ap, refl, subst, ℕ, ◌+◌, zero, suc, Bool, true, false, List, [], ◌∷◌, ◌++◌, Option, Some, map, drop, slice_get, arith}
 use Rattle.std.specs.Prelude.{option_to_list}
 use Rattle.std.specs.List.{flat_map}
 use Rattle.std.proofs.lemmas.List.{append-nil}
@@ -85,12 +85,6 @@ module _ (packages : List Nv) (entered : ℕ) (handled : List (Parts × Imported
         (subst (λ (xs : List Nv). IsPut (of_package p) (map of_package (drop (entered + 1) packages)) (map of_package xs))
         (sym (drop_next entered packages p here)) (put_first (of_package p) (map of_package (drop (entered + 1) packages))));
   }
-
--- the entry at a place
-pub get_some : {X : Type 0} (xs : List X) (i : ℕ) → i < length xs → (x : X) × (slice_get xs i ≡ Some x)
-get_some [] i h = absurd (omega (arith, h))
-get_some (y ∷ ys) zero h = (y, refl)
-get_some (y ∷ ys) (suc i) h = get_some ys i (omega (arith, h))
 
 -- the same turn, from where as much was asked and found
 pub turns_from : (k : Known) (a mid b : Finder) → search_of mid ≡ search_of a → yields_in mid ≡ yields_in a → (more : Bool) → TurnsTo k more mid b →

@@ -24,6 +24,7 @@ use Rattle.fast_check_symbols.specs.declared.node.SymbolNodeDep.{SymbolNodeDep}
 use Rattle.fast_check_symbols.specs.Symbols.{symbol_of, has_id, mentioned_by}
 use Rattle.fast_check_symbols.specs.Exports.{export_named}
 use Rattle.fast_check_symbols.specs.Tables.{Tables}
+use Rattle.fast_check_symbols.proofs.TableFaults.{value_found as looked_inside}
 use Rattle.fast_check_graph.specs.declared.root_symbol.AnyModuleInfo.{AnyModuleInfo}
 use Rattle.fast_check_graph.specs.Modules.{is_typed_module}
 use Rattle.fast_check_graph.specs.Graph.{is_specifier}
@@ -44,13 +45,14 @@ use Rattle.fast_check_demands.specs.traces.Roots.{path_roots}
 use Rattle.fast_check_demands.specs.worklists.Demands.{Text}
 use Rattle.fast_check_demands.proofs.worklists.Maps.{first_in, found_in}
 use Rattle.fast_check_demands.specs.sources.Sources.{Known, is_text, node_at, named_at, typed_info, info_at}
+use Rattle.fast_check_demands.proofs.Own.{last_inside}
 use Rattle.fast_check_range_finder.specs.Measure.{IsWithin}
 use Rattle.fast_check_range_finder.specs.Universe.{symbol_ids, table_ids, IsAskedAmong, IsAmong}
 use Rattle.fast_check_range_finder.specs.Reach.{dep_names, kind_names, symbol_names, table_names, all_names, paths_up_to, symbol_paths}
 use Rattle.fast_check_range_finder.specs.Reach.{all_ids, own_texts}
 use Rattle.fast_check_range_finder.proofs.Paths.{flat_longer, Fits, fits_in, in_fits, fits_empty, fits_more, fits_longer, fits_tail}
 use Rattle.fast_check_range_finder.proofs.Paths.{fits_name, fits_rest, empty_in}
-use Rattle.fast_check_range_finder.proofs.Named.{last_inside, looked_inside, dep_paths, kind_paths, in_names}
+use Rattle.fast_check_range_finder.proofs.Named.{dep_paths, kind_paths, in_names}
 
 -- what is looked up in what was found
 pub then_some : {X Y : Type 0} (f : X → Option Y) (o : Option X) (y : Y) → option_and_then f o ≡ Some y → (x : X) × (o ≡ Some x) ×

@@ -38,7 +38,7 @@ then_parts Greater b h = absurd (false≢true h)
 one_text : (a b : List ℕ) → is_eq (slice_cmp nat_cmp a b) ≡ true → a ≡ b
 one_text a b h = (bytes_decides a b).0 (sym (is_eq-slice_cmp a b) ∙ h)
 
-joined : {X : Type 0} (x y : X) (xs ys : List X) → x ≡ y → xs ≡ ys → x ∷ xs ≡ y ∷ ys
+pub joined : {X : Type 0} (x y : X) (xs ys : List X) → x ≡ y → xs ≡ ys → x ∷ xs ≡ y ∷ ys
 joined x y xs ys e f = cc
 
 one_path : (xs ys : List (String Global)) → is_eq (slice_cmp string_cmp xs ys) ≡ true → map string_bytes xs ≡ map string_bytes ys

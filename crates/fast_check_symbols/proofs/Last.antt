@@ -63,7 +63,7 @@ pub map_more : {K X : Type 0} (cmp : K → K → Ordering) (old new : BTreeMap K
 map_more cmp old new es e h u key =
     u key ∙ (ap (λ o. cond (eq_by_cmp cmp e.0 key) (Some e.1) o) (h key) ∙ sym (last_value_push (λ k. eq_by_cmp cmp k key) es e))
 
-or_or : {X : Type 0} (o p r : Option X) → option_or (option_or o p) r ≡ option_or o (option_or p r)
+pub or_or : {X : Type 0} (o p r : Option X) → option_or (option_or o p) r ≡ option_or o (option_or p r)
 or_or None p r = refl
 or_or (Some x) p r = refl
 
@@ -80,7 +80,7 @@ last_of_all e f (x ∷ xs) q =
     ∙ (ap (λ o. option_or (last_value (λ k. e k q) xs) o) (sym (or_cond (e x.0 q) x.1 (f q)))
     ∙ sym (or_or (last_value (λ k. e k q) xs) (cond (e x.0 q) (Some x.1) None) (f q)))
 
-or_none : {X : Type 0} (o : Option X) → option_or o None ≡ o
+pub or_none : {X : Type 0} (o : Option X) → option_or o None ≡ o
 or_none None = refl
 or_none (Some x) = refl
 

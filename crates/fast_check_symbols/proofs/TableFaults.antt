@@ -26,7 +26,7 @@ use Rattle.fast_check_symbols.specs.WellFormed.{LacksDeclaration, MissesSymbol, 
 use Rattle.fast_check_symbols.proofs.Witness.{first_of, later_of, witness, none_of, is_none_of, none_is, nil_of, nil_is, and_left, and_right, and_both}
 
 -- what a look-up finds is among the values
-value_found : {K X : Type 0} (f : K → Bool) (es : List (K × X)) (v : X) → lookup f es ≡ Some v → Contains (values_of es) v
+pub value_found : {K X : Type 0} (f : K → Bool) (es : List (K × X)) (v : X) → lookup f es ≡ Some v → Contains (values_of es) v
 value_found f [] v h = cc
 value_found {X = X} f (e ∷ es) v h = by (f e.0) (value_found f es v) h
   where

@@ -80,7 +80,7 @@ any_value : {K X : Type 0} (f : X → Bool) (es : List (K × X)) → list_any f 
 any_value f [] = refl
 any_value f (e ∷ es) = ap (λ b. f e.1 || b) (any_value f es)
 
-any_inside : {X Y : Type 0} (f : Y → Bool) (g : X → List Y) (xs : List X) → list_any f (flat_map g xs) ≡ list_any (λ x. list_any f (g x)) xs
+pub any_inside : {X Y : Type 0} (f : Y → Bool) (g : X → List Y) (xs : List X) → list_any f (flat_map g xs) ≡ list_any (λ x. list_any f (g x)) xs
 any_inside f g [] = refl
 any_inside f g (x ∷ xs) = list_any-append f (g x) (flat_map g xs) ∙ ap (λ b. list_any f (g x) || b) (any_inside f g xs)
 

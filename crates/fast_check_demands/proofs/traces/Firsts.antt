@@ -9,14 +9,7 @@ use Rattle.fast_check_modules.specs.symbols.declared.tables.ReExportAllNode.{ReE
 use Rattle.fast_check_demands.specs.declared.traces.modules.TracedModule.{TracedModule}
 use Rattle.fast_check_demands.specs.traces.Modules.{answer_of, first_with}
 use Rattle.fast_check_demands.specs.traces.Origins.{Answered, first_some, first_origin}
-
-pub or_none : {X : Type 0} (o : Option X) → option_or o None ≡ o
-or_none None = refl
-or_none (Some x) = refl
-
-or_assoc : {X : Type 0} (o p q : Option X) → option_or (option_or o p) q ≡ option_or o (option_or p q)
-or_assoc None p q = refl
-or_assoc (Some x) p q = refl
+use Rattle.fast_check_symbols.proofs.Last.{or_none, or_or as or_assoc}
 
 module _ {X Y : Type 0} (f : X → Option Y) where
   pub first_some_more : (xs : List X) (x : X) → first_some f (xs ++ x ∷ []) ≡ option_or (first_some f xs) (f x)

@@ -12,7 +12,7 @@ use Rattle.std.proofs.lemmas.Slice.Eq.{bytes_eq-Decides}
 use Rattle.fast_check_lattice.specs.Names.{Name}
 use Rattle.fast_check_demands.specs.declared.traces.origins.Origin.{Origin}
 use Rattle.fast_check_demands.specs.traces.Origins.{origin_of, indexed}
-use Rattle.fast_check_demands.proofs.traces.Firsts.{or_none}
+use Rattle.fast_check_symbols.proofs.Last.{or_none}
 
 -- what a map by text has
 abbrev pub at_text : {X : Type 0} → List ℕ → BTreeMap (Bor (List ℕ)) X → Option X

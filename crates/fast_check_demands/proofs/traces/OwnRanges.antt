@@ -16,7 +16,7 @@ use Rattle.fast_check_demands.specs.traces.Modules.{own_tables, own_export, answ
 use Rattle.fast_check_demands.specs.traces.ReExports.{node_ranges, first_range, path_ranges, re_export_ranges}
 
 -- what is found is there
-found_inside : {X : Type 0} (test : X → Bool) (xs : List X) (x : X) → find test xs ≡ Some x → Contains xs x
+pub found_inside : {X : Type 0} (test : X → Bool) (xs : List X) (x : X) → find test xs ≡ Some x → Contains xs x
 found_inside test [] x e = absurd (none-some x e)
 found_inside {X} test (y ∷ ys) x e = go (test y) (found_inside test ys x) e
   where

@@ -1,10 +1,6 @@
 -- Equations of tests.
 use Rattle.std.proofs.Common.{◌≡◌, refl, Bool, true, false, ◌||◌}
 
-pub or_none : (a : Bool) → (a || false) ≡ a
-or_none true = refl
-or_none false = refl
-
 pub or_assoc : (a b c : Bool) → ((a || b) || c) ≡ (a || (b || c))
 or_assoc true b c = refl
 or_assoc false b c = refl

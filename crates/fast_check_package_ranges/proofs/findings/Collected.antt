@@ -25,9 +25,9 @@ use Rattle.fast_check_package_ranges.specs.findings.Faults.{PlacedFault}
 use Rattle.fast_check_package_ranges.specs.findings.Yields.{ModuleFault, untyped_module, of_demand}
 use Rattle.fast_check_package_ranges.specs.findings.Diagnostics.{same_report, is_untyped, others}
 use Rattle.fast_check_package_ranges.specs.findings.ModuleFaults.{fault_with, fault_of, AreFaults, AddsFaults, AddsTo}
-use Rattle.fast_check_package_ranges.proofs.findings.Bools.{or_none}
 use Rattle.fast_check_package_ranges.proofs.findings.Inserted.{inserted}
 use Rattle.fast_check_package_ranges.proofs.findings.Reports.{report_itself, reports_tie}
+use Rattle.fast_check_packages.proofs.Found.{or_none}
 
 -- what holds of each entry, where one is put at a new key
 all_at : {K X : Type 0} (P : K × X → Type 0) (r : Ordering) (e n : K × X) (es rest : List (K × X)) (o : Option X) →

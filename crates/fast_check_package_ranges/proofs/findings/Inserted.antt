@@ -8,7 +8,8 @@ use Rattle.std.specs.declared.cmp.Ordering.TheVariants.{Less, Equal, Greater}
 use Rattle.std.specs.BTreeMap.{is_at, insert_entry}
 use Rattle.std.specs.Map.{lookup}
 use Rattle.std.proofs.lemmas.Bool.{false≢true}
-use Rattle.fast_check_package_ranges.proofs.findings.Bools.{or_none, or_assoc}
+use Rattle.fast_check_package_ranges.proofs.findings.Bools.{or_assoc}
+use Rattle.fast_check_packages.proofs.Found.{or_none}
 
 or_comm : (a b : Bool) → (a || b) ≡ (b || a)
 or_comm true true = refl

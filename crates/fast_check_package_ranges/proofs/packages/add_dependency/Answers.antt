@@ -5,8 +5,8 @@ use Rattle.std.proofs.lemmas.Option.{slice_get-map}
 use Rattle.fast_check_packages.specs.Package.{Nv, nv_of}
 use Rattle.fast_check_packages.specs.declared.package.PackageNv.{PackageNv}
 use Rattle.fast_check_packages.proofs.Rows.{item_at}
+use Rattle.fast_check_packages.proofs.Found.{or_none}
 use Rattle.fast_check_demands.specs.worklists.Demands.{same_nv}
-use Rattle.fast_check_package_ranges.proofs.findings.Bools.{or_none}
 use Rattle.fast_check_package_ranges.specs.Parts.{is_package}
 use Rattle.fast_check_package_ranges.proofs.Dependencies.{has_more}
 use Rattle.fast_check_package_ranges.proofs.packages.add_dependency.Goals as goal

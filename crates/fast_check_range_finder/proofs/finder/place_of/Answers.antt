@@ -8,8 +8,8 @@ use Rattle.fast_check_range_finder.specs.contracts.demand.PlacePartialEq.TheImpl
 use Rattle.fast_check_range_finder.specs.Finder.{Modules}
 use Rattle.fast_check_range_finder.proofs.Followed.{place_is}
 use Rattle.fast_check_range_finder.proofs.PlaceKeys.{tells_places, found_place}
-use Rattle.fast_check_range_finder.proofs.Lists.{get_last}
 use Rattle.fast_check_range_finder.proofs.finder.place_of.Goals as goal
+use Rattle.fast_check_packages.proofs.Rows.{last_got as get_last}
 
 pub returns-in-Some : goal.returns-in-Some
 returns-in-Some c =

@@ -5,8 +5,8 @@ use Rattle.std.specs.Ordering.{nat_cmp}
 use Rattle.std.proofs.lemmas.Result.{on_ok_weaker}
 use Rattle.fast_check_demands.specs.traces.Origins.{indexed}
 use Rattle.fast_check_demands.proofs.traces.Behind.{met_before, met_now}
-use Rattle.fast_check_demands.proofs.traces.Firsts.{or_none}
 use Rattle.fast_check_demands.proofs.traces.origins.put_url.Goals as goal
+use Rattle.fast_check_symbols.proofs.Last.{or_none}
 
 pub returns-then-contains : goal.returns-then-contains
 returns-then-contains c = met_before c.args.traced c.args.node.now c.args.url.now c.args.met.now c.args.names.now
