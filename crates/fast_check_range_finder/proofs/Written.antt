@@ -37,7 +37,7 @@ use Rattle.fast_check_demands.specs.symbol_demands.Decls.{binds, is_implementati
 use Rattle.fast_check_demands.specs.symbol_demands.Rules.{names, reference, qualified}
 use Rattle.fast_check_demands.proofs.Elements.{later, in_map, in_flat}
 use Rattle.fast_check_demands.proofs.Each.{Each, each_nil, each_one, each_flat, each_cond, each_each_of}
-use Rattle.fast_check_demands.specs.name_demands.Files.{FileDemand, demand_sets, path_demand, import_demand, dep_files, kind_files}
+use Rattle.fast_check_demands.specs.name_demands.Files.{FileDemand, file_demand, path_demand, import_demand, dep_files, kind_files}
 use Rattle.fast_check_demands.specs.name_demands.Files.{decl_files, symbol_files, alias_files, asked_files, files}
 use Rattle.fast_check_demands.specs.traces.Modules.{tables_in, own_export}
 use Rattle.fast_check_demands.specs.traces.Roots.{roots, exported_in, export_whole, star_export, star_roots}
@@ -201,9 +201,9 @@ module _ (k : Known) where
           Each FileWithin (kind_files kind)
       kind_within x i (Target id) e = each_nil FileWithin
       kind_within x i (QualifiedTarget id parts) e = each_nil FileWithin
-      kind_within x i (FileRef specifier Star) e = each_one FileWithin (demand_sets (string_bytes specifier) names_but_default) tt
+      kind_within x i (FileRef specifier Star) e = each_one FileWithin (file_demand (string_bytes specifier) names_but_default) tt
       kind_within x i (FileRef specifier (Named name)) e =
-          each_one FileWithin (demand_sets (string_bytes specifier) (whole_at (string_bytes name ∷ [])))
+          each_one FileWithin (file_demand (string_bytes specifier) (whole_at (string_bytes name ∷ [])))
           (fits_in A (suc L) (string_bytes name ∷ [])
           (fits_more A (string_bytes name) L [] (name_fits x specifier name i e) (fits_empty A L)))
       kind_within x i (Definition None) e = each_nil FileWithin
@@ -214,7 +214,7 @@ module _ (k : Known) where
           of_dep y j (deps.Id id) d = each_nil FileWithin
           of_dep y j (deps.QualifiedId id parts) d = each_nil FileWithin
           of_dep y j (deps.ImportType specifier parts) d =
-              each_one FileWithin (demand_sets (string_bytes specifier) (import_demand (path_of parts.items)))
+              each_one FileWithin (file_demand (string_bytes specifier) (import_demand (path_of parts.items)))
               (import_within (path_of parts.items)
               (fits_dep (path_of parts.items) x node.deps.items y i (ap kind_names e) j (ap dep_names d)))
 
@@ -223,10 +223,10 @@ module _ (k : Known) where
           Each FileWithin (alias_files p extent kind)
       alias_within p extent f x i (Target id) e = each_nil FileWithin
       alias_within p extent f x i (QualifiedTarget id parts) e = each_nil FileWithin
-      alias_within p extent f x i (FileRef specifier Star) e = each_one FileWithin (demand_sets (string_bytes specifier) (path_demand p extent))
+      alias_within p extent f x i (FileRef specifier Star) e = each_one FileWithin (file_demand (string_bytes specifier) (path_demand p extent))
           (path_within p extent (fits_longer A L p f))
       alias_within p extent f x i (FileRef specifier (Named name)) e =
-          each_one FileWithin (demand_sets (string_bytes specifier) (path_demand (string_bytes name ∷ p) extent))
+          each_one FileWithin (file_demand (string_bytes specifier) (path_demand (string_bytes name ∷ p) extent))
           (path_within (string_bytes name ∷ p) extent (fits_more A (string_bytes name) L p (name_fits x specifier name i e) f))
       alias_within p extent f x i (Definition _) e = each_nil FileWithin
 
