@@ -14,7 +14,7 @@ use Rattle.fast_check_syntax.specs.Shape.{is_kind, kind_of, parts, node, is_abse
 use Rattle.fast_check_syntax.specs.Height.{height, height_part, height_read, height_at_most}
 use Rattle.fast_check_program_forms.specs.Names.{Ident-span, BindingIdent-id}
 use Rattle.fast_check_expression_forms.specs.Expressions.{ArrowExpr-span}
-use Rattle.fast_check_expression_forms.specs.Patterns.{AssignPat-span, AssignPat-left, AssignPat-right, assign_pat}
+use Rattle.fast_check_expression_forms.specs.Patterns.{AssignPat-span, AssignPat-left, AssignPat-right}
 use Rattle.fast_check_expression_forms.specs.Patterns.{ArrayPat-span, ArrayPat-type_ann, ObjectPat-span, ObjectPat-type_ann}
 use Rattle.fast_check_signatures.specs.declared.rules.Slot.TheVariants as slots
 use Rattle.fast_check_bindings.specs.Bindings.{bindings_of}
@@ -33,9 +33,9 @@ use Rattle.std.specs.List.{list_all}
 use Rattle.fast_check_transform_expressions.proofs.Behind.{behind_along, items_are, trees_are, adds_given, parts_step, parts_refused, items_step}
 use Rattle.fast_check_transform_expressions.proofs.Behind.{items_end, with_pat, param_added, default_made}
 use Rattle.fast_check_transform_expressions.proofs.Heights.{height_less}
-use Rattle.fast_check_transform_expressions.proofs.Looked.{seen_left_out, seen_untyped_array, seen_typed_array, seen_untyped_object, seen_typed_object}
+use Rattle.fast_check_transform_expressions.proofs.Looked.{seen_left_out, seen_untyped_array, seen_untyped_object}
 use Rattle.fast_check_transform_expressions.proofs.Looked.{none_of, not_leaf, not_arrow, seen_parted, seen_whole, seen_arrow, seen_slotted, seen_refused}
-use Rattle.fast_check_transform_expressions.proofs.Looked.{seen_known, next_part, next_slot, next_pat, next_param, seen_by_kind, other_pat, other_left}
+use Rattle.fast_check_transform_expressions.proofs.Looked.{seen_known, next_part, next_slot, next_pat, next_param, seen_by_kind, other_pat}
 use Rattle.fast_check_transform_expressions.proofs.Looked.{slot_is}
 use Rattle.fast_check_transform_expressions.proofs.Arrows.{own_place, arrow_known, arrow_valued}
 use Rattle.fast_check_transform_expressions.proofs.+transform.Goals as goal
