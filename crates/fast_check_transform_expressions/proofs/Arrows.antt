@@ -48,6 +48,11 @@ module _ (unresolved : SyntaxContext) (kind : FunctionKind) (is_async is_generat
 
 -- ---- an arrow
 
+-- the place that a parent gives, or else one's own
+pub own_place : (place : Option SourceRange) {given own : SourceRange} → given ≡ own → unwrap_or place given ≡ or_own place own
+own_place (Some place) e = refl
+own_place None e = e
+
 module _ (bindings : Bindings) (own : Option SourceRange) (t : Tree) where
   abbrev at : SourceRange
   at = or_own own (ArrowExpr-span t)

@@ -9,22 +9,21 @@ use Rattle.fast_check_syntax.specs.declared.kind.Kind.TheVariants as kinds
 use Rattle.fast_check_syntax.specs.declared.source.SourceRange.{SourceRange}
 use Rattle.fast_check_syntax.specs.declared.tree.Tree.{Tree}
 use Rattle.fast_check_syntax.specs.Shape.{◌is◌, kind_of, part, parts, is_absent}
-use Rattle.fast_check_expression_forms.specs.Patterns.{AssignPat-span, AssignPat-left, AssignPat-right, assign_pat}
+use Rattle.fast_check_expression_forms.specs.Patterns.{AssignPat-span, AssignPat-left, AssignPat-right}
 use Rattle.fast_check_expression_forms.specs.Patterns.{ArrayPat-span, ArrayPat-type_ann, ObjectPat-span, ObjectPat-type_ann}
 use Rattle.fast_check_program_forms.specs.Names.{BindingIdent-id, BindingIdent-type_ann}
 use Rattle.fast_check_swc_helpers.specs.declared.literal_type.DeclMutabilityKind.TheVariants.{Mutable}
-use Rattle.fast_check_swc_helpers.specs.Builders.{type_ann, never_value}
+use Rattle.fast_check_swc_helpers.specs.Builders.{type_ann}
 use Rattle.fast_check_swc_helpers.specs.InferredType.{inferred_type}
 use Rattle.fast_check_swc_helpers.specs.OptionalParams.{is_optional_param}
 use Rattle.fast_check_signatures.specs.declared.rules.Slot.{Slot}
 use Rattle.fast_check_signatures.specs.Bindings.{Bindings}
 use Rattle.fast_check_signatures.specs.Seen.{Seen, written, faulty, round, refused, seens}
-use Rattle.fast_check_signatures.specs.NewNodes.{never_array}
 use Rattle.fast_check_signatures.specs.Functions.{arrow_seen, param_seen}
 use Rattle.fast_check_signatures.specs.Expressions.{is_compound, is_plain, is_known, Rule, whole, parted, slotted, arrow, not_at_all}
 use Rattle.fast_check_signatures.specs.Expressions.{other_rule, rule, by_rule, slot_seen, slots_seen, expr_seen}
 use Rattle.fast_check_signatures.specs.Answers.{answer_to, answer_of, joined, parts_answer, visited, with_tree}
-use Rattle.fast_check_signatures.specs.Parameters.{emptied_array, emptied_object, default_seen, without_default, by_shown, assign_by_left}
+use Rattle.fast_check_signatures.specs.Parameters.{emptied_array, emptied_object, default_seen, without_default, by_shown}
 use Rattle.fast_check_signatures.specs.Parameters.{assign_seen, pat_by_kind, pat_seen, pats_seen}
 use Rattle.fast_check_signatures.specs.declared.fault.FaultKind.TheVariants.{UnsupportedDestructuring}
 use Rattle.fast_check_swc_helpers.specs.ranges.Ranges.{range_of_node}
@@ -161,24 +160,16 @@ module _ (bindings : Bindings) (b : Bool) (t : Tree) where
   abbrev left : Tree
   left = AssignPat-left t
 
-  -- array and object patterns, without and with a written type
+  -- array and object patterns without a written type
   pub seen_untyped_array : kind_of left ≡ kinds.ArrayPat → is_absent (ArrayPat-type_ann left) ≡ true →
       assign_seen bindings (expr_seen bindings) b t ≡
       default_seen (AssignPat-span t) (ArrayPat-span left) (emptied_array left) (expr_seen bindings (AssignPat-right t) None)
   seen_untyped_array e a = rw (e, a) refl
 
-  pub seen_typed_array : kind_of left ≡ kinds.ArrayPat → is_absent (ArrayPat-type_ann left) ≡ false →
-      assign_seen bindings (expr_seen bindings) b t ≡ written (assign_pat (AssignPat-span t) (emptied_array left) never_array)
-  seen_typed_array e a = rw (e, a) refl
-
   pub seen_untyped_object : kind_of left ≡ kinds.ObjectPat → is_absent (ObjectPat-type_ann left) ≡ true →
       assign_seen bindings (expr_seen bindings) b t ≡
       default_seen (AssignPat-span t) (ObjectPat-span left) (emptied_object left) (expr_seen bindings (AssignPat-right t) None)
   seen_untyped_object e a = rw (e, a) refl
-
-  pub seen_typed_object : kind_of left ≡ kinds.ObjectPat → is_absent (ObjectPat-type_ann left) ≡ false →
-      assign_seen bindings (expr_seen bindings) b t ≡ written (assign_pat (AssignPat-span t) (emptied_object left) never_value)
-  seen_typed_object e a = rw (e, a) refl
 
 -- what is no tree is none
 pub none_of : (o : Option Tree) → ((t : Tree) → o ≡ Some t → ⊥) → o ≡ None
@@ -201,10 +192,3 @@ module _ (bindings : Bindings) (b : Bool) (t : Tree) where
   other_pat kinds.ArrayPat n1 n2 n3 n4 n5 = absurd (n4 refl)
   other_pat kinds.ObjectPat n1 n2 n3 n4 n5 = absurd (n5 refl)
   other_pat _ n1 n2 n3 n4 n5 = refl
-
-  pub other_left : (k : Kind) → (k ≡ kinds.BindingIdent → ⊥) → (k ≡ kinds.ArrayPat → ⊥) → (k ≡ kinds.ObjectPat → ⊥) →
-      assign_by_left bindings (expr_seen bindings) k b t ≡ faulty UnsupportedDestructuring (AssignPat-span t)
-  other_left kinds.BindingIdent n1 n2 n3 = absurd (n1 refl)
-  other_left kinds.ArrayPat n1 n2 n3 = absurd (n2 refl)
-  other_left kinds.ObjectPat n1 n2 n3 = absurd (n3 refl)
-  other_left _ n1 n2 n3 = refl

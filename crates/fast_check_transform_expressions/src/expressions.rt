@@ -13,7 +13,7 @@ use fast_check_class_forms::Function;
 use fast_check_modules::EsModuleInfo;
 use fast_check_signatures::{Fault, FunctionKind, Slot, is_compound, is_plain};
 use fast_check_syntax::{Items, Kind, Part, SourceRange, Tree};
-use fast_check_transform_nodes::{never_in_parens, or_own};
+use fast_check_transform_nodes::never_in_parens;
 use std::alloc::{AllocError, Global};
 
 /// The expression as it stays, or `None` where it may not (deno_graph's `maybe_transform_expr_if_leavable`). A fault of a
@@ -112,7 +112,7 @@ fn transform_slot(
         Slot::Never => Ok(Some(never_in_parens(alloc)?)),
         Slot::Value => transform_expr(alloc, info, part, None, faults),
         Slot::Function => {
-            let place = or_own(place, Function::of(part).span);
+            let place = place.unwrap_or(Function::of(part).span);
             let kind = FunctionKind::ExpressionLike;
             Ok(Some(transform_fn(alloc, info, kind, place, part, faults)?))
         }

@@ -22,7 +22,7 @@ use fast_check_swc_helpers::{
 };
 use fast_check_syntax::{Items, Kind, Part, SourceRange, Tree};
 use fast_check_transform_nodes::{
-    any_param, kept_arrow, or_own, promised, signed_arrow, signed_function, void_or_promise_void,
+    any_param, kept_arrow, promised, signed_arrow, signed_function, void_or_promise_void,
 };
 use std::alloc::{AllocError, Global};
 
@@ -229,7 +229,7 @@ pub fn transform_arrow(
         faults.old.items faults.new.items) }
 {
     let form = ArrowExpr::of(arrow);
-    let place = or_own(place, form.span);
+    let place = place.unwrap_or(form.span);
     match arrow_type(alloc, info, place, arrow, faults)? {
         Some(return_type) => {
             let params = transform_pats(alloc, info, form.params, faults)?;

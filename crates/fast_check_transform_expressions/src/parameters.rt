@@ -2,13 +2,12 @@
 ghost use Rattle.std.specs.Prelude.{◌≡◌, IfOk, Some};
 ghost use Rattle.fast_check_syntax.specs.Part.{seen};
 ghost use Rattle.fast_check_syntax.specs.Shape.{parts};
-ghost use Rattle.fast_check_expression_forms.specs.Patterns.{AssignPat-span, AssignPat-right};
 ghost use Rattle.fast_check_swc_helpers.specs.OptionalParams.{IsOptionalStart};
 ghost use Rattle.fast_check_signatures.specs.Answers.{Adds, answer_to, answer_of};
 ghost use Rattle.fast_check_signatures.specs.Seen.{faulty};
 ghost use Rattle.fast_check_signatures.specs.declared.fault.FaultKind.TheVariants.{UnsupportedDestructuring};
 ghost use Rattle.fast_check_signatures.specs.Expressions.{expr_seen};
-ghost use Rattle.fast_check_signatures.specs.Parameters.{typed, rest_seen, default_seen, assign_seen, pat_seen, pats_seen};
+ghost use Rattle.fast_check_signatures.specs.Parameters.{typed, rest_seen, assign_seen, pat_seen, pats_seen};
 ghost use Rattle.fast_check_transform_expressions.specs.Looked.{IsStartOfParams, params_looked};
 ghost use Rattle.fast_check_bindings.specs.Bindings.{bindings_of};
 
@@ -27,13 +26,6 @@ use fast_check_transform_nodes::{
     without_default,
 };
 use std::alloc::{AllocError, Global};
-
-/// The left side of a default: its range, and that of its name where it is one.
-#[derive(Clone, Copy)]
-struct LeftSide {
-    name: Option<SourceRange>,
-    range: SourceRange,
-}
 
 /// A parameter that stands if its type is written; else a fault at this place.
 fn typed(
@@ -171,7 +163,8 @@ pub fn transform_param_pat(
     }
 }
 
-/// A parameter's pattern with a default.
+/// A parameter's pattern with a default. Where neither the left side nor the default shows a type, the default has to stay; where it may
+/// not, the type is missing at the left side.
 #[cycle(transform)]
 fn transform_assign_pat(
     alloc: Global,
@@ -184,67 +177,34 @@ fn transform_assign_pat(
         (seen pat.entry))) (Some tree)
         faults.old.items faults.new.items) }
 {
-    let AssignPat { span, left, .. } = AssignPat::of(pat);
-    match left.kind() {
+    let AssignPat { span, left, right } = AssignPat::of(pat);
+    let (name, range, left) = match left.kind() {
         Kind::BindingIdent => {
             if let Some(ty) = default_type(alloc, unresolved_context(info), pat)? {
                 return without_default(alloc, is_optional, left, ty);
             }
-            let range = Ident::of(BindingIdent::of(left).id).span;
-            let name = Some(range);
-            let left = left.to_tree(alloc)?;
-            transform_default(alloc, info, pat, left, LeftSide { name, range }, faults)
+            let name = Ident::of(BindingIdent::of(left).id).span;
+            (Some(name), name, left.to_tree(alloc)?)
         }
         Kind::ArrayPat => {
-            let ArrayPat {
-                span: range,
-                type_ann,
-                ..
-            } = ArrayPat::of(left);
+            let array = ArrayPat::of(left);
             let left = emptied_array(alloc, left)?;
-            if type_ann.is_absent() {
-                let side = LeftSide { name: None, range };
-                return transform_default(alloc, info, pat, left, side, faults);
+            if !array.type_ann.is_absent() {
+                return with_default(alloc, pat, left, never_array(alloc)?);
             }
-            with_default(alloc, pat, left, never_array(alloc)?)
+            (None, array.span, left)
         }
         Kind::ObjectPat => {
-            let ObjectPat {
-                span: range,
-                type_ann,
-                ..
-            } = ObjectPat::of(left);
+            let object = ObjectPat::of(left);
             let left = emptied_object(alloc, left)?;
-            if type_ann.is_absent() {
-                let side = LeftSide { name: None, range };
-                return transform_default(alloc, info, pat, left, side, faults);
+            if !object.type_ann.is_absent() {
+                return with_default(alloc, pat, left, never_value(alloc)?);
             }
-            with_default(alloc, pat, left, never_value(alloc)?)
+            (None, object.span, left)
         }
-        _ => unsupported(span, faults),
-    }
-}
-
-/// A pattern whose default has to stay; where it may not, its type is missing at the left side.
-#[cycle(transform)]
-fn transform_default(
-    alloc: Global,
-    info: &EsModuleInfo,
-    pat: Part<'_>,
-    left: Tree,
-    side: LeftSide,
-    faults: &mut Vec<Fault>,
-) -> Result<Tree, AllocError>
-    ensures { IfOk result (λ tree.
-        Adds (answer_to (default_seen (AssignPat-span (seen pat.entry)) side.range left
-        (expr_seen (bindings_of info.now) (AssignPat-right (seen pat.entry)) side.name)))
-        (Some tree) faults.old.items faults.new.items) }
-{
-    let fault = Fault {
-        kind: FaultKind::MissingExplicitType,
-        range: side.range,
+        _ => return unsupported(span, faults),
     };
-    let right = AssignPat::of(pat).right;
-    let right = transform_value(alloc, info, right, side.name, fault, faults)?;
+    let kind = FaultKind::MissingExplicitType;
+    let right = transform_value(alloc, info, right, name, Fault { kind, range }, faults)?;
     with_default(alloc, pat, left, right)
 }

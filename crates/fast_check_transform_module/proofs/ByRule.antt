@@ -21,7 +21,7 @@ use Rattle.fast_check_transform_statements.specs.transform_declarations.links.su
 use Rattle.fast_check_transform_statements.specs.transform_declarations.links.surroundings.skeleton.declared.rules.ItemRule.TheVariants.{Refused, Assigned, Silent}
 use Rattle.std.specs.List.{flat_map}
 use Rattle.std.specs.Prelude.{refl}
-use Rattle.std.proofs.lemmas.List.{take_more, take_all, append_assoc}
+use Rattle.std.proofs.lemmas.List.{take_more, take_all}
 use Rattle.std.proofs.lemmas.List.Concat.{flat_map-append}
 use Rattle.fast_check_statement_forms.specs.Statements.{ExprStmt-expr}
 use Rattle.fast_check_signatures.proofs.Adding.{adds_joined, answer_append}
@@ -41,8 +41,8 @@ use Rattle.fast_check_transform_statements.specs.PartAnswers.{statement_answer, 
 use Rattle.fast_check_transform_statements.specs.transform_declarations.ClassAnswers.{public_class_answer}
 use Rattle.fast_check_transform_statements.specs.transform_declarations.ClassAnswers.{default_answer}
 use Rattle.fast_check_transform_statements.proofs.transform_declarations.links_proofs.surroundings.Listed.{alone, one_more, whole}
-use Rattle.fast_check_transform_module.specs.PartAnswers.{namespace_answer, decl_answer, export_answer, refused_answer, item_answer}
-use Rattle.fast_check_transform_module.specs.PartAnswers.{each_answer, items_answer}
+use Rattle.fast_check_transform_module.specs.PartAnswers.{namespace_answer, decl_answer, refused_answer, item_answer}
+use Rattle.fast_check_transform_module.specs.PartAnswers.{items_answer}
 
 module _ (around : Surroundings) (place : SourceRange) (decl : Tree) where
   -- what is answered to a declaration with which this is done
@@ -118,29 +118,26 @@ module _ (around : Surroundings) (item : Tree) where
   unfolding decl_answer
   declared {rule} e h p = adds_same (by_item_rule e ∙ ap (λ q. answer_of (decl_seen around q item rule)) (sym p)) h
 
-  pub exported : {rule : DeclRule} → item_rule item ≡ Exported rule → {xs : List Tree} {old new : List Fault} →
-      Adds (export_answer around item rule) xs old new → Adds (item_answer around item) xs old new
-  unfolding export_answer
-  exported e h = adds_same (by_item_rule e) h
-
-  pub no_export : (rule : DeclRule) {place : SourceRange} {decl : Tree} {xs : List Tree} {old new : List Fault} →
-      Adds (decl_answer around place decl rule) xs old new → place ≡ ExportDecl-span item → decl ≡ ExportDecl-decl item → xs ≡ [] →
-      Adds (export_answer around item rule) [] old new
-  unfolding export_answer decl_answer
-  no_export rule h p q n =
-      none_of (decl_seen around (ExportDecl-span item) (ExportDecl-decl item) rule)
+  -- an export of a declaration with which this is done
+  pub no_export : {rule : DeclRule} → item_rule item ≡ Exported rule → {place : SourceRange} {decl : Tree} {xs : List Tree}
+      {old new : List Fault} → Adds (decl_answer around place decl rule) xs old new → place ≡ ExportDecl-span item →
+      decl ≡ ExportDecl-decl item → xs ≡ [] → Adds (item_answer around item) [] old new
+  unfolding decl_answer
+  no_export {rule} e h p q n =
+      adds_same (by_item_rule e) (none_of (decl_seen around (ExportDecl-span item) (ExportDecl-decl item) rule)
       (decl_one around (ExportDecl-span item) (ExportDecl-decl item) rule)
-      (adds_same (λ i. answer_of (decl_seen around (sym p i) (sym q i) rule)) h) n
+      (adds_same (λ i. answer_of (decl_seen around (sym p i) (sym q i) rule)) h) n)
 
-  pub made_export : (rule : DeclRule) {place : SourceRange} {decl t : Tree} {xs : List Tree} {old new : List Fault} →
-      Adds (decl_answer around place decl rule) xs old new → place ≡ ExportDecl-span item → decl ≡ ExportDecl-decl item → xs ≡ t ∷ [] →
-      {made : Tree} → made ≡ export_decl (ExportDecl-span item) t → Adds (export_answer around item rule) (made ∷ []) old new
-  unfolding export_answer decl_answer
-  made_export rule {old = old} {new = new} h p q n m =
+  pub made_export : {rule : DeclRule} → item_rule item ≡ Exported rule → {place : SourceRange} {decl t : Tree} {xs : List Tree}
+      {old new : List Fault} → Adds (decl_answer around place decl rule) xs old new → place ≡ ExportDecl-span item →
+      decl ≡ ExportDecl-decl item → xs ≡ t ∷ [] → {made : Tree} → made ≡ export_decl (ExportDecl-span item) t →
+      Adds (item_answer around item) (made ∷ []) old new
+  unfolding decl_answer
+  made_export {rule} e {old = old} {new = new} h p q n m =
       let seen = decl_seen around (ExportDecl-span item) (ExportDecl-decl item) rule in
-      subst (λ u. Adds (answer_of (exported_seen item seen)) (u ∷ []) old new) (sym m)
+      adds_same (by_item_rule e) (subst (λ u. Adds (answer_of (exported_seen item seen)) (u ∷ []) old new) (sym m)
       (export_of seen (decl_one around (ExportDecl-span item) (ExportDecl-decl item) rule)
-      (subst (λ x. Adds (answer_of seen) x old new) n (adds_same (λ i. answer_of (decl_seen around (sym p i) (sym q i) rule)) h)))
+      (subst (λ x. Adds (answer_of seen) x old new) n (adds_same (λ i. answer_of (decl_seen around (sym p i) (sym q i) rule)) h))))
 
   pub linked : {rule : LinkRule} → item_rule item ≡ Linked rule → (o : Option Tree) → link_answer around item rule ≡ faultless (as_list o) →
       (old : List Fault) → Adds (item_answer around item) (as_list o) old old
@@ -170,6 +167,10 @@ diagnosed_refused item kind p {old} f =
     (alone (faulty kind (range_of_node item)) (adds_fault (Some Absent) (fault_at kind (range_of_node item)) old))
 
 -- ---- items
+
+-- the answer to some items
+unfoldable pub each_answer : Surroundings → List Tree → Answer (List Tree)
+each_answer around items = answer_of (flat_map (λ item. item_look item around) items)
 
 module _ (around : Surroundings) where
   pub no_items : {xs : List Tree} → xs ≡ [] → (old : List Fault) → Adds (each_answer around []) xs old old
@@ -242,26 +243,20 @@ module _ (around : Surroundings) (items : List Tree) (i : ℕ) (item : Tree) (h 
       ∙ (flat_map-append (item_properties around) (take i items) (item ∷ [])
       ∙ ap (λ ps. flat_map (item_properties around) (take i items) ++ ps) (append-nil (item_properties around item)))
 
-  pub same_properties : is_assigned (item_rule item) ≡ false → (old : List ExpandoProperty) {new : List ExpandoProperty} →
-      new ≡ old ++ flat_map (item_properties around) (take i items) → new ≡ old ++ flat_map (item_properties around) (take (i + 1) items)
-  same_properties n old p =
-      p ∙ ap (λ ps. old ++ ps)
-      (sym (taken ∙ (ap (λ ps. flat_map (item_properties around) (take i items) ++ ps) (none_by_rule around item (item_rule item) n)
-      ∙ append-nil (flat_map (item_properties around) (take i items)))))
+  pub same_properties : is_assigned (item_rule item) ≡ false → {new : List ExpandoProperty} →
+      new ≡ flat_map (item_properties around) (take i items) → new ≡ flat_map (item_properties around) (take (i + 1) items)
+  same_properties n p =
+      p ∙ sym (taken ∙ (ap (λ ps. flat_map (item_properties around) (take i items) ++ ps)
+      (none_by_rule around item (item_rule item) n) ∙ append-nil (flat_map (item_properties around) (take i items))))
 
   pub more_properties : item_rule item ≡ Assigned → {assignment : Tree} → assignment ≡ ExprStmt-expr item →
-      (old : List ExpandoProperty) {mid new : List ExpandoProperty} →
-      mid ≡ old ++ flat_map (item_properties around) (take i items) → new ≡ mid ++ assignment_properties around assignment →
-      new ≡ old ++ flat_map (item_properties around) (take (i + 1) items)
+      {mid new : List ExpandoProperty} → mid ≡ flat_map (item_properties around) (take i items) →
+      new ≡ mid ++ assignment_properties around assignment → new ≡ flat_map (item_properties around) (take (i + 1) items)
   unfolding assignment_properties
-  more_properties r a old p q =
+  more_properties r a p q =
       q ∙ (λ j. p j ++ declared_properties around.is_public around.bindings around.objects (a j))
-      ∙ (append_assoc old (flat_map (item_properties around) (take i items))
-      (declared_properties around.is_public around.bindings around.objects (ExprStmt-expr item))
-      ∙ ap (λ ps. old ++ ps)
-      (sym (taken ∙ ap (λ x. flat_map (item_properties around) (take i items) ++ properties_by_rule around item x) r)))
+      ∙ sym (taken ∙ ap (λ x. flat_map (item_properties around) (take i items) ++ properties_by_rule around item x) r)
 
 pub all_properties : (around : Surroundings) {items all : List Tree} (i : ℕ) → length items ≤ i → items ≡ all →
-    (old : List ExpandoProperty) {new : List ExpandoProperty} →
-    new ≡ old ++ flat_map (item_properties around) (take i items) → new ≡ old ++ flat_map (item_properties around) all
-all_properties around {items} i h e old p = p ∙ ap (λ ts. old ++ flat_map (item_properties around) ts) (take_all i items h ∙ e)
+    {new : List ExpandoProperty} → new ≡ flat_map (item_properties around) (take i items) → new ≡ flat_map (item_properties around) all
+all_properties around {items} i h e p = p ∙ ap (flat_map (item_properties around)) (take_all i items h ∙ e)

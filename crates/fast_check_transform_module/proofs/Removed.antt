@@ -23,7 +23,7 @@ use Rattle.fast_check_transform_statements.specs.transform_declarations.links.su
 use Rattle.fast_check_syntax.specs.declared.source.SourceRange.{SourceRange}
 use Rattle.fast_check_transform_statements.specs.transform_declarations.links.surroundings.skeleton.declared.rules.DeclRule.{DeclRule}
 use Rattle.fast_check_transform_statements.specs.transform_declarations.links.surroundings.skeleton.declared.rules.ItemRule.{ItemRule}
-use Rattle.fast_check_transform_statements.specs.transform_declarations.links.surroundings.skeleton.declared.rules.ItemRule.TheVariants.{Assigned, Declared, Exported}
+use Rattle.fast_check_transform_statements.specs.transform_declarations.links.surroundings.skeleton.declared.rules.ItemRule.TheVariants.{Assigned, Declared}
 use Rattle.fast_check_transform_statements.specs.transform_declarations.links.surroundings.skeleton.Visible.{seen_by_rule}
 use Rattle.fast_check_transform_statements.specs.transform_declarations.links.surroundings.skeleton.Visible.{item_seen}
 use Rattle.fast_check_signatures.specs.declared.fault.Fault.{Fault}
@@ -32,7 +32,7 @@ use Rattle.fast_check_transform_statements.specs.transform_declarations.links.su
 use Rattle.fast_check_transform_statements.specs.transform_declarations.links.surroundings.skeleton.KeptComments.{start_look, removed_start, removed_from, without_all_leading}
 use Rattle.fast_check_transform_statements.proofs.transform_declarations.links_proofs.surroundings.skeleton_proofs.Namespaces.{item_seen_is, removed_start_is}
 use Rattle.fast_check_transform_statements.proofs.transform_declarations.links_proofs.surroundings.skeleton_proofs.Standing.{OneTree, item_one}
-use Rattle.fast_check_transform_module.specs.PartAnswers.{item_answer, starts_in_export}
+use Rattle.fast_check_transform_module.specs.PartAnswers.{item_answer}
 
 pub without_append : (xs ys : List SourcePos) (c : Comments) → without_all_leading (xs ++ ys) c ≡ without_all_leading ys
     (without_all_leading xs c)
@@ -99,13 +99,6 @@ module _ (around : Surroundings) (item : Tree) where
       go : new ≡ without_all_leading (starts_in_body start_look around place item rule) c → new ≡ without_all_leading below c
       go h = h ∙ ap (λ ss. without_all_leading ss c)
           (ap (λ p. starts_in_body start_look around p item rule) at ∙ ap (starts_below start_look around item) (sym e))
-
-  pub below_exported : {T E : Type 0} (made : Result T E) {rule : DeclRule} (new c : Comments) → item_rule item ≡ Exported rule →
-      IfOk made (λ _. new ≡ without_all_leading (starts_in_export around item rule) c) → IfOk made (λ _. new ≡ without_all_leading below c)
-  below_exported made {rule} new c e = IfOk-weaker made _ _ (λ _. go)
-    where
-      go : new ≡ without_all_leading (starts_in_export around item rule) c → new ≡ without_all_leading below c
-      go h = h ∙ ap (λ ss. without_all_leading ss c) (ap (starts_below start_look around item) (sym e))
 
 -- an item is lower than its body
 pub item_lower : (body item : Tree) (items : List Tree) (i : ℕ) → i < length items → items ≡ parts body → item ≡ get_or items i item →

@@ -2,6 +2,7 @@
 #![tactic(auto)]
 
 mod answer;
+mod context;
 mod items;
 mod program;
 pub mod transform_faults;

@@ -13,4 +13,4 @@ pub use patterns::{
     default_type, emptied_array, emptied_object, rest_arg, with_default, with_pattern,
     without_default,
 };
-pub use signed::{kept_arrow, or_own, signed_arrow, signed_function};
+pub use signed::{kept_arrow, signed_arrow, signed_function};

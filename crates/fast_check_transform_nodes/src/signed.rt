@@ -6,24 +6,14 @@ ghost use Rattle.fast_check_syntax.specs.declared.tree.Tree.{Absent};
 ghost use Rattle.fast_check_expression_forms.specs.Expressions.{ArrowExpr-span, ArrowExpr-ctxt, ArrowExpr-is_async, ArrowExpr-is_generator};
 ghost use Rattle.fast_check_expression_forms.specs.Expressions.{ArrowExpr-type_params, arrow_expr};
 ghost use Rattle.fast_check_signatures.specs.Answers as answers;
-ghost use Rattle.fast_check_signatures.specs.Functions.{or_own, function_head, arrow_head};
+ghost use Rattle.fast_check_signatures.specs.Functions.{function_head, arrow_head};
 ghost use Rattle.fast_check_signatures.specs.NewNodes as new;
 
 use crate::nodes::{arrow_body, function_body};
 use fast_check_class_forms::Function;
 use fast_check_expression_forms::ArrowExpr;
-use fast_check_syntax::{Items, Part, SourceRange, Tree};
+use fast_check_syntax::{Items, Part, Tree};
 use std::alloc::{AllocError, Global};
-
-/// The place that a parent gives, or else one's own.
-pub fn or_own(place: Option<SourceRange>, own: SourceRange) -> SourceRange
-    ensures { result ≡ or_own place own }
-{
-    match place {
-        Some(place) => place,
-        None => own,
-    }
-}
 
 /// The body that stands for a function's own, if there is one.
 fn new_body(alloc: Global, body: Part<'_>, return_type: Part<'_>) -> Result<Tree, AllocError>

@@ -31,10 +31,10 @@ use Rattle.fast_check_transform_imports.specs.surroundings.skeleton.Surroundings
 use Rattle.fast_check_transform_imports.specs.surroundings.skeleton.Visible.{declared_ident, declared_type, declarator_head, typed_declarator, value_seen}
 use Rattle.fast_check_transform_imports.specs.surroundings.skeleton.Visible.{untyped_seen, ident_declarator_seen, declarator_seen, is_ambient_statement}
 use Rattle.fast_check_transform_imports.specs.surroundings.skeleton.Visible.{is_public_declarator, public_declarator, public_declarators, statement_seen}
-use Rattle.fast_check_transform_imports.specs.surroundings.skeleton.Visible.{signature_of, is_public_using, using_place, using_seen}
+use Rattle.fast_check_transform_imports.specs.surroundings.skeleton.Visible.{signature_of, function_decl_seen, is_public_using, using_place, using_seen}
 use Rattle.fast_check_transform_imports.proofs.surroundings.skeleton_proofs.Standing.{declarator_one, statement_is}
 use Rattle.fast_check_transform_statements.specs.PartAnswers.{retyped, value_answer, valued_answer, ident_answer, declarator_answer, public_answer}
-use Rattle.fast_check_transform_statements.specs.PartAnswers.{declarators_answer, statement_answer, signature_answer, function_answer, using_answer}
+use Rattle.fast_check_transform_statements.specs.PartAnswers.{declarators_answer, statement_answer, using_answer}
 use Rattle.fast_check_transform_imports.proofs.surroundings.Listed.{alone, one_more, whole}
 
 -- ---- declarators
@@ -234,15 +234,14 @@ module _ (around : Surroundings) (place : SourceRange) (decl : Tree) where
 
   pub implementation : around.is_implementation place ≡ true → {f t : Tree} → f ≡ FnDecl-function decl →
       answer_to (implementation_seen f) ≡ faultless (Some t) → (old : List Fault) →
-      Adds (signature_answer around place decl) (Some t) old old
-  unfolding signature_answer
+      Adds (answer_to (signature_of around place decl)) (Some t) old old
   implementation e q p old =
       adds_same (ap (λ b. answer_to (signature_if b)) e ∙ (ap (λ f. answer_to (implementation_seen f)) (sym q) ∙ p)) (adds_nothing _ old)
 
   pub signature : around.is_implementation place ≡ false → {name : SourceRange} {function t : Tree} {old new : List Fault} →
       Adds (answer_to (function_seen around.bindings (expr_seen around.bindings) DeclarationLike name function)) (Some t) old new →
-      name ≡ Ident-span (FnDecl-ident decl) → function ≡ FnDecl-function decl → Adds (signature_answer around place decl) (Some t) old new
-  unfolding signature_answer
+      name ≡ Ident-span (FnDecl-ident decl) → function ≡ FnDecl-function decl →
+      Adds (answer_to (signature_of around place decl)) (Some t) old new
   signature e h p q =
       adds_same (ap (λ b. answer_to (signature_if b)) e
       ∙ (λ i. answer_to (function_seen around.bindings (expr_seen around.bindings) DeclarationLike (sym p i) (sym q i)))) h
@@ -252,18 +251,21 @@ module _ (around : Surroundings) (place : SourceRange) (decl : Tree) where
       if b then written decl else round FnDecl
       (seens (written (FnDecl-ident decl) ∷ flag (FnDecl-declare decl) ∷ signature_of around place decl ∷ []))
 
-  pub ambient_function : around.is_ambient ≡ true → (old : List Fault) → Adds (function_answer around place decl) (Some decl) old old
-  unfolding function_answer
-  ambient_function e old = adds_same (ap (λ b. answer_to (decl_if b)) e) (adds_nothing _ old)
+  pub ambient_function : around.is_ambient ≡ true → {t : Tree} → t ≡ decl → (old : List Fault) →
+      Adds (answer_to (function_decl_seen around place decl)) (Some t) old old
+  ambient_function e {t} p old =
+      subst (λ u. Adds (answer_to (function_decl_seen around place decl)) (Some u) old old) (sym p)
+      (adds_same (ap (λ b. answer_to (decl_if b)) e) (adds_nothing _ old))
 
-  pub made_function : around.is_ambient ≡ false → {t : Tree} {old new : List Fault} →
-      Adds (signature_answer around place decl) (Some t) old new →
-      Adds (function_answer around place decl) (Some (fn_decl (FnDecl-ident decl) (FnDecl-declare decl) t)) old new
-  unfolding function_answer signature_answer
-  made_function e {new = new} h =
-      adds_same (ap (λ b. answer_to (decl_if b)) e)
+  pub made_function : around.is_ambient ≡ false → {function t : Tree} {old new : List Fault} →
+      Adds (answer_to (signature_of around place decl)) (Some function) old new →
+      t ≡ fn_decl (FnDecl-ident decl) (FnDecl-declare decl) function →
+      Adds (answer_to (function_decl_seen around place decl)) (Some t) old new
+  made_function e {old = old} {new = new} h p =
+      subst (λ u. Adds (answer_to (function_decl_seen around place decl)) (Some u) old new) (sym p)
+      (adds_same (ap (λ b. answer_to (decl_if b)) e)
       (adds_made (option_map (node FnDecl)) (adds_visited (adds_nothing (Some (FnDecl-ident decl)) _)
-      (adds_visited (adds_nothing (Some (tree.Flag (FnDecl-declare decl))) _) (adds_visited h (adds_nothing (Some []) new)))))
+      (adds_visited (adds_nothing (Some (tree.Flag (FnDecl-declare decl))) _) (adds_visited h (adds_nothing (Some []) new))))))
 
 -- ---- `using`
 

@@ -1,4 +1,5 @@
 pub mod AssignmentCases
 pub mod Declared
+pub mod Joined
 pub mod PublicCases
 pub mod Blocks

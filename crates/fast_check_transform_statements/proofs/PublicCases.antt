@@ -5,11 +5,11 @@ use Rattle.fast_check_syntax.specs.declared.source.SourceRange.{SourceRange}
 use Rattle.fast_check_syntax.specs.declared.tree.Tree.{Tree}
 use Rattle.fast_check_signatures.specs.declared.fault.Fault.{Fault}
 use Rattle.fast_check_signatures.specs.Seen.{Seen, written}
-use Rattle.fast_check_signatures.specs.Answers.{Adds, faultless, answer_of}
+use Rattle.fast_check_signatures.specs.Answers.{Adds, faultless, answer_to, answer_of}
 use Rattle.fast_check_signatures.proofs.Adding.{adds_nothing, adds_same}
 use Rattle.fast_check_transform_imports.specs.surroundings.skeleton.Surroundings.{Surroundings}
 use Rattle.fast_check_transform_imports.specs.surroundings.skeleton.Visible.{function_decl_seen}
-use Rattle.fast_check_transform_statements.specs.PartAnswers.{function_answer, public_function_answer, standing_answer}
+use Rattle.fast_check_transform_statements.specs.PartAnswers.{public_function_answer, standing_answer}
 use Rattle.fast_check_transform_imports.proofs.surroundings.Listed.{alone}
 
 module _ (around : Surroundings) (place : SourceRange) (decl : Tree) where
@@ -17,8 +17,9 @@ module _ (around : Surroundings) (place : SourceRange) (decl : Tree) where
   if_public p seen = if p then seen ∷ [] else []
 
   pub function_stays : around.is_public place ≡ true → {t : Tree} {old new : List Fault} →
-      Adds (function_answer around place decl) (Some t) old new → Adds (public_function_answer around place decl) (t ∷ []) old new
-  unfolding public_function_answer function_answer
+      Adds (answer_to (function_decl_seen around place decl)) (Some t) old new →
+      Adds (public_function_answer around place decl) (t ∷ []) old new
+  unfolding public_function_answer
   function_stays e h = adds_same (ap (λ p. answer_of (if_public p (function_decl_seen around place decl))) e)
       (alone (function_decl_seen around place decl) h)
 

@@ -19,8 +19,8 @@ use Rattle.fast_check_transform_imports.specs.surroundings.skeleton.Namespaces.{
 use Rattle.fast_check_transform_imports.specs.surroundings.skeleton.Surroundings.{Surroundings}
 use Rattle.fast_check_transform_imports.specs.surroundings.skeleton.Visible.{declared_ident, declarator_head, value_seen}
 use Rattle.fast_check_transform_imports.specs.surroundings.skeleton.Visible.{ident_declarator_seen, declarator_seen, public_declarator}
-use Rattle.fast_check_transform_imports.specs.surroundings.skeleton.Visible.{public_declarators, statement_seen, signature_of}
-use Rattle.fast_check_transform_imports.specs.surroundings.skeleton.Visible.{function_decl_seen, public_function, standing_seen}
+use Rattle.fast_check_transform_imports.specs.surroundings.skeleton.Visible.{public_declarators, statement_seen}
+use Rattle.fast_check_transform_imports.specs.surroundings.skeleton.Visible.{public_function, standing_seen}
 use Rattle.fast_check_transform_imports.specs.surroundings.skeleton.Visible.{using_seen}
 
 -- a declarator of another type and value
@@ -57,13 +57,7 @@ declarators_answer around statement ds = answer_of (flat_map (public_declarator 
 unfoldable pub statement_answer : Surroundings → Tree → Answer (List Tree)
 statement_answer around statement = answer_of (statement_seen statement (public_declarators around statement))
 
--- to the signature of a function that is public by `place`, and to the function
-unfoldable pub signature_answer : Surroundings → SourceRange → Tree → Answer (Option Tree)
-signature_answer around place decl = answer_to (signature_of around place decl)
-
-unfoldable pub function_answer : Surroundings → SourceRange → Tree → Answer (Option Tree)
-function_answer around place decl = answer_to (function_decl_seen around place decl)
-
+-- to a function, which is public by `place`
 unfoldable pub public_function_answer : Surroundings → SourceRange → Tree → Answer (List Tree)
 public_function_answer around place decl = answer_of (public_function around place decl)
 

@@ -11,10 +11,10 @@ use Rattle.fast_check_class_forms.specs.Functions.{Function-span, Param-pat}
 use Rattle.fast_check_signatures.specs.declared.function_kind.FunctionKind.TheVariants.{ExpressionLike}
 use Rattle.fast_check_syntax.specs.Part.{seen}
 use Rattle.fast_check_syntax.specs.Shape.{is_kind, kind_of, parts, node, is_absent}
-use Rattle.fast_check_syntax.specs.Height.{height_part, height_read, height_at_most}
+use Rattle.fast_check_syntax.specs.Height.{height, height_part, height_read, height_at_most}
 use Rattle.fast_check_program_forms.specs.Names.{Ident-span, BindingIdent-id}
 use Rattle.fast_check_expression_forms.specs.Expressions.{ArrowExpr-span}
-use Rattle.fast_check_expression_forms.specs.Patterns.{AssignPat-span, AssignPat-left, AssignPat-right, assign_pat}
+use Rattle.fast_check_expression_forms.specs.Patterns.{AssignPat-span, AssignPat-left, AssignPat-right}
 use Rattle.fast_check_expression_forms.specs.Patterns.{ArrayPat-span, ArrayPat-type_ann, ObjectPat-span, ObjectPat-type_ann}
 use Rattle.fast_check_signatures.specs.declared.rules.Slot.TheVariants as slots
 use Rattle.fast_check_bindings.specs.Bindings.{bindings_of}
@@ -23,7 +23,8 @@ use Rattle.fast_check_signatures.specs.declared.fault.FaultKind.TheVariants.{Uns
 use Rattle.fast_check_signatures.specs.Answers.{fault_at, answer_to, answer_of, parts_answer, demanded, faultless, signed_function}
 use Rattle.fast_check_signatures.specs.Expressions.{is_plain, is_compound, expr_seen, slot_seen}
 use Rattle.fast_check_signatures.specs.Functions.{or_own, return_type_missing, function_head, function_seen}
-use Rattle.fast_check_signatures.specs.Parameters.{typed, emptied_array, emptied_object, without_default, default_seen, pat_seen, pats_seen}
+use Rattle.fast_check_signatures.specs.Parameters.{typed, emptied_array, emptied_object, without_default, default_seen, assign_seen, pat_seen}
+use Rattle.fast_check_signatures.specs.Parameters.{pats_seen}
 use Rattle.fast_check_signatures.proofs.Adding.{adds_same, adds_nothing, adds_made, adds_joined, adds_settled, adds_demanded}
 use Rattle.fast_check_transform_nodes.specs.Shown.{default_type}
 use Rattle.fast_check_transform_expressions.specs.Looked.{known_type, known_answer, patterns, params_looked}
@@ -32,12 +33,15 @@ use Rattle.std.specs.List.{list_all}
 use Rattle.fast_check_transform_expressions.proofs.Behind.{behind_along, items_are, trees_are, adds_given, parts_step, parts_refused, items_step}
 use Rattle.fast_check_transform_expressions.proofs.Behind.{items_end, with_pat, param_added, default_made}
 use Rattle.fast_check_transform_expressions.proofs.Heights.{height_less}
-use Rattle.fast_check_transform_expressions.proofs.Looked.{seen_left_out, seen_untyped_array, seen_typed_array, seen_untyped_object, seen_typed_object}
+use Rattle.fast_check_transform_expressions.proofs.Looked.{seen_left_out, seen_untyped_array, seen_untyped_object}
 use Rattle.fast_check_transform_expressions.proofs.Looked.{none_of, not_leaf, not_arrow, seen_parted, seen_whole, seen_arrow, seen_slotted, seen_refused}
-use Rattle.fast_check_transform_expressions.proofs.Looked.{seen_known, next_part, next_slot, next_pat, next_param, seen_by_kind, other_pat, other_left}
+use Rattle.fast_check_transform_expressions.proofs.Looked.{seen_known, next_part, next_slot, next_pat, next_param, seen_by_kind, other_pat}
 use Rattle.fast_check_transform_expressions.proofs.Looked.{slot_is}
-use Rattle.fast_check_transform_expressions.proofs.Arrows.{arrow_known, arrow_valued}
+use Rattle.fast_check_transform_expressions.proofs.Arrows.{own_place, arrow_known, arrow_valued}
 use Rattle.fast_check_transform_expressions.proofs.+transform.Goals as goal
+use Rattle.fast_check_transform_expressions.proofs.+transform.Goals.{parameters::transform_assign_pat-in-BindingIdent+in_ok-ty-in-BindingIdent+in_default-2+in_ok-to_tree-in-BindingIdent}
+use Rattle.fast_check_transform_expressions.proofs.+transform.Goals.{parameters::transform_assign_pat-in-ArrayPat+in_ok-left-in-ArrayPat+else-not-is_absent}
+use Rattle.fast_check_transform_expressions.proofs.+transform.Goals.{parameters::transform_assign_pat-in-ObjectPat+in_ok-left-in-ObjectPat+else-not-is_absent-2}
 
 -- ---- expressions
 
@@ -151,8 +155,8 @@ pub functions::transform_arrow-returns-in_ok-params-in-Some : goal.functions::tr
 functions::transform_arrow-returns-in_ok-params-in-Some t c =
     let u = bindings_of c.args.info.now in
     let a = seen c.args.arrow in
-    let at : c.or_own-place.result ≡ or_own c.args.place (ArrowExpr-span a) = c.or_own-place.ensures ∙
-    ap (or_own c.args.place) c.of-form.ensures.span in
+    let at : c.unwrap_or-place.result ≡ or_own c.args.place (ArrowExpr-span a) = c.unwrap_or-place.ensures ∙
+    own_place c.args.place c.of-form.ensures.span in
     let type = adds_same (ap (λ (p : SourceRange). known_answer (known_type u.unresolved p a)) (sym at))
     (adds_given c.in-Some.is c.in_ok-return_type.ensures) in
     let pats =
@@ -167,7 +171,8 @@ functions::transform_arrow-returns-in_ok-params-in-None t c =
     let u = bindings_of c.args.info.now in
     let a = seen c.args.arrow in
     let f = c.of-form.ensures in
-    let at : c.or_own-place.result ≡ or_own c.args.place (ArrowExpr-span a) = c.or_own-place.ensures ∙ ap (or_own c.args.place) f.span in
+    let at : c.unwrap_or-place.result ≡ or_own c.args.place (ArrowExpr-span a) = c.unwrap_or-place.ensures ∙
+    own_place c.args.place f.span in
     let type = adds_same (ap (λ (p : SourceRange). known_answer (known_type u.unresolved p a)) (sym at))
     (adds_given c.in-None.is c.in_ok-return_type.ensures) in
     let value = adds_same (λ i. demanded (fault_at (return_type_missing false (sym f.is_async i)) (sym at i))
@@ -181,24 +186,6 @@ pub functions::transform_fn-transform_params-requires : goal.functions::transfor
 functions::transform_fn-transform_params-requires t c = grind (arith, height_at_most)
 
 -- ---- parameters
-
-pub parameters::transform_default-transform_value-requires : goal.parameters::transform_default-transform_value-requires
-parameters::transform_default-transform_value-requires t c = grind (arith, height_at_most)
-
-pub parameters::transform_assign_pat-returns-in-Some : goal.parameters::transform_assign_pat-returns-in-Some
-parameters::transform_assign_pat-returns-in-Some t c =
-    let u = bindings_of c.args.info.now in
-    let b = c.args.is_optional in
-    let pat = seen c.args.pat in
-    let ident : kind_of (AssignPat-left pat) ≡ kinds.BindingIdent = sym (c.kind.ensures ∙ ap kind_of c.of.ensures.left) ∙
-    c.in-BindingIdent.is in
-    let scope = ap (λ (x : SyntaxContext). default_type x pat) c.unresolved_context.ensures in
-    let known : default_type u.unresolved pat ≡ Some c.in-Some.ty = sym (c.in_ok-ty-in-BindingIdent.ensures ∙ scope) ∙ c.in-Some.is in
-    IfOk-weaker c.without_default.result _ _
-    (λ tree e. adds_same (ap answer_to (seen_known u b pat c.in-Some.ty ident known) ∙
-    ap (λ (x : Tree). faultless (Some x))
-    (sym (e ∙ ap (λ (l : Tree). without_default b (BindingIdent-id l) c.in-Some.ty) c.of.ensures.left)))
-    (adds_nothing (Some tree) c.args.faults.now.items)) c.without_default.ensures
 
 pub parameters::transform_params-transform_param_pat-requires : goal.parameters::transform_params-transform_param_pat-requires
 parameters::transform_params-transform_param_pat-requires t c = grind (arith, height_read, height_at_most)
@@ -243,16 +230,6 @@ parameters::transform_param_pat-returns-in_default t c =
     IfOk-weaker c.unsupported.result _ _
     (λ tree h. adds_same
     (ap answer_to (other ∙ ap (λ (p : SourceRange). faulty UnsupportedDestructuring p) (sym c.range_of_node.ensures))) h)
-    c.unsupported.ensures
-
-pub parameters::transform_assign_pat-returns-in_default : goal.parameters::transform_assign_pat-returns-in_default
-parameters::transform_assign_pat-returns-in_default t c =
-    let d = c.in_default in
-    let k = c.kind.ensures ∙ ap kind_of c.of.ensures.left in
-    let other = other_left (bindings_of c.args.info.now) c.args.is_optional (seen c.args.pat) (kind_of (AssignPat-left (seen c.args.pat)))
-    (λ e. d.not-BindingIdent (k ∙ e)) (λ e. d.not-ArrayPat (k ∙ e)) (λ e. d.not-ObjectPat (k ∙ e)) in
-    IfOk-weaker c.unsupported.result _ _
-    (λ tree h. adds_same (ap answer_to (other ∙ ap (λ (p : SourceRange). faulty UnsupportedDestructuring p) (sym c.of.ensures.span))) h)
     c.unsupported.ensures
 
 pub parameters::transform_pats-loop-index-preserved : goal.parameters::transform_pats-loop-index-preserved
@@ -335,8 +312,8 @@ pub expressions::transform_slot-returns-in_ok-transform_fn-in-Function : goal.ex
 expressions::transform_slot-returns-in_ok-transform_fn-in-Function t c =
     let u = bindings_of c.args.info.now in
     let f = seen c.args.part in
-    let at : c.or_own-place.result ≡ or_own c.args.place (Function-span f) = c.or_own-place.ensures ∙
-    ap (or_own c.args.place) c.of.ensures.span in
+    let at : c.unwrap_or-place.result ≡ or_own c.args.place (Function-span f) = c.unwrap_or-place.ensures ∙
+    own_place c.args.place c.of.ensures.span in
     adds_same (slot_is u c.args.slot slots.Function f c.args.place c.in-Function.is
     ∙ ap (λ (p : SourceRange). answer_to (function_seen u (expr_seen u) ExpressionLike p f))
     (sym at)) c.in_ok-transform_fn-in-Function.ensures
@@ -385,91 +362,71 @@ parameters::transform_param_pat-returns-in_ok-emptied_object-in-ObjectPat t c =
     sym (λ i. answer_to
     (typed (of.type_ann i) (of.span i) (c.in_ok-emptied_object-in-ObjectPat.ensures i)))) h) c.typed-in-ObjectPat.ensures
 
-pub parameters::transform_assign_pat-returns-in_ok-left-in-BindingIdent :
-    goal.parameters::transform_assign_pat-returns-in_ok-left-in-BindingIdent
-parameters::transform_assign_pat-returns-in_ok-left-in-BindingIdent t c =
+pub parameters::transform_assign_pat-returns-in-Some : goal.parameters::transform_assign_pat-returns-in-Some
+parameters::transform_assign_pat-returns-in-Some t c =
     let u = bindings_of c.args.info.now in
+    let b = c.args.is_optional in
     let pat = seen c.args.pat in
-    let left = c.of.ensures.left in
-    let ident : kind_of (AssignPat-left pat) ≡ kinds.BindingIdent = sym (c.kind.ensures ∙ ap kind_of left) ∙ c.in-BindingIdent.is in
+    let ident : kind_of (AssignPat-left pat) ≡ kinds.BindingIdent = sym (c.kind.ensures ∙ ap kind_of c.of.ensures.left) ∙
+    c.in-BindingIdent.is in
     let scope = ap (λ (x : SyntaxContext). default_type x pat) c.unresolved_context.ensures in
-    let unknown : default_type u.unresolved pat ≡ None = none_of (default_type u.unresolved pat)
-    (λ type e. c.in_default-2.not-Some type (c.in_ok-ty-in-BindingIdent.ensures ∙ (scope ∙ e))) in
-    let at = c.of-in-BindingIdent-2.ensures.span ∙ ap Ident-span (c.of-in-BindingIdent.ensures.id ∙ ap BindingIdent-id left) in
-    IfOk-weaker c.transform_default.result _ _
-    (λ tree h. adds_same (ap answer_to (seen_left_out u c.args.is_optional pat ident unknown) ∙ sym (λ i. answer_to
-    (default_seen (AssignPat-span pat) (at i) ((c.in_ok-left-in-BindingIdent.ensures ∙ left) i)
-    (expr_seen u (AssignPat-right pat) (Some (at i)))))) h)
-    c.transform_default.ensures
+    let known : default_type u.unresolved pat ≡ Some c.in-Some.ty = sym (c.in_ok-ty-in-BindingIdent.ensures ∙ scope) ∙ c.in-Some.is in
+    IfOk-weaker c.without_default.result _ _
+    (λ tree e. adds_same (ap answer_to (seen_known u b pat c.in-Some.ty ident known) ∙
+    ap (λ (x : Tree). faultless (Some x))
+    (sym (e ∙ ap (λ (l : Tree). without_default b (BindingIdent-id l) c.in-Some.ty) c.of.ensures.left)))
+    (adds_nothing (Some tree) c.args.faults.now.items)) c.without_default.ensures
 
-pub parameters::transform_assign_pat-returns-then-is_absent : goal.parameters::transform_assign_pat-returns-then-is_absent
-parameters::transform_assign_pat-returns-then-is_absent t c =
+pub parameters::transform_assign_pat-transform_value-requires : goal.parameters::transform_assign_pat-transform_value-requires
+parameters::transform_assign_pat-transform_value-requires t c =
+    (omega (arith, c.decreases, height_at_most (seen c.args.pat) 2, ap height c.of.ensures.right), tt)
+
+pub parameters::transform_assign_pat-returns : goal.parameters::transform_assign_pat-returns
+parameters::transform_assign_pat-returns t c =
     let u = bindings_of c.args.info.now in
+    let b = c.args.is_optional in
     let pat = seen c.args.pat in
     let left = c.of.ensures.left in
-    let of = c.of-in-ArrayPat.ensures in
-    let kind : kind_of (AssignPat-left pat) ≡ kinds.ArrayPat = sym (c.kind.ensures ∙ ap kind_of left) ∙ c.in-ArrayPat.is in
-    let absent = ap is_absent (sym (of.type_ann ∙ ap ArrayPat-type_ann left)) ∙ (sym c.is_absent.ensures ∙ c.if-is_absent.true) in
-    IfOk-weaker c.transform_default-then-is_absent.result _ _
-    (λ tree h. adds_same (ap answer_to (seen_untyped_array u c.args.is_optional pat kind absent) ∙ sym (λ i. answer_to
-    (default_seen (AssignPat-span pat) ((of.span ∙ ap ArrayPat-span left) i) ((c.in_ok-left-in-ArrayPat.ensures ∙ ap emptied_array left) i)
-    (expr_seen u (AssignPat-right pat) None)))) h) c.transform_default-then-is_absent.ensures
-
-pub parameters::transform_assign_pat-returns-in_ok-never_array-in-ArrayPat :
-    goal.parameters::transform_assign_pat-returns-in_ok-never_array-in-ArrayPat
-parameters::transform_assign_pat-returns-in_ok-never_array-in-ArrayPat t c =
-    let u = bindings_of c.args.info.now in
-    let pat = seen c.args.pat in
-    let left = c.of.ensures.left in
-    let of = c.of-in-ArrayPat.ensures in
-    let kind : kind_of (AssignPat-left pat) ≡ kinds.ArrayPat = sym (c.kind.ensures ∙ ap kind_of left) ∙ c.in-ArrayPat.is in
-    let absent = ap is_absent (sym (of.type_ann ∙ ap ArrayPat-type_ann left)) ∙ (sym c.is_absent.ensures ∙ c.if-is_absent.false) in
-    IfOk-weaker c.with_default.result _ _
-    (λ tree e. adds_same (ap answer_to (seen_typed_array u c.args.is_optional pat kind absent) ∙ ap (λ (x : Tree). faultless (Some x))
-    (sym (e ∙ (λ i. assign_pat (AssignPat-span pat) ((c.in_ok-left-in-ArrayPat.ensures ∙ ap emptied_array left) i)
-    (c.in_ok-never_array-in-ArrayPat.ensures i)))))
-    (adds_nothing (Some tree) c.args.faults.now.items)) c.with_default.ensures
-
-pub parameters::transform_assign_pat-returns-then-is_absent-2 : goal.parameters::transform_assign_pat-returns-then-is_absent-2
-parameters::transform_assign_pat-returns-then-is_absent-2 t c =
-    let u = bindings_of c.args.info.now in
-    let pat = seen c.args.pat in
-    let left = c.of.ensures.left in
-    let of = c.of-in-ObjectPat.ensures in
-    let kind : kind_of (AssignPat-left pat) ≡ kinds.ObjectPat = sym (c.kind.ensures ∙ ap kind_of left) ∙ c.in-ObjectPat.is in
-    let absent = ap is_absent (sym (of.type_ann ∙ ap ObjectPat-type_ann left)) ∙
-    (sym c.is_absent-in-ObjectPat.ensures ∙ c.if-is_absent-2.true) in
-    IfOk-weaker c.transform_default-then-is_absent-2.result _ _
-    (λ tree h. adds_same (ap answer_to (seen_untyped_object u c.args.is_optional pat kind absent) ∙ sym (λ i. answer_to
-    (default_seen (AssignPat-span pat) ((of.span ∙ ap ObjectPat-span left) i)
-    ((c.in_ok-left-in-ObjectPat.ensures ∙ ap emptied_object left) i)
-    (expr_seen u (AssignPat-right pat) None)))) h) c.transform_default-then-is_absent-2.ensures
-
-pub parameters::transform_assign_pat-returns-in_ok-never_value-in-ObjectPat :
-    goal.parameters::transform_assign_pat-returns-in_ok-never_value-in-ObjectPat
-parameters::transform_assign_pat-returns-in_ok-never_value-in-ObjectPat t c =
-    let u = bindings_of c.args.info.now in
-    let pat = seen c.args.pat in
-    let left = c.of.ensures.left in
-    let of = c.of-in-ObjectPat.ensures in
-    let kind : kind_of (AssignPat-left pat) ≡ kinds.ObjectPat = sym (c.kind.ensures ∙ ap kind_of left) ∙ c.in-ObjectPat.is in
-    let absent = ap is_absent (sym (of.type_ann ∙ ap ObjectPat-type_ann left)) ∙
-    (sym c.is_absent-in-ObjectPat.ensures ∙ c.if-is_absent-2.false) in
-    IfOk-weaker c.with_default-in-ObjectPat.result _ _
-    (λ tree e. adds_same (ap answer_to (seen_typed_object u c.args.is_optional pat kind absent) ∙ ap (λ (x : Tree). faultless (Some x))
-    (sym (e ∙ (λ i. assign_pat (AssignPat-span pat) ((c.in_ok-left-in-ObjectPat.ensures ∙ ap emptied_object left) i)
-    (c.in_ok-never_value-in-ObjectPat.ensures i)))))
-    (adds_nothing (Some tree) c.args.faults.now.items)) c.with_default-in-ObjectPat.ensures
-
-pub parameters::transform_default-returns : goal.parameters::transform_default-returns
-parameters::transform_default-returns t c =
-    let u = bindings_of c.args.info.now in
-    let pat = seen c.args.pat in
-    let value = ap (λ (v : Tree). answer_to (expr_seen u v c.args.side.name)) c.of.ensures.right in
-    let fault = fault_at MissingExplicitType c.args.side.range in
-    default_made c.with_default.result (record { span = AssignPat-span pat; left = c.args.left; place = c.args.side.range })
-    (answer_to (expr_seen u (AssignPat-right pat) c.args.side.name)) _ _
-    (adds_same (ap (demanded fault) (sym value)) c.in_ok-right.ensures) c.with_default.ensures
+    let side = c.match-kind.name in
+    let right = AssignPat-right pat in
+    let left_out : assign_seen u (expr_seen u) b pat ≡ default_seen (AssignPat-span pat) side.1 side.2 (expr_seen u right side.0) =
+    elim c.match-kind.branch [
+      | parameters::transform_assign_pat-in-BindingIdent+in_ok-ty-in-BindingIdent+in_default-2+in_ok-to_tree-in-BindingIdent w ↦
+          let ident : kind_of (AssignPat-left pat) ≡ kinds.BindingIdent =
+          sym (c.kind.ensures ∙ ap kind_of left) ∙ w.in-BindingIdent.is in
+          let scope = ap (λ (x : SyntaxContext). default_type x pat) w.unresolved_context.ensures in
+          let unknown : default_type u.unresolved pat ≡ None = none_of (default_type u.unresolved pat)
+          (λ type e. w.in_default-2.not-Some type (w.in_ok-ty-in-BindingIdent.ensures ∙ (scope ∙ e))) in
+          let at = w.of-in-BindingIdent-2.ensures.span ∙ ap Ident-span (w.of-in-BindingIdent.ensures.id ∙ ap BindingIdent-id left) in
+          seen_left_out u b pat ident unknown
+          ∙ sym (λ i. default_seen (AssignPat-span pat) (at i) ((w.in_ok-to_tree-in-BindingIdent.ensures ∙ left) i)
+          (expr_seen u right (Some (at i))))
+          ∙ sym (λ i. default_seen (AssignPat-span pat) (w.name-is i).1 (w.name-is i).2 (expr_seen u right (w.name-is i).0))
+      | parameters::transform_assign_pat-in-ArrayPat+in_ok-left-in-ArrayPat+else-not-is_absent w ↦
+          let of = w.of-array.ensures in
+          let kind : kind_of (AssignPat-left pat) ≡ kinds.ArrayPat = sym (c.kind.ensures ∙ ap kind_of left) ∙ w.in-ArrayPat.is in
+          let absent = ap is_absent (sym (of.type_ann ∙ ap ArrayPat-type_ann left)) ∙
+          (sym w.is_absent.ensures ∙ w.if-not-is_absent.false) in
+          seen_untyped_array u b pat kind absent
+          ∙ sym (λ i. default_seen (AssignPat-span pat) ((of.span ∙ ap ArrayPat-span left) i)
+          ((w.in_ok-left-in-ArrayPat.ensures ∙ ap emptied_array left) i) (expr_seen u right None))
+          ∙ sym (λ i. default_seen (AssignPat-span pat) (w.name-is i).1 (w.name-is i).2 (expr_seen u right (w.name-is i).0))
+      | parameters::transform_assign_pat-in-ObjectPat+in_ok-left-in-ObjectPat+else-not-is_absent-2 w ↦
+          let of = w.of-object.ensures in
+          let kind : kind_of (AssignPat-left pat) ≡ kinds.ObjectPat = sym (c.kind.ensures ∙ ap kind_of left) ∙ w.in-ObjectPat.is in
+          let absent = ap is_absent (sym (of.type_ann ∙ ap ObjectPat-type_ann left)) ∙
+          (sym w.is_absent-in-ObjectPat.ensures ∙ w.if-not-is_absent-2.false) in
+          seen_untyped_object u b pat kind absent
+          ∙ sym (λ i. default_seen (AssignPat-span pat) ((of.span ∙ ap ObjectPat-span left) i)
+          ((w.in_ok-left-in-ObjectPat.ensures ∙ ap emptied_object left) i) (expr_seen u right None))
+          ∙ sym (λ i. default_seen (AssignPat-span pat) (w.name-is i).1 (w.name-is i).2 (expr_seen u right (w.name-is i).0))
+    ] in
+    let value = ap (λ (v : Tree). answer_to (expr_seen u v side.0)) c.of.ensures.right in
+    let fault = fault_at MissingExplicitType side.1 in
+    IfOk-weaker c.with_default-2.result _ _ (λ tree h. adds_same (ap answer_to left_out) h)
+    (default_made c.with_default-2.result (record { span = AssignPat-span pat; left = side.2; place = side.1 })
+    (answer_to (expr_seen u right side.0)) _ _ (adds_same (ap (demanded fault) (sym value)) c.in_ok-right.ensures)
+    c.with_default-2.ensures)
 
 pub expressions::transform_value-returns-in-Some : goal.expressions::transform_value-returns-in-Some
 expressions::transform_value-returns-in-Some t c = adds_demanded c.args.fault (adds_given c.in-Some.is c.in_ok-tree.ensures)

@@ -31,9 +31,6 @@ decreases-functions::transform_arrow l = 16 * (height (seen l.arrow) - 1) + 17
 abbrev pub decreases-functions::transform_fn : goal.decreases-functions::transform_fn
 decreases-functions::transform_fn l = 16 * height (seen l.function) + 5
 
-abbrev pub decreases-parameters::transform_default : goal.decreases-parameters::transform_default
-decreases-parameters::transform_default l = 16 * height (seen l.pat) + 17
-
 abbrev pub decreases-parameters::transform_assign_pat : goal.decreases-parameters::transform_assign_pat
 decreases-parameters::transform_assign_pat l = 16 * height (seen l.pat) + 18
 

@@ -2,7 +2,7 @@
 use Rattle.std.specs.Prelude.{◌≡◌, ℕ, ◌+◌, ◌<◌, ◌≤◌, Bool, true, false, Some, option_map, List, [], ◌∷◌, ◌++◌, map, length, drop, refl}
 use Rattle.std.specs.Prelude.{if◌then◌else◌}
 use lib.ListN.{get_or}
-use Rattle.std.proofs.Common.{ap, ◌∙◌, sym, add-one}
+use Rattle.std.proofs.Common.{ap, ◌∙◌, sym, subst, add-one}
 use Rattle.std.proofs.Math.Seq.{drop-cons}
 use Rattle.std.proofs.lemmas.List.{drop_all}
 use Rattle.fast_check_syntax.specs.declared.kind.Kind.TheVariants as kinds
@@ -22,8 +22,7 @@ use Rattle.fast_check_signatures.specs.Members.{stays_behind, each_behind, if_re
 use Rattle.fast_check_signatures.proofs.Adding.{adds_nothing, adds_same, adds_made, adds_visited}
 use Rattle.fast_check_transform_imports.specs.surroundings.skeleton.KeptComments.{without_all_leading}
 use Rattle.fast_check_transform_imports.specs.surroundings.skeleton.Surroundings.{Surroundings}
-use Rattle.fast_check_transform_imports.specs.surroundings.skeleton.Visible.{is_ambient_class}
-use Rattle.fast_check_transform_statements.specs.transform_declarations.ClassAnswers.{class_in_answer, class_answer}
+use Rattle.fast_check_transform_imports.specs.surroundings.skeleton.Visible.{is_ambient_class, class_in, class_decl_seen}
 
 module _ (around : Surroundings) (decl : Tree) where
   abbrev class_if : Bool → Seen
@@ -31,25 +30,25 @@ module _ (around : Surroundings) (decl : Tree) where
       if a then written (ambient_class (ClassDecl-class decl))
       else plain_class_seen around.bindings around.is_implementation (ClassDecl-class decl)
 
-  pub ambient_class_stays : is_ambient_class around decl ≡ true → (old : List Fault) →
-      Adds (class_in_answer around decl) (Some (ambient_class (ClassDecl-class decl))) old old
-  unfolding class_in_answer
-  ambient_class_stays e old = adds_same (ap (λ b. answer_to (class_if b)) e) (adds_nothing _ old)
+  pub ambient_class_stays : is_ambient_class around decl ≡ true → {class t : Tree} → t ≡ ambient_class class →
+      class ≡ ClassDecl-class decl → (old : List Fault) → Adds (answer_to (class_in around decl)) (Some t) old old
+  ambient_class_stays e {t = t} q p old =
+      subst (λ u. Adds (answer_to (class_in around decl)) (Some u) old old) (sym (q ∙ ap ambient_class p))
+      (adds_same (ap (λ b. answer_to (class_if b)) e) (adds_nothing _ old))
 
   pub plain_class_stays : is_ambient_class around decl ≡ false → {class t : Tree} {old new : List Fault} →
       Adds (answer_to (plain_class_seen around.bindings around.is_implementation class)) (Some t) old new → class ≡ ClassDecl-class decl →
-      Adds (class_in_answer around decl) (Some t) old new
-  unfolding class_in_answer
+      Adds (answer_to (class_in around decl)) (Some t) old new
   plain_class_stays e h p =
       adds_same (ap (λ b. answer_to (class_if b)) e
       ∙ ap (λ c. answer_to (plain_class_seen around.bindings around.is_implementation c)) (sym p)) h
 
-  pub made_class : {t : Tree} {old new : List Fault} → Adds (class_in_answer around decl) (Some t) old new →
-      Adds (class_answer around decl) (Some (class_decl (ClassDecl-ident decl) (ClassDecl-declare decl) t)) old new
-  unfolding class_in_answer class_answer
-  made_class {new = new} h =
-      adds_made (option_map (node kinds.ClassDecl)) (adds_visited (adds_nothing (Some (ClassDecl-ident decl)) _)
-      (adds_visited (adds_nothing (Some (tree.Flag (ClassDecl-declare decl))) _) (adds_visited h (adds_nothing (Some []) new))))
+  pub made_class : {class t : Tree} {old new : List Fault} → Adds (answer_to (class_in around decl)) (Some class) old new →
+      t ≡ class_decl (ClassDecl-ident decl) (ClassDecl-declare decl) class → Adds (answer_to (class_decl_seen around decl)) (Some t) old new
+  made_class {old = old} {new = new} h p =
+      subst (λ u. Adds (answer_to (class_decl_seen around decl)) (Some u) old new) (sym p)
+      (adds_made (option_map (node kinds.ClassDecl)) (adds_visited (adds_nothing (Some (ClassDecl-ident decl)) _)
+      (adds_visited (adds_nothing (Some (tree.Flag (ClassDecl-declare decl))) _) (adds_visited h (adds_nothing (Some []) new)))))
 
 -- ---- comments before members that go
 

@@ -23,7 +23,7 @@ use Rattle.fast_check_transform_imports.specs.surroundings.skeleton.declared.rul
 use Rattle.fast_check_transform_imports.specs.surroundings.skeleton.Defaults.{default_value_seen, default_class_seen, default_place}
 use Rattle.fast_check_transform_imports.specs.surroundings.skeleton.Defaults.{default_signature, default_function_seen, default_seen}
 use Rattle.fast_check_transform_imports.specs.surroundings.skeleton.Surroundings.{Surroundings}
-use Rattle.fast_check_transform_statements.specs.transform_declarations.ClassAnswers.{default_value_answer, default_class_answer, default_signature_answer}
+use Rattle.fast_check_transform_statements.specs.transform_declarations.ClassAnswers.{default_value_answer, default_class_answer}
 use Rattle.fast_check_transform_statements.specs.transform_declarations.ClassAnswers.{default_function_answer, is_public_default, exported_default, default_decl_seen}
 use Rattle.fast_check_transform_statements.specs.transform_declarations.ClassAnswers.{default_decl_answer, default_answer}
 use Rattle.fast_check_transform_imports.proofs.surroundings.Listed.{alone}
@@ -78,15 +78,14 @@ module _ (around : Surroundings) (place : SourceRange) (decl : Tree) where
 
   pub implementation : around.is_implementation place ≡ true → {f t : Tree} → f ≡ FnExpr-function decl →
       answer_to (implementation_seen f) ≡ faultless (Some t) → (old : List Fault) →
-      Adds (default_signature_answer around place decl) (Some t) old old
-  unfolding default_signature_answer
+      Adds (answer_to (default_signature around place decl)) (Some t) old old
   implementation e q p old =
       adds_same (ap (λ b. answer_to (signature_if b)) e ∙ (ap (λ f. answer_to (implementation_seen f)) (sym q) ∙ p)) (adds_nothing _ old)
 
   pub signature : around.is_implementation place ≡ false → {name : SourceRange} {function t : Tree} {old new : List Fault} →
       Adds (answer_to (function_seen around.bindings (expr_seen around.bindings) DeclarationLike name function)) (Some t) old new →
-      name ≡ default_place decl → function ≡ FnExpr-function decl → Adds (default_signature_answer around place decl) (Some t) old new
-  unfolding default_signature_answer
+      name ≡ default_place decl → function ≡ FnExpr-function decl →
+      Adds (answer_to (default_signature around place decl)) (Some t) old new
   signature e h p q =
       adds_same (ap (λ b. answer_to (signature_if b)) e
       ∙ (λ i. answer_to (function_seen around.bindings (expr_seen around.bindings) DeclarationLike (sym p i) (sym q i)))) h
@@ -100,9 +99,9 @@ module _ (around : Surroundings) (place : SourceRange) (decl : Tree) where
   ambient_function e old = adds_same (ap (λ b. answer_to (decl_if b)) e) (adds_nothing _ old)
 
   pub made_function : around.is_ambient ≡ false → {t : Tree} {old new : List Fault} →
-      Adds (default_signature_answer around place decl) (Some t) old new →
+      Adds (answer_to (default_signature around place decl)) (Some t) old new →
       Adds (default_function_answer around place decl) (Some (fn_expr (FnExpr-ident decl) t)) old new
-  unfolding default_function_answer default_signature_answer
+  unfolding default_function_answer
   made_function e {new = new} h =
       adds_same (ap (λ b. answer_to (decl_if b)) e)
       (adds_made (option_map (node FnExpr))

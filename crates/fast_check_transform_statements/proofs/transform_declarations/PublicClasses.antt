@@ -5,11 +5,11 @@ use Rattle.fast_check_syntax.specs.declared.source.SourceRange.{SourceRange}
 use Rattle.fast_check_syntax.specs.declared.tree.Tree.{Tree}
 use Rattle.fast_check_signatures.specs.declared.fault.Fault.{Fault}
 use Rattle.fast_check_signatures.specs.Seen.{Seen}
-use Rattle.fast_check_signatures.specs.Answers.{Adds, answer_of}
+use Rattle.fast_check_signatures.specs.Answers.{Adds, answer_to, answer_of}
 use Rattle.fast_check_signatures.proofs.Adding.{adds_nothing, adds_same}
 use Rattle.fast_check_transform_imports.specs.surroundings.skeleton.Surroundings.{Surroundings}
 use Rattle.fast_check_transform_imports.specs.surroundings.skeleton.Visible.{class_decl_seen}
-use Rattle.fast_check_transform_statements.specs.transform_declarations.ClassAnswers.{class_answer, public_class_answer}
+use Rattle.fast_check_transform_statements.specs.transform_declarations.ClassAnswers.{public_class_answer}
 use Rattle.fast_check_transform_imports.proofs.surroundings.Listed.{alone}
 
 module _ (around : Surroundings) (place : SourceRange) (decl : Tree) where
@@ -17,8 +17,8 @@ module _ (around : Surroundings) (place : SourceRange) (decl : Tree) where
   if_public p seen = if p then seen ∷ [] else []
 
   pub class_stays : around.is_public place ≡ true → {t : Tree} {old new : List Fault} →
-      Adds (class_answer around decl) (Some t) old new → Adds (public_class_answer around place decl) (t ∷ []) old new
-  unfolding public_class_answer class_answer
+      Adds (answer_to (class_decl_seen around decl)) (Some t) old new → Adds (public_class_answer around place decl) (t ∷ []) old new
+  unfolding public_class_answer
   class_stays e h = adds_same (ap (λ p. answer_of (if_public p (class_decl_seen around decl))) e) (alone (class_decl_seen around decl) h)
 
   pub class_goes : around.is_public place ≡ false → (old : List Fault) → Adds (public_class_answer around place decl) [] old old

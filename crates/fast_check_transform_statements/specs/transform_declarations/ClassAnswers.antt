@@ -10,17 +10,11 @@ use Rattle.fast_check_signatures.specs.Answers.{Answer, answer_to, answer_of}
 use Rattle.fast_check_transform_imports.specs.surroundings.skeleton.declared.rules.DefaultRule.{DefaultRule}
 use Rattle.fast_check_transform_imports.specs.surroundings.skeleton.declared.rules.DefaultRule.TheVariants as defaults
 use Rattle.fast_check_transform_imports.specs.surroundings.skeleton.Defaults.{is_public_value, default_value_seen, default_class_seen}
-use Rattle.fast_check_transform_imports.specs.surroundings.skeleton.Defaults.{default_signature, default_function_seen, default_seen}
+use Rattle.fast_check_transform_imports.specs.surroundings.skeleton.Defaults.{default_function_seen, default_seen}
 use Rattle.fast_check_transform_imports.specs.surroundings.skeleton.Surroundings.{Surroundings}
-use Rattle.fast_check_transform_imports.specs.surroundings.skeleton.Visible.{class_in, class_decl_seen, public_class}
+use Rattle.fast_check_transform_imports.specs.surroundings.skeleton.Visible.{public_class}
 
--- to the class of a declaration, and to the declaration
-unfoldable pub class_in_answer : Surroundings → Tree → Answer (Option Tree)
-class_in_answer around decl = answer_to (class_in around decl)
-
-unfoldable pub class_answer : Surroundings → Tree → Answer (Option Tree)
-class_answer around decl = answer_to (class_decl_seen around decl)
-
+-- to a class, which is public by `place`
 unfoldable pub public_class_answer : Surroundings → SourceRange → Tree → Answer (List Tree)
 public_class_answer around place decl = answer_of (public_class around place decl)
 
@@ -31,10 +25,7 @@ default_value_answer around t = answer_to (default_value_seen around t)
 unfoldable pub default_class_answer : Surroundings → Tree → Answer (Option Tree)
 default_class_answer around decl = answer_to (default_class_seen around decl)
 
--- to the signature of a function that is exported by default and public by `place`, and to the function
-unfoldable pub default_signature_answer : Surroundings → SourceRange → Tree → Answer (Option Tree)
-default_signature_answer around place decl = answer_to (default_signature around place decl)
-
+-- to a function that is exported by default and public by `place`
 unfoldable pub default_function_answer : Surroundings → SourceRange → Tree → Answer (Option Tree)
 default_function_answer around place decl = answer_to (default_function_seen around place decl)
 

@@ -1,5 +1,5 @@
 //! Classes that are declared, and the comments before their members that go.
-ghost use Rattle.std.specs.Prelude.{◌≡◌, IfOk, Some};
+ghost use Rattle.std.specs.Prelude.{◌≡◌, IfOk};
 ghost use Rattle.fast_check_syntax.specs.Part.{seen};
 ghost use Rattle.fast_check_syntax.specs.Shape.{parts};
 ghost use Rattle.fast_check_signatures.specs.Answers.{Adds};
@@ -9,7 +9,7 @@ ghost use Rattle.fast_check_transform_imports.specs.surroundings.skeleton.Rules.
 ghost use Rattle.fast_check_transform_imports.specs.surroundings.skeleton.Visible.{is_ambient_class};
 ghost use Rattle.fast_check_transform_imports.specs.surroundings.Surroundings.{seen_around};
 ghost use Rattle.fast_check_transform_imports.specs.surroundings.Kept.{as_list};
-ghost use Rattle.fast_check_transform_statements.specs.transform_declarations.ClassAnswers.{class_in_answer, class_answer, public_class_answer};
+ghost use Rattle.fast_check_transform_statements.specs.transform_declarations.ClassAnswers.{public_class_answer};
 
 use fast_check_class_forms::Class;
 use fast_check_comments::CommentsMut;
@@ -34,47 +34,8 @@ fn is_ambient_class(around: Surroundings<'_>, decl: Part<'_>) -> bool
     around.is_ambient || ClassDecl::of(decl).declare
 }
 
-/// The class of a declaration; an ambient one as it is written, but for private members with computed keys.
-fn transform_class_of(
-    alloc: Global,
-    around: Surroundings<'_>,
-    decl: Part<'_>,
-    faults: &mut Vec<Fault>,
-) -> Result<Tree, AllocError>
-    ensures { IfOk result (λ tree. Adds (class_in_answer (seen_around around.entry) (seen decl.entry)) (Some tree) faults.old.items faults.new.items) }
-{
-    let class = ClassDecl::of(decl).class;
-    if is_ambient_class(around, decl) {
-        return ambient_class(alloc, class);
-    }
-    transform_class(
-        alloc,
-        around.public_ranges,
-        around.es_module_info,
-        class,
-        faults,
-    )
-}
-
-/// A class declaration.
-fn transform_class_decl(
-    alloc: Global,
-    around: Surroundings<'_>,
-    decl: Part<'_>,
-    faults: &mut Vec<Fault>,
-) -> Result<Tree, AllocError>
-    ensures { IfOk result (λ tree. Adds (class_answer (seen_around around.entry) (seen decl.entry)) (Some tree) faults.old.items faults.new.items) }
-{
-    let ClassDecl { ident, declare, .. } = ClassDecl::of(decl);
-    let made = ClassDecl {
-        ident: ident.to_tree(alloc)?,
-        declare,
-        class: transform_class_of(alloc, around, decl, faults)?,
-    };
-    made.into_tree(alloc)
-}
-
-/// A class declaration, which is public by `place`; none where it is not.
+/// A class declaration, which is public by `place`; none where it is not. An ambient one stands as it is written, but for private
+/// members with computed keys.
 pub fn transform_public_class(
     alloc: Global,
     around: Surroundings<'_>,
@@ -88,7 +49,23 @@ pub fn transform_public_class(
     if !around.public_ranges.contains(&place) {
         return Ok(None);
     }
-    Ok(Some(transform_class_decl(alloc, around, decl, faults)?))
+    let ClassDecl {
+        ident,
+        declare,
+        class,
+    } = ClassDecl::of(decl);
+    let class = if is_ambient_class(around, decl) {
+        ambient_class(alloc, class)?
+    } else {
+        let ranges = around.public_ranges;
+        transform_class(alloc, ranges, around.es_module_info, class, faults)?
+    };
+    let made = ClassDecl {
+        ident: ident.to_tree(alloc)?,
+        declare,
+        class,
+    };
+    Ok(Some(made.into_tree(alloc)?))
 }
 
 /// Removes the comments before the members of a class that go.

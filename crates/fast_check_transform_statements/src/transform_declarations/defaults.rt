@@ -6,7 +6,7 @@ ghost use Rattle.fast_check_transform_imports.specs.surroundings.skeleton.Defaul
 ghost use Rattle.fast_check_transform_imports.specs.surroundings.Surroundings.{seen_around};
 ghost use Rattle.fast_check_transform_imports.specs.surroundings.Kept.{as_list};
 ghost use Rattle.fast_check_transform_statements.specs.transform_declarations.ClassAnswers.{is_public_default, default_value_answer, default_class_answer};
-ghost use Rattle.fast_check_transform_statements.specs.transform_declarations.ClassAnswers.{default_signature_answer, default_function_answer, default_decl_answer, default_answer};
+ghost use Rattle.fast_check_transform_statements.specs.transform_declarations.ClassAnswers.{default_function_answer, default_decl_answer, default_answer};
 
 use fast_check_class_forms::Function;
 use fast_check_expression_forms::{ClassExpr, FnExpr};
@@ -102,33 +102,8 @@ fn default_place(decl: Part<'_>) -> SourceRange
     }
 }
 
-/// The signature of a function that is exported by default: of an implementation behind overloads the count of its
-/// parameters.
-fn transform_signature(
-    alloc: Global,
-    around: Surroundings<'_>,
-    place: SourceRange,
-    decl: Part<'_>,
-    faults: &mut Vec<Fault>,
-) -> Result<Tree, AllocError>
-    ensures { IfOk result (λ tree.
-        Adds (default_signature_answer (seen_around around.entry) place (seen decl.entry)) (Some tree) faults.old.items faults.new.items) }
-{
-    let function = FnExpr::of(decl).function;
-    if around.public_ranges.is_impl_with_overloads(&place) {
-        return transform_implementation(alloc, function);
-    }
-    transform_fn(
-        alloc,
-        around.es_module_info,
-        FunctionKind::DeclarationLike,
-        default_place(decl),
-        function,
-        faults,
-    )
-}
-
-/// A function that is exported by default, by its signature; where all is ambient as it is written.
+/// A function that is exported by default: where all is ambient as it is written; an implementation behind overloads by the count of
+/// its parameters; another function by its signature.
 fn transform_default_function(
     alloc: Global,
     around: Surroundings<'_>,
@@ -142,10 +117,17 @@ fn transform_default_function(
     if around.is_ambient {
         return decl.to_tree(alloc);
     }
-    let ident = FnExpr::of(decl).ident;
+    let FnExpr { ident, function } = FnExpr::of(decl);
+    let function = if around.public_ranges.is_impl_with_overloads(&place) {
+        transform_implementation(alloc, function)?
+    } else {
+        let kind = FunctionKind::DeclarationLike;
+        let name = default_place(decl);
+        transform_fn(alloc, around.es_module_info, kind, name, function, faults)?
+    };
     let made = FnExpr {
         ident: ident.to_tree(alloc)?,
-        function: transform_signature(alloc, around, place, decl, faults)?,
+        function,
     };
     made.into_tree(alloc)
 }

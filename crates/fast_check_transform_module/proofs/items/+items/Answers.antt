@@ -6,10 +6,6 @@ use Rattle.fast_check_comments.specs.Kept.{without_leading}
 use Rattle.fast_check_program_forms.specs.ModuleDecls.{export_decl}
 use Rattle.fast_check_swc_helpers.specs.ranges.Ranges.{range_of_node}
 use Rattle.fast_check_transform_statements.specs.transform_declarations.links.surroundings.skeleton.KeptComments.{removed_from, start_look, starts_in_body, without_all_leading}
-use Rattle.std.specs.Prelude.{List}
-use Rattle.std.specs.List.{flat_map}
-use Rattle.fast_check_transform_statements.specs.transform_declarations.links.surroundings.skeleton.expandos.declared.properties.ExpandoProperty.{ExpandoProperty}
-use Rattle.fast_check_transform_statements.specs.transform_declarations.links.surroundings.skeleton.Visible.{item_properties}
 use Rattle.fast_check_syntax.specs.Part.{seen}
 use Rattle.fast_check_syntax.specs.Shape.{parts}
 use Rattle.fast_check_syntax.specs.Height.{height, height_at_most}
@@ -17,36 +13,21 @@ use Rattle.fast_check_transform_statements.proofs.transform_declarations.class_p
 use Rattle.fast_check_transform_statements.specs.transform_declarations.links.surroundings.Surroundings.{seen_around}
 use Rattle.fast_check_transform_statements.specs.transform_declarations.links.surroundings.Kept.{as_list}
 use Rattle.fast_check_transform_module.proofs.ByRule.{variables, functions, classes, standing, namespaces, using_stays, undeclared}
-use Rattle.fast_check_transform_module.proofs.ByRule.{declared, exported, no_export, made_export, linked, default_export, refused, silent}
+use Rattle.fast_check_transform_module.proofs.ByRule.{declared, no_export, made_export, linked, default_export, refused, silent}
 use Rattle.fast_check_transform_module.proofs.ByRule.{no_items, one_more_item, one_more_assigned, all_items, with_namespaces}
 use Rattle.fast_check_transform_module.proofs.ByRule.{assigned_is, same_properties, more_properties, all_properties}
 use Rattle.fast_check_transform_statements.specs.transform_declarations.links.surroundings.skeleton.Rules.{is_assigned, item_rule}
 use Rattle.fast_check_transform_module.proofs.Namespaces.{inside_at_most, refused_module, private_namespace, public_namespace}
 use Rattle.fast_check_transform_statements.specs.transform_declarations.links.surroundings.skeleton.Surroundings.{Surroundings}
 use Rattle.fast_check_transform_module.proofs.Namespaces.{nothing_refused, nothing_private, all_inside}
-use Rattle.fast_check_transform_module.proofs.Removed.{item_lower, inside, below, below_nothing, below_declared, below_exported}
+use Rattle.fast_check_transform_module.proofs.Removed.{item_lower, inside, below, below_nothing, below_declared}
 use Rattle.fast_check_transform_module.proofs.Removed.{without_append, removed_if_none, removed_if_some, removed_if_assigned, one_more}
 use Rattle.fast_check_transform_module.proofs.items.+items.Goals as goal
 
 -- ---- the items of a body
 
-pub transform_items-transform_each-requires : goal.transform_items-transform_each-requires
-transform_items-transform_each-requires t c = (omega (arith, c.decreases), c.requires.sources)
-
-pub transform_items-returns-clause-answer : goal.transform_items-returns-clause-answer
-transform_items-returns-clause-answer t c =
-    let around = seen_around c.args.around in
-    let items = parts (seen c.args.body) in
-    let each = c.in_ok-items.ensures in
-    with_namespaces around items each.answer
-    (each.properties ∙ ap (λ (ps : List ExpandoProperty). ps ++ flat_map (item_properties around) items) c.new-properties.ensures.items)
-    c.in_ok-keep_namespaces.ensures c.in_ok-append.ensures
-
-pub transform_items-returns-clause-comments : goal.transform_items-returns-clause-comments
-transform_items-returns-clause-comments t c = c.in_ok-items.ensures.comments
-
-pub transform_each-transform_item-requires : goal.transform_each-transform_item-requires
-transform_each-transform_item-requires t c =
+pub transform_items-transform_item-requires : goal.transform_items-transform_item-requires
+transform_items-transform_item-requires t c =
     let item = seen c.read-item.result in
     let all = c.parts-item-items.result.now in
     let i = c.loop-item.item-index in
@@ -54,16 +35,16 @@ transform_each-transform_item-requires t c =
     let lower = item_lower (seen c.args.body) item all i c.loop-item-test.true c.parts-item-items.ensures here in
     (omega (arith, c.decreases, lower), (sym c.is_assigned.ensures ∙ c.if-is_assigned.false, c.loop-item.invariant.sources))
 
-pub transform_each-loop-item-init : goal.transform_each-loop-item-init
-transform_each-loop-item-init t c = record {
-  answer = no_items (seen_around c.args.around) c.new-items.ensures c.args.faults.now.items;
-  properties = sym (append-nil c.args.properties.now.items);
+pub transform_items-loop-item-init : goal.transform_items-loop-item-init
+transform_items-loop-item-init t c = record {
+  answer = no_items (seen_around c.args.around) c.new-items.ensures c.args.context.now.faults.items;
+  properties = c.new-properties.ensures.items;
   comments = refl;
   sources = c.requires.sources;
 }
 
-pub transform_each-loop-item-preserved-then-is_assigned : goal.transform_each-loop-item-preserved-then-is_assigned
-transform_each-loop-item-preserved-then-is_assigned t c =
+pub transform_items-loop-item-preserved-then-is_assigned : goal.transform_items-loop-item-preserved-then-is_assigned
+transform_items-loop-item-preserved-then-is_assigned t c =
     let around = seen_around c.args.around in
     let item = seen c.read-item.result in
     let all = c.parts-item-items.result.now in
@@ -76,16 +57,16 @@ transform_each-loop-item-preserved-then-is_assigned t c =
       answer =
           one_more_assigned around all i item c.loop-item-test.true here rule c.of.ensures.expr c.loop-item.invariant.answer kept.answer;
       properties =
-          more_properties around all i item c.loop-item-test.true here rule c.of.ensures.expr _ c.loop-item.invariant.properties
+          more_properties around all i item c.loop-item-test.true here rule c.of.ensures.expr c.loop-item.invariant.properties
           kept.properties;
       comments = c.remove_leading.ensures ∙ ((λ i. without_leading (start i) (c.loop-item.invariant.comments i))
-          ∙ sym (one_more around all i item ((range_of_node item).start ∷ []) c.args.comments.now c.loop-item-test.true here
+          ∙ sym (one_more around all i item ((range_of_node item).start ∷ []) c.args.context.now.comments c.loop-item-test.true here
           (removed_if_assigned around item rule)));
       sources = c.loop-item.invariant.sources;
     }
 
-pub transform_each-loop-item-preserved-in-None : goal.transform_each-loop-item-preserved-in-None
-transform_each-loop-item-preserved-in-None t c =
+pub transform_items-loop-item-preserved-in-None : goal.transform_items-loop-item-preserved-in-None
+transform_items-loop-item-preserved-in-None t c =
     let around = seen_around c.args.around in
     let item = seen c.read-item.result in
     let start = ap (λ r. r.start) c.range_of_node-in-None.ensures in
@@ -99,20 +80,20 @@ transform_each-loop-item-preserved-in-None t c =
           here c.loop-item.invariant.answer
           kept.answer (sym (append-nil c.loop-item.items) ∙ ap (λ o. c.loop-item.items ++ as_list o) (sym c.in-None.is));
       properties = same_properties around all i item c.loop-item-test.true here
-          (sym c.is_assigned.ensures ∙ c.if-is_assigned.false) _ c.loop-item.invariant.properties;
+          (sym c.is_assigned.ensures ∙ c.if-is_assigned.false) c.loop-item.invariant.properties;
       comments = c.in_ok-remove_inside-in-None.ensures
           ∙ (ap (without_all_leading (inside around item))
           (c.remove_leading-in-None.ensures ∙ (λ i. without_leading (start i)
           ((kept.comments ∙ ap (without_all_leading (below around item)) c.loop-item.invariant.comments) i)))
-          ∙ sym (one_more around all i item (below around item ++ starts) c.args.comments.now
+          ∙ sym (one_more around all i item (below around item ++ starts) c.args.context.now.comments
           c.loop-item-test.true here
           (removed_if_none around item (sym c.is_assigned.ensures ∙ c.if-is_assigned.false) kept.answer (ap as_list c.in-None.is))
           ∙ without_append (below around item) starts _));
       sources = kept.sources;
     }
 
-pub transform_each-loop-item-preserved : goal.transform_each-loop-item-preserved
-transform_each-loop-item-preserved t c =
+pub transform_items-loop-item-preserved : goal.transform_items-loop-item-preserved
+transform_items-loop-item-preserved t c =
     let around = seen_around c.args.around in
     let item = seen c.read-item.result in
     let kept = c.in_ok-transform_item.ensures in
@@ -124,33 +105,33 @@ transform_each-loop-item-preserved t c =
           here c.loop-item.invariant.answer
           kept.answer (c.in_ok-push-in-Some.ensures.ok ∙ ap (λ o. c.loop-item.items ++ as_list o) (sym c.in-Some.is));
       properties = same_properties around all i item c.loop-item-test.true here
-          (sym c.is_assigned.ensures ∙ c.if-is_assigned.false) _ c.loop-item.invariant.properties;
+          (sym c.is_assigned.ensures ∙ c.if-is_assigned.false) c.loop-item.invariant.properties;
       comments = c.in_ok-remove_inside-in-Some.ensures
           ∙ (ap (without_all_leading (inside around item))
           (kept.comments ∙ ap (without_all_leading (below around item)) c.loop-item.invariant.comments)
           ∙ sym (one_more around all i item (below around item ++ inside around item)
-          c.args.comments.now c.loop-item-test.true here (removed_if_some around item kept.answer (ap as_list c.in-Some.is))
+          c.args.context.now.comments c.loop-item-test.true here (removed_if_some around item kept.answer (ap as_list c.in-Some.is))
           ∙ without_append (below around item) (inside around item) _));
       sources = kept.sources;
     }
 
-pub transform_each-returns-clause-answer : goal.transform_each-returns-clause-answer
-transform_each-returns-clause-answer t c =
-    all_items
-    (seen_around c.args.around) c.loop-item.item-index c.loop-item-test.false c.parts-item-items.ensures c.loop-item.invariant.answer
+pub transform_items-returns-clause-answer : goal.transform_items-returns-clause-answer
+transform_items-returns-clause-answer t c =
+    let around = seen_around c.args.around in
+    let i = c.loop-item.item-index in
+    let last = c.loop-item-test.false in
+    let items = c.parts-item-items.ensures in
+    with_namespaces around (parts (seen c.args.body)) (all_items around i last items c.loop-item.invariant.answer)
+    (all_properties around i last items c.loop-item.invariant.properties) c.in_ok-keep_namespaces.ensures c.in_ok-append.ensures
 
-pub transform_each-returns-clause-properties : goal.transform_each-returns-clause-properties
-transform_each-returns-clause-properties t c =
-    all_properties
-    (seen_around c.args.around) c.loop-item.item-index c.loop-item-test.false c.parts-item-items.ensures _ c.loop-item.invariant.properties
-
-pub transform_each-returns-clause-comments : goal.transform_each-returns-clause-comments
-transform_each-returns-clause-comments t c =
+pub transform_items-returns-clause-comments : goal.transform_items-returns-clause-comments
+transform_items-returns-clause-comments t c =
     let all = take_all c.loop-item.item-index c.parts-item-items.result.now c.loop-item-test.false ∙ c.parts-item-items.ensures in
-    c.loop-item.invariant.comments ∙ ap (λ ts. without_all_leading (removed_from (seen_around c.args.around) ts) c.args.comments.now) all
+    c.loop-item.invariant.comments
+    ∙ ap (λ ts. without_all_leading (removed_from (seen_around c.args.around) ts) c.args.context.now.comments) all
 
-pub transform_each-returns-clause-sources : goal.transform_each-returns-clause-sources
-transform_each-returns-clause-sources t c = c.loop-item.invariant.sources
+pub transform_items-returns-clause-sources : goal.transform_items-returns-clause-sources
+transform_items-returns-clause-sources t c = c.loop-item.invariant.sources
 
 -- ---- namespaces
 
@@ -167,7 +148,7 @@ transform_namespace-returns-in-Some-clause-answer t c =
 
 pub transform_namespace-returns-in-Some-clause-comments : goal.transform_namespace-returns-in-Some-clause-comments
 transform_namespace-returns-in-Some-clause-comments t c =
-    ap (λ starts. without_all_leading starts c.args.comments.now)
+    ap (λ starts. without_all_leading starts c.args.context.now.comments)
     (sym (nothing_refused (seen_around c.args.around) c.args.place (seen c.args.decl) (sym c.module_fault.ensures ∙ c.in-Some.is)))
 
 pub transform_namespace-returns-then-not-contains-clause-answer : goal.transform_namespace-returns-then-not-contains-clause-answer
@@ -175,11 +156,11 @@ transform_namespace-returns-then-not-contains-clause-answer t c =
     private_namespace (seen_around c.args.around) c.args.place (seen c.args.decl)
     (sym c.module_fault.ensures ∙ none_of c.module_fault.result
     (λ f e. c.in_default.not-Some f e))
-    (sym c.contains.ensures ∙ c.if-not-contains.true) c.args.faults.now.items
+    (sym c.contains.ensures ∙ c.if-not-contains.true) c.args.context.now.faults.items
 
 pub transform_namespace-returns-then-not-contains-clause-comments : goal.transform_namespace-returns-then-not-contains-clause-comments
 transform_namespace-returns-then-not-contains-clause-comments t c =
-    ap (λ starts. without_all_leading starts c.args.comments.now)
+    ap (λ starts. without_all_leading starts c.args.context.now.comments)
     (sym (nothing_private (seen_around c.args.around) c.args.place (seen c.args.decl)
     (sym c.module_fault.ensures ∙ none_of c.module_fault.result
     (λ f e. c.in_default.not-Some f e))
@@ -195,7 +176,7 @@ transform_namespace-returns-clause-answer t c =
 pub transform_namespace-returns-clause-comments : goal.transform_namespace-returns-clause-comments
 transform_namespace-returns-clause-comments t c =
     c.in_ok-items.ensures.comments
-    ∙ ap (λ starts. without_all_leading starts c.args.comments.now)
+    ∙ ap (λ starts. without_all_leading starts c.args.context.now.comments)
     (sym (all_inside (seen_around c.args.around) c.args.place (seen c.args.decl) (sym c.module_fault.ensures ∙ none_of c.module_fault.result
     (λ f e. c.in_default.not-Some f e))
     (sym c.contains.ensures ∙ c.if-not-contains.false) c.inside.ensures c.items_inside.ensures))
@@ -209,113 +190,86 @@ transform_namespace-returns-clause-sources t c = λ text other there.
 pub transform_decl-returns-in-Variables-clause-answer : goal.transform_decl-returns-in-Variables-clause-answer
 transform_decl-returns-in-Variables-clause-answer t c =
     IfOk-weaker c.transform_statement.result _ _
-    (λ tree h. variables (seen_around c.args.around) c.args.declared.place (seen c.args.declared.decl) c.in-Variables.is h)
+    (λ tree h. variables (seen_around c.args.around) c.args.place (seen c.args.decl) c.in-Variables.is h)
     c.transform_statement.ensures
 
 pub transform_decl-returns-in-Function-clause-answer : goal.transform_decl-returns-in-Function-clause-answer
 transform_decl-returns-in-Function-clause-answer t c =
-    IfOk-weaker c.transform_public_function.result _ _ (λ tree h. functions (seen_around c.args.around) c.args.declared.place
-    (seen c.args.declared.decl) c.in-Function.is h) c.transform_public_function.ensures
+    IfOk-weaker c.transform_public_function.result _ _ (λ tree h. functions (seen_around c.args.around) c.args.place
+    (seen c.args.decl) c.in-Function.is h) c.transform_public_function.ensures
 
 pub transform_decl-returns-in-Class-clause-answer : goal.transform_decl-returns-in-Class-clause-answer
 transform_decl-returns-in-Class-clause-answer t c =
     IfOk-weaker c.transform_public_class.result _ _
-    (λ tree h. classes (seen_around c.args.around) c.args.declared.place (seen c.args.declared.decl) c.in-Class.is h)
+    (λ tree h. classes (seen_around c.args.around) c.args.place (seen c.args.decl) c.in-Class.is h)
     c.transform_public_class.ensures
 
 pub transform_decl-returns-in-Using-clause-answer : goal.transform_decl-returns-in-Using-clause-answer
 transform_decl-returns-in-Using-clause-answer t c =
     IfOk-weaker c.transform_using.result _ _
-    (λ tree h. using_stays (seen_around c.args.around) c.args.declared.place (seen c.args.declared.decl) c.in-Using.is h)
+    (λ tree h. using_stays (seen_around c.args.around) c.args.place (seen c.args.decl) c.in-Using.is h)
     c.transform_using.ensures
 
 pub transform_decl-returns-in-Standing-clause-answer : goal.transform_decl-returns-in-Standing-clause-answer
 transform_decl-returns-in-Standing-clause-answer t c =
     IfOk-weaker c.transform_standing.result _ _
-    (λ tree h. standing (seen_around c.args.around) c.args.declared.place
-    (seen c.args.declared.decl) c.in-Standing.is tree h c.args.faults.now.items) c.transform_standing.ensures
+    (λ tree h. standing (seen_around c.args.around) c.args.place
+    (seen c.args.decl) c.in-Standing.is tree h c.args.context.now.faults.items) c.transform_standing.ensures
 
 pub transform_decl-returns-in-Namespace-clause-answer : goal.transform_decl-returns-in-Namespace-clause-answer
 transform_decl-returns-in-Namespace-clause-answer t c =
     IfOk-weaker c.transform_namespace.result _ _
-    (λ tree h. namespaces (seen_around c.args.around) c.args.declared.place (seen c.args.declared.decl) c.in-Namespace.is h)
+    (λ tree h. namespaces (seen_around c.args.around) c.args.place (seen c.args.decl) c.in-Namespace.is h)
     c.transform_namespace.ensures.answer
 
 pub transform_decl-returns-in-NoDeclaration-clause-answer : goal.transform_decl-returns-in-NoDeclaration-clause-answer
 transform_decl-returns-in-NoDeclaration-clause-answer t c =
-    undeclared (seen_around c.args.around) c.args.declared.place (seen c.args.declared.decl) c.in-NoDeclaration.is c.args.faults.now.items
+    undeclared (seen_around c.args.around) c.args.place (seen c.args.decl) c.in-NoDeclaration.is c.args.context.now.faults.items
 
 pub transform_decl-returns-in-Variables-clause-comments : goal.transform_decl-returns-in-Variables-clause-comments
 transform_decl-returns-in-Variables-clause-comments t c =
     IfOk-weaker c.transform_statement.result _ _
-    (λ tree h. ap (λ r. without_all_leading (starts_in_body start_look (seen_around c.args.around) c.args.declared.place
-    (seen c.args.declared.decl) r) c.args.comments.now) (sym c.in-Variables.is)) c.transform_statement.ensures
+    (λ tree h. ap (λ r. without_all_leading (starts_in_body start_look (seen_around c.args.around) c.args.place
+    (seen c.args.decl) r) c.args.context.now.comments) (sym c.in-Variables.is)) c.transform_statement.ensures
 
 pub transform_decl-returns-in-Function-clause-comments : goal.transform_decl-returns-in-Function-clause-comments
 transform_decl-returns-in-Function-clause-comments t c =
     IfOk-weaker c.transform_public_function.result _ _
-    (λ tree h. ap (λ r. without_all_leading (starts_in_body start_look (seen_around c.args.around) c.args.declared.place
-    (seen c.args.declared.decl) r) c.args.comments.now) (sym c.in-Function.is)) c.transform_public_function.ensures
+    (λ tree h. ap (λ r. without_all_leading (starts_in_body start_look (seen_around c.args.around) c.args.place
+    (seen c.args.decl) r) c.args.context.now.comments) (sym c.in-Function.is)) c.transform_public_function.ensures
 
 pub transform_decl-returns-in-Class-clause-comments : goal.transform_decl-returns-in-Class-clause-comments
 transform_decl-returns-in-Class-clause-comments t c =
     IfOk-weaker c.transform_public_class.result _ _
-    (λ tree h. ap (λ r. without_all_leading (starts_in_body start_look (seen_around c.args.around) c.args.declared.place
-    (seen c.args.declared.decl) r) c.args.comments.now) (sym c.in-Class.is)) c.transform_public_class.ensures
+    (λ tree h. ap (λ r. without_all_leading (starts_in_body start_look (seen_around c.args.around) c.args.place
+    (seen c.args.decl) r) c.args.context.now.comments) (sym c.in-Class.is)) c.transform_public_class.ensures
 
 pub transform_decl-returns-in-Standing-clause-comments : goal.transform_decl-returns-in-Standing-clause-comments
 transform_decl-returns-in-Standing-clause-comments t c =
     IfOk-weaker c.transform_standing.result _ _
-    (λ tree h. ap (λ r. without_all_leading (starts_in_body start_look (seen_around c.args.around) c.args.declared.place
-    (seen c.args.declared.decl) r) c.args.comments.now) (sym c.in-Standing.is)) c.transform_standing.ensures
+    (λ tree h. ap (λ r. without_all_leading (starts_in_body start_look (seen_around c.args.around) c.args.place
+    (seen c.args.decl) r) c.args.context.now.comments) (sym c.in-Standing.is)) c.transform_standing.ensures
 
 pub transform_decl-returns-in-Using-clause-comments : goal.transform_decl-returns-in-Using-clause-comments
 transform_decl-returns-in-Using-clause-comments t c =
     IfOk-weaker c.transform_using.result _ _
-    (λ tree h. ap (λ r. without_all_leading (starts_in_body start_look (seen_around c.args.around) c.args.declared.place
-    (seen c.args.declared.decl) r) c.args.comments.now) (sym c.in-Using.is)) c.transform_using.ensures
+    (λ tree h. ap (λ r. without_all_leading (starts_in_body start_look (seen_around c.args.around) c.args.place
+    (seen c.args.decl) r) c.args.context.now.comments) (sym c.in-Using.is)) c.transform_using.ensures
 
 pub transform_decl-returns-in-Namespace-clause-comments : goal.transform_decl-returns-in-Namespace-clause-comments
 transform_decl-returns-in-Namespace-clause-comments t c =
     IfOk-weaker c.transform_namespace.result _ _
-    (λ tree h. h ∙ ap (λ r. without_all_leading (starts_in_body start_look (seen_around c.args.around) c.args.declared.place
-    (seen c.args.declared.decl) r) c.args.comments.now) (sym c.in-Namespace.is)) c.transform_namespace.ensures.comments
+    (λ tree h. h ∙ ap (λ r. without_all_leading (starts_in_body start_look (seen_around c.args.around) c.args.place
+    (seen c.args.decl) r) c.args.context.now.comments) (sym c.in-Namespace.is)) c.transform_namespace.ensures.comments
 
 pub transform_decl-returns-in-NoDeclaration-clause-comments : goal.transform_decl-returns-in-NoDeclaration-clause-comments
 transform_decl-returns-in-NoDeclaration-clause-comments t c =
     ap (λ r. without_all_leading
-    (starts_in_body start_look (seen_around c.args.around) c.args.declared.place (seen c.args.declared.decl) r) c.args.comments.now)
+    (starts_in_body start_look (seen_around c.args.around) c.args.place (seen c.args.decl) r) c.args.context.now.comments)
     (sym c.in-NoDeclaration.is)
 
 pub transform_decl-returns-in-Namespace-clause-sources : goal.transform_decl-returns-in-Namespace-clause-sources
 transform_decl-returns-in-Namespace-clause-sources t c = c.transform_namespace.ensures.sources
-
--- ---- exports
-
-pub transform_export-transform_decl-requires : goal.transform_export-transform_decl-requires
-transform_export-transform_decl-requires t c =
-    (omega (arith, c.decreases, height_at_most (seen c.args.item) 1, ap height c.of.ensures.decl), c.requires.sources)
-
-pub transform_export-returns-in_ok-into_tree-in-Some-clause-answer : goal.transform_export-returns-in_ok-into_tree-in-Some-clause-answer
-transform_export-returns-in_ok-into_tree-in-Some-clause-answer t c =
-    made_export (seen_around c.args.around) (seen c.args.item) c.args.rule c.in_ok-decl.ensures.answer c.of.ensures.span c.of.ensures.decl
-    (ap as_list c.in-Some.is)
-    (c.in_ok-into_tree-in-Some.ensures ∙ ap (λ s. export_decl s c.in-Some.decl) c.of.ensures.span)
-
-pub transform_export-returns-in-None-clause-answer : goal.transform_export-returns-in-None-clause-answer
-transform_export-returns-in-None-clause-answer t c =
-    no_export (seen_around c.args.around) (seen c.args.item) c.args.rule c.in_ok-decl.ensures.answer c.of.ensures.span c.of.ensures.decl
-    (ap as_list c.in-None.is)
-
-pub transform_export-returns-in_ok-into_tree-in-Some-clause-comments : goal.transform_export-returns-in_ok-into_tree-in-Some-clause-comments
-transform_export-returns-in_ok-into_tree-in-Some-clause-comments t c =
-    c.in_ok-decl.ensures.comments ∙ (λ i. without_all_leading (starts_in_body start_look (seen_around c.args.around) (c.of.ensures.span i)
-    (c.of.ensures.decl i) c.args.rule) c.args.comments.now)
-
-pub transform_export-returns-in-None-clause-comments : goal.transform_export-returns-in-None-clause-comments
-transform_export-returns-in-None-clause-comments t c =
-    c.in_ok-decl.ensures.comments ∙ (λ i. without_all_leading (starts_in_body start_look (seen_around c.args.around) (c.of.ensures.span i)
-    (c.of.ensures.decl i) c.args.rule) c.args.comments.now)
 
 -- ---- items
 
@@ -326,17 +280,26 @@ transform_item-returns-in-Declared-clause-answer t c =
     (sym c.item_rule.ensures ∙ c.in-Declared.is) h c.range_of_node.ensures)
     c.transform_decl.ensures.answer
 
-pub transform_item-returns-in-Exported-clause-answer : goal.transform_item-returns-in-Exported-clause-answer
-transform_item-returns-in-Exported-clause-answer t c =
-    IfOk-weaker c.transform_export.result _ _
-    (λ tree h. exported (seen_around c.args.around) (seen c.args.item)
-    (sym c.item_rule.ensures ∙ c.in-Exported.is) h) c.transform_export.ensures.answer
+pub transform_item-transform_decl-requires-in-Exported : goal.transform_item-transform_decl-requires-in-Exported
+transform_item-transform_decl-requires-in-Exported t c =
+    (omega (arith, c.decreases, height_at_most (seen c.args.item) 1, ap height c.of.ensures.decl), c.requires.sources)
+
+pub transform_item-returns-in_ok-into_tree-in-Some-clause-answer : goal.transform_item-returns-in_ok-into_tree-in-Some-clause-answer
+transform_item-returns-in_ok-into_tree-in-Some-clause-answer t c =
+    made_export (seen_around c.args.around) (seen c.args.item) (sym c.item_rule.ensures ∙ c.in-Exported.is)
+    c.in_ok-decl-in-Exported.ensures.answer c.of.ensures.span c.of.ensures.decl (ap as_list c.in-Some.is)
+    (c.in_ok-into_tree-in-Some.ensures ∙ ap (λ s. export_decl s c.in-Some.decl) c.of.ensures.span)
+
+pub transform_item-returns-in-None-clause-answer : goal.transform_item-returns-in-None-clause-answer
+transform_item-returns-in-None-clause-answer t c =
+    no_export (seen_around c.args.around) (seen c.args.item) (sym c.item_rule.ensures ∙ c.in-Exported.is)
+    c.in_ok-decl-in-Exported.ensures.answer c.of.ensures.span c.of.ensures.decl (ap as_list c.in-None.is)
 
 pub transform_item-returns-in-Linked-clause-answer : goal.transform_item-returns-in-Linked-clause-answer
 transform_item-returns-in-Linked-clause-answer t c =
     IfOk-weaker c.transform_link.result _ _
     (λ tree h. linked (seen_around c.args.around) (seen c.args.item)
-    (sym c.item_rule.ensures ∙ c.in-Linked.is) tree (h c.requires.sources) c.args.faults.now.items)
+    (sym c.item_rule.ensures ∙ c.in-Linked.is) tree (h c.requires.sources) c.args.context.now.faults.items)
     c.transform_link.ensures.answer
 
 pub transform_item-returns-in-Default-clause-answer : goal.transform_item-returns-in-Default-clause-answer
@@ -352,43 +315,38 @@ transform_item-returns-in-Refused-clause-answer t c =
 
 pub transform_item-returns-in-Silent-clause-answer : goal.transform_item-returns-in-Silent-clause-answer
 transform_item-returns-in-Silent-clause-answer t c =
-    silent (seen_around c.args.around) (seen c.args.item) (sym c.item_rule.ensures ∙ c.in-Silent.is) c.args.faults.now.items
+    silent (seen_around c.args.around) (seen c.args.item) (sym c.item_rule.ensures ∙ c.in-Silent.is) c.args.context.now.faults.items
 
 pub transform_item-returns-in-Declared-clause-comments : goal.transform_item-returns-in-Declared-clause-comments
 transform_item-returns-in-Declared-clause-comments t c =
-    below_declared (seen_around c.args.around) (seen c.args.item) c.transform_decl.result _ c.args.comments.now (sym c.item_rule.ensures ∙
+    below_declared (seen_around c.args.around) (seen c.args.item) c.transform_decl.result _ c.args.context.now.comments (sym c.item_rule.ensures ∙
     c.in-Declared.is) c.range_of_node.ensures
     c.transform_decl.ensures.comments
-
-pub transform_item-returns-in-Exported-clause-comments : goal.transform_item-returns-in-Exported-clause-comments
-transform_item-returns-in-Exported-clause-comments t c =
-    below_exported (seen_around c.args.around) (seen c.args.item) c.transform_export.result _ c.args.comments.now (sym c.item_rule.ensures ∙
-    c.in-Exported.is) c.transform_export.ensures.comments
 
 pub transform_item-returns-in-Linked-clause-comments : goal.transform_item-returns-in-Linked-clause-comments
 transform_item-returns-in-Linked-clause-comments t c =
     IfOk-weaker c.transform_link.result _ _
-    (λ tree h. below_nothing (seen_around c.args.around) (seen c.args.item) c.args.comments.now
+    (λ tree h. below_nothing (seen_around c.args.around) (seen c.args.item) c.args.context.now.comments
     (sym c.item_rule.ensures ∙ c.in-Linked.is) refl)
     c.transform_link.ensures.answer
 
 pub transform_item-returns-in-Default-clause-comments : goal.transform_item-returns-in-Default-clause-comments
 transform_item-returns-in-Default-clause-comments t c =
     IfOk-weaker c.transform_default_export.result _ _
-    (λ tree h. below_nothing (seen_around c.args.around) (seen c.args.item) c.args.comments.now
+    (λ tree h. below_nothing (seen_around c.args.around) (seen c.args.item) c.args.context.now.comments
     (sym c.item_rule.ensures ∙ c.in-Default.is) refl)
     c.transform_default_export.ensures
 
 pub transform_item-returns-in-Refused-clause-comments : goal.transform_item-returns-in-Refused-clause-comments
 transform_item-returns-in-Refused-clause-comments t c =
     IfOk-weaker c.refuse.result _ _
-    (λ tree h. below_nothing (seen_around c.args.around) (seen c.args.item) c.args.comments.now
+    (λ tree h. below_nothing (seen_around c.args.around) (seen c.args.item) c.args.context.now.comments
     (sym c.item_rule.ensures ∙ c.in-Refused.is) refl)
     c.refuse.ensures
 
 pub transform_item-returns-in-Silent-clause-comments : goal.transform_item-returns-in-Silent-clause-comments
 transform_item-returns-in-Silent-clause-comments t c =
-    below_nothing (seen_around c.args.around) (seen c.args.item) c.args.comments.now (sym c.item_rule.ensures ∙ c.in-Silent.is) refl
+    below_nothing (seen_around c.args.around) (seen c.args.item) c.args.context.now.comments (sym c.item_rule.ensures ∙ c.in-Silent.is) refl
 
 pub transform_item-returns-in-Assigned-clause-answer : goal.transform_item-returns-in-Assigned-clause-answer
 transform_item-returns-in-Assigned-clause-answer t c =
@@ -396,7 +354,7 @@ transform_item-returns-in-Assigned-clause-answer t c =
 
 pub transform_item-returns-in-Assigned-clause-comments : goal.transform_item-returns-in-Assigned-clause-comments
 transform_item-returns-in-Assigned-clause-comments t c =
-    below_nothing (seen_around c.args.around) (seen c.args.item) c.args.comments.now (sym c.item_rule.ensures ∙ c.in-Assigned.is) refl
+    below_nothing (seen_around c.args.around) (seen c.args.item) c.args.context.now.comments (sym c.item_rule.ensures ∙ c.in-Assigned.is) refl
 
 pub transform_item-returns-in-Linked-clause-sources : goal.transform_item-returns-in-Linked-clause-sources
 transform_item-returns-in-Linked-clause-sources t c =

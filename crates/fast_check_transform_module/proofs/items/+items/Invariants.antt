@@ -1,4 +1,4 @@
-use Rattle.std.proofs.Common.{◌≡◌, ◌++◌, ◌+◌, ◌*◌, take}
+use Rattle.std.proofs.Common.{◌≡◌, ◌+◌, ◌*◌, take}
 use Rattle.fast_check_syntax.specs.Part.{seen}
 use Rattle.fast_check_syntax.specs.Height.{height}
 use Rattle.fast_check_signatures.specs.Answers.{Adds}
@@ -7,32 +7,27 @@ use Rattle.std.specs.List.{flat_map}
 use Rattle.fast_check_transform_statements.specs.transform_declarations.links.surroundings.skeleton.Visible.{item_properties}
 use Rattle.fast_check_transform_statements.specs.transform_declarations.links.surroundings.Surroundings.{seen_around}
 use Rattle.fast_check_transform_imports.specs.Relative.{AreRelative}
-use Rattle.fast_check_transform_module.specs.PartAnswers.{each_answer}
+use Rattle.fast_check_transform_module.proofs.ByRule.{each_answer}
 use Rattle.fast_check_transform_module.proofs.items.+items.Given as goal
 
 abbrev pub decreases-transform_items : goal.decreases-transform_items
-decreases-transform_items l = 6 * height (seen l.body) + 1
-
-abbrev pub decreases-transform_each : goal.decreases-transform_each
-decreases-transform_each l = 6 * height (seen l.body)
+decreases-transform_items l = 4 * height (seen l.body)
 
 abbrev pub decreases-transform_namespace : goal.decreases-transform_namespace
-decreases-transform_namespace l = 6 * height (seen l.decl) + 2
+decreases-transform_namespace l = 4 * height (seen l.decl) + 1
 
 abbrev pub decreases-transform_decl : goal.decreases-transform_decl
-decreases-transform_decl l = 6 * height (seen l.declared.decl) + 3
-
-abbrev pub decreases-transform_export : goal.decreases-transform_export
-decreases-transform_export l = 6 * height (seen l.item) + 4
+decreases-transform_decl l = 4 * height (seen l.decl) + 2
 
 abbrev pub decreases-transform_item : goal.decreases-transform_item
-decreases-transform_item l = 6 * height (seen l.item) + 5
+decreases-transform_item l = 4 * height (seen l.item) + 3
 
-abbrev pub invariant-transform_each-loop-item : goal.invariant-transform_each-loop-item
-invariant-transform_each-loop-item l = record {
-  answer : Adds (each_answer (seen_around l.around) (take l.item-index l.item-items)) l.items l.initial.faults.items l.faults.items;
-  properties : l.properties.items ≡ l.initial.properties.items ++ flat_map (item_properties (seen_around l.around))
-      (take l.item-index l.item-items);
-  comments : l.comments ≡ without_all_leading (removed_from (seen_around l.around) (take l.item-index l.item-items)) l.initial.comments;
-  sources : AreRelative (seen_around l.around) l.sources;
+abbrev pub invariant-transform_items-loop-item : goal.invariant-transform_items-loop-item
+invariant-transform_items-loop-item l = record {
+  answer : Adds (each_answer (seen_around l.around) (take l.item-index l.item-items)) l.items
+      l.initial.context.faults.items l.context.faults.items;
+  properties : l.properties.items ≡ flat_map (item_properties (seen_around l.around)) (take l.item-index l.item-items);
+  comments : l.context.comments ≡ without_all_leading (removed_from (seen_around l.around) (take l.item-index l.item-items))
+      l.initial.context.comments;
+  sources : AreRelative (seen_around l.around) l.context.sources;
 }
