@@ -34,7 +34,7 @@ use Rattle.fast_check_signatures.specs.declared.fault.Fault.{Fault}
 use Rattle.fast_check_signatures.specs.declared.fault.FaultKind.TheVariants.{UnsupportedDestructuring, UnsupportedUsing}
 use Rattle.fast_check_signatures.specs.declared.fault.FaultKind.TheVariants.{UnsupportedGlobalModule, UnsupportedAmbientModule}
 use Rattle.fast_check_signatures.specs.declared.function_kind.FunctionKind.TheVariants.{DeclarationLike}
-use Rattle.fast_check_skeleton.specs.Surroundings.{Surroundings, inside}
+use Rattle.fast_check_skeleton.specs.ModuleFacts.{ModuleFacts, inside}
 use Rattle.fast_check_swc_helpers.specs.Builders.{type_ann, never_value}
 use Rattle.fast_check_swc_helpers.specs.InferredType.{inferred_type}
 use Rattle.fast_check_swc_helpers.proofs.BuildersMoved.{type_ann_moved, never_value_moved}
@@ -95,16 +95,16 @@ use Rattle.fast_check_signatures.proofs.AnswersMoved.{moved_fault, moved_items, 
 
 -- ---- what is silent is not seen
 
-module _ (around : Surroundings) where
-  not_public : (statement d : Tree) → is_public_declarator around d ≡ false → public_declarator around statement d ≡ []
+module _ (facts : ModuleFacts) where
+  not_public : (statement d : Tree) → is_public_declarator facts d ≡ false → public_declarator facts statement d ≡ []
   not_public statement d e = rw e refl
 
-  no_declarators : (statement : Tree) (ds : List Tree) → list_all (λ d. not (is_public_declarator around d)) ds ≡ true →
-      flat_map (public_declarator around statement) ds ≡ []
+  no_declarators : (statement : Tree) (ds : List Tree) → list_all (λ d. not (is_public_declarator facts d)) ds ≡ true →
+      flat_map (public_declarator facts statement) ds ≡ []
   no_declarators statement [] e = refl
   no_declarators statement (d ∷ ds) e =
-      let b = both_true (not (is_public_declarator around d)) (list_all (λ d. not (is_public_declarator around d)) ds) e in
-      ap₂ (λ xs ys. xs ++ ys) (not_public statement d (go (is_public_declarator around d) b.0)) (no_declarators statement ds b.1)
+      let b = both_true (not (is_public_declarator facts d)) (list_all (λ d. not (is_public_declarator facts d)) ds) e in
+      ap₂ (λ xs ys. xs ++ ys) (not_public statement d (go (is_public_declarator facts d) b.0)) (no_declarators statement ds b.1)
     where
       go : (p : Bool) → not p ≡ true → p ≡ false
       go false e = refl
@@ -114,7 +114,7 @@ module _ (around : Surroundings) where
   rule_of t = decl_rule (kind_of t)
 
   -- what goes without a word as a declaration is one
-  pub silent_declares : (p : SourceRange) (t : Tree) → IsSilentDecl around p t → declares (rule_of t) ≡ true
+  pub silent_declares : (p : SourceRange) (t : Tree) → IsSilentDecl facts p t → declares (rule_of t) ≡ true
   silent_declares p t (h.IsSilentDecl.variable k e) = ap (λ j. declares (decl_rule j)) k
   silent_declares p t (h.IsSilentDecl.standing s e) = ap declares (standing_rule (kind_of t) s)
   silent_declares p t (h.IsSilentDecl.function k e) = ap (λ j. declares (decl_rule j)) k
@@ -122,58 +122,58 @@ module _ (around : Surroundings) where
   silent_declares p t (h.IsSilentDecl.using k e) = ap (λ j. declares (decl_rule j)) k
   silent_declares p t (h.IsSilentDecl.namespace k n e) = ap (λ j. declares (decl_rule j)) k
 
-  silent_decl : (p : SourceRange) (t : Tree) → IsSilentDecl around p t → decl_seen around p t (rule_of t) ≡ []
+  silent_decl : (p : SourceRange) (t : Tree) → IsSilentDecl facts p t → decl_seen facts p t (rule_of t) ≡ []
   silent_decl p t (h.IsSilentDecl.variable k e) =
-      ap (λ j. decl_seen around p t (decl_rule j)) k ∙ ap (statement_seen t) (no_declarators t (parts (VarDecl-decls t)) e)
+      ap (λ j. decl_seen facts p t (decl_rule j)) k ∙ ap (statement_seen t) (no_declarators t (parts (VarDecl-decls t)) e)
   silent_decl p t (h.IsSilentDecl.standing s e) =
-      ap (decl_seen around p t) (standing_rule (kind_of t) s) ∙ ap (λ b. if b then written t ∷ [] else []) e
+      ap (decl_seen facts p t) (standing_rule (kind_of t) s) ∙ ap (λ b. if b then written t ∷ [] else []) e
   silent_decl p t (h.IsSilentDecl.function k e) =
-      ap (λ j. decl_seen around p t (decl_rule j)) k ∙ ap (λ b. if b then function_decl_seen around p t ∷ [] else []) e
+      ap (λ j. decl_seen facts p t (decl_rule j)) k ∙ ap (λ b. if b then function_decl_seen facts p t ∷ [] else []) e
   silent_decl p t (h.IsSilentDecl.class k e) =
-      ap (λ j. decl_seen around p t (decl_rule j)) k ∙ ap (λ b. if b then class_decl_seen around t ∷ [] else []) e
+      ap (λ j. decl_seen facts p t (decl_rule j)) k ∙ ap (λ b. if b then class_decl_seen facts t ∷ [] else []) e
   silent_decl p t (h.IsSilentDecl.using k e) =
-      ap (λ j. decl_seen around p t (decl_rule j)) k ∙ ap (λ b. if b then faulty UnsupportedUsing (using_place t) ∷ [] else []) e
-  silent_decl p t (h.IsSilentDecl.namespace k n e) = ap (λ j. decl_seen around p t (decl_rule j)) k ∙ hidden_namespace around p t n e
+      ap (λ j. decl_seen facts p t (decl_rule j)) k ∙ ap (λ b. if b then faulty UnsupportedUsing (using_place t) ∷ [] else []) e
+  silent_decl p t (h.IsSilentDecl.namespace k n e) = ap (λ j. decl_seen facts p t (decl_rule j)) k ∙ hidden_namespace facts p t n e
 
-  item_of : (t : Tree) → declares (rule_of t) ≡ true → item_seen around t ≡ decl_seen around (range_of_node t) t (rule_of t)
-  item_of t e = item_seen_is around t ∙ ap (seen_by_rule around t) (declared_rule (kind_of t) t e)
+  item_of : (t : Tree) → declares (rule_of t) ≡ true → item_seen facts t ≡ decl_seen facts (range_of_node t) t (rule_of t)
+  item_of t e = item_seen_is facts t ∙ ap (seen_by_rule facts t) (declared_rule (kind_of t) t e)
 
   export_of : (t : Tree) → kind_of t ≡ ExportDecl →
-      item_seen around t ≡ exported_seen t (decl_seen around (ExportDecl-span t) (ExportDecl-decl t) (rule_of (ExportDecl-decl t)))
-  export_of t e = item_seen_is around t ∙ ap (λ k. seen_by_rule around t (rule_of_kind k t)) e
+      item_seen facts t ≡ exported_seen t (decl_seen facts (ExportDecl-span t) (ExportDecl-decl t) (rule_of (ExportDecl-decl t)))
+  export_of t e = item_seen_is facts t ∙ ap (λ k. seen_by_rule facts t (rule_of_kind k t)) e
 
-  pub silent_item : (t : Tree) → IsSilent around t → item_seen around t ≡ []
+  pub silent_item : (t : Tree) → IsSilent facts t → item_seen facts t ≡ []
   silent_item t (h.IsSilent.decl s) = item_of t (silent_declares (range_of_node t) t s) ∙ silent_decl (range_of_node t) t s
-  silent_item t (h.IsSilent.statement s) = item_seen_is around t ∙ ap (seen_by_rule around t) (silent_rule t s)
+  silent_item t (h.IsSilent.statement s) = item_seen_is facts t ∙ ap (seen_by_rule facts t) (silent_rule t s)
   silent_item t (h.IsSilent.exported k s) = export_of t k ∙ ap (exported_seen t) (silent_decl (ExportDecl-span t) (ExportDecl-decl t) s)
   silent_item t (h.IsSilent.assigned k n e) =
-      item_seen_is around t ∙ (ap (seen_by_rule around t) (assigned_rule t k n)
-      ∙ ap (λ p. if p then tested (missing_place around.objects (ExprStmt-expr t)) (right_seen around.bindings (ExprStmt-expr t)) ∷
+      item_seen_is facts t ∙ (ap (seen_by_rule facts t) (assigned_rule t k n)
+      ∙ ap (λ p. if p then tested (missing_place facts.objects (ExprStmt-expr t)) (right_seen facts.bindings (ExprStmt-expr t)) ∷
       [] else []) e)
-  silent_item t (h.IsSilent.linked s) = let e = silent_link around t s in item_seen_is around t ∙
-      (ap (seen_by_rule around t) e.is ∙ e.unseen)
-  silent_item t (h.IsSilent.default s) = let e = silent_default around t s in item_seen_is around t ∙
-      (ap (seen_by_rule around t) e.is ∙ e.unseen)
+  silent_item t (h.IsSilent.linked s) = let e = silent_link facts t s in item_seen_is facts t ∙
+      (ap (seen_by_rule facts t) e.is ∙ e.unseen)
+  silent_item t (h.IsSilent.default s) = let e = silent_default facts t s in item_seen_is facts t ∙
+      (ap (seen_by_rule facts t) e.is ∙ e.unseen)
 
   -- nor does it declare a property
-  pub silent_properties : (t : Tree) → IsSilent around t → item_properties around t ≡ []
-  silent_properties t (h.IsSilent.decl s) = ap (properties_by_rule around t)
+  pub silent_properties : (t : Tree) → IsSilent facts t → item_properties facts t ≡ []
+  silent_properties t (h.IsSilent.decl s) = ap (properties_by_rule facts t)
       (declared_rule (kind_of t) t (silent_declares (range_of_node t) t s))
-  silent_properties t (h.IsSilent.statement s) = ap (properties_by_rule around t) (silent_rule t s)
-  silent_properties t (h.IsSilent.exported k s) = ap (λ j. properties_by_rule around t (rule_of_kind j t)) k
+  silent_properties t (h.IsSilent.statement s) = ap (properties_by_rule facts t) (silent_rule t s)
+  silent_properties t (h.IsSilent.exported k s) = ap (λ j. properties_by_rule facts t (rule_of_kind j t)) k
   silent_properties t (h.IsSilent.assigned k n e) =
-      ap (properties_by_rule around t) (assigned_rule t k n)
-      ∙ ap (λ p. if p && is_expando_assignment (ExprStmt-expr t) then kept_property around.objects (AssignExpr-span (ExprStmt-expr t))
-      (AssignExpr-left (ExprStmt-expr t)) (answer_to (right_seen around.bindings (ExprStmt-expr t))).stays else []) e
-  silent_properties t (h.IsSilent.linked s) = ap (properties_by_rule around t) (silent_link around t s).is
-  silent_properties t (h.IsSilent.default s) = ap (properties_by_rule around t) (silent_default around t s).is
+      ap (properties_by_rule facts t) (assigned_rule t k n)
+      ∙ ap (λ p. if p && is_expando_assignment (ExprStmt-expr t) then kept_property facts.objects (AssignExpr-span (ExprStmt-expr t))
+      (AssignExpr-left (ExprStmt-expr t)) (answer_to (right_seen facts.bindings (ExprStmt-expr t))).stays else []) e
+  silent_properties t (h.IsSilent.linked s) = ap (properties_by_rule facts t) (silent_link facts t s).is
+  silent_properties t (h.IsSilent.default s) = ap (properties_by_rule facts t) (silent_default facts t s).is
 
   -- what is seen of the items of a body, one by one
   abbrev each_seen : List Tree → List Seen
-  each_seen ts = flat_map (λ item. item_look item around) ts
+  each_seen ts = flat_map (λ item. item_look item facts) ts
 
   abbrev each_declared : List Tree → List ExpandoProperty
-  each_declared ts = flat_map (item_properties around) ts
+  each_declared ts = flat_map (item_properties facts) ts
 
 -- ---- what agrees is seen alike
 
@@ -181,23 +181,23 @@ module _ (r : Renaming) (ok : IsRenaming r) where
   absent_same : (t u : Tree) → SameTree r t u → is_absent t ≡ is_absent u
   absent_same t u s = absent_alike r ok t u (tree_to r ok s)
 
-  module _ (a b : Surroundings) where
+  module _ (a b : ModuleFacts) where
     -- ---- declarators
 
-    abbrev shown_of : Surroundings → DeclMutabilityKind → Tree → Option Tree
-    shown_of around mutability d = inferred_type mutability around.bindings.unresolved (VarDeclarator-init d)
+    abbrev shown_of : ModuleFacts → DeclMutabilityKind → Tree → Option Tree
+    shown_of facts mutability d = inferred_type mutability facts.bindings.unresolved (VarDeclarator-init d)
 
-    of_ident : (around : Surroundings) (mutability : DeclMutabilityKind) (d : Tree) → kind_of (VarDeclarator-name d) ≡ BindingIdent →
-        declarator_seen around mutability d ≡ ident_declarator_seen around mutability d
-    of_ident around mutability d e =
-        ap (λ k. if k is BindingIdent then ident_declarator_seen around mutability d else faulty UnsupportedDestructuring
+    of_ident : (facts : ModuleFacts) (mutability : DeclMutabilityKind) (d : Tree) → kind_of (VarDeclarator-name d) ≡ BindingIdent →
+        declarator_seen facts mutability d ≡ ident_declarator_seen facts mutability d
+    of_ident facts mutability d e =
+        ap (λ k. if k is BindingIdent then ident_declarator_seen facts mutability d else faulty UnsupportedDestructuring
         (range_of_node (VarDeclarator-name d))) e
 
-    of_pattern : (around : Surroundings) (mutability : DeclMutabilityKind) (d : Tree) →
+    of_pattern : (facts : ModuleFacts) (mutability : DeclMutabilityKind) (d : Tree) →
         kind_of (VarDeclarator-name d) is BindingIdent ≡ false →
-        declarator_seen around mutability d ≡ faulty UnsupportedDestructuring (range_of_node (VarDeclarator-name d))
-    of_pattern around mutability d e =
-        ap (λ b. if b then ident_declarator_seen around mutability d else faulty UnsupportedDestructuring
+        declarator_seen facts mutability d ≡ faulty UnsupportedDestructuring (range_of_node (VarDeclarator-name d))
+    of_pattern facts mutability d e =
+        ap (λ b. if b then ident_declarator_seen facts mutability d else faulty UnsupportedDestructuring
         (range_of_node (VarDeclarator-name d))) e
 
     head_alike : (t u : Tree) → SameHead r a b t u → moved_declarator (partners r) (declarator_head t) ≡ moved_declarator twice
@@ -338,15 +338,15 @@ module _ (r : Renaming) (ok : IsRenaming r) where
     -- ---- functions
 
     -- what is seen of a function that is no implementation
-    abbrev here : Surroundings → Tree → Seen
-    here around t = function_seen around.bindings (expr_seen around.bindings) DeclarationLike (Ident-span (FnDecl-ident t))
+    abbrev here : ModuleFacts → Tree → Seen
+    here facts t = function_seen facts.bindings (expr_seen facts.bindings) DeclarationLike (Ident-span (FnDecl-ident t))
         (FnDecl-function t)
 
-    abbrev signature_if : Surroundings → Tree → Bool → Seen → Seen
-    signature_if around t is_implementation seen = if is_implementation then implementation_seen (FnDecl-function t) else seen
+    abbrev signature_if : ModuleFacts → Tree → Bool → Seen → Seen
+    signature_if facts t is_implementation seen = if is_implementation then implementation_seen (FnDecl-function t) else seen
 
-    abbrev function_form : Surroundings → SourceRange → Tree → Seen
-    function_form around p t = round FnDecl (seens (written (FnDecl-ident t) ∷ flag (FnDecl-declare t) ∷ signature_of around p t ∷ []))
+    abbrev function_form : ModuleFacts → SourceRange → Tree → Seen
+    function_form facts p t = round FnDecl (seens (written (FnDecl-ident t) ∷ flag (FnDecl-declare t) ∷ signature_of facts p t ∷ []))
 
     declared_function : (p q : SourceRange) (t u : Tree) → a.is_ambient ≡ b.is_ambient → SameFunctionDecl r a b p q t u →
         Alike r ok (signature_of a p t) (signature_of b q u) →
@@ -371,9 +371,9 @@ module _ (r : Renaming) (ok : IsRenaming r) where
         is_ambient_class a t ≡ is_ambient_class b u
     ambient_class_same t u e f = ap₂ (λ x y. x || y) e f
 
-    abbrev class_if : Surroundings → Tree → Bool → Seen
-    class_if around t is_ambient' =
-        if is_ambient' then written (ambient_class (ClassDecl-class t)) else plain_class_seen around.bindings around.is_implementation
+    abbrev class_if : ModuleFacts → Tree → Bool → Seen
+    class_if facts t is_ambient' =
+        if is_ambient' then written (ambient_class (ClassDecl-class t)) else plain_class_seen facts.bindings facts.is_implementation
         (ClassDecl-class t)
 
     classes_alike : (p q : SourceRange) (t u : Tree) → SameClassDecl r a b t u → a.is_public p ≡ b.is_public q →
@@ -513,15 +513,15 @@ module _ (r : Renaming) (ok : IsRenaming r) where
         flag_alike r ok (TsModuleDecl-namespace t) (TsModuleDecl-namespace u) d.namespace i ∷ same_written r ok d.id i ∷ e i ∷ [])))
 
     -- a namespace is an item of its own
-    namespace_of : (around : Surroundings) (t : Tree) → kind_of t ≡ TsModuleDecl →
-        item_seen around t ≡ namespace_seen item_look around (range_of_node t) t
-    namespace_of around t k =
-        item_of around t (ap (λ j. declares (decl_rule j)) k) ∙ ap (λ j. decl_seen around (range_of_node t) t (decl_rule j)) k
+    namespace_of : (facts : ModuleFacts) (t : Tree) → kind_of t ≡ TsModuleDecl →
+        item_seen facts t ≡ namespace_seen item_look facts (range_of_node t) t
+    namespace_of facts t k =
+        item_of facts t (ap (λ j. declares (decl_rule j)) k) ∙ ap (λ j. decl_seen facts (range_of_node t) t (decl_rule j)) k
 
-    exported_namespace_of : (around : Surroundings) (t : Tree) → kind_of t ≡ ExportDecl → kind_of (ExportDecl-decl t) ≡ TsModuleDecl →
-        item_seen around t ≡ exported_seen t (namespace_seen item_look around (ExportDecl-span t) (ExportDecl-decl t))
-    exported_namespace_of around t k n =
-        export_of around t k ∙ ap (λ j. exported_seen t (decl_seen around (ExportDecl-span t) (ExportDecl-decl t) (decl_rule j))) n
+    exported_namespace_of : (facts : ModuleFacts) (t : Tree) → kind_of t ≡ ExportDecl → kind_of (ExportDecl-decl t) ≡ TsModuleDecl →
+        item_seen facts t ≡ exported_seen t (namespace_seen item_look facts (ExportDecl-span t) (ExportDecl-decl t))
+    exported_namespace_of facts t k n =
+        export_of facts t k ∙ ap (λ j. exported_seen t (decl_seen facts (ExportDecl-span t) (ExportDecl-decl t) (decl_rule j))) n
 
   block_alike : (t u : Tree) (xs ys : List Seen) → SameRange r (TsModuleBlock-span t) (TsModuleBlock-span u) → AllAlike r ok xs ys →
       Alike r ok (block_round t xs) (block_round u ys)
@@ -541,15 +541,15 @@ module _ (r : Renaming) (ok : IsRenaming r) where
       flag_alike r ok (TsNamespaceDecl-declare t) (TsNamespaceDecl-declare u) d.declare i ∷
       flag_alike r ok (TsNamespaceDecl-global t) (TsNamespaceDecl-global u) d.global i ∷ same_written r ok d.id i ∷ e i ∷ [])
 
-  pub namespace_kinds : {a b : Surroundings} {p q : SourceRange} {t u : Tree} → SameNamespace r a b p q t u → Both TsModuleDecl t u
+  pub namespace_kinds : {a b : ModuleFacts} {p q : SourceRange} {t u : Tree} → SameNamespace r a b p q t u → Both TsModuleDecl t u
   namespace_kinds (h.SameNamespace.bodies d s) = d.kinds
 
   -- the properties that items declare which agree
-  no_properties : (a b : Surroundings) (t u : Tree) → item_properties a t ≡ [] → item_properties b u ≡ [] →
+  no_properties : (a b : ModuleFacts) (t u : Tree) → item_properties a t ≡ [] → item_properties b u ≡ [] →
       PropertiesAlike r ok (item_properties a t) (item_properties b u)
   no_properties a b t u e f = ap (map (moved_expando (partners r))) e ∙ sym (ap (map (moved_expando twice)) f)
 
-  declared_alike : {a b : Surroundings} {t u : Tree} → SameBindings r a.bindings b.bindings → a.is_ambient ≡ b.is_ambient →
+  declared_alike : {a b : ModuleFacts} {t u : Tree} → SameBindings r a.bindings b.bindings → a.is_ambient ≡ b.is_ambient →
       SameItem r a b t u →
       PropertiesAlike r ok (item_properties a t) (item_properties b u)
   declared_alike c m (h.SameItem.decl {a = a} {b = b} {t = t} {u = u} d) =
@@ -579,7 +579,7 @@ module _ (r : Renaming) (ok : IsRenaming r) where
   declared_alike c m (h.SameItem.refused {a = a} {b = b} {t = t} {u = u} kind e f s) =
       no_properties a b t u (ap (properties_by_rule a t) e) (ap (properties_by_rule b u) f)
 
-  all_declared_alike : {a b : Surroundings} {ts us : List Tree} → SameBindings r a.bindings b.bindings → a.is_ambient ≡ b.is_ambient →
+  all_declared_alike : {a b : ModuleFacts} {ts us : List Tree} → SameBindings r a.bindings b.bindings → a.is_ambient ≡ b.is_ambient →
       SameItems r a b ts us → PropertiesAlike r ok (each_declared a ts) (each_declared b us)
   all_declared_alike c m h.SameItems.end = refl
   all_declared_alike c m (h.SameItems.left {a = a} {b = b} {t = t} {ts = ts} {us = us} q n rest) =
@@ -592,14 +592,14 @@ module _ (r : Renaming) (ok : IsRenaming r) where
       more_properties r ok (item_properties a t) (each_declared a ts) (item_properties b u) (each_declared b us) (declared_alike c m s)
       (all_declared_alike c m rest)
 
-  with_namespaces : (a b : Surroundings) (ts us : List Tree) → AllAlike r ok (each_seen a ts) (each_seen b us) →
+  with_namespaces : (a b : ModuleFacts) (ts us : List Tree) → AllAlike r ok (each_seen a ts) (each_seen b us) →
       PropertiesAlike r ok (each_declared a ts) (each_declared b us) → AllAlike r ok (body_seen item_look a ts) (body_seen item_look b us)
   with_namespaces a b ts us e f =
       append_alike r ok (each_seen a ts) (namespaces_seen (each_declared a ts)) (each_seen b us) (namespaces_seen (each_declared b us)) e
       (all_namespaces_alike r ok (each_declared a ts) (each_declared b us) f)
 
   mutual
-    pub item_alike : {a b : Surroundings} {t u : Tree} → SameBindings r a.bindings b.bindings → a.is_ambient ≡ b.is_ambient →
+    pub item_alike : {a b : ModuleFacts} {t u : Tree} → SameBindings r a.bindings b.bindings → a.is_ambient ≡ b.is_ambient →
         SameItem r a b t u → AllAlike r ok (item_seen a t) (item_seen b u)
     item_alike c m (h.SameItem.decl {a = a} {b = b} {t = t} {u = u} d) =
         let e = decl_alike a b c m (range_of_node t) (range_of_node u) t u d in
@@ -636,13 +636,13 @@ module _ (r : Renaming) (ok : IsRenaming r) where
         (subst₂ (λ x y. AllAlike r ok (seen_by_rule a t x) (seen_by_rule b u y)) (sym e) (sym f)
         (ap (λ x. faulty kind x ∷ []) (range_to r ok (range_of_node t) (range_of_node u) s)))
 
-    namespaces_alike : {a b : Surroundings} {p q : SourceRange} {t u : Tree} → SameBindings r a.bindings b.bindings →
+    namespaces_alike : {a b : ModuleFacts} {p q : SourceRange} {t u : Tree} → SameBindings r a.bindings b.bindings →
         a.is_ambient ≡ b.is_ambient →
         SameNamespace r a b p q t u → AllAlike r ok (namespace_seen item_look a p t) (namespace_seen item_look b q u)
     namespaces_alike c m (h.SameNamespace.bodies {a = a} {b = b} {p = p} {q = q} {t = t} {u = u} d s) =
         namespace_alike a b p q t u d (body_alike c (ap₂ (λ x y. x || y) m d.declare) s)
 
-    body_alike : {a b : Surroundings} {t u : Tree} → SameBindings r a.bindings b.bindings → a.is_ambient ≡ b.is_ambient →
+    body_alike : {a b : ModuleFacts} {t u : Tree} → SameBindings r a.bindings b.bindings → a.is_ambient ≡ b.is_ambient →
         SameBody r a b t u → Alike r ok (body_round (body_seen item_look a (block_items (innermost t))) t)
         (body_round (body_seen item_look b (block_items (innermost u))) u)
     body_alike c m (h.SameBody.block {a = a} {b = b} {t = t} {u = u} n s rest) =
@@ -654,7 +654,7 @@ module _ (r : Renaming) (ok : IsRenaming r) where
         (sym (body_of_inner (body_seen item_look b) u (ap (λ k. k is TsNamespaceDecl) d.kinds.right)))
         (inner_alike t u _ _ d (body_alike c m s))
 
-    each_alike : {a b : Surroundings} {ts us : List Tree} → SameBindings r a.bindings b.bindings → a.is_ambient ≡ b.is_ambient →
+    each_alike : {a b : ModuleFacts} {ts us : List Tree} → SameBindings r a.bindings b.bindings → a.is_ambient ≡ b.is_ambient →
         SameItems r a b ts us → AllAlike r ok (each_seen a ts) (each_seen b us)
     each_alike c m h.SameItems.end = refl
     each_alike c m (h.SameItems.left {a = a} {b = b} {t = t} {ts = ts} {us = us} q n rest) =
@@ -664,7 +664,7 @@ module _ (r : Renaming) (ok : IsRenaming r) where
     each_alike c m (h.SameItems.next {a = a} {b = b} {t = t} {u = u} {ts = ts} {us = us} s rest) =
         append_alike r ok (item_seen a t) (each_seen a ts) (item_seen b u) (each_seen b us) (item_alike c m s) (each_alike c m rest)
 
-  module _ (a b : Surroundings) where
+  module _ (a b : ModuleFacts) where
     visible_alike : (t u : Tree) → AgreeHidden r a b t u → AllAlike r ok (visible a t) (visible b u)
     visible_alike t u g =
         with_namespaces a b (items_of t) (items_of u) (each_alike g.bindings g.is_ambient g.items)
@@ -681,8 +681,8 @@ module _ (r : Renaming) (ok : IsRenaming r) where
     faults_from [] (y ∷ ys) e = cc
     faults_from (x ∷ xs) [] e = cc
 
-    abbrev module_parts : Surroundings → Tree → List Tree
-    module_parts around t = tree.Range (Module-span t) ∷ list (transformed around t).stays ∷ Module-shebang t ∷ []
+    abbrev module_parts : ModuleFacts → Tree → List Tree
+    module_parts facts t = tree.Range (Module-span t) ∷ list (transformed facts t).stays ∷ Module-shebang t ∷ []
 
     pub same_trees : (t u : Tree) → AgreeHidden r a b t u → SameSkeleton r (skeleton_of a t) (skeleton_of b u) ×
         Each (SameFault r) (faults_of a t) (faults_of b u)

@@ -30,14 +30,14 @@ use Rattle.fast_check_expandos.proofs.Mentioned.{conflicts_same}
 use Rattle.fast_check_expandos.proofs.PropertiesMoved.{moved_expando, property_moved, namespaces_moved}
 use Rattle.fast_check_skeleton.specs.SameAssignments.{SameExpando, SameForm, SameAssignment}
 use Rattle.fast_check_skeleton.specs.SameAssignments as s
-use Rattle.fast_check_skeleton.specs.Surroundings.{Surroundings}
+use Rattle.fast_check_skeleton.specs.ModuleFacts.{ModuleFacts}
 
 -- what is not of expando form declares no property
-undeclared : (around : Surroundings) (t : Tree) → is_expando_assignment t ≡ false →
-    declared_properties around.is_public around.bindings around.objects t ≡ []
-undeclared around t e =
-    let kept = kept_property around.objects (AssignExpr-span t) (AssignExpr-left t) (answer_to (right_seen around.bindings t)).stays in
-    ap (λ x. if around.is_public (AssignExpr-span t) && x then kept else []) e ∙ go (around.is_public (AssignExpr-span t)) kept
+undeclared : (facts : ModuleFacts) (t : Tree) → is_expando_assignment t ≡ false →
+    declared_properties facts.is_public facts.bindings facts.objects t ≡ []
+undeclared facts t e =
+    let kept = kept_property facts.objects (AssignExpr-span t) (AssignExpr-left t) (answer_to (right_seen facts.bindings t)).stays in
+    ap (λ x. if facts.is_public (AssignExpr-span t) && x then kept else []) e ∙ go (facts.is_public (AssignExpr-span t)) kept
   where
     go : (p : Bool) (ps : List ExpandoProperty) → (if p && false then ps else []) ≡ []
     go true ps = refl
@@ -62,7 +62,7 @@ module _ (r : Renaming) (ok : IsRenaming r) where
   more_properties ps qs us vs e f =
       map_append (moved_expando (partners r)) ps qs ∙ (ap₂ (λ x y. x ++ y) e f ∙ sym (map_append (moved_expando twice) us vs))
 
-  module _ (a b : Surroundings) (t u : Tree) (d : SameAssignment r a b t u) where
+  module _ (a b : ModuleFacts) (t u : Tree) (d : SameAssignment r a b t u) where
     abbrev left : Tree
     left = AssignExpr-left t
 

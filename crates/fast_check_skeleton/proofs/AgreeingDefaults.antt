@@ -35,31 +35,31 @@ use Rattle.fast_check_skeleton.specs.Kinds.{is_default_decl}
 use Rattle.fast_check_skeleton.specs.Rules.{default_rule, item_rule}
 use Rattle.fast_check_skeleton.specs.SameDefaults.{IsSilentDefault, SameDefaultDecl, SameDefaultFunction, SameDefault}
 use Rattle.fast_check_skeleton.specs.SameDefaults as s
-use Rattle.fast_check_skeleton.specs.Surroundings.{Surroundings}
+use Rattle.fast_check_skeleton.specs.ModuleFacts.{ModuleFacts}
 use Rattle.fast_check_skeleton.proofs.Ruled.{rule_by_kind, default_by_kind}
 use Rattle.fast_check_skeleton.proofs.ItemRanges.{range_of_default_value, range_of_default_decl}
 
 -- one that is silent is not seen
-pub record IsUnseenDefault (around : Surroundings) (t : Tree) : Type 0 where
+pub record IsUnseenDefault (facts : ModuleFacts) (t : Tree) : Type 0 where
   pub rule : DefaultRule
   pub is : item_rule t ≡ Default rule
-  pub unseen : default_seen around t rule ≡ []
+  pub unseen : default_seen facts t rule ≡ []
   -- a class that is exported goes
-  pub goes : rule ≡ Class → around.is_public (ExportDefaultDecl-span t) ≡ false
+  pub goes : rule ≡ Class → facts.is_public (ExportDefaultDecl-span t) ≡ false
 
-pub silent_default : (around : Surroundings) (t : Tree) → IsSilentDefault around t → IsUnseenDefault around t
-silent_default around t (s.IsSilentDefault.value k e) = record {
+pub silent_default : (facts : ModuleFacts) (t : Tree) → IsSilentDefault facts t → IsUnseenDefault facts t
+silent_default facts t (s.IsSilentDefault.value k e) = record {
   rule = Value;
   is = rule_by_kind t kinds.ExportDefaultExpr k;
-  unseen = ap (λ b. if b then default_value_seen around t ∷ [] else []) e;
+  unseen = ap (λ b. if b then default_value_seen facts t ∷ [] else []) e;
   goes = λ c. cc;
 }
-silent_default around t (s.IsSilentDefault.decl k d e) = go (kind_of (ExportDefaultDecl-decl t)) refl d
+silent_default facts t (s.IsSilentDefault.decl k d e) = go (kind_of (ExportDefaultDecl-decl t)) refl d
   where
-    hidden : (decl : Seen) → public_default around t decl ≡ []
+    hidden : (decl : Seen) → public_default facts t decl ≡ []
     hidden decl = ap (λ b. if b then round kinds.ExportDefaultDecl (seens (range (ExportDefaultDecl-span t) ∷ decl ∷ [])) ∷ [] else []) e
 
-    go : (j : Kind) → kind_of (ExportDefaultDecl-decl t) ≡ j → is_default_decl j ≡ true → IsUnseenDefault around t
+    go : (j : Kind) → kind_of (ExportDefaultDecl-decl t) ≡ j → is_default_decl j ≡ true → IsUnseenDefault facts t
     go kinds.ClassExpr q d = record { rule = Class; is = default_by_kind t kinds.ClassExpr k q; unseen = hidden _; goes = λ c. e }
     go kinds.FnExpr q d = record { rule = Function; is = default_by_kind t kinds.FnExpr k q; unseen = hidden _; goes = λ c. e }
     go kinds.TsInterfaceDecl q d =
@@ -68,7 +68,7 @@ silent_default around t (s.IsSilentDefault.decl k d e) = go (kind_of (ExportDefa
 
 -- ---- what agrees is seen alike
 
-module _ (r : Renaming) (ok : IsRenaming r) (a b : Surroundings) where
+module _ (r : Renaming) (ok : IsRenaming r) (a b : ModuleFacts) where
   -- the same is done with both, what is seen is alike, and they begin at partners
   pub record DefaultsAlike (t u : Tree) : Type 0 where
     pub rule : DefaultRule
@@ -116,13 +116,13 @@ module _ (r : Renaming) (ok : IsRenaming r) (a b : Surroundings) where
       go true false e f g = cc
       go false true e f g = cc
 
-  abbrev signature_if : Surroundings → Tree → Bool → Seen
-  signature_if around decl is_implementation =
+  abbrev signature_if : ModuleFacts → Tree → Bool → Seen
+  signature_if facts decl is_implementation =
       if is_implementation then implementation_seen (FnExpr-function decl)
-      else function_seen around.bindings (expr_seen around.bindings) DeclarationLike (default_place decl) (FnExpr-function decl)
+      else function_seen facts.bindings (expr_seen facts.bindings) DeclarationLike (default_place decl) (FnExpr-function decl)
 
-  abbrev function_form : Surroundings → SourceRange → Tree → Seen
-  function_form around place decl = round kinds.FnExpr (seens (written (FnExpr-ident decl) ∷ default_signature around place decl ∷ []))
+  abbrev function_form : ModuleFacts → SourceRange → Tree → Seen
+  function_form facts place decl = round kinds.FnExpr (seens (written (FnExpr-ident decl) ∷ default_signature facts place decl ∷ []))
 
   functions_alike : a.is_ambient ≡ b.is_ambient → (t u : Tree) → SameDefaultFunction r a b t u →
       Alike r ok (default_signature a (ExportDefaultDecl-span t) (ExportDefaultDecl-decl t))

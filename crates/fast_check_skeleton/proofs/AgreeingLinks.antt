@@ -29,29 +29,29 @@ use Rattle.fast_check_skeleton.specs.Links.{import_with, export_with, all_export
 use Rattle.fast_check_skeleton.specs.Rules.{item_rule}
 use Rattle.fast_check_skeleton.specs.SameLinks.{IsSilentLink, SamePublic, SameSource, SameImport, SameNamedExport, SameExportAll, SameLink}
 use Rattle.fast_check_skeleton.specs.SameLinks as s
-use Rattle.fast_check_skeleton.specs.Surroundings.{Surroundings}
+use Rattle.fast_check_skeleton.specs.ModuleFacts.{ModuleFacts}
 use Rattle.fast_check_skeleton.proofs.Ruled.{rule_by_kind, alias_rule}
 use Rattle.fast_check_skeleton.proofs.ItemRanges.{range_of_import, range_of_names, range_of_all, range_alike}
 
 -- one that is silent is not seen
-pub record IsUnseenLink (around : Surroundings) (t : Tree) : Type 0 where
+pub record IsUnseenLink (facts : ModuleFacts) (t : Tree) : Type 0 where
   pub rule : LinkRule
   pub is : item_rule t ≡ Linked rule
-  pub unseen : link_seen around t rule ≡ []
+  pub unseen : link_seen facts t rule ≡ []
 
-pub silent_link : (around : Surroundings) (t : Tree) → IsSilentLink around t → IsUnseenLink around t
-silent_link around t (s.IsSilentLink.import k e) =
-    record { rule = Import; is = rule_by_kind t kinds.ImportDecl k; unseen = ap (with_specifiers (import_with around t)) e }
-silent_link around t (s.IsSilentLink.export k e) =
-    record { rule = Export; is = rule_by_kind t kinds.NamedExport k; unseen = ap (with_specifiers (export_with around t)) e }
-silent_link around t (s.IsSilentLink.all k e) =
+pub silent_link : (facts : ModuleFacts) (t : Tree) → IsSilentLink facts t → IsUnseenLink facts t
+silent_link facts t (s.IsSilentLink.import k e) =
+    record { rule = Import; is = rule_by_kind t kinds.ImportDecl k; unseen = ap (with_specifiers (import_with facts t)) e }
+silent_link facts t (s.IsSilentLink.export k e) =
+    record { rule = Export; is = rule_by_kind t kinds.NamedExport k; unseen = ap (with_specifiers (export_with facts t)) e }
+silent_link facts t (s.IsSilentLink.all k e) =
     record {
       rule = All;
       is = rule_by_kind t kinds.ExportAll k;
       unseen =
-          ap (λ b. if b then written (all_exported around t) ∷ [] else []) e;
+          ap (λ b. if b then written (all_exported facts t) ∷ [] else []) e;
     }
-silent_link around t (s.IsSilentLink.alias k n e) =
+silent_link facts t (s.IsSilentLink.alias k n e) =
     record { rule = Alias; is = alias_rule t k n; unseen = ap (λ b. if b then written t ∷ [] else []) e }
 
 -- ---- what agrees is seen alike
@@ -92,7 +92,7 @@ module _ (r : Renaming) (ok : IsRenaming r) where
   list_alike : (ts us : List Tree) → TreesAlike ts us → TreeAlike r ok (list ts) (list us)
   list_alike ts us e = node_alike r ok kinds.List ts us e
 
-  module _ (a b : Surroundings) where
+  module _ (a b : ModuleFacts) where
     -- the text that stands for two sources
     written_source : (t u : Tree) (o o' : Option (List ℕ)) → o ≡ o' → SameTree r t u → TreeAlike r ok (source_of t o) (source_of u o')
     written_source t u None None e d = tree_to r ok d
@@ -123,8 +123,8 @@ module _ (r : Renaming) (ok : IsRenaming r) where
         (public_alike (is_public_specifier a) (is_public_specifier b) (parts (ImportDecl-specifiers t))
         (parts (ImportDecl-specifiers u)) d.specifiers)
       where
-        parts_of : Surroundings → Tree → List Tree → List Tree
-        parts_of around v specifiers = tree.Range (ImportDecl-span v) ∷ list specifiers ∷ answered_source around (ImportDecl-src v) ∷
+        parts_of : ModuleFacts → Tree → List Tree → List Tree
+        parts_of facts v specifiers = tree.Range (ImportDecl-span v) ∷ list specifiers ∷ answered_source facts (ImportDecl-src v) ∷
             tree.Flag (ImportDecl-type_only v) ∷ ImportDecl-with v ∷ tree.Text (ImportDecl-phase v) ∷ []
 
         go : (ts us : List Tree) → TreesAlike ts us → TreeAlike r ok (import_with a t ts) (import_with b u us)
@@ -140,8 +140,8 @@ module _ (r : Renaming) (ok : IsRenaming r) where
         (public_alike (is_public_specifier a) (is_public_specifier b) (parts (NamedExport-specifiers t))
         (parts (NamedExport-specifiers u)) d.specifiers)
       where
-        parts_of : Surroundings → Tree → List Tree → List Tree
-        parts_of around v specifiers = tree.Range (NamedExport-span v) ∷ list specifiers ∷ answered_source around (NamedExport-src v) ∷
+        parts_of : ModuleFacts → Tree → List Tree → List Tree
+        parts_of facts v specifiers = tree.Range (NamedExport-span v) ∷ list specifiers ∷ answered_source facts (NamedExport-src v) ∷
             tree.Flag (NamedExport-type_only v) ∷ NamedExport-with v ∷ []
 
         go : (ts us : List Tree) → TreesAlike ts us → TreeAlike r ok (export_with a t ts) (export_with b u us)
@@ -156,8 +156,8 @@ module _ (r : Renaming) (ok : IsRenaming r) where
         (λ i. span_alike (ExportAll-span t) (ExportAll-span u) d.span i ∷ source_alike (ExportAll-src t) (ExportAll-src u) d.src i ∷
         flag_leaf_alike r ok (ExportAll-type_only t) (ExportAll-type_only u) d.type_only i ∷ tree_to r ok d.with i ∷ [])))
       where
-        parts_of : Surroundings → Tree → List Tree
-        parts_of around v = tree.Range (ExportAll-span v) ∷ answered_source around (ExportAll-src v) ∷ tree.Flag (ExportAll-type_only v) ∷
+        parts_of : ModuleFacts → Tree → List Tree
+        parts_of facts v = tree.Range (ExportAll-span v) ∷ answered_source facts (ExportAll-src v) ∷ tree.Flag (ExportAll-type_only v) ∷
             ExportAll-with v ∷ []
 
     -- the same is done with both, what is seen is alike, and they begin at partners

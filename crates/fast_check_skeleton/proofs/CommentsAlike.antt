@@ -24,7 +24,7 @@ use Rattle.fast_check_program_forms.specs.ModuleDecls.{ExportDecl-span, ExportDe
 use Rattle.fast_check_statement_forms.specs.Declarations.{ClassDecl-class, FnDecl-function, VarDecl-span}
 use Rattle.fast_check_statement_forms.specs.TsDeclarations.{TsModuleDecl-span}
 use Rattle.fast_check_swc_helpers.specs.ranges.Ranges.{range_of_node}
-use Rattle.fast_check_skeleton.specs.Surroundings.{Surroundings, inside}
+use Rattle.fast_check_skeleton.specs.ModuleFacts.{ModuleFacts, inside}
 use Rattle.fast_check_skeleton.specs.Namespaces.{is_namespace, innermost, block_items, items_inside}
 use Rattle.fast_check_signatures.specs.Seen.{Seen}
 use Rattle.fast_check_skeleton.specs.Visible.{is_ambient_class, item_seen}
@@ -119,52 +119,52 @@ abbrev is_class_kind : Kind → Bool
 is_class_kind k = k is ClassDecl
 
 -- nothing goes inside of other declarations than classes
-nothing_by_kind : (around : Surroundings) (place : SourceRange) (t : Tree) (k : Kind) → is_class_kind k ≡ false →
-    starts_in_decl around place t (decl_rule k) ≡ []
-nothing_by_kind around place t kinds.ClassDecl e = cc
-nothing_by_kind around place t _ e = refl
+nothing_by_kind : (facts : ModuleFacts) (place : SourceRange) (t : Tree) (k : Kind) → is_class_kind k ≡ false →
+    starts_in_decl facts place t (decl_rule k) ≡ []
+nothing_by_kind facts place t kinds.ClassDecl e = cc
+nothing_by_kind facts place t _ e = refl
 
-nothing_inside : (around : Surroundings) (place : SourceRange) (t : Tree) (k : Kind) → kind_of t ≡ k → is_class_kind k ≡ false →
-    starts_in_decl around place t (decl_rule (kind_of t)) ≡ []
-nothing_inside around place t k d e = ap (λ j. starts_in_decl around place t (decl_rule j)) d ∙ nothing_by_kind around place t k e
+nothing_inside : (facts : ModuleFacts) (place : SourceRange) (t : Tree) (k : Kind) → kind_of t ≡ k → is_class_kind k ≡ false →
+    starts_in_decl facts place t (decl_rule (kind_of t)) ≡ []
+nothing_inside facts place t k d e = ap (λ j. starts_in_decl facts place t (decl_rule j)) d ∙ nothing_by_kind facts place t k e
 
 standing_no_class : (k : Kind) → is_standing k ≡ true → is_class_kind k ≡ false
 standing_no_class kinds.ClassDecl e = cc
 standing_no_class _ e = refl
 
 -- nor inside of a silent one
-silent_decl_inside : (around : Surroundings) (place : SourceRange) (t : Tree) → h.IsSilentDecl around place t →
-    starts_in_decl around place t (decl_rule (kind_of t)) ≡ []
-silent_decl_inside around place t (h.IsSilentDecl.namespace k n e) = nothing_inside around place t TsModuleDecl k refl
-silent_decl_inside around place t (h.IsSilentDecl.variable k e) = nothing_inside around place t VarDecl k refl
-silent_decl_inside around place t (h.IsSilentDecl.standing k e) =
-    nothing_inside around place t (kind_of t) refl (standing_no_class (kind_of t) k)
-silent_decl_inside around place t (h.IsSilentDecl.function k e) = nothing_inside around place t FnDecl k refl
-silent_decl_inside around place t (h.IsSilentDecl.class k e) =
-    ap (λ j. starts_in_decl around place t (decl_rule j)) k
-    ∙ ap (λ b. if b && not (is_ambient_class around t) then starts_of_removed (ClassDecl-class t) else []) e
-silent_decl_inside around place t (h.IsSilentDecl.using k e) = nothing_inside around place t UsingDecl k refl
+silent_decl_inside : (facts : ModuleFacts) (place : SourceRange) (t : Tree) → h.IsSilentDecl facts place t →
+    starts_in_decl facts place t (decl_rule (kind_of t)) ≡ []
+silent_decl_inside facts place t (h.IsSilentDecl.namespace k n e) = nothing_inside facts place t TsModuleDecl k refl
+silent_decl_inside facts place t (h.IsSilentDecl.variable k e) = nothing_inside facts place t VarDecl k refl
+silent_decl_inside facts place t (h.IsSilentDecl.standing k e) =
+    nothing_inside facts place t (kind_of t) refl (standing_no_class (kind_of t) k)
+silent_decl_inside facts place t (h.IsSilentDecl.function k e) = nothing_inside facts place t FnDecl k refl
+silent_decl_inside facts place t (h.IsSilentDecl.class k e) =
+    ap (λ j. starts_in_decl facts place t (decl_rule j)) k
+    ∙ ap (λ b. if b && not (is_ambient_class facts t) then starts_of_removed (ClassDecl-class t) else []) e
+silent_decl_inside facts place t (h.IsSilentDecl.using k e) = nothing_inside facts place t UsingDecl k refl
 
-silent_default_inside : (around : Surroundings) (t : Tree) (rule : DefaultRule) →
-    (rule ≡ Class → around.is_public (ExportDefaultDecl-span t) ≡ false) →
-    starts_in_default around t rule ≡ []
-silent_default_inside around t Class e = ap (λ b. if b then starts_of_removed (ClassExpr-class (ExportDefaultDecl-decl t)) else []) (e refl)
-silent_default_inside around t Value e = refl
-silent_default_inside around t Function e = refl
-silent_default_inside around t Interface e = refl
+silent_default_inside : (facts : ModuleFacts) (t : Tree) (rule : DefaultRule) →
+    (rule ≡ Class → facts.is_public (ExportDefaultDecl-span t) ≡ false) →
+    starts_in_default facts t rule ≡ []
+silent_default_inside facts t Class e = ap (λ b. if b then starts_of_removed (ClassExpr-class (ExportDefaultDecl-decl t)) else []) (e refl)
+silent_default_inside facts t Value e = refl
+silent_default_inside facts t Function e = refl
+silent_default_inside facts t Interface e = refl
 
-silent_inside : (around : Surroundings) (t : Tree) → h.IsSilent around t → starts_inside around t (item_rule t) ≡ []
-silent_inside around t (h.IsSilent.decl s) =
-    ap (starts_inside around t) (declared_rule (kind_of t) t (silent_declares around (range_of_node t) t s)) ∙
-    silent_decl_inside around (range_of_node t) t s
-silent_inside around t (h.IsSilent.statement s) = ap (starts_inside around t) (silent_rule t s)
-silent_inside around t (h.IsSilent.exported k s) =
-    ap (λ j. starts_inside around t (rule_of_kind j t)) k ∙ silent_decl_inside around (ExportDecl-span t) (ExportDecl-decl t) s
-silent_inside around t (h.IsSilent.assigned k n e) =
-    ap (starts_inside around t) (assigned_rule t k n) ∙ ap (λ b. if b then (range_of_node t).start ∷ [] else []) e
-silent_inside around t (h.IsSilent.linked s) = ap (starts_inside around t) (silent_link around t s).is
-silent_inside around t (h.IsSilent.default s) =
-    let e = silent_default around t s in ap (starts_inside around t) e.is ∙ silent_default_inside around t e.rule e.goes
+silent_inside : (facts : ModuleFacts) (t : Tree) → h.IsSilent facts t → starts_inside facts t (item_rule t) ≡ []
+silent_inside facts t (h.IsSilent.decl s) =
+    ap (starts_inside facts t) (declared_rule (kind_of t) t (silent_declares facts (range_of_node t) t s)) ∙
+    silent_decl_inside facts (range_of_node t) t s
+silent_inside facts t (h.IsSilent.statement s) = ap (starts_inside facts t) (silent_rule t s)
+silent_inside facts t (h.IsSilent.exported k s) =
+    ap (λ j. starts_inside facts t (rule_of_kind j t)) k ∙ silent_decl_inside facts (ExportDecl-span t) (ExportDecl-decl t) s
+silent_inside facts t (h.IsSilent.assigned k n e) =
+    ap (starts_inside facts t) (assigned_rule t k n) ∙ ap (λ b. if b then (range_of_node t).start ∷ [] else []) e
+silent_inside facts t (h.IsSilent.linked s) = ap (starts_inside facts t) (silent_link facts t s).is
+silent_inside facts t (h.IsSilent.default s) =
+    let e = silent_default facts t s in ap (starts_inside facts t) e.is ∙ silent_default_inside facts t e.rule e.goes
 
 -- ---- what goes of the items of namespaces
 
@@ -172,53 +172,53 @@ abbrev is_module_kind : Kind → Bool
 is_module_kind k = k is TsModuleDecl
 
 -- other declarations have none
-none_by_kind : (around : Surroundings) (place : SourceRange) (t : Tree) (k : Kind) → is_module_kind k ≡ false →
-    starts_in_body start_look around place t (decl_rule k) ≡ []
-none_by_kind around place t kinds.TsModuleDecl e = cc
-none_by_kind around place t _ e = refl
+none_by_kind : (facts : ModuleFacts) (place : SourceRange) (t : Tree) (k : Kind) → is_module_kind k ≡ false →
+    starts_in_body start_look facts place t (decl_rule k) ≡ []
+none_by_kind facts place t kinds.TsModuleDecl e = cc
+none_by_kind facts place t _ e = refl
 
-none_below : (around : Surroundings) (place : SourceRange) (t : Tree) (k : Kind) → kind_of t ≡ k → is_module_kind k ≡ false →
-    starts_in_body start_look around place t (decl_rule (kind_of t)) ≡ []
-none_below around place t k d e = ap (λ j. starts_in_body start_look around place t (decl_rule j)) d ∙ none_by_kind around place t k e
+none_below : (facts : ModuleFacts) (place : SourceRange) (t : Tree) (k : Kind) → kind_of t ≡ k → is_module_kind k ≡ false →
+    starts_in_body start_look facts place t (decl_rule (kind_of t)) ≡ []
+none_below facts place t k d e = ap (λ j. starts_in_body start_look facts place t (decl_rule j)) d ∙ none_by_kind facts place t k e
 
 standing_no_module : (k : Kind) → is_standing k ≡ true → is_module_kind k ≡ false
 standing_no_module kinds.TsModuleDecl e = cc
 standing_no_module _ e = refl
 
-abbrev starts_if : Surroundings → Tree → Bool → Bool → List SourcePos
-starts_if around t namespace public = if namespace && public then removed_from (inside around t) (items_inside t) else []
+abbrev starts_if : ModuleFacts → Tree → Bool → Bool → List SourcePos
+starts_if facts t namespace public = if namespace && public then removed_from (inside facts t) (items_inside t) else []
 
-module_below : (around : Surroundings) (place : SourceRange) (t : Tree) → kind_of t ≡ TsModuleDecl →
-    starts_in_body start_look around place t (decl_rule (kind_of t)) ≡ starts_if around t (is_namespace t) (around.is_public place)
-module_below around place t k = ap (λ j. starts_in_body start_look around place t (decl_rule j)) k
+module_below : (facts : ModuleFacts) (place : SourceRange) (t : Tree) → kind_of t ≡ TsModuleDecl →
+    starts_in_body start_look facts place t (decl_rule (kind_of t)) ≡ starts_if facts t (is_namespace t) (facts.is_public place)
+module_below facts place t k = ap (λ j. starts_in_body start_look facts place t (decl_rule j)) k
 
 -- nor has a module that no skeleton has
-refused_below : (around : Surroundings) (place : SourceRange) (t : Tree) → kind_of t ≡ TsModuleDecl → is_namespace t ≡ false →
-    starts_in_body start_look around place t (decl_rule (kind_of t)) ≡ []
-refused_below around place t k n = module_below around place t k ∙ ap (λ x. starts_if around t x (around.is_public place)) n
+refused_below : (facts : ModuleFacts) (place : SourceRange) (t : Tree) → kind_of t ≡ TsModuleDecl → is_namespace t ≡ false →
+    starts_in_body start_look facts place t (decl_rule (kind_of t)) ≡ []
+refused_below facts place t k n = module_below facts place t k ∙ ap (λ x. starts_if facts t x (facts.is_public place)) n
 
 -- nor a silent declaration
-silent_decl_below : (around : Surroundings) (place : SourceRange) (t : Tree) → h.IsSilentDecl around place t →
-    starts_in_body start_look around place t (decl_rule (kind_of t)) ≡ []
-silent_decl_below around place t (h.IsSilentDecl.variable k e) = none_below around place t VarDecl k refl
-silent_decl_below around place t (h.IsSilentDecl.standing k e) =
-    none_below around place t (kind_of t) refl (standing_no_module (kind_of t) k)
-silent_decl_below around place t (h.IsSilentDecl.function k e) = none_below around place t FnDecl k refl
-silent_decl_below around place t (h.IsSilentDecl.class k e) = none_below around place t ClassDecl k refl
-silent_decl_below around place t (h.IsSilentDecl.using k e) = none_below around place t UsingDecl k refl
-silent_decl_below around place t (h.IsSilentDecl.namespace k n e) =
-    module_below around place t k ∙ (λ i. starts_if around t (n i) (e i))
+silent_decl_below : (facts : ModuleFacts) (place : SourceRange) (t : Tree) → h.IsSilentDecl facts place t →
+    starts_in_body start_look facts place t (decl_rule (kind_of t)) ≡ []
+silent_decl_below facts place t (h.IsSilentDecl.variable k e) = none_below facts place t VarDecl k refl
+silent_decl_below facts place t (h.IsSilentDecl.standing k e) =
+    none_below facts place t (kind_of t) refl (standing_no_module (kind_of t) k)
+silent_decl_below facts place t (h.IsSilentDecl.function k e) = none_below facts place t FnDecl k refl
+silent_decl_below facts place t (h.IsSilentDecl.class k e) = none_below facts place t ClassDecl k refl
+silent_decl_below facts place t (h.IsSilentDecl.using k e) = none_below facts place t UsingDecl k refl
+silent_decl_below facts place t (h.IsSilentDecl.namespace k n e) =
+    module_below facts place t k ∙ (λ i. starts_if facts t (n i) (e i))
 
-silent_below : (around : Surroundings) (t : Tree) → h.IsSilent around t → starts_below start_look around t (item_rule t) ≡ []
-silent_below around t (h.IsSilent.decl s) =
-    ap (starts_below start_look around t) (declared_rule (kind_of t) t (silent_declares around (range_of_node t) t s))
-    ∙ silent_decl_below around (range_of_node t) t s
-silent_below around t (h.IsSilent.statement s) = ap (starts_below start_look around t) (silent_rule t s)
-silent_below around t (h.IsSilent.exported k s) =
-    ap (λ j. starts_below start_look around t (rule_of_kind j t)) k ∙ silent_decl_below around (ExportDecl-span t) (ExportDecl-decl t) s
-silent_below around t (h.IsSilent.assigned k n e) = ap (starts_below start_look around t) (assigned_rule t k n)
-silent_below around t (h.IsSilent.linked s) = ap (starts_below start_look around t) (silent_link around t s).is
-silent_below around t (h.IsSilent.default s) = ap (starts_below start_look around t) (silent_default around t s).is
+silent_below : (facts : ModuleFacts) (t : Tree) → h.IsSilent facts t → starts_below start_look facts t (item_rule t) ≡ []
+silent_below facts t (h.IsSilent.decl s) =
+    ap (starts_below start_look facts t) (declared_rule (kind_of t) t (silent_declares facts (range_of_node t) t s))
+    ∙ silent_decl_below facts (range_of_node t) t s
+silent_below facts t (h.IsSilent.statement s) = ap (starts_below start_look facts t) (silent_rule t s)
+silent_below facts t (h.IsSilent.exported k s) =
+    ap (λ j. starts_below start_look facts t (rule_of_kind j t)) k ∙ silent_decl_below facts (ExportDecl-span t) (ExportDecl-decl t) s
+silent_below facts t (h.IsSilent.assigned k n e) = ap (starts_below start_look facts t) (assigned_rule t k n)
+silent_below facts t (h.IsSilent.linked s) = ap (starts_below start_look facts t) (silent_link facts t s).is
+silent_below facts t (h.IsSilent.default s) = ap (starts_below start_look facts t) (silent_default facts t s).is
 
 -- ---- where items begin
 
@@ -239,7 +239,7 @@ module _ (r : Renaming) (ok : IsRenaming r) where
       SameRange r (range_of_node t) (range_of_node u)
   of_classes t u k s = subst₂ (SameRange r) (sym (range_of_class t k.left)) (sym (range_of_class u k.right)) s
 
-  module _ (a b : Surroundings) where
+  module _ (a b : ModuleFacts) where
     decl_begins : (p q : SourceRange) (t u : Tree) → SameDecl r a b p q t u → SameRange r (range_of_node t) (range_of_node u)
     decl_begins p q t u (h.SameDecl.variable d n rest) = of_variables t u d.kinds d.span
     decl_begins p q t u (h.SameDecl.ambient d n rest) = of_variables t u d.kinds d.span
@@ -445,9 +445,9 @@ module _ (r : Renaming) (ok : IsRenaming r) where
           (start_of_unseen u (item_seen b u) ++ starts_inside b u (item_rule u)))
           ∙ sym (ap (is_among q) (removed_start_is b u)))))
 
-      among_more : (n : ℕ) (around : Surroundings) (t : Tree) (ts : List Tree) →
-          is_among n (removed_from around (t ∷ ts)) ≡ (is_among n (removed_start around t) || is_among n (removed_from around ts))
-      among_more n around t ts = list_any-append (λ (s : SourcePos). s.0 == n) (removed_start around t) (removed_from around ts)
+      among_more : (n : ℕ) (facts : ModuleFacts) (t : Tree) (ts : List Tree) →
+          is_among n (removed_from facts (t ∷ ts)) ≡ (is_among n (removed_start facts t) || is_among n (removed_from facts ts))
+      among_more n facts t ts = list_any-append (λ (s : SourcePos). s.0 == n) (removed_start facts t) (removed_from facts ts)
 
       namespace_removed : (x y : SourceRange) (t u : Tree) → SameNamespaceHead r a b x y t u →
           is_among p (removed_from (inside a t) (items_inside t)) ≡ is_among q (removed_from (inside b u) (items_inside u)) →
@@ -457,7 +457,7 @@ module _ (r : Renaming) (ok : IsRenaming r) where
           (ap₂ (λ m n. m && n) (d.namespaces.0 ∙ sym d.namespaces.1) d.public) e
 
   module _ (p q : ℕ) (pair : IsPair r.starts p q) where
-    item_removed : (a b : Surroundings) (t u : Tree) → SameBindings r a.bindings b.bindings → a.is_ambient ≡ b.is_ambient →
+    item_removed : (a b : ModuleFacts) (t u : Tree) → SameBindings r a.bindings b.bindings → a.is_ambient ≡ b.is_ambient →
         SameItem r a b t u → is_among p (starts_below start_look a t (item_rule t)) ≡ is_among q
         (starts_below start_look b u (item_rule u)) →
         is_among p (removed_start a t) ≡ is_among q (removed_start b u)
@@ -467,7 +467,7 @@ module _ (r : Renaming) (ok : IsRenaming r) where
         (item_inside a b p q pair c m t u s)
 
     mutual
-      item_below : {a b : Surroundings} {t u : Tree} → SameBindings r a.bindings b.bindings → a.is_ambient ≡ b.is_ambient →
+      item_below : {a b : ModuleFacts} {t u : Tree} → SameBindings r a.bindings b.bindings → a.is_ambient ≡ b.is_ambient →
           SameItem r a b t u → is_among p (starts_below start_look a t (item_rule t)) ≡ is_among q
           (starts_below start_look b u (item_rule u))
       item_below c m (h.SameItem.decl {a = a} {b = b} {t = t} {u = u} d) =
@@ -498,13 +498,13 @@ module _ (r : Renaming) (ok : IsRenaming r) where
       item_below c m (h.SameItem.refused {a = a} {b = b} {t = t} {u = u} kind e f s) =
           below_by_rules a b p q pair t u (Refused kind) e f refl
 
-      namespaces_removed : {a b : Surroundings} {x y : SourceRange} {t u : Tree} → SameBindings r a.bindings b.bindings →
+      namespaces_removed : {a b : ModuleFacts} {x y : SourceRange} {t u : Tree} → SameBindings r a.bindings b.bindings →
           a.is_ambient ≡ b.is_ambient → SameNamespace r a b x y t u →
           is_among p (starts_in_namespace start_look a x t) ≡ is_among q (starts_in_namespace start_look b y u)
       namespaces_removed c m (h.SameNamespace.bodies {a = a} {b = b} {p = x} {q = y} {t = t} {u = u} d s) =
           namespace_removed a b p q pair x y t u d (body_removed c (ap₂ (λ x y. x || y) m d.declare) s)
 
-      body_removed : {a b : Surroundings} {t u : Tree} → SameBindings r a.bindings b.bindings → a.is_ambient ≡ b.is_ambient →
+      body_removed : {a b : ModuleFacts} {t u : Tree} → SameBindings r a.bindings b.bindings → a.is_ambient ≡ b.is_ambient →
           SameBody r a b t u → is_among p (removed_from a (block_items (innermost t))) ≡ is_among q
           (removed_from b (block_items (innermost u)))
       body_removed c m (h.SameBody.block {a = a} {b = b} {t = t} {u = u} n s rest) =
@@ -517,7 +517,7 @@ module _ (r : Renaming) (ok : IsRenaming r) where
           (sym (innermost_inner u (ap (λ k. k is TsNamespaceDecl) d.kinds.right)))
           (body_removed c m s)
 
-      removed_alike : {a b : Surroundings} {ts us : List Tree} → SameBindings r a.bindings b.bindings → a.is_ambient ≡ b.is_ambient →
+      removed_alike : {a b : ModuleFacts} {ts us : List Tree} → SameBindings r a.bindings b.bindings → a.is_ambient ≡ b.is_ambient →
           SameItems r a b ts us → is_among p (removed_from a ts) ≡ is_among q (removed_from b us)
       removed_alike c m h.SameItems.end = refl
       removed_alike c m (h.SameItems.left {a = a} {b = b} {t = t} {ts = ts} {us = us} s n rest) =
@@ -530,7 +530,7 @@ module _ (r : Renaming) (ok : IsRenaming r) where
           among_more a b p q pair p a t ts ∙ (ap₂ (λ x y. x || y) (item_removed a b t u c m s (item_below c m s)) (removed_alike c m rest)
           ∙ sym (among_more a b p q pair q b u us))
 
-  module _ (a b : Surroundings) where
+  module _ (a b : ModuleFacts) where
     -- ---- the comments that stay
 
     each_if : (m n : Bool) (xs ys : List Comment) → m ≡ n → Each (SameComment r) xs ys →
@@ -554,7 +554,7 @@ module _ (r : Renaming) (ok : IsRenaming r) where
     }
 
 -- under each renaming
-pub two_worlds : (a : Surroundings) (t : Tree) (c : Comments) (b : Surroundings) (u : Tree) (d : Comments) → TwoWorlds a t c b u d
+pub two_worlds : (a : ModuleFacts) (t : Tree) (c : Comments) (b : ModuleFacts) (u : Tree) (d : Comments) → TwoWorlds a t c b u d
 two_worlds a t c b u d r ok g s =
     let trees = same_trees r ok a b t u g in
     record { skeletons = trees.0; faults = trees.1; comments = same_comments r ok a b t u c d g s }

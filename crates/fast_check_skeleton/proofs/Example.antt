@@ -23,7 +23,7 @@ use Rattle.fast_check_program_forms.specs.Programs.{module'}
 use Rattle.fast_check_statement_forms.specs.Declarations.{VarDecl-ctxt, VarDecl-kind, VarDecl-declare, VarDecl-decls, VarDeclarator-span}
 use Rattle.fast_check_statement_forms.specs.Declarations.{VarDeclarator-definite, var_decl, var_declarator}
 use Rattle.fast_check_swc_helpers.specs.Builders.{never_value}
-use Rattle.fast_check_skeleton.specs.Surroundings.{Surroundings}
+use Rattle.fast_check_skeleton.specs.ModuleFacts.{ModuleFacts}
 use Rattle.fast_check_skeleton.specs.Mutability.{mutability_of}
 use Rattle.fast_check_swc_helpers.specs.ranges.Ranges.{range_of_node}
 use Rattle.fast_check_skeleton.specs.Visible.{declared_ident, declared_type, is_public_declarator, items_of}
@@ -37,7 +37,7 @@ use Rattle.fast_check_skeleton.specs.SameComments.{all_comments_at, SameComment,
 use Rattle.fast_check_skeleton.specs.Skeleton.{skeleton_of}
 use Rattle.fast_check_skeleton.specs.Example.{at, scope, name, annotation, declarator, statement, exported, documented, before_tokens}
 use Rattle.fast_check_skeleton.specs.Example.{with_trailing, text_value, first, first_comments, hidden_function, name_value, second}
-use Rattle.fast_check_skeleton.specs.Example.{second_comments, renaming, around, Example}
+use Rattle.fast_check_skeleton.specs.Example.{second_comments, renaming, facts, Example}
 use Rattle.fast_check_skeleton.proofs.Namespaces.{item_seen_is, removed_start_is}
 use Rattle.fast_check_skeleton.proofs.CommentsAlike.{two_worlds}
 
@@ -105,11 +105,11 @@ module _ (span : SourceRange) (id type init : Tree) (definite : Bool) where
 
 -- ---- what agrees
 
-abbrev a : Surroundings
-a = around 23
+abbrev a : ModuleFacts
+a = facts 23
 
-abbrev b : Surroundings
-b = around 48
+abbrev b : ModuleFacts
+b = facts 48
 
 same_names : moved (partners renaming) (name 23 2) ≡ moved twice (name 48 3)
 same_names = simp (node_moved, range_moved, context_moved, text_moved, flag_moved)

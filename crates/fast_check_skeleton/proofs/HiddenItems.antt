@@ -6,10 +6,10 @@ use Rattle.fast_check_skeleton.specs.Hidden as h
 use Rattle.fast_check_skeleton.specs.SameDefaults as defaults
 use Rattle.fast_check_skeleton.specs.SameLinks as links
 use Rattle.fast_check_skeleton.specs.HiddenItems.{SilentDecls, SilentItems, UnseenItems, HidesItems}
-use Rattle.fast_check_skeleton.specs.Surroundings.{Surroundings}
+use Rattle.fast_check_skeleton.specs.ModuleFacts.{ModuleFacts}
 
-silent_decls : (around : Surroundings) (place : SourceRange) (t : Tree) → SilentDecls around place t
-silent_decls around place t = record {
+silent_decls : (facts : ModuleFacts) (place : SourceRange) (t : Tree) → SilentDecls facts place t
+silent_decls facts place t = record {
   variables = λ k e. h.IsSilentDecl.variable k e;
   standing = λ s e. h.IsSilentDecl.standing s e;
   functions = λ k e. h.IsSilentDecl.function k e;
@@ -18,8 +18,8 @@ silent_decls around place t = record {
   usings = λ k e. h.IsSilentDecl.using k e;
 }
 
-silent_items : (around : Surroundings) (t : Tree) → SilentItems around t
-silent_items around t = record {
+silent_items : (facts : ModuleFacts) (t : Tree) → SilentItems facts t
+silent_items facts t = record {
   decls = λ s. h.IsSilent.decl s;
   exported = λ k s. h.IsSilent.exported k s;
   statements = λ s. h.IsSilent.statement s;
@@ -32,7 +32,7 @@ silent_items around t = record {
   defaults = λ k d e. h.IsSilent.default (defaults.IsSilentDefault.decl k d e);
 }
 
-unseen_items : (r : Renaming) (a b : Surroundings) → UnseenItems r a b
+unseen_items : (r : Renaming) (a b : ModuleFacts) → UnseenItems r a b
 unseen_items r a b = record {
   left = λ t s alone. h.SameItems.left s alone h.SameItems.end;
   right = λ u s alone. h.SameItems.right s alone h.SameItems.end;

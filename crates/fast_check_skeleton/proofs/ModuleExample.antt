@@ -22,7 +22,7 @@ use Rattle.fast_check_skeleton.specs.Skeleton.{skeleton_of}
 use Rattle.fast_check_skeleton.specs.HiddenChanges.{void_function}
 use Rattle.fast_check_skeleton.specs.ClassExample.{empty_statement, no_places, no_classes}
 use Rattle.fast_check_skeleton.specs.ModuleExample as e
-use Rattle.fast_check_skeleton.specs.ModuleExample.{written_source, import_of, default_function, first, second, around, answered}
+use Rattle.fast_check_skeleton.specs.ModuleExample.{written_source, import_of, default_function, first, second, facts, answered}
 use Rattle.fast_check_skeleton.specs.ModuleExample.{ModuleExample}
 use Rattle.fast_check_skeleton.proofs.ClassExample.{is_renaming, Same, new_same, same_absent, at_places, are_same, functions, word_read}
 use Rattle.fast_check_skeleton.proofs.ClassExample.{items_made}
@@ -45,13 +45,13 @@ first_specifiers = e.h ∷ e.x ∷ []
 abbrev second_specifiers : List Tree
 second_specifiers = e.x ∷ e.g ∷ e.h ∷ []
 
-g_hidden : is_public_specifier around e.g ≡ false
+g_hidden : is_public_specifier facts e.g ≡ false
 g_hidden = simp (kind_of_node, part_node, range_of_range)
 
-h_hidden : is_public_specifier around e.h ≡ false
+h_hidden : is_public_specifier facts e.h ≡ false
 h_hidden = simp (kind_of_node, part_node, range_of_range)
 
-specifiers : SamePublic (is_public_specifier around) (is_public_specifier around) Same first_specifiers second_specifiers
+specifiers : SamePublic (is_public_specifier facts) (is_public_specifier facts) Same first_specifiers second_specifiers
 specifiers =
     l.SamePublic.left h_hidden
     (l.SamePublic.next refl same_specifier (l.SamePublic.right g_hidden (l.SamePublic.right h_hidden l.SamePublic.end)))
@@ -62,16 +62,16 @@ specifiers_made ts = simp parts_node
 source_made : (ts : List Tree) → ImportDecl-src (import_of ts written_source) ≡ written_source
 source_made ts = part_node _ _ _
 
-sources : SameSource no_places around around written_source written_source
+sources : SameSource no_places facts facts written_source written_source
 sources = record { tree = same_source; relative = λ e. refl }
 
-imports : SameImport no_places around around (import_of first_specifiers written_source) (import_of second_specifiers written_source)
+imports : SameImport no_places facts facts (import_of first_specifiers written_source) (import_of second_specifiers written_source)
 imports = record {
   kinds = record { left = kind_of_node _ _; right = kind_of_node _ _ };
   span = at_places _ _ (simp (part_node, range_of_range)) (simp (part_node, range_of_range));
-  specifiers = subst₂ (SamePublic (is_public_specifier around) (is_public_specifier around) Same) (sym (specifiers_made first_specifiers))
+  specifiers = subst₂ (SamePublic (is_public_specifier facts) (is_public_specifier facts) Same) (sym (specifiers_made first_specifiers))
       (sym (specifiers_made second_specifiers)) specifiers;
-  src = subst₂ (SameSource no_places around around) (sym (source_made first_specifiers)) (sym (source_made second_specifiers)) sources;
+  src = subst₂ (SameSource no_places facts facts) (sym (source_made first_specifiers)) (sym (source_made second_specifiers)) sources;
   type_only = simp (part_node, flag_of_flag);
   with = are_same _ _ Absent (part_node _ _ _) (part_node _ _ _) same_absent;
   phase = simp part_node;
@@ -85,7 +85,7 @@ ident_made ss = simp part_node
 function_made : (ss : List Tree) → FnExpr-function (ExportDefaultDecl-decl (default_function ss)) ≡ void_function [] ss
 function_made ss = simp part_node
 
-default_functions : (ss ts : List Tree) → SameDefaultFunction no_places around around (default_function ss) (default_function ts)
+default_functions : (ss ts : List Tree) → SameDefaultFunction no_places facts facts (default_function ss) (default_function ts)
 default_functions ss ts = record {
   head = record {
     kinds = record { left = kind_of_node _ _; right = kind_of_node _ _ };
@@ -97,17 +97,17 @@ default_functions ss ts = record {
   ident = are_same _ _ Absent (ident_made ss) (ident_made ts) same_absent;
 }
 
-defaults : (ss ts : List Tree) → SameItem no_places around around (default_function ss) (default_function ts)
+defaults : (ss ts : List Tree) → SameItem no_places facts facts (default_function ss) (default_function ts)
 defaults ss ts = h.SameItem.default (d.SameDefault.function (default_functions ss ts) refl refl
     (subst₂ (SameFunction no_places no_classes no_classes) (sym (function_made ss)) (sym (function_made ts)) (functions ss ts)))
 
 -- ---- the modules
 
-agree : AgreeHidden no_places around around first second
+agree : AgreeHidden no_places facts facts first second
 agree = record {
   bindings = record { unresolved = inl (refl, refl) };
   is_ambient = refl;
-  items = subst₂ (SameItems no_places around around) (sym (items_made _)) (sym (items_made _))
+  items = subst₂ (SameItems no_places facts facts) (sym (items_made _)) (sym (items_made _))
       (h.SameItems.next (h.SameItem.linked (l.SameLink.import imports))
       (h.SameItems.next (defaults [] (empty_statement ∷ [])) h.SameItems.end));
   shebang = are_same _ _ Absent (part_node _ _ _) (part_node _ _ _) same_absent;
@@ -117,7 +117,7 @@ pub text_of_text : (text : List ℕ) → text_of (tree.Text text) ≡ text
 unfolding roll-Tree denote.Hole.Carrier.roll
 text_of_text text = ap text_at (out-roll-Tree (Tree-F.Text text))
 
-first_is : skeleton_of around first ≡ answered
+first_is : skeleton_of facts first ≡ answered
 first_is =
     simp (
       item_seen_is,
@@ -132,7 +132,7 @@ first_is =
       word_read,
     )
 
-second_is : skeleton_of around second ≡ answered
+second_is : skeleton_of facts second ≡ answered
 second_is =
     simp (
       item_seen_is,
@@ -147,7 +147,7 @@ second_is =
       word_read,
     )
 
-other_source : SameSource no_places around e.unresolving written_source written_source → ⊥
+other_source : SameSource no_places facts e.unresolving written_source written_source → ⊥
 other_source s = let e = s.relative (is_absent_node _ _) in cc
 
 pub module_example : ModuleExample

@@ -22,7 +22,7 @@ use Rattle.fast_check_skeleton.specs.Hidden as h
 use Rattle.fast_check_skeleton.specs.NamespaceExample.{block, inner, namespace_n, hidden, first, second, NamespaceExample}
 use Rattle.fast_check_skeleton.specs.Namespaces.{is_namespace, innermost, block_items, items_inside, body_round, namespace_round}
 use Rattle.fast_check_skeleton.specs.Skeleton.{skeleton_of}
-use Rattle.fast_check_skeleton.specs.Surroundings.{Surroundings, inside}
+use Rattle.fast_check_skeleton.specs.ModuleFacts.{ModuleFacts, inside}
 use Rattle.fast_check_skeleton.specs.Visible.{item_look, body_seen, item_seen, seen_by_rule}
 use Rattle.fast_check_skeleton.proofs.Agreeing.{silent_item, silent_properties}
 use Rattle.fast_check_skeleton.proofs.ClassExample.{is_renaming, same_absent, same_ident, at_places, are_same, items_made}
@@ -52,8 +52,8 @@ is_one ts = simp (part_node, kind_of_node, flag_of_flag, is_absent_node)
 
 -- ---- they agree
 
-silent : (around : Surroundings) → IsSilent around hidden
-silent around = h.IsSilent.statement (simp kind_of_node)
+silent : (facts : ModuleFacts) → IsSilent facts hidden
+silent facts = h.IsSilent.statement (simp kind_of_node)
 
 begins_at : range_of_node hidden ≡ at 7 8
 begins_at = simp (kind_of_node, part_node, range_of_range)
@@ -61,7 +61,7 @@ begins_at = simp (kind_of_node, part_node, range_of_range)
 alone : IsNoPartner no_places.starts (range_of_node hidden).start.0
 alone n p = let q : IsPair no_places.starts n 7 = subst (λ s. IsPair no_places.starts n s.start.0) begins_at p in grind arith
 
-module _ (a b : Surroundings) where
+module _ (a b : ModuleFacts) where
   blocks : SameBody no_places a b (block []) (block (hidden ∷ []))
   blocks = h.SameBody.block (record { left = block_kind []; right = block_kind (hidden ∷ []) })
       (at_places _ _ (simp (part_node, range_of_range)) (simp (part_node, range_of_range)))
@@ -139,9 +139,9 @@ seen_as ts e =
     ∙ (ap (λ items. namespace_round items decl ∷ []) (ap (body_seen item_look (inside all_public decl)) (inside_is ts) ∙ e)
     ∙ ap (λ body. round_body decl body ∷ []) (body_is ts))))
 
-nothing_hidden : (around : Surroundings) → body_seen item_look around (hidden ∷ []) ≡ []
-nothing_hidden around = λ i. (silent_item around hidden (silent around) i ++ []) ++ namespaces_seen
-    (silent_properties around hidden (silent around) i ++ [])
+nothing_hidden : (facts : ModuleFacts) → body_seen item_look facts (hidden ∷ []) ≡ []
+nothing_hidden facts = λ i. (silent_item facts hidden (silent facts) i ++ []) ++ namespaces_seen
+    (silent_properties facts hidden (silent facts) i ++ [])
 
 first_is : skeleton_of all_public first ≡ first
 first_is = simp (seen_as [] refl, parts_node, kind_of_node, range_of_range, flag_of_flag)

@@ -27,7 +27,7 @@ use Rattle.fast_check_skeleton.specs.KeptComments.{removed_start}
 use Rattle.fast_check_skeleton.specs.Namespaces.{is_ambient_module, is_namespace, innermost_form, innermost, block_items, items_inside}
 use Rattle.fast_check_skeleton.specs.Namespaces.{body_form, body_round, namespace_round}
 use Rattle.fast_check_skeleton.specs.Rules.{item_rule}
-use Rattle.fast_check_skeleton.specs.Surroundings.{Surroundings, inside}
+use Rattle.fast_check_skeleton.specs.ModuleFacts.{ModuleFacts, inside}
 use Rattle.fast_check_expandos.specs.Expandos.{namespaces_seen}
 use Rattle.fast_check_skeleton.specs.Visible.{item_properties, body_seen, namespace_seen, decl_form, exported_seen, form_by_rule, item_form}
 use Rattle.fast_check_skeleton.specs.Visible.{item_look, item_seen, seen_by_rule}
@@ -129,83 +129,83 @@ items_below limit decl h =
 
 -- ---- what is seen of items
 
-module _ (around : Surroundings) (item : Tree) where
-  abbrev look : Tree → Surroundings → List Seen
-  look = given (λ around. []) item_form item
+module _ (facts : ModuleFacts) (item : Tree) where
+  abbrev look : Tree → ModuleFacts → List Seen
+  look = given (λ facts. []) item_form item
 
-  same_each : (here : Surroundings) (ts : List Tree) → OfAll (λ u. height u < height item) ts →
+  same_each : (here : ModuleFacts) (ts : List Tree) → OfAll (λ u. height u < height item) ts →
       flat_map (λ u. look u here) ts ≡ flat_map (λ u. item_look u here) ts
   unfolding item_look
   same_each here [] below = refl
   same_each here (t ∷ ts) below =
-      ap₂ (λ x y. x ++ y) (ap (λ f. f here) (given_lower (λ around. []) item_form item t below.0)) (same_each here ts below.1)
+      ap₂ (λ x y. x ++ y) (ap (λ f. f here) (given_lower (λ facts. []) item_form item t below.0)) (same_each here ts below.1)
 
-  same_items : (here : Surroundings) (ts : List Tree) → OfAll (λ u. height u < height item) ts →
+  same_items : (here : ModuleFacts) (ts : List Tree) → OfAll (λ u. height u < height item) ts →
       body_seen look here ts ≡ body_seen item_look here ts
   same_items here ts below = ap (λ xs. xs ++ namespaces_seen (flat_map (item_properties here) ts)) (same_each here ts below)
 
   same_decl : (place : SourceRange) (decl : Tree) → height decl ≤ height item → (rule : DeclRule) →
-      decl_form look around place decl rule ≡ decl_form item_look around place decl rule
+      decl_form look facts place decl rule ≡ decl_form item_look facts place decl rule
   same_decl place decl h Namespace =
       ap (λ items. if TsModuleDecl-global decl then faulty UnsupportedGlobalModule (TsModuleDecl-span decl) ∷ []
       else (if is_ambient_module decl then faulty UnsupportedAmbientModule (range_of_node (TsModuleDecl-id decl)) ∷ []
-      else (if around.is_public place then namespace_round items decl ∷ [] else [])))
-      (same_items (inside around decl) (items_inside decl) (items_below (height item) decl h))
+      else (if facts.is_public place then namespace_round items decl ∷ [] else [])))
+      (same_items (inside facts decl) (items_inside decl) (items_below (height item) decl h))
   same_decl place decl h _ = refl
 
-  same_by_rule : (rule : ItemRule) → form_by_rule look around item rule ≡ seen_by_rule around item rule
+  same_by_rule : (rule : ItemRule) → form_by_rule look facts item rule ≡ seen_by_rule facts item rule
   same_by_rule (Declared rule) = same_decl (range_of_node item) item (omega arith) rule
   same_by_rule (Exported rule) =
       ap (exported_seen item) (same_decl (ExportDecl-span item) (ExportDecl-decl item) (height_at_most item 1) rule)
   same_by_rule _ = refl
 
 -- the equation of `item_seen`
-pub item_seen_is : (around : Surroundings) (item : Tree) → item_seen around item ≡ seen_by_rule around item (item_rule item)
+pub item_seen_is : (facts : ModuleFacts) (item : Tree) → item_seen facts item ≡ seen_by_rule facts item (item_rule item)
 unfolding item_look
-item_seen_is around item = ap (λ f. f around) (by_descent_is (λ around. []) item_form item) ∙ same_by_rule around item (item_rule item)
+item_seen_is facts item = ap (λ f. f facts) (by_descent_is (λ facts. []) item_form item) ∙ same_by_rule facts item (item_rule item)
 
 -- ---- what goes of items
 
-module _ (around : Surroundings) (item : Tree) where
-  abbrev start_given : Tree → Surroundings → List SourcePos
-  start_given = given (λ around. []) start_form item
+module _ (facts : ModuleFacts) (item : Tree) where
+  abbrev start_given : Tree → ModuleFacts → List SourcePos
+  start_given = given (λ facts. []) start_form item
 
-  same_starts : (here : Surroundings) (ts : List Tree) → OfAll (λ u. height u < height item) ts →
+  same_starts : (here : ModuleFacts) (ts : List Tree) → OfAll (λ u. height u < height item) ts →
       flat_map (λ u. start_given u here) ts ≡ flat_map (λ u. start_look u here) ts
   unfolding start_look
   same_starts here [] below = refl
   same_starts here (t ∷ ts) below =
-      ap₂ (λ x y. x ++ y) (ap (λ f. f here) (given_lower (λ around. []) start_form item t below.0)) (same_starts here ts below.1)
+      ap₂ (λ x y. x ++ y) (ap (λ f. f here) (given_lower (λ facts. []) start_form item t below.0)) (same_starts here ts below.1)
 
   same_in_body : (place : SourceRange) (decl : Tree) → height decl ≤ height item → (rule : DeclRule) →
-      starts_in_body start_given around place decl rule ≡ starts_in_body start_look around place decl rule
+      starts_in_body start_given facts place decl rule ≡ starts_in_body start_look facts place decl rule
   same_in_body place decl h Namespace =
-      ap (λ starts. if is_namespace decl && around.is_public place then starts else [])
-      (same_starts (inside around decl) (items_inside decl) (items_below (height item) decl h))
+      ap (λ starts. if is_namespace decl && facts.is_public place then starts else [])
+      (same_starts (inside facts decl) (items_inside decl) (items_below (height item) decl h))
   same_in_body place decl h _ = refl
 
-  same_below : (rule : ItemRule) → starts_below start_given around item rule ≡ starts_below start_look around item rule
+  same_below : (rule : ItemRule) → starts_below start_given facts item rule ≡ starts_below start_look facts item rule
   same_below (Declared rule) = same_in_body (range_of_node item) item (omega arith) rule
   same_below (Exported rule) = same_in_body (ExportDecl-span item) (ExportDecl-decl item) (height_at_most item 1) rule
   same_below _ = refl
 
 -- the equation of `removed_start`
-pub removed_start_is : (around : Surroundings) (item : Tree) → removed_start around item ≡
-    starts_below start_look around item
-    (item_rule item) ++ (start_of_unseen item (item_seen around item) ++ starts_inside around item (item_rule item))
+pub removed_start_is : (facts : ModuleFacts) (item : Tree) → removed_start facts item ≡
+    starts_below start_look facts item
+    (item_rule item) ++ (start_of_unseen item (item_seen facts item) ++ starts_inside facts item (item_rule item))
 unfolding start_look
-removed_start_is around item =
-    ap (λ f. f around) (by_descent_is (λ around. []) start_form item)
-    ∙ ap (λ starts. starts ++ (start_of_unseen item (item_seen around item) ++ starts_inside around item (item_rule item)))
-    (same_below around item (item_rule item))
+removed_start_is facts item =
+    ap (λ f. f facts) (by_descent_is (λ facts. []) start_form item)
+    ∙ ap (λ starts. starts ++ (start_of_unseen item (item_seen facts item) ++ starts_inside facts item (item_rule item)))
+    (same_below facts item (item_rule item))
 
 -- ---- modules, by what they are
 
-abbrev module_if : Surroundings → SourceRange → Tree → Bool → Bool → Bool → List Seen
-module_if around place decl global ambient public =
+abbrev module_if : ModuleFacts → SourceRange → Tree → Bool → Bool → Bool → List Seen
+module_if facts place decl global ambient public =
     if global then faulty UnsupportedGlobalModule (TsModuleDecl-span decl) ∷ []
     else (if ambient then faulty UnsupportedAmbientModule (range_of_node (TsModuleDecl-id decl)) ∷ []
-    else (if public then namespace_round (body_seen item_look (inside around decl) (items_inside decl)) decl ∷ [] else []))
+    else (if public then namespace_round (body_seen item_look (inside facts decl) (items_inside decl)) decl ∷ [] else []))
 
 -- a namespace is neither `declare global` nor one that a text names, nor one without a body
 pub no_global : (decl : Tree) → is_namespace decl ≡ true → TsModuleDecl-global decl ≡ false
@@ -234,24 +234,24 @@ ambient_no_namespace decl e = go (TsModuleDecl-global decl) (is_ambient_module d
     go false true f = refl
     go false false f = cc
 
-pub namespace_if : (around : Surroundings) (place : SourceRange) (decl : Tree) → is_namespace decl ≡ true →
-    namespace_seen item_look around place decl ≡
-    (if around.is_public place then namespace_round (body_seen item_look (inside around decl) (items_inside decl)) decl ∷ [] else [])
-namespace_if around place decl e =
-    λ i. module_if around place decl (no_global decl e i) (no_ambient_module decl e i) (around.is_public place)
+pub namespace_if : (facts : ModuleFacts) (place : SourceRange) (decl : Tree) → is_namespace decl ≡ true →
+    namespace_seen item_look facts place decl ≡
+    (if facts.is_public place then namespace_round (body_seen item_look (inside facts decl) (items_inside decl)) decl ∷ [] else [])
+namespace_if facts place decl e =
+    λ i. module_if facts place decl (no_global decl e i) (no_ambient_module decl e i) (facts.is_public place)
 
-pub hidden_namespace : (around : Surroundings) (place : SourceRange) (decl : Tree) → is_namespace decl ≡ true →
-    around.is_public place ≡ false →
-    namespace_seen item_look around place decl ≡ []
-hidden_namespace around place decl e p =
-    λ i. module_if around place decl (no_global decl e i) (no_ambient_module decl e i) (p i)
+pub hidden_namespace : (facts : ModuleFacts) (place : SourceRange) (decl : Tree) → is_namespace decl ≡ true →
+    facts.is_public place ≡ false →
+    namespace_seen item_look facts place decl ≡ []
+hidden_namespace facts place decl e p =
+    λ i. module_if facts place decl (no_global decl e i) (no_ambient_module decl e i) (p i)
 
 -- `declare global`, and modules without a block of their own
-pub global_is : (around : Surroundings) (place : SourceRange) (decl : Tree) → TsModuleDecl-global decl ≡ true →
-    namespace_seen item_look around place decl ≡ faulty UnsupportedGlobalModule (TsModuleDecl-span decl) ∷ []
-global_is around place decl e = ap (λ g. module_if around place decl g (is_ambient_module decl) (around.is_public place)) e
+pub global_is : (facts : ModuleFacts) (place : SourceRange) (decl : Tree) → TsModuleDecl-global decl ≡ true →
+    namespace_seen item_look facts place decl ≡ faulty UnsupportedGlobalModule (TsModuleDecl-span decl) ∷ []
+global_is facts place decl e = ap (λ g. module_if facts place decl g (is_ambient_module decl) (facts.is_public place)) e
 
-pub ambient_module_is : (around : Surroundings) (place : SourceRange) (decl : Tree) → TsModuleDecl-global decl ≡ false →
+pub ambient_module_is : (facts : ModuleFacts) (place : SourceRange) (decl : Tree) → TsModuleDecl-global decl ≡ false →
     is_ambient_module decl ≡ true →
-    namespace_seen item_look around place decl ≡ faulty UnsupportedAmbientModule (range_of_node (TsModuleDecl-id decl)) ∷ []
-ambient_module_is around place decl e f = λ i. module_if around place decl (e i) (f i) (around.is_public place)
+    namespace_seen item_look facts place decl ≡ faulty UnsupportedAmbientModule (range_of_node (TsModuleDecl-id decl)) ∷ []
+ambient_module_is facts place decl e f = λ i. module_if facts place decl (e i) (f i) (facts.is_public place)

@@ -25,7 +25,7 @@ use Rattle.fast_check_skeleton.specs.SameValues.{SameExpr}
 use Rattle.fast_check_skeleton.specs.SameValues as v
 use Rattle.fast_check_skeleton.specs.Mutability.{mutability_of}
 use Rattle.fast_check_skeleton.specs.Visible.{is_public_declarator}
-use Rattle.fast_check_skeleton.specs.Surroundings.{Surroundings}
+use Rattle.fast_check_skeleton.specs.ModuleFacts.{ModuleFacts}
 use Rattle.fast_check_skeleton.specs.Hidden.{AgreeHidden, SameHead, SameDeclarator, SameDeclarators, SameStatement, SameDecl, SameItem}
 use Rattle.fast_check_skeleton.specs.Hidden.{SameItems}
 use Rattle.fast_check_skeleton.specs.Hidden as h
@@ -33,18 +33,18 @@ use Rattle.fast_check_skeleton.specs.SameLinks as l
 use Rattle.fast_check_skeleton.specs.Skeleton.{skeleton_of}
 use Rattle.fast_check_skeleton.specs.ClassExample.{module_of, no_places, no_classes}
 use Rattle.fast_check_skeleton.specs.PrivateClassExample.{class_h, declarator_x, statement_x, export_x, one, new_h, first, second}
-use Rattle.fast_check_skeleton.specs.PrivateClassExample.{class_h_known, around, PrivateClassExample}
+use Rattle.fast_check_skeleton.specs.PrivateClassExample.{class_h_known, facts, PrivateClassExample}
 use Rattle.fast_check_skeleton.proofs.ClassExample.{is_renaming, Same, new_same, same_absent, same_ident, at_places, in_scopes, are_same}
 use Rattle.fast_check_skeleton.proofs.ClassExample.{items_made}
 use Rattle.fast_check_skeleton.proofs.Example.{context_of_context}
 use Rattle.fast_check_skeleton.proofs.ModuleExample.{text_of_text}
 use Rattle.fast_check_skeleton.proofs.Namespaces.{item_seen_is}
 
-abbrev a : Surroundings
-a = around class_h_known
+abbrev a : ModuleFacts
+a = facts class_h_known
 
-abbrev b : Surroundings
-b = around no_classes
+abbrev b : ModuleFacts
+b = facts no_classes
 
 -- ---- the class is silent
 

@@ -29,14 +29,14 @@ use Rattle.fast_check_expandos.specs.Expandos.{object_of, property_name}
 use Rattle.fast_check_expandos.specs.Objects.{no_objects}
 use Rattle.fast_check_expandos.specs.References.{own_reference, references, mentioned}
 use Rattle.fast_check_expandos.proofs.ReferencesOut.{references_out}
-use Rattle.fast_check_skeleton.specs.Surroundings.{Surroundings}
+use Rattle.fast_check_skeleton.specs.ModuleFacts.{ModuleFacts}
 use Rattle.fast_check_skeleton.specs.Hidden.{IsSilent, AgreeHidden, SameFunctionDecl, SameItem, SameItems}
 use Rattle.fast_check_skeleton.specs.Hidden as h
 use Rattle.fast_check_skeleton.specs.SameAssignments.{SameExpando, SameAssignment}
 use Rattle.fast_check_skeleton.specs.SameAssignments as forms
 use Rattle.fast_check_skeleton.specs.ClassExample.{function_f, empty_statement, no_places, no_classes}
 use Rattle.fast_check_skeleton.specs.ExpandoExample.{target, assignment, assigned}
-use Rattle.fast_check_skeleton.specs.SilentAssignmentExample.{name_b, name_c, silent, first, second, exporting_b, around}
+use Rattle.fast_check_skeleton.specs.SilentAssignmentExample.{name_b, name_c, silent, first, second, exporting_b, facts}
 use Rattle.fast_check_skeleton.specs.SilentAssignmentExample.{SilentAssignmentExample}
 use Rattle.fast_check_skeleton.proofs.ClassExample.{is_renaming, same_absent, same_ident, at_places, are_same, functions, items_made}
 use Rattle.fast_check_skeleton.proofs.ExpandoExample.{same_target, left_made, right_made, assignment_made, is_one}
@@ -44,11 +44,11 @@ use Rattle.fast_check_skeleton.proofs.Example.{context_of_context}
 use Rattle.fast_check_skeleton.proofs.ModuleExample.{text_of_text}
 use Rattle.fast_check_skeleton.proofs.ClassExample.{function_made}
 
-abbrev a : Surroundings
-a = around exporting_b
+abbrev a : ModuleFacts
+a = facts exporting_b
 
-abbrev b : Surroundings
-b = around no_objects
+abbrev b : ModuleFacts
+b = facts no_objects
 
 -- ---- the names that a name mentions: itself
 

@@ -61,7 +61,7 @@ use Rattle.fast_check_skeleton.specs.Links as l
 use Rattle.fast_check_skeleton.specs.Links.{public_specifiers, with_specifiers, all_exported, link_seen}
 use Rattle.fast_check_skeleton.specs.Mutability.{mutability_of}
 use Rattle.fast_check_skeleton.specs.Rules.{decl_rule, expr_stmt_rule, default_rule, is_require, rule_of_kind}
-use Rattle.fast_check_skeleton.specs.Surroundings.{Surroundings, inside}
+use Rattle.fast_check_skeleton.specs.ModuleFacts.{ModuleFacts, inside}
 use Rattle.fast_check_skeleton.specs.Namespaces.{is_ambient_module, is_namespace, items_inside, namespace_round, namespace_with}
 use Rattle.fast_check_skeleton.specs.Visible.{declared_ident, declared_type, value_seen, untyped_seen, declarator_seen}
 use Rattle.fast_check_skeleton.specs.Visible.{is_ambient_statement, is_public_declarator, declarator_in, public_declarator}
@@ -87,7 +87,7 @@ use Rattle.fast_check_skeleton.proofs.Ruled.{standing_kind, function_kind}
 
 -- ---- declarators
 
-module _ (around : Surroundings) (mutability : DeclMutabilityKind) (d : Tree) where
+module _ (facts : ModuleFacts) (mutability : DeclMutabilityKind) (d : Tree) where
   abbrev name_place : SourceRange
   name_place = Ident-span (declared_ident d)
 
@@ -95,65 +95,65 @@ module _ (around : Surroundings) (mutability : DeclMutabilityKind) (d : Tree) wh
   value = VarDeclarator-init d
 
   abbrev Typed : Tree → Type 0
-  Typed = IsTypedDeclarator around.bindings
+  Typed = IsTypedDeclarator facts.bindings
 
   abbrev StaysTyped : Seen → Type 0
   StaysTyped s = Stays Typed (answer_to s)
 
   -- a value that gives a type
   abbrev Gives : Tree → Type 0
-  Gives v = (is_absent v ≡ false) × IsLeavable around.bindings v
+  Gives v = (is_absent v ≡ false) × IsLeavable facts.bindings v
 
-  value_stays : Stays Gives (answer_to (value_seen around name_place value))
+  value_stays : Stays Gives (answer_to (value_seen facts name_place value))
   value_stays =
       of_choice (λ s. Stays Gives (answer_to s)) (is_absent value) _ _ (λ e f. tt)
-      (λ e f. both_some (λ v. is_absent v ≡ false) (IsLeavable around.bindings)
-      (answer_to (expr_seen around.bindings value (Some name_place))).stays
-      (stays_there around.bindings value (Some name_place) e) (expr_stays around.bindings value (Some name_place) f))
+      (λ e f. both_some (λ v. is_absent v ≡ false) (IsLeavable facts.bindings)
+      (answer_to (expr_seen facts.bindings value (Some name_place))).stays
+      (stays_there facts.bindings value (Some name_place) e) (expr_stays facts.bindings value (Some name_place) f))
 
-  untyped_stays : (o : Option Tree) → StaysTyped (untyped_seen around d o)
-  untyped_stays (Some type) = λ f. typed around.bindings _ _ _ (type_ann type) never_value (inl (is_absent_node _ _, refl))
+  untyped_stays : (o : Option Tree) → StaysTyped (untyped_seen facts d o)
+  untyped_stays (Some type) = λ f. typed facts.bindings _ _ _ (type_ann type) never_value (inl (is_absent_node _ _, refl))
   untyped_stays None =
-      λ f. typed around.bindings _ _ _ Absent _
-      (inr (demanded_holds Gives (fault_at MissingExplicitType name_place) (answer_to (value_seen around name_place value)) value_stays f))
+      λ f. typed facts.bindings _ _ _ Absent _
+      (inr (demanded_holds Gives (fault_at MissingExplicitType name_place) (answer_to (value_seen facts name_place value)) value_stays f))
 
-  declarator_stays : StaysTyped (declarator_seen around mutability d)
+  declarator_stays : StaysTyped (declarator_seen facts mutability d)
   declarator_stays =
       of_choice StaysTyped (kind_of (VarDeclarator-name d) is BindingIdent) _ _
       (λ e. of_choice StaysTyped (is_absent (declared_type d)) _ _
-      (λ absent. untyped_stays (inferred_type mutability around.bindings.unresolved value))
-      (λ present f. typed around.bindings _ _ _ (declared_type d) never_value (inl (present, refl))))
+      (λ absent. untyped_stays (inferred_type mutability facts.bindings.unresolved value))
+      (λ present f. typed facts.bindings _ _ _ (declared_type d) never_value (inl (present, refl))))
       (λ e f. not_empty f)
 
   -- what stands of a declarator is one tree
   abbrev pub IsOne : Seen → Type 0
   IsOne s = (t : Tree) × ((answer_to s).stays ≡ Some t)
 
-  untyped_one : (o : Option Tree) → IsOne (untyped_seen around d o)
+  untyped_one : (o : Option Tree) → IsOne (untyped_seen facts d o)
   untyped_one (Some type) = (_, refl)
   untyped_one None = (_, refl)
 
-  pub declarator_one : IsOne (declarator_seen around mutability d)
+  pub declarator_one : IsOne (declarator_seen facts mutability d)
   declarator_one =
       of_choice IsOne (kind_of (VarDeclarator-name d) is BindingIdent) _ _
       (λ e. of_choice IsOne (is_absent (declared_type d)) _ _
-      (λ absent. untyped_one (inferred_type mutability around.bindings.unresolved value))
+      (λ absent. untyped_one (inferred_type mutability facts.bindings.unresolved value))
       (λ present. (_, refl)))
       (λ e. (Absent, refl))
 
 -- ---- statements and items
 
-module _ (around : Surroundings) where
+module _ (facts : ModuleFacts) where
   abbrev Typed' : Tree → Type 0
-  Typed' = IsTypedDeclarator around.bindings
+  Typed' = IsTypedDeclarator facts.bindings
 
-  declarators_stay : (statement : Tree) → is_ambient_statement around statement ≡ false →
-      AllStay Typed' (public_declarators around statement)
-  declarators_stay statement n = all_flat Typed' (public_declarator around statement) (parts (VarDecl-decls statement))
-      (λ d. all_if Typed' (is_public_declarator around d) (declarator_in around statement d)
+  declarators_stay : (statement : Tree) → is_ambient_statement facts statement ≡ false →
+      AllStay Typed' (public_declarators facts statement)
+  declarators_stay statement n = all_flat Typed' (public_declarator facts statement) (parts (VarDecl-decls statement))
+      (λ d. all_if Typed' (is_public_declarator facts d) (declarator_in facts statement d)
       (let P : Bool → Type 0 =
-      λ a. Stays Typed' (answer_to (if a then written d else declarator_seen around (mutability_of (VarDecl-kind statement)) d)) in
-      subst P (sym n) (declarator_stays around (mutability_of (VarDecl-kind statement)) d)))
+      λ a. Stays Typed' (answer_to (if a then written d else declarator_seen facts (mutability_of (VarDecl-kind statement)) d)) in
+      subst P (sym n) (declarator_stays facts (mutability_of (VarDecl-kind statement)) d)))
 
   abbrev made_parts : Tree → List Tree → List Tree
   made_parts statement ds = tree.Range (VarDecl-span statement) ∷ tree.Context (VarDecl-ctxt statement) ∷ VarDecl-kind statement ∷
@@ -175,28 +175,28 @@ module _ (around : Surroundings) where
   statement_is statement ds =
       λ i. record { stays = Some (made statement (answer_of ds).stays); faults = append-nil (answer_of ds).faults i }
 
-  ambient_or_typed : (statement : Tree) (ds : List Tree) (a : Bool) → is_ambient_statement around statement ≡ a →
+  ambient_or_typed : (statement : Tree) (ds : List Tree) (a : Bool) → is_ambient_statement facts statement ≡ a →
       (a ≡ false → OfAll Typed' ds) →
-      IsTrue (around.is_ambient || VarDecl-declare (node VarDecl (made_parts statement ds))) ⊎
+      IsTrue (facts.is_ambient || VarDecl-declare (node VarDecl (made_parts statement ds))) ⊎
       OfAll Typed' (parts (VarDecl-decls (node VarDecl (made_parts statement ds))))
   ambient_or_typed statement ds true q p =
       let f = ap flag_of (part_node _ VarDecl (made_parts statement ds)) ∙ flag_of_flag (VarDecl-declare statement) in
-      inl (subst (λ b. IsTrue (around.is_ambient || b)) (sym f) q)
+      inl (subst (λ b. IsTrue (facts.is_ambient || b)) (sym f) q)
   ambient_or_typed statement ds false q p =
       let same : VarDecl-decls (node VarDecl (made_parts statement ds)) ≡ list ds = part_node _ _ _ in
       inr (subst (OfAll Typed') (sym (ap parts same ∙ parts_node List' ds)) (p refl))
 
   abbrev Statement : Tree → Type 0
-  Statement = IsTypedStatement around.bindings around.is_ambient
+  Statement = IsTypedStatement facts.bindings facts.is_ambient
 
   statement_stays : (statement : Tree) (ds : List Seen) →
-      (is_ambient_statement around statement ≡ false → Holds (OfAll Typed') (answer_of ds)) →
+      (is_ambient_statement facts statement ≡ false → Holds (OfAll Typed') (answer_of ds)) →
       AllStay Statement (statement_seen statement ds)
   statement_stays statement [] p = tt
   statement_stays statement (d ∷ ds) p = (
     λ f. record {
       kind = kind_of_node VarDecl (made_parts statement (answer_of (d ∷ ds)).stays);
-      declarators = ambient_or_typed statement (answer_of (d ∷ ds)).stays (is_ambient_statement around statement) refl
+      declarators = ambient_or_typed statement (answer_of (d ∷ ds)).stays (is_ambient_statement facts statement) refl
           (λ n. p n (no_left _ [] f));
     },
     tt,
@@ -205,18 +205,18 @@ module _ (around : Surroundings) where
   -- ---- functions
 
   abbrev Function' : Tree → Type 0
-  Function' = IsTypedFunctionDecl around.bindings around.is_ambient
+  Function' = IsTypedFunctionDecl facts.bindings facts.is_ambient
 
-  function_made : (decl function : Tree) → IsTypedFunction around.bindings function →
+  function_made : (decl function : Tree) → IsTypedFunction facts.bindings function →
       Function' (fn_decl (FnDecl-ident decl) (FnDecl-declare decl) function)
   function_made decl function h =
       let same : FnDecl-function (fn_decl (FnDecl-ident decl) (FnDecl-declare decl) function) ≡ function = part_node _ _ _ in
-      record { kind = kind_of_node _ _; function = inr (subst (IsTypedFunction around.bindings) (sym same) h) }
+      record { kind = kind_of_node _ _; function = inr (subst (IsTypedFunction facts.bindings) (sym same) h) }
 
   abbrev signed : Tree → Seen → Seen
   signed decl s = round FnDecl (seens (written (FnDecl-ident decl) ∷ flag (FnDecl-declare decl) ∷ s ∷ []))
 
-  signed_stays : (decl : Tree) (s : Seen) → Stays (IsTypedFunction around.bindings) (answer_to s) →
+  signed_stays : (decl : Tree) (s : Seen) → Stays (IsTypedFunction facts.bindings) (answer_to s) →
       Stays Function' (answer_to (signed decl s))
   signed_stays decl s p =
       let ident = FnDecl-ident decl in
@@ -226,33 +226,33 @@ module _ (around : Surroundings) where
       (parts_answer (seens (written ident ∷ written declare ∷ s ∷ [])))
       (written_before (λ ts. Function' (node FnDecl ts)) ident (visited (faultless (Some declare)) last)
       (written_before (λ ts. Function' (node FnDecl (ident ∷ ts))) declare last
-      (last_stays (IsTypedFunction around.bindings) (λ ts. Function' (node FnDecl (ident ∷ declare ∷ ts))) (function_made decl)
+      (last_stays (IsTypedFunction facts.bindings) (λ ts. Function' (node FnDecl (ident ∷ declare ∷ ts))) (function_made decl)
       (answer_to s) p)))
 
-  signature_stays : (place : SourceRange) (decl : Tree) → Stays (IsTypedFunction around.bindings)
-      (answer_to (signature_of around place decl))
+  signature_stays : (place : SourceRange) (decl : Tree) → Stays (IsTypedFunction facts.bindings)
+      (answer_to (signature_of facts place decl))
   signature_stays place decl =
-      of_choice (λ s. Stays (IsTypedFunction around.bindings) (answer_to s)) (around.is_implementation place) _ _
-      (λ e f. implementation_is_typed around.bindings (FnDecl-function decl))
-      (λ e. function_is_typed around.bindings DeclarationLike (Ident-span (FnDecl-ident decl)) (FnDecl-function decl) refl)
+      of_choice (λ s. Stays (IsTypedFunction facts.bindings) (answer_to s)) (facts.is_implementation place) _ _
+      (λ e f. implementation_is_typed facts.bindings (FnDecl-function decl))
+      (λ e. function_is_typed facts.bindings DeclarationLike (Ident-span (FnDecl-ident decl)) (FnDecl-function decl) refl)
 
-  function_stays : (place : SourceRange) (decl : Tree) → kind_of decl ≡ FnDecl → AllStay Function' (public_function around place decl)
-  function_stays place decl k = all_if Function' (around.is_public place) (function_decl_seen around place decl) (go around.is_ambient refl)
+  function_stays : (place : SourceRange) (decl : Tree) → kind_of decl ≡ FnDecl → AllStay Function' (public_function facts place decl)
+  function_stays place decl k = all_if Function' (facts.is_public place) (function_decl_seen facts place decl) (go facts.is_ambient refl)
     where
-      go : (b : Bool) → around.is_ambient ≡ b →
-          Stays Function' (answer_to (if b then written decl else signed decl (signature_of around place decl)))
+      go : (b : Bool) → facts.is_ambient ≡ b →
+          Stays Function' (answer_to (if b then written decl else signed decl (signature_of facts place decl)))
       go true q = λ f. record { kind = k; function = inl q }
-      go false q = signed_stays decl (signature_of around place decl) (signature_stays place decl)
+      go false q = signed_stays decl (signature_of facts place decl) (signature_stays place decl)
 
   -- ---- classes
 
   abbrev Class' : Tree → Type 0
-  Class' = IsTypedClassDecl around.bindings around.is_ambient
+  Class' = IsTypedClassDecl facts.bindings facts.is_ambient
 
   -- the class of a declaration, by whether it is ambient
   abbrev FitsClass : Tree → Tree → Type 0
   FitsClass decl class =
-      (IsTrue (is_ambient_class around decl) × IsAmbientClass class) ⊎ IsTypedClass around.bindings class
+      (IsTrue (is_ambient_class facts decl) × IsAmbientClass class) ⊎ IsTypedClass facts.bindings class
 
   class_made : (decl class : Tree) → FitsClass decl class → Class' (class_decl (ClassDecl-ident decl) (ClassDecl-declare decl) class)
   class_made decl class h =
@@ -262,7 +262,7 @@ module _ (around : Surroundings) where
       flag_of_flag (ClassDecl-declare decl) in
       record {
         kind = kind_of_node _ _;
-        class = subst₂ (λ d c. (IsTrue (around.is_ambient || d) × IsAmbientClass c) ⊎ IsTypedClass around.bindings c) (sym declare)
+        class = subst₂ (λ d c. (IsTrue (facts.is_ambient || d) × IsAmbientClass c) ⊎ IsTypedClass facts.bindings c) (sym declare)
             (sym same) h;
       }
 
@@ -280,32 +280,32 @@ module _ (around : Surroundings) where
       (written_before (λ ts. Class' (node ClassDecl (ident ∷ ts))) declare last
       (last_stays (FitsClass decl) (λ ts. Class' (node ClassDecl (ident ∷ declare ∷ ts))) (class_made decl) (answer_to s) p)))
 
-  class_fits : (decl : Tree) → Stays (FitsClass decl) (answer_to (class_in around decl))
+  class_fits : (decl : Tree) → Stays (FitsClass decl) (answer_to (class_in facts decl))
   class_fits decl =
       let class = ClassDecl-class decl in
-      let seen = plain_class_seen around.bindings around.is_implementation class in
-      of_choice (λ s. Stays (FitsClass decl) (answer_to s)) (is_ambient_class around decl) (written (ambient_class class)) seen
+      let seen = plain_class_seen facts.bindings facts.is_implementation class in
+      of_choice (λ s. Stays (FitsClass decl) (answer_to s)) (is_ambient_class facts decl) (written (ambient_class class)) seen
       (λ e f. inl (e, ambient_stands class))
-      (λ e f. some_weaker (IsTypedClass around.bindings) (FitsClass decl) (λ t h. inr h) (answer_to seen).stays
-      (class_stays around.bindings around.is_implementation class f))
+      (λ e f. some_weaker (IsTypedClass facts.bindings) (FitsClass decl) (λ t h. inr h) (answer_to seen).stays
+      (class_stays facts.bindings facts.is_implementation class f))
 
-  class_decl_stays : (place : SourceRange) (decl : Tree) → AllStay Class' (public_class around place decl)
-  class_decl_stays place decl = all_if Class' (around.is_public place) (class_decl_seen around decl)
-      (classed_stays decl (class_in around decl) (class_fits decl))
+  class_decl_stays : (place : SourceRange) (decl : Tree) → AllStay Class' (public_class facts place decl)
+  class_decl_stays place decl = all_if Class' (facts.is_public place) (class_decl_seen facts decl)
+      (classed_stays decl (class_in facts decl) (class_fits decl))
 
   -- ---- declarations
 
   abbrev IsDecl : Tree → Type 0
-  IsDecl = IsTypedDecl around.bindings around.is_ambient
+  IsDecl = IsTypedDecl facts.bindings facts.is_ambient
 
   abbrev IsPlain : Tree → Type 0
-  IsPlain = IsPlainItem around.bindings around.is_ambient
+  IsPlain = IsPlainItem facts.bindings facts.is_ambient
 
   abbrev IsItem : Tree → Type 0
-  IsItem = IsTypedItem around.bindings around.is_ambient
+  IsItem = IsTypedItem facts.bindings facts.is_ambient
 
   abbrev IsNamespace : Tree → Type 0
-  IsNamespace = IsTypedNamespace around.bindings around.is_ambient
+  IsNamespace = IsTypedNamespace facts.bindings facts.is_ambient
 
   -- what is done with declarations that are no namespaces
   abbrev is_plain : DeclRule → Bool
@@ -314,47 +314,47 @@ module _ (around : Surroundings) where
 
   decl_stays : (look : ItemLook) (place : SourceRange) (decl : Tree) (rule : DeclRule) → decl_rule (kind_of decl) ≡ rule →
       is_plain rule ≡ true →
-      AllStay IsDecl (decl_form look around place decl rule)
+      AllStay IsDecl (decl_form look facts place decl rule)
   decl_stays look place decl Variables q n =
-      all_weaker Statement IsDecl (λ t h. inl h) (statement_seen decl (public_declarators around decl))
-      (statement_stays decl (public_declarators around decl)
-      (λ n. all_hold Typed' (public_declarators around decl) (declarators_stay decl n)))
+      all_weaker Statement IsDecl (λ t h. inl h) (statement_seen decl (public_declarators facts decl))
+      (statement_stays decl (public_declarators facts decl)
+      (λ n. all_hold Typed' (public_declarators facts decl) (declarators_stay decl n)))
   decl_stays look place decl Function q n =
-      all_weaker Function' IsDecl (λ t h. inr (inl h)) (public_function around place decl)
+      all_weaker Function' IsDecl (λ t h. inr (inl h)) (public_function facts place decl)
       (function_stays place decl (function_kind (kind_of decl) q))
   decl_stays look place decl Class q n =
-      all_weaker Class' IsDecl (λ t h. inr (inr (inl h))) (public_class around place decl) (class_decl_stays place decl)
+      all_weaker Class' IsDecl (λ t h. inr (inr (inl h))) (public_class facts place decl) (class_decl_stays place decl)
   decl_stays look place decl Standing q n =
-      all_if IsDecl (around.is_public place) (written decl) (λ f. inr (inr (inr (standing_kind (kind_of decl) q))))
+      all_if IsDecl (facts.is_public place) (written decl) (λ f. inr (inr (inr (standing_kind (kind_of decl) q))))
   decl_stays look place decl Namespace q n = cc
-  decl_stays look place decl Using q n = all_if IsDecl (is_public_using around place decl) (faulty UnsupportedUsing (using_place decl))
+  decl_stays look place decl Using q n = all_if IsDecl (is_public_using facts place decl) (faulty UnsupportedUsing (using_place decl))
       (λ f. not_empty f)
   decl_stays look place decl NoDeclaration q n = tt
 
   -- namespaces, where what is seen of the lower items stays
-  namespace_stays : (limit : ℕ) → ((u : Tree) (here : Surroundings) → height u < limit →
+  namespace_stays : (limit : ℕ) → ((u : Tree) (here : ModuleFacts) → height u < limit →
       AllStay (IsTypedItem here.bindings here.is_ambient) (item_look u here)) →
-      (place : SourceRange) (decl : Tree) → height decl ≤ limit → AllStay IsNamespace (namespace_seen item_look around place decl)
+      (place : SourceRange) (decl : Tree) → height decl ≤ limit → AllStay IsNamespace (namespace_seen item_look facts place decl)
   namespace_stays limit h place decl low = go (TsModuleDecl-global decl) (is_ambient_module decl) refl refl
     where
       items : List Seen
-      items = body_seen item_look (inside around decl) (items_inside decl)
+      items = body_seen item_look (inside facts decl) (items_inside decl)
 
       stays : is_namespace decl ≡ true → Stays IsNamespace (answer_to (namespace_round items decl))
       stays e = subst (Stays IsNamespace) (sym (namespace_is items decl))
-          (λ f. namespace_typed around.bindings around.is_ambient decl (answer_of items).stays
-          e (body_stands (inside around decl) (items_inside decl)
-          (all_below (IsTypedItem around.bindings (around.is_ambient || TsModuleDecl-declare decl))
-          (λ u. item_look u (inside around decl)) limit (items_inside decl) (items_below limit decl low)
-          (λ u l. h u (inside around decl) l)) f))
+          (λ f. namespace_typed facts.bindings facts.is_ambient decl (answer_of items).stays
+          e (body_stands (inside facts decl) (items_inside decl)
+          (all_below (IsTypedItem facts.bindings (facts.is_ambient || TsModuleDecl-declare decl))
+          (λ u. item_look u (inside facts decl)) limit (items_inside decl) (items_below limit decl low)
+          (λ u l. h u (inside facts decl) l)) f))
 
       go : (x y : Bool) → TsModuleDecl-global decl ≡ x → is_ambient_module decl ≡ y → AllStay IsNamespace
           (if x then faulty UnsupportedGlobalModule (TsModuleDecl-span decl) ∷ []
           else (if y then faulty UnsupportedAmbientModule (range_of_node (TsModuleDecl-id decl)) ∷ []
-          else (if around.is_public place then namespace_round items decl ∷ [] else [])))
+          else (if facts.is_public place then namespace_round items decl ∷ [] else [])))
       go true y e f = ((λ f. not_empty f), tt)
       go false true e f = ((λ f. not_empty f), tt)
-      go false false e f = all_if IsNamespace (around.is_public place) (namespace_round items decl) (stays (λ i. not (e i) && not (f i)))
+      go false false e f = all_if IsNamespace (facts.is_public place) (namespace_round items decl) (stays (λ i. not (e i) && not (f i)))
 
   -- what is seen of a declaration is one form at most, of which one tree stays
   abbrev pub OneTree : List Seen → Type 0
@@ -370,37 +370,37 @@ module _ (around : Surroundings) where
   statement_one statement [] = tt
   statement_one statement (d ∷ ds) = (made statement (answer_of (d ∷ ds)).stays, refl)
 
-  function_one : (place : SourceRange) (decl : Tree) → OneTree (public_function around place decl)
-  function_one place decl = one_if (around.is_public place) (function_decl_seen around place decl)
-      (of_choice P around.is_ambient _ _ (λ e. (decl, refl))
-      (λ e. of_choice (λ s. P (signed decl s)) (around.is_implementation place) _ _ (λ e. (_, refl)) (λ e. (_, refl))))
+  function_one : (place : SourceRange) (decl : Tree) → OneTree (public_function facts place decl)
+  function_one place decl = one_if (facts.is_public place) (function_decl_seen facts place decl)
+      (of_choice P facts.is_ambient _ _ (λ e. (decl, refl))
+      (λ e. of_choice (λ s. P (signed decl s)) (facts.is_implementation place) _ _ (λ e. (_, refl)) (λ e. (_, refl))))
     where
       P : Seen → Type 0
       P s = OneTree (s ∷ [])
 
-  class_one : (place : SourceRange) (decl : Tree) → OneTree (public_class around place decl)
-  class_one place decl = one_if (around.is_public place) (class_decl_seen around decl)
-      (of_choice (λ s. OneTree (classed decl s ∷ [])) (is_ambient_class around decl) _ _ (λ e. (_, refl)) (λ e. (_, refl)))
+  class_one : (place : SourceRange) (decl : Tree) → OneTree (public_class facts place decl)
+  class_one place decl = one_if (facts.is_public place) (class_decl_seen facts decl)
+      (of_choice (λ s. OneTree (classed decl s ∷ [])) (is_ambient_class facts decl) _ _ (λ e. (_, refl)) (λ e. (_, refl)))
 
-  namespace_one : (look : ItemLook) (place : SourceRange) (decl : Tree) → OneTree (namespace_seen look around place decl)
+  namespace_one : (look : ItemLook) (place : SourceRange) (decl : Tree) → OneTree (namespace_seen look facts place decl)
   namespace_one look place decl =
       of_choice OneTree (TsModuleDecl-global decl) _ _ (λ e. (Absent, refl))
       (λ e. of_choice OneTree (is_ambient_module decl) _ _ (λ e. (Absent, refl))
-      (λ e. one_if (around.is_public place) (namespace_round (body_seen look (inside around decl) (items_inside decl)) decl) (
-        namespace_with (answer_of (body_seen look (inside around decl) (items_inside decl))).stays decl,
-        ap (λ a. a.stays) (namespace_is (body_seen look (inside around decl) (items_inside decl)) decl),
+      (λ e. one_if (facts.is_public place) (namespace_round (body_seen look (inside facts decl) (items_inside decl)) decl) (
+        namespace_with (answer_of (body_seen look (inside facts decl) (items_inside decl))).stays decl,
+        ap (λ a. a.stays) (namespace_is (body_seen look (inside facts decl) (items_inside decl)) decl),
       )))
 
-  form_one : (look : ItemLook) (place : SourceRange) (decl : Tree) (rule : DeclRule) → OneTree (decl_form look around place decl rule)
-  form_one look place decl Variables = statement_one decl (public_declarators around decl)
+  form_one : (look : ItemLook) (place : SourceRange) (decl : Tree) (rule : DeclRule) → OneTree (decl_form look facts place decl rule)
+  form_one look place decl Variables = statement_one decl (public_declarators facts decl)
   form_one look place decl Function = function_one place decl
   form_one look place decl Class = class_one place decl
-  form_one look place decl Standing = one_if (around.is_public place) (written decl) (decl, refl)
+  form_one look place decl Standing = one_if (facts.is_public place) (written decl) (decl, refl)
   form_one look place decl Namespace = namespace_one look place decl
-  form_one look place decl Using = one_if (is_public_using around place decl) (faulty UnsupportedUsing (using_place decl)) (Absent, refl)
+  form_one look place decl Using = one_if (is_public_using facts place decl) (faulty UnsupportedUsing (using_place decl)) (Absent, refl)
   form_one look place decl NoDeclaration = tt
 
-  pub decl_one : (place : SourceRange) (decl : Tree) (rule : DeclRule) → OneTree (decl_seen around place decl rule)
+  pub decl_one : (place : SourceRange) (decl : Tree) (rule : DeclRule) → OneTree (decl_seen facts place decl rule)
   decl_one = form_one item_look
 
   -- ---- exports
@@ -465,33 +465,33 @@ module _ (around : Surroundings) where
   with_stays make p [] = tt
   with_stays make p (t ∷ ts) = ((λ f. p (t ∷ ts)), tt)
 
-  import_stays : (item : Tree) → AllStay IsPlain (link_seen around item Import)
+  import_stays : (item : Tree) → AllStay IsPlain (link_seen facts item Import)
   import_stays item =
-      with_stays (l.import_with around item) (λ ts. link _ (inl (kind_of_node _ _))) (public_specifiers around (ImportDecl-specifiers item))
+      with_stays (l.import_with facts item) (λ ts. link _ (inl (kind_of_node _ _))) (public_specifiers facts (ImportDecl-specifiers item))
 
-  names_stay : (item : Tree) → AllStay IsPlain (link_seen around item Export)
+  names_stay : (item : Tree) → AllStay IsPlain (link_seen facts item Export)
   names_stay item =
-      with_stays (l.export_with around item) (λ ts. link _ (inr (inl (kind_of_node _ _))))
-      (public_specifiers around (NamedExport-specifiers item))
+      with_stays (l.export_with facts item) (λ ts. link _ (inr (inl (kind_of_node _ _))))
+      (public_specifiers facts (NamedExport-specifiers item))
 
-  all_stays : (item : Tree) → AllStay IsPlain (link_seen around item All)
-  all_stays item = all_if IsPlain (around.is_public (ExportAll-span item)) (written (all_exported around item))
+  all_stays : (item : Tree) → AllStay IsPlain (link_seen facts item All)
+  all_stays item = all_if IsPlain (facts.is_public (ExportAll-span item)) (written (all_exported facts item))
       (λ f. link _ (inr (inr (inl (kind_of_node _ _)))))
 
   alias_stays : (item : Tree) → kind_of item ≡ kinds.TsImportEqualsDecl → is_require item ≡ false →
-      AllStay IsPlain (link_seen around item Alias)
-  alias_stays item k n = all_if IsPlain (around.is_public (TsImportEqualsDecl-span item)) (written item)
+      AllStay IsPlain (link_seen facts item Alias)
+  alias_stays item k n = all_if IsPlain (facts.is_public (TsImportEqualsDecl-span item)) (written item)
       (λ f. link item (inr (inr (inr (k, n)))))
 
   with_one : (make : List Tree → Tree) (ts : List Tree) → OneTree (with_specifiers make ts)
   with_one make [] = tt
   with_one make (t ∷ ts) = (make (t ∷ ts), refl)
 
-  link_one : (item : Tree) (rule : LinkRule) → OneTree (link_seen around item rule)
-  link_one item Import = with_one (l.import_with around item) (public_specifiers around (ImportDecl-specifiers item))
-  link_one item Export = with_one (l.export_with around item) (public_specifiers around (NamedExport-specifiers item))
-  link_one item All = one_if (around.is_public (ExportAll-span item)) (written (all_exported around item)) (_, refl)
-  link_one item Alias = one_if (around.is_public (TsImportEqualsDecl-span item)) (written item) (item, refl)
+  link_one : (item : Tree) (rule : LinkRule) → OneTree (link_seen facts item rule)
+  link_one item Import = with_one (l.import_with facts item) (public_specifiers facts (ImportDecl-specifiers item))
+  link_one item Export = with_one (l.export_with facts item) (public_specifiers facts (NamedExport-specifiers item))
+  link_one item All = one_if (facts.is_public (ExportAll-span item)) (written (all_exported facts item)) (_, refl)
+  link_one item Alias = one_if (facts.is_public (TsImportEqualsDecl-span item)) (written item) (item, refl)
 
   -- ---- default exports
 
@@ -514,100 +514,100 @@ module _ (around : Surroundings) where
       (_, ap (λ a. (round_answer kind (visited (faultless (Some t)) (visited a (faultless (Some []))))).stays) same)
 
   abbrev IsDefaultDecl : Tree → Type 0
-  IsDefaultDecl = IsTypedDefaultDecl around.bindings around.is_ambient
+  IsDefaultDecl = IsTypedDefaultDecl facts.bindings facts.is_ambient
 
-  default_value_made : (span : SourceRange) (value : Tree) → IsLeavable around.bindings value → IsPlain (export_default_expr span value)
+  default_value_made : (span : SourceRange) (value : Tree) → IsLeavable facts.bindings value → IsPlain (export_default_expr span value)
   default_value_made span value h =
       let same : ExportDefaultExpr-expr (export_default_expr span value) ≡ value = part_node _ _ _ in
-      inr (inr (inl (inl (kind_of_node _ _, subst (IsLeavable around.bindings) (sym same) h))))
+      inr (inr (inl (inl (kind_of_node _ _, subst (IsLeavable facts.bindings) (sym same) h))))
 
-  default_value_stays : (item : Tree) → Stays IsPlain (answer_to (default_value_seen around item))
+  default_value_stays : (item : Tree) → Stays IsPlain (answer_to (default_value_seen facts item))
   default_value_stays item =
       let value = ExportDefaultExpr-expr item in
       λ f. default_value_made _ _
-      (demanded_holds (IsLeavable around.bindings) (fault_at UnsupportedDefaultExportExpr (ExportDefaultExpr-span item))
-      (answer_to (expr_seen around.bindings value None)) (expr_stays around.bindings value None) f)
+      (demanded_holds (IsLeavable facts.bindings) (fault_at UnsupportedDefaultExportExpr (ExportDefaultExpr-span item))
+      (answer_to (expr_seen facts.bindings value None)) (expr_stays facts.bindings value None) f)
 
   default_made : (span : SourceRange) (decl : Tree) → IsDefaultDecl decl → IsPlain (node ExportDefaultDecl (tree.Range span ∷ decl ∷ []))
   default_made span decl h =
       let same : ExportDefaultDecl-decl (node ExportDefaultDecl (tree.Range span ∷ decl ∷ [])) ≡ decl = part_node _ _ _ in
       inr (inr (inl (inr (kind_of_node _ _, subst IsDefaultDecl (sym same) h))))
 
-  public_default_stays : (item : Tree) (s : Seen) → Stays IsDefaultDecl (answer_to s) → AllStay IsPlain (public_default around item s)
+  public_default_stays : (item : Tree) (s : Seen) → Stays IsDefaultDecl (answer_to s) → AllStay IsPlain (public_default facts item s)
   public_default_stays item s p =
       let span = ExportDefaultDecl-span item in
-      all_if IsPlain (around.is_public span) (pair ExportDefaultDecl (tree.Range span) s)
+      all_if IsPlain (facts.is_public span) (pair ExportDefaultDecl (tree.Range span) s)
       (pair_stays ExportDefaultDecl IsDefaultDecl IsPlain (tree.Range span) s (default_made span) p)
 
-  default_class_stays : (decl : Tree) → Stays IsDefaultDecl (answer_to (default_class_seen around decl))
-  default_class_stays decl = pair_stays kinds.ClassExpr (IsTypedClass around.bindings) IsDefaultDecl (ClassExpr-ident decl)
-      (plain_class_seen around.bindings around.is_implementation (ClassExpr-class decl)) made'
-      (class_stays around.bindings around.is_implementation (ClassExpr-class decl))
+  default_class_stays : (decl : Tree) → Stays IsDefaultDecl (answer_to (default_class_seen facts decl))
+  default_class_stays decl = pair_stays kinds.ClassExpr (IsTypedClass facts.bindings) IsDefaultDecl (ClassExpr-ident decl)
+      (plain_class_seen facts.bindings facts.is_implementation (ClassExpr-class decl)) made'
+      (class_stays facts.bindings facts.is_implementation (ClassExpr-class decl))
     where
-      made' : (class : Tree) → IsTypedClass around.bindings class → IsDefaultDecl (node kinds.ClassExpr (ClassExpr-ident decl ∷ class ∷ []))
+      made' : (class : Tree) → IsTypedClass facts.bindings class → IsDefaultDecl (node kinds.ClassExpr (ClassExpr-ident decl ∷ class ∷ []))
       made' class h =
           let same : ClassExpr-class (node kinds.ClassExpr (ClassExpr-ident decl ∷ class ∷ [])) ≡ class = part_node _ _ _ in
-          inl (kind_of_node _ _, subst (IsTypedClass around.bindings) (sym same) h)
+          inl (kind_of_node _ _, subst (IsTypedClass facts.bindings) (sym same) h)
 
   default_function_stays : (place : SourceRange) (decl : Tree) → kind_of decl ≡ kinds.FnExpr →
-      Stays IsDefaultDecl (answer_to (default_function_seen around place decl))
+      Stays IsDefaultDecl (answer_to (default_function_seen facts place decl))
   default_function_stays place decl k =
-      of_choice (λ s. Stays IsDefaultDecl (answer_to s)) around.is_ambient _ _ (λ e f. inr (inl (k, inl e)))
-      (λ e. pair_stays kinds.FnExpr (IsTypedFunction around.bindings) IsDefaultDecl (FnExpr-ident decl)
-      (default_signature around place decl) made'
-      (of_choice (λ s. Stays (IsTypedFunction around.bindings) (answer_to s)) (around.is_implementation place) _ _
-      (λ e f. implementation_is_typed around.bindings (FnExpr-function decl))
-      (λ e. function_is_typed around.bindings DeclarationLike (default_place decl) (FnExpr-function decl) refl)))
+      of_choice (λ s. Stays IsDefaultDecl (answer_to s)) facts.is_ambient _ _ (λ e f. inr (inl (k, inl e)))
+      (λ e. pair_stays kinds.FnExpr (IsTypedFunction facts.bindings) IsDefaultDecl (FnExpr-ident decl)
+      (default_signature facts place decl) made'
+      (of_choice (λ s. Stays (IsTypedFunction facts.bindings) (answer_to s)) (facts.is_implementation place) _ _
+      (λ e f. implementation_is_typed facts.bindings (FnExpr-function decl))
+      (λ e. function_is_typed facts.bindings DeclarationLike (default_place decl) (FnExpr-function decl) refl)))
     where
-      made' : (function : Tree) → IsTypedFunction around.bindings function →
+      made' : (function : Tree) → IsTypedFunction facts.bindings function →
           IsDefaultDecl (node kinds.FnExpr (FnExpr-ident decl ∷ function ∷ []))
       made' function h =
           let same : FnExpr-function (node kinds.FnExpr (FnExpr-ident decl ∷ function ∷ [])) ≡ function = part_node _ _ _ in
-          inr (inl (kind_of_node _ _, inr (subst (IsTypedFunction around.bindings) (sym same) h)))
+          inr (inl (kind_of_node _ _, inr (subst (IsTypedFunction facts.bindings) (sym same) h)))
 
   default_stays : (item : Tree) (k : Kind) → kind_of (ExportDefaultDecl-decl item) ≡ k →
-      AllStay IsPlain (seen_by_rule around item (default_rule k))
+      AllStay IsPlain (seen_by_rule facts item (default_rule k))
   default_stays item kinds.ClassExpr q =
-      let decl = ExportDefaultDecl-decl item in public_default_stays item (default_class_seen around decl) (default_class_stays decl)
+      let decl = ExportDefaultDecl-decl item in public_default_stays item (default_class_seen facts decl) (default_class_stays decl)
   default_stays item kinds.FnExpr q =
       let decl = ExportDefaultDecl-decl item in
       let place = ExportDefaultDecl-span item in
-      public_default_stays item (default_function_seen around place decl) (default_function_stays place decl q)
+      public_default_stays item (default_function_seen facts place decl) (default_function_stays place decl q)
   default_stays item kinds.TsInterfaceDecl q = public_default_stays item (written (ExportDefaultDecl-decl item)) (λ f. inr (inr q))
   default_stays item _ q = tt
 
-  public_default_one : (item : Tree) (s : Seen) → OneTree (s ∷ []) → OneTree (public_default around item s)
+  public_default_one : (item : Tree) (s : Seen) → OneTree (s ∷ []) → OneTree (public_default facts item s)
   public_default_one item s one =
       let span = ExportDefaultDecl-span item in
-      one_if (around.is_public span) (pair ExportDefaultDecl (tree.Range span) s) (pair_one ExportDefaultDecl (tree.Range span) s one)
+      one_if (facts.is_public span) (pair ExportDefaultDecl (tree.Range span) s) (pair_one ExportDefaultDecl (tree.Range span) s one)
 
-  default_function_one : (place : SourceRange) (decl : Tree) → OneTree (default_function_seen around place decl ∷ [])
-  default_function_one place decl = of_choice P around.is_ambient _ _ (λ e. (decl, refl))
-      (λ e. pair_one kinds.FnExpr (FnExpr-ident decl) (default_signature around place decl)
-      (of_choice P (around.is_implementation place) _ _ (λ e. (_, refl)) (λ e. (_, refl))))
+  default_function_one : (place : SourceRange) (decl : Tree) → OneTree (default_function_seen facts place decl ∷ [])
+  default_function_one place decl = of_choice P facts.is_ambient _ _ (λ e. (decl, refl))
+      (λ e. pair_one kinds.FnExpr (FnExpr-ident decl) (default_signature facts place decl)
+      (of_choice P (facts.is_implementation place) _ _ (λ e. (_, refl)) (λ e. (_, refl))))
     where
       P : Seen → Type 0
       P s = OneTree (s ∷ [])
 
-  default_one : (item : Tree) (rule : DefaultRule) → OneTree (default_seen around item rule)
-  default_one item Value = one_if (is_public_value around item) (default_value_seen around item) (_, refl)
+  default_one : (item : Tree) (rule : DefaultRule) → OneTree (default_seen facts item rule)
+  default_one item Value = one_if (is_public_value facts item) (default_value_seen facts item) (_, refl)
   default_one item defaults.Class =
       let decl = ExportDefaultDecl-decl item in
-      public_default_one item (default_class_seen around decl) (pair_one kinds.ClassExpr (ClassExpr-ident decl)
-      (plain_class_seen around.bindings around.is_implementation (ClassExpr-class decl)) (_, refl))
+      public_default_one item (default_class_seen facts decl) (pair_one kinds.ClassExpr (ClassExpr-ident decl)
+      (plain_class_seen facts.bindings facts.is_implementation (ClassExpr-class decl)) (_, refl))
   default_one item defaults.Function =
       let place = ExportDefaultDecl-span item in
       let decl = ExportDefaultDecl-decl item in
-      public_default_one item (default_function_seen around place decl) (default_function_one place decl)
+      public_default_one item (default_function_seen facts place decl) (default_function_one place decl)
   default_one item Interface = public_default_one item (written (ExportDefaultDecl-decl item)) (ExportDefaultDecl-decl item, refl)
 
   -- ---- items
 
   -- of an item that is no assignment
-  pub item_one : (item : Tree) (rule : ItemRule) → is_assigned rule ≡ false → OneTree (seen_by_rule around item rule)
+  pub item_one : (item : Tree) (rule : ItemRule) → is_assigned rule ≡ false → OneTree (seen_by_rule facts item rule)
   item_one item (Declared rule) e = decl_one (range_of_node item) item rule
   item_one item (Exported rule) e =
-      export_one item (decl_seen around (ExportDecl-span item) (ExportDecl-decl item) rule)
+      export_one item (decl_seen facts (ExportDecl-span item) (ExportDecl-decl item) rule)
       (decl_one (ExportDecl-span item) (ExportDecl-decl item) rule)
   item_one item (Linked rule) e = link_one item rule
   item_one item (Default rule) e = default_one item rule
@@ -620,91 +620,91 @@ module _ (around : Surroundings) where
 
 -- an item, where what is seen of the lower items stays
 module _ (limit : ℕ)
-    (stay : (u : Tree) (here : Surroundings) → height u < limit → AllStay (IsTypedItem here.bindings here.is_ambient) (item_look u here))
-    (around : Surroundings) (item : Tree) (low : height item ≤ limit) where
+    (stay : (u : Tree) (here : ModuleFacts) → height u < limit → AllStay (IsTypedItem here.bindings here.is_ambient) (item_look u here))
+    (facts : ModuleFacts) (item : Tree) (low : height item ≤ limit) where
   abbrev Form : ItemRule → Type 0
-  Form rule = AllStay (IsItem around) (form_by_rule item_look around item rule)
+  Form rule = AllStay (IsItem facts) (form_by_rule item_look facts item rule)
 
-  nothing_stays : (place : Option SourceRange) (a : Answer (Option Tree)) → Stays (IsItem around) (tested_answer place a)
+  nothing_stays : (place : Option SourceRange) (a : Answer (Option Tree)) → Stays (IsItem facts) (tested_answer place a)
   nothing_stays None a f = tt
   nothing_stays (Some place) a f = tt
 
   expression : (k : Kind) → Form (expr_stmt_rule k)
   expression kinds.AssignExpr =
       let assignment = ExprStmt-expr item in
-      all_if (IsItem around) (around.is_public (AssignExpr-span assignment))
-      (tested (missing_place around.objects assignment) (right_seen around.bindings assignment))
-      (nothing_stays (missing_place around.objects assignment) (answer_to (right_seen around.bindings assignment)))
+      all_if (IsItem facts) (facts.is_public (AssignExpr-span assignment))
+      (tested (missing_place facts.objects assignment) (right_seen facts.bindings assignment))
+      (nothing_stays (missing_place facts.objects assignment) (answer_to (right_seen facts.bindings assignment)))
   expression _ = tt
 
-  declared : (k : Kind) → kind_of item ≡ k → is_plain around (decl_rule k) ≡ true → Form (Declared (decl_rule k))
+  declared : (k : Kind) → kind_of item ≡ k → is_plain facts (decl_rule k) ≡ true → Form (Declared (decl_rule k))
   declared k q n =
-      let ss = decl_form item_look around (range_of_node item) item (decl_rule k) in
-      as_items around ss (all_weaker (IsDecl around) (IsPlain around) (λ t h. inl h) ss
-      (decl_stays around item_look (range_of_node item) item (decl_rule k) (ap decl_rule q) n))
+      let ss = decl_form item_look facts (range_of_node item) item (decl_rule k) in
+      as_items facts ss (all_weaker (IsDecl facts) (IsPlain facts) (λ t h. inl h) ss
+      (decl_stays facts item_look (range_of_node item) item (decl_rule k) (ap decl_rule q) n))
 
-  export_of : (k : Kind) → kind_of (ExportDecl-decl item) ≡ k → is_plain around (decl_rule k) ≡ true → Form (Exported (decl_rule k))
+  export_of : (k : Kind) → kind_of (ExportDecl-decl item) ≡ k → is_plain facts (decl_rule k) ≡ true → Form (Exported (decl_rule k))
   export_of k q n =
       let place = ExportDecl-span item in
       let decl = ExportDecl-decl item in
-      let ss = decl_form item_look around place decl (decl_rule k) in
-      as_items around (exported_seen item ss) (export_stays around (IsDecl around) (IsPlain around) item (exported_stays around item) ss
-      (form_one around item_look place decl (decl_rule k)) (decl_stays around item_look place decl (decl_rule k) (ap decl_rule q) n))
+      let ss = decl_form item_look facts place decl (decl_rule k) in
+      as_items facts (exported_seen item ss) (export_stays facts (IsDecl facts) (IsPlain facts) item (exported_stays facts item) ss
+      (form_one facts item_look place decl (decl_rule k)) (decl_stays facts item_look place decl (decl_rule k) (ap decl_rule q) n))
 
   exports : (k : Kind) → kind_of (ExportDecl-decl item) ≡ k → Form (Exported (decl_rule k))
   exports kinds.TsModuleDecl q =
       let place = ExportDecl-span item in
       let decl = ExportDecl-decl item in
-      export_stays around (IsNamespace around) (IsItem around) item (exported_namespace_stays around item)
-      (namespace_seen item_look around place decl)
-      (namespace_one around item_look place decl) (namespace_stays around limit stay place decl (omega (arith, height_at_most item 1, low)))
+      export_stays facts (IsNamespace facts) (IsItem facts) item (exported_namespace_stays facts item)
+      (namespace_seen item_look facts place decl)
+      (namespace_one facts item_look place decl) (namespace_stays facts limit stay place decl (omega (arith, height_at_most item 1, low)))
   exports k q = export_of k q refl
 
   form_stays : (k : Kind) → kind_of item ≡ k → Form (rule_of_kind k item)
   form_stays kinds.ExportDecl q = exports (kind_of (ExportDecl-decl item)) refl
-  form_stays kinds.ImportDecl q = as_items around _ (import_stays around item)
-  form_stays kinds.NamedExport q = as_items around _ (names_stay around item)
-  form_stays kinds.ExportAll q = as_items around _ (all_stays around item)
+  form_stays kinds.ImportDecl q = as_items facts _ (import_stays facts item)
+  form_stays kinds.NamedExport q = as_items facts _ (names_stay facts item)
+  form_stays kinds.ExportAll q = as_items facts _ (all_stays facts item)
   form_stays kinds.TsImportEqualsDecl q = of_choice Form (is_require item) _ _
-      (λ e. ((λ f. not_empty f), tt)) (λ e. as_items around _ (alias_stays around item q e))
+      (λ e. ((λ f. not_empty f), tt)) (λ e. as_items facts _ (alias_stays facts item q e))
   form_stays kinds.TsExportAssignment q = ((λ f. not_empty f), tt)
   form_stays kinds.TsNamespaceExportDecl q = ((λ f. not_empty f), tt)
   form_stays kinds.ExportDefaultExpr q =
-      as_items around _
-      (all_if (IsPlain around) (is_public_value around item) (default_value_seen around item) (default_value_stays around item))
+      as_items facts _
+      (all_if (IsPlain facts) (is_public_value facts item) (default_value_seen facts item) (default_value_stays facts item))
   form_stays kinds.ExportDefaultDecl q = default_form (kind_of (ExportDefaultDecl-decl item)) refl
     where
       default_form : (k : Kind) → kind_of (ExportDefaultDecl-decl item) ≡ k → Form (default_rule k)
-      default_form kinds.ClassExpr d = as_items around _ (default_stays around item kinds.ClassExpr d)
-      default_form kinds.FnExpr d = as_items around _ (default_stays around item kinds.FnExpr d)
-      default_form kinds.TsInterfaceDecl d = as_items around _ (default_stays around item kinds.TsInterfaceDecl d)
+      default_form kinds.ClassExpr d = as_items facts _ (default_stays facts item kinds.ClassExpr d)
+      default_form kinds.FnExpr d = as_items facts _ (default_stays facts item kinds.FnExpr d)
+      default_form kinds.TsInterfaceDecl d = as_items facts _ (default_stays facts item kinds.TsInterfaceDecl d)
       default_form _ d = tt
   form_stays kinds.ExprStmt q = expression (kind_of (ExprStmt-expr item))
   form_stays kinds.TsModuleDecl q =
-      all_weaker (IsNamespace around) (IsItem around) (λ t h. g.IsTypedItem.declared h)
-      (namespace_seen item_look around (range_of_node item) item)
-      (namespace_stays around limit stay (range_of_node item) item low)
+      all_weaker (IsNamespace facts) (IsItem facts) (λ t h. g.IsTypedItem.declared h)
+      (namespace_seen item_look facts (range_of_node item) item)
+      (namespace_stays facts limit stay (range_of_node item) item low)
   form_stays k q = declared k q refl
 
 -- so each item stays
-up_to : (n : ℕ) (item : Tree) (around : Surroundings) → height item < n → AllStay (IsItem around) (item_seen around item)
-up_to zero item around h = absurd (omega arith)
-up_to (suc n) item around h = subst (AllStay (IsItem around)) (sym (item_seen_is around item))
-    (form_stays (height item) (λ u here l. up_to n u here (omega (arith, l, h))) around item (omega arith) (kind_of item) refl)
+up_to : (n : ℕ) (item : Tree) (facts : ModuleFacts) → height item < n → AllStay (IsItem facts) (item_seen facts item)
+up_to zero item facts h = absurd (omega arith)
+up_to (suc n) item facts h = subst (AllStay (IsItem facts)) (sym (item_seen_is facts item))
+    (form_stays (height item) (λ u here l. up_to n u here (omega (arith, l, h))) facts item (omega arith) (kind_of item) refl)
 
-item_stays : (item : Tree) (around : Surroundings) → AllStay (IsItem around) (item_seen around item)
-item_stays item around = up_to (suc (height item)) item around (omega arith)
+item_stays : (item : Tree) (facts : ModuleFacts) → AllStay (IsItem facts) (item_seen facts item)
+item_stays item facts = up_to (suc (height item)) item facts (omega arith)
 
-module _ (around : Surroundings) where
+module _ (facts : ModuleFacts) where
   abbrev module_parts : Tree → List Tree
-  module_parts program = tree.Range (Module-span program) ∷ list (transformed around program).stays ∷ Module-shebang program ∷ []
+  module_parts program = tree.Range (Module-span program) ∷ list (transformed facts program).stays ∷ Module-shebang program ∷ []
 
-  pub skeleton_stands : (program : Tree) → faults_of around program ≡ [] →
-      IsSkeleton around.bindings around.is_ambient (skeleton_of around program)
+  pub skeleton_stands : (program : Tree) → faults_of facts program ≡ [] →
+      IsSkeleton facts.bindings facts.is_ambient (skeleton_of facts program)
   skeleton_stands program e = record {
     kind = kind_of_node Module (module_parts program);
-    items = subst (AllTypedItems around.bindings around.is_ambient)
-        (sym (ap parts (part_node _ Module (module_parts program)) ∙ parts_node List' (transformed around program).stays))
-        (body_stands around (items_of program)
-        (all_flat (IsItem around) (λ item. item_look item around) (items_of program) (λ item. item_stays item around)) e);
+    items = subst (AllTypedItems facts.bindings facts.is_ambient)
+        (sym (ap parts (part_node _ Module (module_parts program)) ∙ parts_node List' (transformed facts program).stays))
+        (body_stands facts (items_of program)
+        (all_flat (IsItem facts) (λ item. item_look item facts) (items_of program) (λ item. item_stays item facts)) e);
   }

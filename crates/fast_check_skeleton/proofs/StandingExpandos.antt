@@ -46,7 +46,7 @@ use Rattle.fast_check_expandos.specs.Groups.{others, items_of}
 use Rattle.fast_check_skeleton.specs.Grammar.{HasTypedValue, IsTypedDeclarator, IsTypedItem, IsTypedNamespace, IsTypedBody, AllTypedItems}
 use Rattle.fast_check_skeleton.specs.Grammar as g
 use Rattle.fast_check_skeleton.specs.Rules.{item_rule}
-use Rattle.fast_check_skeleton.specs.Surroundings.{Surroundings}
+use Rattle.fast_check_skeleton.specs.ModuleFacts.{ModuleFacts}
 use Rattle.fast_check_skeleton.specs.Visible.{properties_by_rule, item_properties, body_seen, item_look, item_seen, seen_by_rule}
 use Rattle.fast_check_skeleton.specs.declared.rules.ItemRule.{ItemRule}
 use Rattle.fast_check_skeleton.specs.declared.rules.ItemRule.TheVariants.{Assigned}
@@ -172,12 +172,12 @@ module _ (bindings : Bindings) where
 
 -- ---- what an assignment declares
 
-module _ (around : Surroundings) (assignment : Tree) where
+module _ (facts : ModuleFacts) (assignment : Tree) where
   abbrev right : Tree
   right = AssignExpr-right assignment
 
   abbrev answered : Answer (Option Tree)
-  answered = answer_to (right_seen around.bindings assignment)
+  answered = answer_to (right_seen facts.bindings assignment)
 
   -- nothing is wrong with the right side where nothing is wrong with what is tested
   nothing_faulty : (place : Option SourceRange) → (tested_answer place answered).faults ≡ [] → answered.faults ≡ []
@@ -186,32 +186,32 @@ module _ (around : Surroundings) (assignment : Tree) where
 
   there : IfSome answered.stays (λ v. is_absent v ≡ false)
   there = of_choice (λ s. IfSome (answer_to s).stays (λ v. is_absent v ≡ false)) (is_absent right) _ _ (λ e. tt)
-      (λ e. stays_there around.bindings right (Some (range_of_node right)) e)
+      (λ e. stays_there facts.bindings right (Some (range_of_node right)) e)
 
-  gives_type : Stays (IsLeavable around.bindings) answered
-  gives_type = of_choice (λ s. Stays (IsLeavable around.bindings) (answer_to s)) (is_absent right) _ _ (λ e f. tt)
-      (λ e. expr_stays around.bindings right (Some (range_of_node right)))
+  gives_type : Stays (IsLeavable facts.bindings) answered
+  gives_type = of_choice (λ s. Stays (IsLeavable facts.bindings) (answer_to s)) (is_absent right) _ _ (λ e f. tt)
+      (λ e. expr_stays facts.bindings right (Some (range_of_node right)))
 
-  kept_typed : (o : Option Tree) → IfSome o (λ v. (is_absent v ≡ false) × IsLeavable around.bindings v) →
-      AllTyped around.bindings (kept_property around.objects (AssignExpr-span assignment) (AssignExpr-left assignment) o)
+  kept_typed : (o : Option Tree) → IfSome o (λ v. (is_absent v ≡ false) × IsLeavable facts.bindings v) →
+      AllTyped facts.bindings (kept_property facts.objects (AssignExpr-span assignment) (AssignExpr-left assignment) o)
   kept_typed None h = tt
-  kept_typed (Some v) h = (typed around.bindings _ _ _ Absent v (inr h), tt)
+  kept_typed (Some v) h = (typed facts.bindings _ _ _ Absent v (inr h), tt)
 
-  declared_if : (p x : Bool) → around.is_public (AssignExpr-span assignment) ≡ p →
-      (answer_of (if p then tested (missing_place around.objects assignment) (right_seen around.bindings assignment) ∷ [] else [])).faults ≡
+  declared_if : (p x : Bool) → facts.is_public (AssignExpr-span assignment) ≡ p →
+      (answer_of (if p then tested (missing_place facts.objects assignment) (right_seen facts.bindings assignment) ∷ [] else [])).faults ≡
       [] →
-      AllTyped around.bindings
-      (if p && x then kept_property around.objects (AssignExpr-span assignment) (AssignExpr-left assignment) answered.stays else [])
+      AllTyped facts.bindings
+      (if p && x then kept_property facts.objects (AssignExpr-span assignment) (AssignExpr-left assignment) answered.stays else [])
   declared_if false x e f = tt
   declared_if true false e f = tt
   declared_if true true e f =
-      let fine = nothing_faulty (missing_place around.objects assignment) (no_left _ [] f) in
-      kept_typed answered.stays (both_some (λ v. is_absent v ≡ false) (IsLeavable around.bindings) answered.stays there
+      let fine = nothing_faulty (missing_place facts.objects assignment) (no_left _ [] f) in
+      kept_typed answered.stays (both_some (λ v. is_absent v ≡ false) (IsLeavable facts.bindings) answered.stays there
       (gives_type fine))
 
-  pub declared_typed : (answer_of (assignment_seen around.is_public around.bindings around.objects assignment)).faults ≡ [] →
-      AllTyped around.bindings (declared_properties around.is_public around.bindings around.objects assignment)
-  declared_typed = declared_if (around.is_public (AssignExpr-span assignment)) (is_expando_assignment assignment) refl
+  pub declared_typed : (answer_of (assignment_seen facts.is_public facts.bindings facts.objects assignment)).faults ≡ [] →
+      AllTyped facts.bindings (declared_properties facts.is_public facts.bindings facts.objects assignment)
+  declared_typed = declared_if (facts.is_public (AssignExpr-span assignment)) (is_expando_assignment assignment) refl
 
 -- ---- the items of a body
 
@@ -221,7 +221,7 @@ pub all_below : (P : Tree → Type 0) (f : Tree → List Seen) (limit : ℕ) (us
 all_below P f limit [] low h = tt
 all_below P f limit (u ∷ us) low h = all_append P (f u) (flat_map f us) (h u low.0) (all_below P f limit us low.1 h)
 
-module _ (here : Surroundings) where
+module _ (here : ModuleFacts) where
   abbrev Items : List Tree → Type 0
   Items = AllTypedItems here.bindings here.is_ambient
 

@@ -23,7 +23,7 @@ use Rattle.fast_check_signatures.specs.NewNodes.{no_scope, new_block, ident_name
 use Rattle.fast_check_skeleton.specs.Example.{at}
 use Rattle.fast_check_skeleton.specs.HiddenChanges.{void_function}
 use Rattle.fast_check_expandos.specs.Objects.{no_objects}
-use Rattle.fast_check_skeleton.specs.Surroundings.{Surroundings}
+use Rattle.fast_check_skeleton.specs.ModuleFacts.{ModuleFacts}
 use Rattle.fast_check_skeleton.specs.Hidden.{AgreeHidden}
 use Rattle.fast_check_skeleton.specs.Skeleton.{skeleton_of}
 
@@ -73,7 +73,7 @@ abbrev pub no_classes : Bindings
 no_classes = record { unresolved = no_scope; is_plain_class = λ id. false }
 
 -- all is public, and nothing is an implementation behind overloads
-abbrev pub all_public : Surroundings
+abbrev pub all_public : ModuleFacts
 all_public = record {
   is_public = λ r. true;
   is_implementation = λ r. false;

@@ -18,23 +18,23 @@ use Rattle.fast_check_signatures.specs.Functions.{function_seen, implementation_
 use Rattle.fast_check_signatures.specs.Seen.{Seen, written, range, round, default_export, seens}
 use Rattle.fast_check_skeleton.specs.declared.rules.DefaultRule.{DefaultRule}
 use Rattle.fast_check_skeleton.specs.declared.rules.DefaultRule.TheVariants.{Value, Class, Function, Interface}
-use Rattle.fast_check_skeleton.specs.Surroundings.{Surroundings}
+use Rattle.fast_check_skeleton.specs.ModuleFacts.{ModuleFacts}
 
 -- the default export of an expression is public by its own range, or by that of the expression
-abbrev pub is_public_value : Surroundings → Tree → Bool
-is_public_value around t = around.is_public (ExportDefaultExpr-span t) ||
-    around.is_public (range_of_node (ExportDefaultExpr-expr t))
+abbrev pub is_public_value : ModuleFacts → Tree → Bool
+is_public_value facts t = facts.is_public (ExportDefaultExpr-span t) ||
+    facts.is_public (range_of_node (ExportDefaultExpr-expr t))
 
 -- the expression has to give a type by itself
-abbrev pub default_value_seen : Surroundings → Tree → Seen
-default_value_seen around t = default_export (ExportDefaultExpr-span t)
-    (expr_seen around.bindings (ExportDefaultExpr-expr t) None)
+abbrev pub default_value_seen : ModuleFacts → Tree → Seen
+default_value_seen facts t = default_export (ExportDefaultExpr-span t)
+    (expr_seen facts.bindings (ExportDefaultExpr-expr t) None)
 
 -- a class; it is never ambient, where all else is neither
-abbrev pub default_class_seen : Surroundings → Tree → Seen
-default_class_seen around decl =
+abbrev pub default_class_seen : ModuleFacts → Tree → Seen
+default_class_seen facts decl =
     round ClassExpr
-    (seens (written (ClassExpr-ident decl) ∷ plain_class_seen around.bindings around.is_implementation
+    (seens (written (ClassExpr-ident decl) ∷ plain_class_seen facts.bindings facts.is_implementation
     (ClassExpr-class decl) ∷ []))
 
 -- where the return type of a function would be missing: at its name, or else at the function
@@ -44,28 +44,28 @@ default_place decl = if is_absent (FnExpr-ident decl) then Function-span (FnExpr
 
 -- the signature of a function, which is public by `place`: that of an implementation behind overloads is the count of
 -- its parameters
-abbrev pub default_signature : Surroundings → SourceRange → Tree → Seen
-default_signature around place decl =
-    if around.is_implementation place then implementation_seen (FnExpr-function decl)
-    else function_seen around.bindings (expr_seen around.bindings) DeclarationLike (default_place decl)
+abbrev pub default_signature : ModuleFacts → SourceRange → Tree → Seen
+default_signature facts place decl =
+    if facts.is_implementation place then implementation_seen (FnExpr-function decl)
+    else function_seen facts.bindings (expr_seen facts.bindings) DeclarationLike (default_place decl)
     (FnExpr-function decl)
 
 -- a function; where all is ambient it stands as it is written
-abbrev pub default_function_seen : Surroundings → SourceRange → Tree → Seen
-default_function_seen around place decl =
-    if around.is_ambient then written decl
-    else round FnExpr (seens (written (FnExpr-ident decl) ∷ default_signature around place decl ∷ []))
+abbrev pub default_function_seen : ModuleFacts → SourceRange → Tree → Seen
+default_function_seen facts place decl =
+    if facts.is_ambient then written decl
+    else round FnExpr (seens (written (FnExpr-ident decl) ∷ default_signature facts place decl ∷ []))
 
 -- the default export of a declaration, of which this is seen; it is public by the range of the export
-abbrev pub public_default : Surroundings → Tree → Seen → List Seen
-public_default around t decl =
-    if around.is_public (ExportDefaultDecl-span t) then round ExportDefaultDecl
+abbrev pub public_default : ModuleFacts → Tree → Seen → List Seen
+public_default facts t decl =
+    if facts.is_public (ExportDefaultDecl-span t) then round ExportDefaultDecl
     (seens (range (ExportDefaultDecl-span t) ∷ decl ∷ [])) ∷ [] else []
 
 -- a default export, by what it exports
-abbrev pub default_seen : Surroundings → Tree → DefaultRule → List Seen
-default_seen around t Value = if is_public_value around t then default_value_seen around t ∷ [] else []
-default_seen around t Class = public_default around t (default_class_seen around (ExportDefaultDecl-decl t))
-default_seen around t Function = public_default around t
-    (default_function_seen around (ExportDefaultDecl-span t) (ExportDefaultDecl-decl t))
-default_seen around t Interface = public_default around t (written (ExportDefaultDecl-decl t))
+abbrev pub default_seen : ModuleFacts → Tree → DefaultRule → List Seen
+default_seen facts t Value = if is_public_value facts t then default_value_seen facts t ∷ [] else []
+default_seen facts t Class = public_default facts t (default_class_seen facts (ExportDefaultDecl-decl t))
+default_seen facts t Function = public_default facts t
+    (default_function_seen facts (ExportDefaultDecl-span t) (ExportDefaultDecl-decl t))
+default_seen facts t Interface = public_default facts t (written (ExportDefaultDecl-decl t))

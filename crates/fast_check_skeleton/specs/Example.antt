@@ -25,7 +25,7 @@ use Rattle.fast_check_type_forms.specs.Types.{ts_keyword_type}
 use Rattle.fast_check_type_forms.specs.TypeParams.{ts_type_ann}
 use Rattle.fast_check_swc_helpers.specs.Builders.{never_value}
 use Rattle.fast_check_expandos.specs.Objects.{no_objects}
-use Rattle.fast_check_skeleton.specs.Surroundings.{Surroundings}
+use Rattle.fast_check_skeleton.specs.ModuleFacts.{ModuleFacts}
 use Rattle.fast_check_skeleton.specs.KeptComments.{kept_comments}
 use Rattle.fast_check_skeleton.specs.SameComments.{SameComments}
 use Rattle.fast_check_skeleton.specs.Hidden.{AgreeHidden}
@@ -116,8 +116,8 @@ renaming = record {
 }
 
 -- the declarator that begins at a place is public, and nothing else
-abbrev pub around : ℕ → Surroundings
-around place = record {
+abbrev pub facts : ℕ → ModuleFacts
+facts place = record {
   is_public = λ r. r.start.0 == place;
   is_implementation = λ r. false;
   bindings = record { unresolved = scope 1; is_plain_class = λ id. false };
@@ -130,12 +130,12 @@ around place = record {
 -- as never;`. What documents the hidden function goes.
 pub record Example : Type 0 where
   pub one_to_one : IsRenaming renaming
-  pub agree : AgreeHidden renaming (around 23) (around 48) first second
+  pub agree : AgreeHidden renaming (facts 23) (facts 48) first second
   pub agree_comments : SameComments renaming (kept first_comments) (kept second_comments)
   -- another text would not agree, nor a comment behind the first statement alone
   pub other_text : SameComments renaming (kept first_comments) (kept (before_tokens (documented 122 26 ∷ []))) → ⊥
   pub other_trailing : SameComments renaming (kept with_trailing) (kept second_comments) → ⊥
-  pub answers : SameAnswers renaming (around 23) first first_comments (around 48) second second_comments
-  pub skeleton : skeleton_of (around 23) first ≡ module' (at 10 39) (list (exported 10 2 never_value 38 ∷ [])) Absent
-  pub first_stay : kept_comments (around 23) first first_comments ≡ before_tokens (documented 120 1 ∷ [])
-  pub second_stay : kept_comments (around 48) second second_comments ≡ before_tokens (documented 120 26 ∷ [])
+  pub answers : SameAnswers renaming (facts 23) first first_comments (facts 48) second second_comments
+  pub skeleton : skeleton_of (facts 23) first ≡ module' (at 10 39) (list (exported 10 2 never_value 38 ∷ [])) Absent
+  pub first_stay : kept_comments (facts 23) first first_comments ≡ before_tokens (documented 120 1 ∷ [])
+  pub second_stay : kept_comments (facts 48) second second_comments ≡ before_tokens (documented 120 26 ∷ [])

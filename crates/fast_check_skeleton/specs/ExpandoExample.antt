@@ -17,7 +17,7 @@ use Rattle.fast_check_skeleton.specs.ClassExample.{all_public}
 use Rattle.fast_check_skeleton.specs.Hidden.{AgreeHidden}
 use Rattle.fast_check_skeleton.specs.SameAssignments.{SameObject}
 use Rattle.fast_check_skeleton.specs.Skeleton.{skeleton_of}
-use Rattle.fast_check_skeleton.specs.Surroundings.{Surroundings}
+use Rattle.fast_check_skeleton.specs.ModuleFacts.{ModuleFacts}
 
 -- `operand as number`
 abbrev pub as_number : Tree → Tree
@@ -54,8 +54,8 @@ namespace_f = namespace_decl (102 ∷ []) (property_declarator none_range target
 abbrev pub answered : Tree
 answered = module_of (function_f [] ∷ namespace_f ∷ [])
 
--- the same surroundings, where each object stands behind the keyword `export`
-abbrev pub all_exported : Surroundings
+-- the same facts, but each object stands behind the keyword `export`
+abbrev pub all_exported : ModuleFacts
 all_exported = record {
   is_public = all_public.is_public;
   is_implementation = all_public.is_implementation;

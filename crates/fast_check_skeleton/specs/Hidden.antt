@@ -41,7 +41,7 @@ use Rattle.fast_check_skeleton.specs.Rules.{item_rule}
 use Rattle.fast_check_skeleton.specs.SameDefaults.{IsSilentDefault, SameDefault}
 use Rattle.fast_check_skeleton.specs.SameAssignments.{SameAssigned}
 use Rattle.fast_check_skeleton.specs.SameLinks.{IsSilentLink, SamePublic, SameLink}
-use Rattle.fast_check_skeleton.specs.Surroundings.{Surroundings, inside}
+use Rattle.fast_check_skeleton.specs.ModuleFacts.{ModuleFacts, inside}
 use Rattle.fast_check_skeleton.specs.Visible.{declared_ident, declared_type, is_ambient_statement, is_public_declarator}
 use Rattle.fast_check_skeleton.specs.Visible.{is_ambient_class, is_public_using, using_place, items_of}
 
@@ -51,38 +51,38 @@ is_plain_statement t =
     is_statement (kind_of t) || ((kind_of t is ExprStmt) && not (kind_of (ExprStmt-expr t) is AssignExpr))
 
 -- a declaration that goes without a word; `place` is the range of its export, or else its own
-pub data IsSilentDecl (around : Surroundings) (place : SourceRange) : Tree → Type 0 where
+pub data IsSilentDecl (facts : ModuleFacts) (place : SourceRange) : Tree → Type 0 where
   -- a variable statement without a public declarator
-  variable : {t : Tree} → kind_of t ≡ VarDecl → list_all (λ d. not (is_public_declarator around d))
+  variable : {t : Tree} → kind_of t ≡ VarDecl → list_all (λ d. not (is_public_declarator facts d))
       (parts (VarDecl-decls t)) ≡ true →
-      IsSilentDecl around place t
+      IsSilentDecl facts place t
   -- an interface, type alias or enum that is not public
-  standing : {t : Tree} → is_standing (kind_of t) ≡ true → around.is_public place ≡ false → IsSilentDecl around place t
+  standing : {t : Tree} → is_standing (kind_of t) ≡ true → facts.is_public place ≡ false → IsSilentDecl facts place t
   -- a function that is not public
-  function : {t : Tree} → kind_of t ≡ FnDecl → around.is_public place ≡ false → IsSilentDecl around place t
+  function : {t : Tree} → kind_of t ≡ FnDecl → facts.is_public place ≡ false → IsSilentDecl facts place t
   -- a class that is not public
-  class : {t : Tree} → kind_of t ≡ ClassDecl → around.is_public place ≡ false → IsSilentDecl around place t
+  class : {t : Tree} → kind_of t ≡ ClassDecl → facts.is_public place ≡ false → IsSilentDecl facts place t
   -- `using` of which nothing is public
-  using : {t : Tree} → kind_of t ≡ UsingDecl → is_public_using around place t ≡ false → IsSilentDecl around place t
+  using : {t : Tree} → kind_of t ≡ UsingDecl → is_public_using facts place t ≡ false → IsSilentDecl facts place t
   -- a namespace that is not public, whatever stands in it
-  namespace : {t : Tree} → kind_of t ≡ TsModuleDecl → is_namespace t ≡ true → around.is_public place ≡ false →
-      IsSilentDecl around place t
+  namespace : {t : Tree} → kind_of t ≡ TsModuleDecl → is_namespace t ≡ true → facts.is_public place ≡ false →
+      IsSilentDecl facts place t
 
 -- an item that goes without a word
-pub data IsSilent (around : Surroundings) : Tree → Type 0 where
-  decl : {t : Tree} → IsSilentDecl around (range_of_node t) t → IsSilent around t
+pub data IsSilent (facts : ModuleFacts) : Tree → Type 0 where
+  decl : {t : Tree} → IsSilentDecl facts (range_of_node t) t → IsSilent facts t
   -- a statement that declares and assigns nothing
-  statement : {t : Tree} → is_plain_statement t ≡ true → IsSilent around t
-  exported : {t : Tree} → kind_of t ≡ ExportDecl → IsSilentDecl around (ExportDecl-span t) (ExportDecl-decl t) →
-      IsSilent around t
+  statement : {t : Tree} → is_plain_statement t ≡ true → IsSilent facts t
+  exported : {t : Tree} → kind_of t ≡ ExportDecl → IsSilentDecl facts (ExportDecl-span t) (ExportDecl-decl t) →
+      IsSilent facts t
   -- an assignment that is not public
   assigned : {t : Tree} → kind_of t ≡ ExprStmt → kind_of (ExprStmt-expr t) ≡ AssignExpr →
-      around.is_public (AssignExpr-span (ExprStmt-expr t)) ≡ false →
-      IsSilent around t
-  linked : {t : Tree} → IsSilentLink around t → IsSilent around t
-  default : {t : Tree} → IsSilentDefault around t → IsSilent around t
+      facts.is_public (AssignExpr-span (ExprStmt-expr t)) ≡ false →
+      IsSilent facts t
+  linked : {t : Tree} → IsSilentLink facts t → IsSilent facts t
+  default : {t : Tree} → IsSilentDefault facts t → IsSilent facts t
 
-module _ (r : Renaming) (a b : Surroundings) where
+module _ (r : Renaming) (a b : ModuleFacts) where
   -- what agrees of two declarators, whatever their values
   pub record SameHead (t u : Tree) : Type 0 where
     pub span : SameRange r (VarDeclarator-span t) (VarDeclarator-span u)
@@ -197,56 +197,56 @@ pub record SameInnerHead (r : Renaming) (t u : Tree) : Type 0 where
   pub global : TsNamespaceDecl-global t ≡ TsNamespaceDecl-global u
   pub id : SameTree r (TsNamespaceDecl-id t) (TsNamespaceDecl-id u)
 
--- the surroundings of two bodies come first: what stands in namespaces is inside of them
+-- the facts of two bodies come first: those of namespaces are inside of them
 module _ (r : Renaming) where
   mutual
-    pub data SameItem : Surroundings → Surroundings → Tree → Tree → Type 0 where
-      decl : {a b : Surroundings} {t u : Tree} → SameDecl r a b (range_of_node t) (range_of_node u) t u →
+    pub data SameItem : ModuleFacts → ModuleFacts → Tree → Tree → Type 0 where
+      decl : {a b : ModuleFacts} {t u : Tree} → SameDecl r a b (range_of_node t) (range_of_node u) t u →
           SameItem a b t u
-      exported : {a b : Surroundings} {t u : Tree} → Both ExportDecl t u →
+      exported : {a b : ModuleFacts} {t u : Tree} → Both ExportDecl t u →
           SameRange r (ExportDecl-span t) (ExportDecl-span u) →
           SameDecl r a b (ExportDecl-span t) (ExportDecl-span u) (ExportDecl-decl t) (ExportDecl-decl u) →
           SameItem a b t u
-      namespace : {a b : Surroundings} {t u : Tree} → SameNamespace a b (range_of_node t) (range_of_node u) t u →
+      namespace : {a b : ModuleFacts} {t u : Tree} → SameNamespace a b (range_of_node t) (range_of_node u) t u →
           SameItem a b t u
-      exported_namespace : {a b : Surroundings} {t u : Tree} → Both ExportDecl t u →
+      exported_namespace : {a b : ModuleFacts} {t u : Tree} → Both ExportDecl t u →
           SameRange r (ExportDecl-span t) (ExportDecl-span u) →
           SameNamespace a b (ExportDecl-span t) (ExportDecl-span u) (ExportDecl-decl t) (ExportDecl-decl u) →
           SameItem a b t u
-      linked : {a b : Surroundings} {t u : Tree} → SameLink r a b t u → SameItem a b t u
-      default : {a b : Surroundings} {t u : Tree} → SameDefault r a b t u → SameItem a b t u
-      assigned : {a b : Surroundings} {t u : Tree} → SameAssigned r a b t u → SameItem a b t u
+      linked : {a b : ModuleFacts} {t u : Tree} → SameLink r a b t u → SameItem a b t u
+      default : {a b : ModuleFacts} {t u : Tree} → SameDefault r a b t u → SameItem a b t u
+      assigned : {a b : ModuleFacts} {t u : Tree} → SameAssigned r a b t u → SameItem a b t u
       -- items that no skeleton has, for one reason
-      refused : {a b : Surroundings} {t u : Tree} (kind : FaultKind) →
+      refused : {a b : ModuleFacts} {t u : Tree} (kind : FaultKind) →
           item_rule t ≡ Refused kind → item_rule u ≡ Refused kind →
           SameRange r (range_of_node t) (range_of_node u) → SameItem a b t u
 
     -- namespaces, whose bodies agree; `p` and `q` are the ranges of their exports, or else their own
-    pub data SameNamespace : Surroundings → Surroundings → SourceRange → SourceRange → Tree → Tree → Type 0 where
-      bodies : {a b : Surroundings} {p q : SourceRange} {t u : Tree} → SameNamespaceHead r a b p q t u →
+    pub data SameNamespace : ModuleFacts → ModuleFacts → SourceRange → SourceRange → Tree → Tree → Type 0 where
+      bodies : {a b : ModuleFacts} {p q : SourceRange} {t u : Tree} → SameNamespaceHead r a b p q t u →
           SameBody (inside a t) (inside b u) (TsModuleDecl-body t) (TsModuleDecl-body u) → SameNamespace a b p q t u
 
     -- blocks, whose items agree, under the same names
-    pub data SameBody : Surroundings → Surroundings → Tree → Tree → Type 0 where
-      block : {a b : Surroundings} {t u : Tree} → Neither TsNamespaceDecl t u →
+    pub data SameBody : ModuleFacts → ModuleFacts → Tree → Tree → Type 0 where
+      block : {a b : ModuleFacts} {t u : Tree} → Neither TsNamespaceDecl t u →
           SameRange r (TsModuleBlock-span t) (TsModuleBlock-span u) →
           SameItems a b (block_items t) (block_items u) → SameBody a b t u
-      inner : {a b : Surroundings} {t u : Tree} → SameInnerHead r t u →
+      inner : {a b : ModuleFacts} {t u : Tree} → SameInnerHead r t u →
           SameBody a b (TsNamespaceDecl-body t) (TsNamespaceDecl-body u) → SameBody a b t u
 
     -- items one by one, the silent ones aside; where a silent one begins has no partner
-    pub data SameItems : Surroundings → Surroundings → List Tree → List Tree → Type 0 where
-      end : {a b : Surroundings} → SameItems a b [] []
-      left : {a b : Surroundings} {t : Tree} {ts us : List Tree} → IsSilent a t →
+    pub data SameItems : ModuleFacts → ModuleFacts → List Tree → List Tree → Type 0 where
+      end : {a b : ModuleFacts} → SameItems a b [] []
+      left : {a b : ModuleFacts} {t : Tree} {ts us : List Tree} → IsSilent a t →
           HasNoPartner r.starts (range_of_node t).start.0 → SameItems a b ts us →
           SameItems a b (t ∷ ts) us
-      right : {a b : Surroundings} {u : Tree} {ts us : List Tree} → IsSilent b u →
+      right : {a b : ModuleFacts} {u : Tree} {ts us : List Tree} → IsSilent b u →
           IsNoPartner r.starts (range_of_node u).start.0 → SameItems a b ts us →
           SameItems a b ts (u ∷ us)
-      next : {a b : Surroundings} {t u : Tree} {ts us : List Tree} → SameItem a b t u → SameItems a b ts us →
+      next : {a b : ModuleFacts} {t u : Tree} {ts us : List Tree} → SameItem a b t u → SameItems a b ts us →
           SameItems a b (t ∷ ts) (u ∷ us)
 
-module _ (r : Renaming) (a b : Surroundings) where
+module _ (r : Renaming) (a b : ModuleFacts) where
   -- two modules that agree but for what is hidden
   pub record AgreeHidden (t u : Tree) : Type 0 where
     -- what is known of all names agrees, under the renaming of scope numbers

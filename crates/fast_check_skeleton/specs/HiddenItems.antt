@@ -30,48 +30,48 @@ use Rattle.fast_check_skeleton.specs.Rules.{is_require}
 use Rattle.fast_check_skeleton.specs.SameLinks.{SamePublic}
 use Rattle.fast_check_skeleton.specs.Hidden.{is_plain_statement, IsSilentDecl, IsSilent, SameHead, SameDeclarator}
 use Rattle.fast_check_skeleton.specs.Hidden.{SameItems}
-use Rattle.fast_check_skeleton.specs.Surroundings.{Surroundings}
+use Rattle.fast_check_skeleton.specs.ModuleFacts.{ModuleFacts}
 use Rattle.fast_check_skeleton.specs.Visible.{is_public_declarator, is_public_using}
 
 -- a declaration `t`; `place` is the range of its export, or else its own
-pub record SilentDecls (around : Surroundings) (place : SourceRange) (t : Tree) : Type 0 where
+pub record SilentDecls (facts : ModuleFacts) (place : SourceRange) (t : Tree) : Type 0 where
   -- any variables of which none is public
   pub variables : kind_of t ≡ VarDecl →
-      list_all (λ d. not (is_public_declarator around d)) (parts (VarDecl-decls t)) ≡ true → IsSilentDecl around place t
+      list_all (λ d. not (is_public_declarator facts d)) (parts (VarDecl-decls t)) ≡ true → IsSilentDecl facts place t
   -- any interface, type alias or enum that is not public
-  pub standing : is_standing (kind_of t) ≡ true → around.is_public place ≡ false → IsSilentDecl around place t
+  pub standing : is_standing (kind_of t) ≡ true → facts.is_public place ≡ false → IsSilentDecl facts place t
   -- any function, class and namespace that is not public
-  pub functions : kind_of t ≡ FnDecl → around.is_public place ≡ false → IsSilentDecl around place t
-  pub classes : kind_of t ≡ ClassDecl → around.is_public place ≡ false → IsSilentDecl around place t
-  pub namespaces : kind_of t ≡ TsModuleDecl → is_namespace t ≡ true → around.is_public place ≡ false →
-      IsSilentDecl around place t
+  pub functions : kind_of t ≡ FnDecl → facts.is_public place ≡ false → IsSilentDecl facts place t
+  pub classes : kind_of t ≡ ClassDecl → facts.is_public place ≡ false → IsSilentDecl facts place t
+  pub namespaces : kind_of t ≡ TsModuleDecl → is_namespace t ≡ true → facts.is_public place ≡ false →
+      IsSilentDecl facts place t
   -- any `using` of which nothing is public
-  pub usings : kind_of t ≡ UsingDecl → is_public_using around place t ≡ false → IsSilentDecl around place t
+  pub usings : kind_of t ≡ UsingDecl → is_public_using facts place t ≡ false → IsSilentDecl facts place t
 
 -- an item `t`
-pub record SilentItems (around : Surroundings) (t : Tree) : Type 0 where
-  pub decls : IsSilentDecl around (range_of_node t) t → IsSilent around t
-  pub exported : kind_of t ≡ ExportDecl → IsSilentDecl around (ExportDecl-span t) (ExportDecl-decl t) →
-      IsSilent around t
+pub record SilentItems (facts : ModuleFacts) (t : Tree) : Type 0 where
+  pub decls : IsSilentDecl facts (range_of_node t) t → IsSilent facts t
+  pub exported : kind_of t ≡ ExportDecl → IsSilentDecl facts (ExportDecl-span t) (ExportDecl-decl t) →
+      IsSilent facts t
   -- any statement that declares and assigns nothing
-  pub statements : is_plain_statement t ≡ true → IsSilent around t
+  pub statements : is_plain_statement t ≡ true → IsSilent facts t
   -- any assignment that is not public
   pub assignments : kind_of t ≡ ExprStmt → kind_of (ExprStmt-expr t) ≡ AssignExpr →
-      around.is_public (AssignExpr-span (ExprStmt-expr t)) ≡ false → IsSilent around t
+      facts.is_public (AssignExpr-span (ExprStmt-expr t)) ≡ false → IsSilent facts t
   -- any import and export of no public name
-  pub imports : kind_of t ≡ ImportDecl → public_specifiers around (ImportDecl-specifiers t) ≡ [] → IsSilent around t
-  pub exports : kind_of t ≡ NamedExport → public_specifiers around (NamedExport-specifiers t) ≡ [] → IsSilent around t
+  pub imports : kind_of t ≡ ImportDecl → public_specifiers facts (ImportDecl-specifiers t) ≡ [] → IsSilent facts t
+  pub exports : kind_of t ≡ NamedExport → public_specifiers facts (NamedExport-specifiers t) ≡ [] → IsSilent facts t
   -- any export of all names, and any alias, that is not public
-  pub stars : kind_of t ≡ ExportAll → around.is_public (ExportAll-span t) ≡ false → IsSilent around t
+  pub stars : kind_of t ≡ ExportAll → facts.is_public (ExportAll-span t) ≡ false → IsSilent facts t
   pub aliases : kind_of t ≡ TsImportEqualsDecl → is_require t ≡ false →
-      around.is_public (TsImportEqualsDecl-span t) ≡ false → IsSilent around t
+      facts.is_public (TsImportEqualsDecl-span t) ≡ false → IsSilent facts t
   -- any default export that is not public
-  pub values : kind_of t ≡ ExportDefaultExpr → is_public_value around t ≡ false → IsSilent around t
+  pub values : kind_of t ≡ ExportDefaultExpr → is_public_value facts t ≡ false → IsSilent facts t
   pub defaults : kind_of t ≡ ExportDefaultDecl → is_default_decl (kind_of (ExportDefaultDecl-decl t)) ≡ true →
-      around.is_public (ExportDefaultDecl-span t) ≡ false → IsSilent around t
+      facts.is_public (ExportDefaultDecl-span t) ≡ false → IsSilent facts t
 
 -- of two modules
-pub record UnseenItems (r : Renaming) (a b : Surroundings) : Type 0 where
+pub record UnseenItems (r : Renaming) (a b : ModuleFacts) : Type 0 where
   -- any item that goes without a word, and begins at no place of the other module
   pub left : (t : Tree) → IsSilent a t → HasNoPartner r.starts (range_of_node t).start.0 → SameItems r a b (t ∷ []) []
   pub right : (u : Tree) → IsSilent b u → IsNoPartner r.starts (range_of_node u).start.0 → SameItems r a b [] (u ∷ [])
@@ -84,10 +84,10 @@ pub record UnseenItems (r : Renaming) (a b : Surroundings) : Type 0 where
       inferred_type mutability b.bindings.unresolved (VarDeclarator-init u) ≡ Some right →
       SameTree r left right → SameDeclarator r a b mutability t u
 
-pub record HiddenItems (r : Renaming) (a b : Surroundings) : Type 0 where
-  pub decls : (around : Surroundings) (place : SourceRange) (t : Tree) → SilentDecls around place t
-  pub items : (around : Surroundings) (t : Tree) → SilentItems around t
+pub record HiddenItems (r : Renaming) (a b : ModuleFacts) : Type 0 where
+  pub decls : (facts : ModuleFacts) (place : SourceRange) (t : Tree) → SilentDecls facts place t
+  pub items : (facts : ModuleFacts) (t : Tree) → SilentItems facts t
   pub unseen : UnseenItems r a b
 
 abbrev pub HidesItems : Type 0
-HidesItems = (r : Renaming) (a b : Surroundings) → HiddenItems r a b
+HidesItems = (r : Renaming) (a b : ModuleFacts) → HiddenItems r a b

@@ -6,7 +6,7 @@ pub mod HiddenChanges
 pub mod HiddenRules
 pub mod TypedGrammar
 pub mod ClassGrammar
-pub mod Surroundings
+pub mod ModuleFacts
 pub mod Kinds
 pub mod Rules
 pub mod Mutability

@@ -14,14 +14,14 @@ use Rattle.fast_check_swc_helpers.specs.ranges.Ranges.{range_of_node}
 use Rattle.fast_check_signatures.specs.Seen.{Seen, written}
 use Rattle.fast_check_skeleton.specs.declared.rules.LinkRule.{LinkRule}
 use Rattle.fast_check_skeleton.specs.declared.rules.LinkRule.TheVariants.{Import, Export, All, Alias}
-use Rattle.fast_check_skeleton.specs.Surroundings.{Surroundings}
+use Rattle.fast_check_skeleton.specs.ModuleFacts.{ModuleFacts}
 
 -- a specifier is public by its own range
-abbrev pub is_public_specifier : Surroundings → Tree → Bool
-is_public_specifier around specifier = around.is_public (range_of_node specifier)
+abbrev pub is_public_specifier : ModuleFacts → Tree → Bool
+is_public_specifier facts specifier = facts.is_public (range_of_node specifier)
 
-abbrev pub public_specifiers : Surroundings → Tree → List Tree
-public_specifiers around specifiers = filter (is_public_specifier around) (parts specifiers)
+abbrev pub public_specifiers : ModuleFacts → Tree → List Tree
+public_specifiers facts specifiers = filter (is_public_specifier facts) (parts specifiers)
 
 -- a source, by the text that stands for it, if there is another one; the text as it was written goes then
 abbrev pub source_of : Tree → Option (List ℕ) → Tree
@@ -29,33 +29,33 @@ source_of src None = src
 source_of src (Some text) = str (Str-span src) text Absent
 
 -- the source of an import or an export in a skeleton; an export of own names has none
-abbrev pub answered_source : Surroundings → Tree → Tree
-answered_source around src = if is_absent src then src else source_of src (around.relative (Str-value src))
+abbrev pub answered_source : ModuleFacts → Tree → Tree
+answered_source facts src = if is_absent src then src else source_of src (facts.relative (Str-value src))
 
 -- what has specifiers stays with those that are public, and goes where none is
 abbrev pub with_specifiers : (List Tree → Tree) → List Tree → List Seen
 with_specifiers make [] = []
 with_specifiers make (s ∷ ss) = written (make (s ∷ ss)) ∷ []
 
-abbrev pub import_with : Surroundings → Tree → List Tree → Tree
-import_with around t specifiers =
-    import_decl (ImportDecl-span t) (list specifiers) (answered_source around (ImportDecl-src t))
+abbrev pub import_with : ModuleFacts → Tree → List Tree → Tree
+import_with facts t specifiers =
+    import_decl (ImportDecl-span t) (list specifiers) (answered_source facts (ImportDecl-src t))
     (ImportDecl-type_only t) (ImportDecl-with t)
     (ImportDecl-phase t)
 
-abbrev pub export_with : Surroundings → Tree → List Tree → Tree
-export_with around t specifiers =
-    named_export (NamedExport-span t) (list specifiers) (answered_source around (NamedExport-src t))
+abbrev pub export_with : ModuleFacts → Tree → List Tree → Tree
+export_with facts t specifiers =
+    named_export (NamedExport-span t) (list specifiers) (answered_source facts (NamedExport-src t))
     (NamedExport-type_only t) (NamedExport-with t)
 
 -- `export * from source`
-abbrev pub all_exported : Surroundings → Tree → Tree
-all_exported around t = export_all (ExportAll-span t) (answered_source around (ExportAll-src t)) (ExportAll-type_only t)
+abbrev pub all_exported : ModuleFacts → Tree → Tree
+all_exported facts t = export_all (ExportAll-span t) (answered_source facts (ExportAll-src t)) (ExportAll-type_only t)
     (ExportAll-with t)
 
 -- an import or an export of names, `export *` or `import A = B.C`, by which of them it is
-abbrev pub link_seen : Surroundings → Tree → LinkRule → List Seen
-link_seen around t Import = with_specifiers (import_with around t) (public_specifiers around (ImportDecl-specifiers t))
-link_seen around t Export = with_specifiers (export_with around t) (public_specifiers around (NamedExport-specifiers t))
-link_seen around t All = if around.is_public (ExportAll-span t) then written (all_exported around t) ∷ [] else []
-link_seen around t Alias = if around.is_public (TsImportEqualsDecl-span t) then written t ∷ [] else []
+abbrev pub link_seen : ModuleFacts → Tree → LinkRule → List Seen
+link_seen facts t Import = with_specifiers (import_with facts t) (public_specifiers facts (ImportDecl-specifiers t))
+link_seen facts t Export = with_specifiers (export_with facts t) (public_specifiers facts (NamedExport-specifiers t))
+link_seen facts t All = if facts.is_public (ExportAll-span t) then written (all_exported facts t) ∷ [] else []
+link_seen facts t Alias = if facts.is_public (TsImportEqualsDecl-span t) then written t ∷ [] else []

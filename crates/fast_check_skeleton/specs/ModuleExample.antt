@@ -20,7 +20,7 @@ use Rattle.fast_check_skeleton.specs.Hidden.{AgreeHidden}
 use Rattle.fast_check_skeleton.specs.SameLinks.{SameSource}
 use Rattle.fast_check_skeleton.specs.Skeleton.{skeleton_of}
 use Rattle.fast_check_expandos.specs.Objects.{no_objects}
-use Rattle.fast_check_skeleton.specs.Surroundings.{Surroundings}
+use Rattle.fast_check_skeleton.specs.ModuleFacts.{ModuleFacts}
 
 -- a specifier of a name at a place
 abbrev pub specifier : SourceRange → ℕ → Tree
@@ -58,8 +58,8 @@ abbrev pub second : Tree
 second = module_of (import_of (x ∷ g ∷ h ∷ []) written_source ∷ default_function (empty_statement ∷ []) ∷ [])
 
 -- what stands at the place of no text is public; `"./a.ts"` stands for the sources
-abbrev pub around : Surroundings
-around = record {
+abbrev pub facts : ModuleFacts
+facts = record {
   is_public = λ r. r.start.0 == 0;
   is_implementation = λ r. false;
   bindings = no_classes;
@@ -69,10 +69,10 @@ around = record {
 }
 
 -- the same, where sources stand as they are written
-abbrev pub unresolving : Surroundings
+abbrev pub unresolving : ModuleFacts
 unresolving = record {
-  is_public = around.is_public;
-  is_implementation = around.is_implementation;
+  is_public = facts.is_public;
+  is_implementation = facts.is_implementation;
   bindings = no_classes;
   is_ambient = false;
   relative = λ text. None;
@@ -85,8 +85,8 @@ answered = module_of (import_of (x ∷ []) (str none_range resolved Absent) ∷ 
 -- They agree, and the skeleton of both is `import { x } from "./a.ts"; export default function (): void {}`.
 pub record ModuleExample : Type 0 where
   pub one_to_one : IsRenaming no_places
-  pub agree : AgreeHidden no_places around around first second
-  pub first_skeleton : skeleton_of around first ≡ answered
-  pub second_skeleton : skeleton_of around second ≡ answered
+  pub agree : AgreeHidden no_places facts facts first second
+  pub first_skeleton : skeleton_of facts first ≡ answered
+  pub second_skeleton : skeleton_of facts second ≡ answered
   -- sources for which other texts stand do not agree
-  pub other_source : SameSource no_places around unresolving written_source written_source → ⊥
+  pub other_source : SameSource no_places facts unresolving written_source written_source → ⊥

@@ -20,7 +20,7 @@ use Rattle.fast_check_signatures.specs.Bindings.{Bindings}
 use Rattle.fast_check_signatures.specs.NewNodes.{no_scope}
 use Rattle.fast_check_expandos.specs.Objects.{no_objects}
 use Rattle.fast_check_skeleton.specs.SameValues.{SameExpr}
-use Rattle.fast_check_skeleton.specs.Surroundings.{Surroundings}
+use Rattle.fast_check_skeleton.specs.ModuleFacts.{ModuleFacts}
 use Rattle.fast_check_skeleton.specs.Example.{at}
 use Rattle.fast_check_skeleton.specs.ClassExample.{module_of, no_places, no_classes}
 use Rattle.fast_check_skeleton.specs.Hidden.{AgreeHidden}
@@ -64,8 +64,8 @@ abbrev pub class_h_known : Bindings
 class_h_known = record { unresolved = no_scope; is_plain_class = λ id. bytes_eq id.0 (72 ∷ []) }
 
 -- what stands at the place of no text is public
-abbrev pub around : Bindings → Surroundings
-around bindings = record {
+abbrev pub facts : Bindings → ModuleFacts
+facts bindings = record {
   is_public = λ r. r.start.0 == 0;
   is_implementation = λ r. false;
   bindings = bindings;
@@ -77,8 +77,8 @@ around bindings = record {
 -- They agree, and the skeleton of both is `export const x: number = {} as never;`.
 pub record PrivateClassExample : Type 0 where
   pub one_to_one : IsRenaming no_places
-  pub agree : AgreeHidden no_places (around class_h_known) (around no_classes) first second
-  pub first_skeleton : skeleton_of (around class_h_known) first ≡ module_of (export_x never_value ∷ [])
-  pub second_skeleton : skeleton_of (around no_classes) second ≡ module_of (export_x never_value ∷ [])
+  pub agree : AgreeHidden no_places (facts class_h_known) (facts no_classes) first second
+  pub first_skeleton : skeleton_of (facts class_h_known) first ≡ module_of (export_x never_value ∷ [])
+  pub second_skeleton : skeleton_of (facts no_classes) second ≡ module_of (export_x never_value ∷ [])
   -- where `H` is called it has to be such a class in both
   pub other_class : SameExpr no_places class_h_known no_classes new_h new_h → ⊥

@@ -11,9 +11,9 @@ use Rattle.fast_check_skeleton.specs.SameValues.{Both, SameExpr}
 use Rattle.fast_check_modules.specs.Expandos.{is_expando_assignment}
 use Rattle.fast_check_expandos.specs.Assignments.{is_declared, mentioned_by}
 use Rattle.fast_check_expandos.specs.Expandos.{object_of}
-use Rattle.fast_check_skeleton.specs.Surroundings.{Surroundings}
+use Rattle.fast_check_skeleton.specs.ModuleFacts.{ModuleFacts}
 
-module _ (r : Renaming) (a b : Surroundings) where
+module _ (r : Renaming) (a b : ModuleFacts) where
   -- what is known of the objects of two targets, as `f` in `f.a`: both export the property or neither does, and both
   -- stand behind the keyword `export` or neither does
   pub record SameObject (t u : Tree) : Type 0 where

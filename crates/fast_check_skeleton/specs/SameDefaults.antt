@@ -15,15 +15,15 @@ use Rattle.fast_check_skeleton.specs.SameValues.{Both, SameExpr, SameFunction, S
 use Rattle.fast_check_skeleton.specs.SameClasses.{SameClass}
 use Rattle.fast_check_skeleton.specs.Defaults.{is_public_value}
 use Rattle.fast_check_skeleton.specs.Kinds.{is_default_decl}
-use Rattle.fast_check_skeleton.specs.Surroundings.{Surroundings}
+use Rattle.fast_check_skeleton.specs.ModuleFacts.{ModuleFacts}
 
 -- a default export that goes without a word
-pub data IsSilentDefault (around : Surroundings) : Tree → Type 0 where
-  value : {t : Tree} → kind_of t ≡ ExportDefaultExpr → is_public_value around t ≡ false → IsSilentDefault around t
+pub data IsSilentDefault (facts : ModuleFacts) : Tree → Type 0 where
+  value : {t : Tree} → kind_of t ≡ ExportDefaultExpr → is_public_value facts t ≡ false → IsSilentDefault facts t
   decl : {t : Tree} → kind_of t ≡ ExportDefaultDecl → is_default_decl (kind_of (ExportDefaultDecl-decl t)) ≡ true →
-      around.is_public (ExportDefaultDecl-span t) ≡ false → IsSilentDefault around t
+      facts.is_public (ExportDefaultDecl-span t) ≡ false → IsSilentDefault facts t
 
-module _ (r : Renaming) (a b : Surroundings) where
+module _ (r : Renaming) (a b : ModuleFacts) where
   -- what agrees of two default exports of declarations of a kind
   pub record SameDefaultDecl (k : Kind) (t u : Tree) : Type 0 where
     pub kinds : Both ExportDefaultDecl t u

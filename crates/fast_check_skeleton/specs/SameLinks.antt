@@ -16,17 +16,17 @@ use Rattle.fast_check_program_forms.specs.ModuleDecls.{TsImportEqualsDecl-span}
 use Rattle.fast_check_skeleton.specs.SameValues.{Both}
 use Rattle.fast_check_skeleton.specs.Links.{is_public_specifier, public_specifiers}
 use Rattle.fast_check_skeleton.specs.Rules.{is_require}
-use Rattle.fast_check_skeleton.specs.Surroundings.{Surroundings}
+use Rattle.fast_check_skeleton.specs.ModuleFacts.{ModuleFacts}
 
 -- an import or an export of names that goes without a word
-pub data IsSilentLink (around : Surroundings) : Tree → Type 0 where
-  import : {t : Tree} → kind_of t ≡ ImportDecl → public_specifiers around (ImportDecl-specifiers t) ≡ [] →
-      IsSilentLink around t
-  export : {t : Tree} → kind_of t ≡ NamedExport → public_specifiers around (NamedExport-specifiers t) ≡ [] →
-      IsSilentLink around t
-  all : {t : Tree} → kind_of t ≡ ExportAll → around.is_public (ExportAll-span t) ≡ false → IsSilentLink around t
+pub data IsSilentLink (facts : ModuleFacts) : Tree → Type 0 where
+  import : {t : Tree} → kind_of t ≡ ImportDecl → public_specifiers facts (ImportDecl-specifiers t) ≡ [] →
+      IsSilentLink facts t
+  export : {t : Tree} → kind_of t ≡ NamedExport → public_specifiers facts (NamedExport-specifiers t) ≡ [] →
+      IsSilentLink facts t
+  all : {t : Tree} → kind_of t ≡ ExportAll → facts.is_public (ExportAll-span t) ≡ false → IsSilentLink facts t
   alias : {t : Tree} → kind_of t ≡ TsImportEqualsDecl → is_require t ≡ false →
-      around.is_public (TsImportEqualsDecl-span t) ≡ false → IsSilentLink around t
+      facts.is_public (TsImportEqualsDecl-span t) ≡ false → IsSilentLink facts t
 
 -- two lists one by one, what is not public of either aside
 pub data SamePublic (p q : Tree → Bool) (Same : Tree → Tree → Type 0) : List Tree → List Tree → Type 0 where
@@ -36,7 +36,7 @@ pub data SamePublic (p q : Tree → Bool) (Same : Tree → Tree → Type 0) : Li
   next : {t u : Tree} {ts us : List Tree} → p t ≡ q u → Same t u → SamePublic p q Same ts us →
       SamePublic p q Same (t ∷ ts) (u ∷ us)
 
-module _ (r : Renaming) (a b : Surroundings) where
+module _ (r : Renaming) (a b : ModuleFacts) where
   -- specifiers of two imports or exports
   abbrev pub SameSpecifiers : Tree → Tree → Type 0
   SameSpecifiers t u = SamePublic (is_public_specifier a) (is_public_specifier b) (SameTree r) (parts t) (parts u)

@@ -13,7 +13,7 @@ use Rattle.fast_check_syntax.specs.Moves.{IsRenaming}
 use Rattle.fast_check_swc_helpers.specs.Builders.{new_ident}
 use Rattle.fast_check_signatures.specs.NewNodes.{ident_name}
 use Rattle.fast_check_expandos.specs.Objects.{Objects, no_objects}
-use Rattle.fast_check_skeleton.specs.Surroundings.{Surroundings}
+use Rattle.fast_check_skeleton.specs.ModuleFacts.{ModuleFacts}
 use Rattle.fast_check_skeleton.specs.Example.{at}
 use Rattle.fast_check_skeleton.specs.ClassExample.{function_f, empty_statement, module_of, no_places, no_classes}
 use Rattle.fast_check_skeleton.specs.ExpandoExample.{assignment, assigned}
@@ -46,8 +46,8 @@ abbrev pub exporting_b : Objects
 exporting_b = record { exports = λ id name. bytes_eq name (98 ∷ []); has_export_keyword = λ id. false }
 
 -- what stands at the place of no text is public
-abbrev pub around : Objects → Surroundings
-around objects = record {
+abbrev pub facts : Objects → ModuleFacts
+facts objects = record {
   is_public = λ r. r.start.0 == 0;
   is_implementation = λ r. false;
   bindings = no_classes;
@@ -59,7 +59,7 @@ around objects = record {
 -- They agree.
 pub record SilentAssignmentExample : Type 0 where
   pub one_to_one : IsRenaming no_places
-  pub agree : AgreeHidden no_places (around exporting_b) (around no_objects) first second
+  pub agree : AgreeHidden no_places (facts exporting_b) (facts no_objects) first second
   -- a value that mentions `b` agrees with no other: in the namespace of `f` it is not what it was where `f` exports it
   pub other_value :
-      SameExpando no_places (around exporting_b) (around no_objects) (assignment name_b) (assignment name_b) → ⊥
+      SameExpando no_places (facts exporting_b) (facts no_objects) (assignment name_b) (assignment name_b) → ⊥

@@ -5,18 +5,18 @@ use Rattle.fast_check_syntax.specs.Shape.{list}
 use Rattle.fast_check_program_forms.specs.Programs.{Module-span, Module-shebang, module'}
 use Rattle.fast_check_signatures.specs.declared.fault.Fault.{Fault}
 use Rattle.fast_check_signatures.specs.Answers.{Answer, answer_of}
-use Rattle.fast_check_skeleton.specs.Surroundings.{Surroundings}
+use Rattle.fast_check_skeleton.specs.ModuleFacts.{ModuleFacts}
 use Rattle.fast_check_skeleton.specs.Visible.{visible}
 
 -- what becomes of a module's items
-abbrev pub transformed : Surroundings → Tree → Answer (List Tree)
-transformed surroundings program = answer_of (visible surroundings program)
+abbrev pub transformed : ModuleFacts → Tree → Answer (List Tree)
+transformed module_facts program = answer_of (visible module_facts program)
 
 -- the skeleton of a module: what is public of its items, under its own span and shebang
-abbrev pub skeleton_of : Surroundings → Tree → Tree
-skeleton_of surroundings program =
-    module' (Module-span program) (list (transformed surroundings program).stays) (Module-shebang program)
+abbrev pub skeleton_of : ModuleFacts → Tree → Tree
+skeleton_of module_facts program =
+    module' (Module-span program) (list (transformed module_facts program).stays) (Module-shebang program)
 
 -- what is wrong with a module, in reading order
-abbrev pub faults_of : Surroundings → Tree → List Fault
-faults_of surroundings program = (transformed surroundings program).faults
+abbrev pub faults_of : ModuleFacts → Tree → List Fault
+faults_of module_facts program = (transformed module_facts program).faults

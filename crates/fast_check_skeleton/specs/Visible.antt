@@ -45,7 +45,7 @@ use Rattle.fast_check_skeleton.specs.Links.{link_seen}
 use Rattle.fast_check_skeleton.specs.Mutability.{mutability_of}
 use Rattle.fast_check_skeleton.specs.Namespaces.{is_ambient_module, items_inside, namespace_round}
 use Rattle.fast_check_skeleton.specs.Rules.{item_rule}
-use Rattle.fast_check_skeleton.specs.Surroundings.{Surroundings, inside}
+use Rattle.fast_check_skeleton.specs.ModuleFacts.{ModuleFacts, inside}
 
 -- the identifier that a declarator declares, and its written type
 abbrev pub declared_ident : Tree → Tree
@@ -65,49 +65,49 @@ typed_declarator d type = var_declarator d.span (binding_ident d.ident type) nev
 
 -- a value that is to give a type, and the place of the identifier that names it; where there is none, nothing gives the
 -- type
-abbrev pub value_seen : Surroundings → SourceRange → Tree → Seen
-value_seen around place value = if is_absent value then refused else expr_seen around.bindings value (Some place)
+abbrev pub value_seen : ModuleFacts → SourceRange → Tree → Seen
+value_seen facts place value = if is_absent value then refused else expr_seen facts.bindings value (Some place)
 
 -- a declarator without a written type, by the type that its value shows, or else with the value as it may stay
-abbrev pub untyped_seen : Surroundings → Tree → Option Tree → Seen
-untyped_seen around d (Some type) = written (typed_declarator (declarator_head d) (type_ann type))
-untyped_seen around d None = declarator (declarator_head d)
-    (value_seen around (Ident-span (declared_ident d)) (VarDeclarator-init d))
+abbrev pub untyped_seen : ModuleFacts → Tree → Option Tree → Seen
+untyped_seen facts d (Some type) = written (typed_declarator (declarator_head d) (type_ann type))
+untyped_seen facts d None = declarator (declarator_head d)
+    (value_seen facts (Ident-span (declared_ident d)) (VarDeclarator-init d))
 
 -- a declarator of an identifier
-abbrev pub ident_declarator_seen : Surroundings → DeclMutabilityKind → Tree → Seen
-ident_declarator_seen around mutability d =
-    if is_absent (declared_type d) then untyped_seen around d
-    (inferred_type mutability around.bindings.unresolved (VarDeclarator-init d))
+abbrev pub ident_declarator_seen : ModuleFacts → DeclMutabilityKind → Tree → Seen
+ident_declarator_seen facts mutability d =
+    if is_absent (declared_type d) then untyped_seen facts d
+    (inferred_type mutability facts.bindings.unresolved (VarDeclarator-init d))
     else written (typed_declarator (declarator_head d) (declared_type d))
 
 -- a declarator that is not ambient; a pattern can't be one
-abbrev pub declarator_seen : Surroundings → DeclMutabilityKind → Tree → Seen
-declarator_seen around mutability d =
-    if kind_of (VarDeclarator-name d) is BindingIdent then ident_declarator_seen around mutability d
+abbrev pub declarator_seen : ModuleFacts → DeclMutabilityKind → Tree → Seen
+declarator_seen facts mutability d =
+    if kind_of (VarDeclarator-name d) is BindingIdent then ident_declarator_seen facts mutability d
     else faulty UnsupportedDestructuring (range_of_node (VarDeclarator-name d))
 
 -- ambient statements stand as they are written: where all is ambient, and those that are declared
-abbrev pub is_ambient_statement : Surroundings → Tree → Bool
-is_ambient_statement around statement = around.is_ambient || VarDecl-declare statement
+abbrev pub is_ambient_statement : ModuleFacts → Tree → Bool
+is_ambient_statement facts statement = facts.is_ambient || VarDecl-declare statement
 
 -- a declarator is public by its own range
-abbrev pub is_public_declarator : Surroundings → Tree → Bool
-is_public_declarator around d = around.is_public (VarDeclarator-span d)
+abbrev pub is_public_declarator : ModuleFacts → Tree → Bool
+is_public_declarator facts d = facts.is_public (VarDeclarator-span d)
 
 -- a declarator of a statement
-abbrev pub declarator_in : Surroundings → Tree → Tree → Seen
-declarator_in around statement d =
-    if is_ambient_statement around statement then written d else declarator_seen around
+abbrev pub declarator_in : ModuleFacts → Tree → Tree → Seen
+declarator_in facts statement d =
+    if is_ambient_statement facts statement then written d else declarator_seen facts
     (mutability_of (VarDecl-kind statement)) d
 
 -- a public declarator; nothing of another
-abbrev pub public_declarator : Surroundings → Tree → Tree → List Seen
-public_declarator around statement d = if is_public_declarator around d then declarator_in around statement d ∷
+abbrev pub public_declarator : ModuleFacts → Tree → Tree → List Seen
+public_declarator facts statement d = if is_public_declarator facts d then declarator_in facts statement d ∷
     [] else []
 
-abbrev pub public_declarators : Surroundings → Tree → List Seen
-public_declarators around statement = flat_map (public_declarator around statement) (parts (VarDecl-decls statement))
+abbrev pub public_declarators : ModuleFacts → Tree → List Seen
+public_declarators facts statement = flat_map (public_declarator facts statement) (parts (VarDecl-decls statement))
 
 -- a variable statement with the declarators that are seen; nothing where none is
 abbrev pub statement_seen : Tree → List Seen → List Seen
@@ -117,44 +117,44 @@ statement_seen statement (d ∷ ds) =
     (seens (range (VarDecl-span statement) ∷ scope (VarDecl-ctxt statement) ∷ written (VarDecl-kind statement) ∷
     flag (VarDecl-declare statement) ∷ listed (seens (d ∷ ds)) ∷ [])) ∷ []
 
-abbrev pub standing_seen : Surroundings → SourceRange → Tree → List Seen
-standing_seen around place decl = if around.is_public place then written decl ∷ [] else []
+abbrev pub standing_seen : ModuleFacts → SourceRange → Tree → List Seen
+standing_seen facts place decl = if facts.is_public place then written decl ∷ [] else []
 
 -- a function that is not ambient, which is public by `place`: its signature, or where it is an implementation behind
 -- overloads the count of its parameters
-abbrev pub signature_of : Surroundings → SourceRange → Tree → Seen
-signature_of around place decl =
-    if around.is_implementation place then implementation_seen (FnDecl-function decl)
-    else function_seen around.bindings (expr_seen around.bindings) DeclarationLike (Ident-span (FnDecl-ident decl))
+abbrev pub signature_of : ModuleFacts → SourceRange → Tree → Seen
+signature_of facts place decl =
+    if facts.is_implementation place then implementation_seen (FnDecl-function decl)
+    else function_seen facts.bindings (expr_seen facts.bindings) DeclarationLike (Ident-span (FnDecl-ident decl))
     (FnDecl-function decl)
 
 -- a function declaration; where all is ambient it stands as it is written
-abbrev pub function_decl_seen : Surroundings → SourceRange → Tree → Seen
-function_decl_seen around place decl =
-    if around.is_ambient then written decl
+abbrev pub function_decl_seen : ModuleFacts → SourceRange → Tree → Seen
+function_decl_seen facts place decl =
+    if facts.is_ambient then written decl
     else round FnDecl
-    (seens (written (FnDecl-ident decl) ∷ flag (FnDecl-declare decl) ∷ signature_of around place decl ∷ []))
+    (seens (written (FnDecl-ident decl) ∷ flag (FnDecl-declare decl) ∷ signature_of facts place decl ∷ []))
 
-abbrev pub public_function : Surroundings → SourceRange → Tree → List Seen
-public_function around place decl = if around.is_public place then function_decl_seen around place decl ∷ [] else []
+abbrev pub public_function : ModuleFacts → SourceRange → Tree → List Seen
+public_function facts place decl = if facts.is_public place then function_decl_seen facts place decl ∷ [] else []
 
 -- ambient classes: where all is ambient, and those that are declared
-abbrev pub is_ambient_class : Surroundings → Tree → Bool
-is_ambient_class around decl = around.is_ambient || ClassDecl-declare decl
+abbrev pub is_ambient_class : ModuleFacts → Tree → Bool
+is_ambient_class facts decl = facts.is_ambient || ClassDecl-declare decl
 
 -- the class of a declaration; an ambient one stands as it is written, but for private members of computed keys
-abbrev pub class_in : Surroundings → Tree → Seen
-class_in around decl =
-    if is_ambient_class around decl then written (ambient_class (ClassDecl-class decl))
-    else plain_class_seen around.bindings around.is_implementation (ClassDecl-class decl)
+abbrev pub class_in : ModuleFacts → Tree → Seen
+class_in facts decl =
+    if is_ambient_class facts decl then written (ambient_class (ClassDecl-class decl))
+    else plain_class_seen facts.bindings facts.is_implementation (ClassDecl-class decl)
 
-abbrev pub class_decl_seen : Surroundings → Tree → Seen
-class_decl_seen around decl =
-    round ClassDecl (seens (written (ClassDecl-ident decl) ∷ flag (ClassDecl-declare decl) ∷ class_in around decl ∷ []))
+abbrev pub class_decl_seen : ModuleFacts → Tree → Seen
+class_decl_seen facts decl =
+    round ClassDecl (seens (written (ClassDecl-ident decl) ∷ flag (ClassDecl-declare decl) ∷ class_in facts decl ∷ []))
 
 -- a class declaration, whose members are public by it
-abbrev pub public_class : Surroundings → SourceRange → Tree → List Seen
-public_class around place decl = if around.is_public place then class_decl_seen around decl ∷ [] else []
+abbrev pub public_class : ModuleFacts → SourceRange → Tree → List Seen
+public_class facts place decl = if facts.is_public place then class_decl_seen facts decl ∷ [] else []
 
 -- where `using` is refused: at its first declarator, or at itself where it has none
 abbrev pub place_of_first : SourceRange → List Tree → SourceRange
@@ -165,53 +165,53 @@ abbrev pub using_place : Tree → SourceRange
 using_place decl = place_of_first (UsingDecl-span decl) (parts (UsingDecl-decls decl))
 
 -- `using` is public by `place`, or by a declarator
-abbrev pub is_public_using : Surroundings → SourceRange → Tree → Bool
-is_public_using around place decl = around.is_public place ||
-    list_any (is_public_declarator around) (parts (UsingDecl-decls decl))
+abbrev pub is_public_using : ModuleFacts → SourceRange → Tree → Bool
+is_public_using facts place decl = facts.is_public place ||
+    list_any (is_public_declarator facts) (parts (UsingDecl-decls decl))
 
 -- no skeleton has what `using` declares
-abbrev pub using_seen : Surroundings → SourceRange → Tree → List Seen
-using_seen around place decl = if is_public_using around place decl then faulty UnsupportedUsing (using_place decl) ∷
+abbrev pub using_seen : ModuleFacts → SourceRange → Tree → List Seen
+using_seen facts place decl = if is_public_using facts place decl then faulty UnsupportedUsing (using_place decl) ∷
     [] else []
 
--- What is seen of a lower item inside of an item, in surroundings.
+-- What is seen of a lower item inside of an item, by facts.
 abbrev pub ItemLook : Type 0
-ItemLook = Tree → Surroundings → List Seen
+ItemLook = Tree → ModuleFacts → List Seen
 
 -- the expando properties that an item declares, by what is done with it
-abbrev pub properties_by_rule : Surroundings → Tree → ItemRule → List ExpandoProperty
-properties_by_rule around item Assigned = declared_properties around.is_public around.bindings around.objects
+abbrev pub properties_by_rule : ModuleFacts → Tree → ItemRule → List ExpandoProperty
+properties_by_rule facts item Assigned = declared_properties facts.is_public facts.bindings facts.objects
     (ExprStmt-expr item)
-properties_by_rule around item _ = []
+properties_by_rule facts item _ = []
 
-abbrev pub item_properties : Surroundings → Tree → List ExpandoProperty
-item_properties around item = properties_by_rule around item (item_rule item)
+abbrev pub item_properties : ModuleFacts → Tree → List ExpandoProperty
+item_properties facts item = properties_by_rule facts item (item_rule item)
 
 -- the items of a body: of a module, or of a namespace; behind them stand the namespaces for their expando properties
-abbrev pub body_seen : ItemLook → Surroundings → List Tree → List Seen
-body_seen look around items = flat_map (λ item. look item around) items ++ namespaces_seen
-    (flat_map (item_properties around) items)
+abbrev pub body_seen : ItemLook → ModuleFacts → List Tree → List Seen
+body_seen look facts items = flat_map (λ item. look item facts) items ++ namespaces_seen
+    (flat_map (item_properties facts) items)
 
 -- a namespace, which is public by `place`, with what is seen of its items. No skeleton has `declare global`, `declare
 -- module "x"` or a namespace without a body, public or not.
-abbrev pub namespace_seen : ItemLook → Surroundings → SourceRange → Tree → List Seen
-namespace_seen look around place decl =
+abbrev pub namespace_seen : ItemLook → ModuleFacts → SourceRange → Tree → List Seen
+namespace_seen look facts place decl =
     if TsModuleDecl-global decl then faulty UnsupportedGlobalModule (TsModuleDecl-span decl) ∷ []
     else (if is_ambient_module decl then faulty UnsupportedAmbientModule (range_of_node (TsModuleDecl-id decl)) ∷ []
-    else (if around.is_public place then
-    namespace_round (body_seen look (inside around decl) (items_inside decl)) decl ∷ [] else []))
+    else (if facts.is_public place then
+    namespace_round (body_seen look (inside facts decl) (items_inside decl)) decl ∷ [] else []))
 
 -- A declaration, by what is done with it. Of a variable statement the declarators are public, by their own ranges;
 -- another is public by `place`, which is the range of its export, or else its own. Of what is no declaration nothing is
 -- seen.
-abbrev pub decl_form : ItemLook → Surroundings → SourceRange → Tree → DeclRule → List Seen
-decl_form look around place decl Variables = statement_seen decl (public_declarators around decl)
-decl_form look around place decl Function = public_function around place decl
-decl_form look around place decl Class = public_class around place decl
-decl_form look around place decl Standing = standing_seen around place decl
-decl_form look around place decl Namespace = namespace_seen look around place decl
-decl_form look around place decl Using = using_seen around place decl
-decl_form look around place decl NoDeclaration = []
+abbrev pub decl_form : ItemLook → ModuleFacts → SourceRange → Tree → DeclRule → List Seen
+decl_form look facts place decl Variables = statement_seen decl (public_declarators facts decl)
+decl_form look facts place decl Function = public_function facts place decl
+decl_form look facts place decl Class = public_class facts place decl
+decl_form look facts place decl Standing = standing_seen facts place decl
+decl_form look facts place decl Namespace = namespace_seen look facts place decl
+decl_form look facts place decl Using = using_seen facts place decl
+decl_form look facts place decl NoDeclaration = []
 
 -- an exported declaration; nothing where none of it is seen
 abbrev pub exported_seen : Tree → List Seen → List Seen
@@ -219,32 +219,32 @@ exported_seen export [] = []
 exported_seen export (d ∷ ds) = round ExportDecl (seens (range (ExportDecl-span export) ∷ d ∷ ds)) ∷ []
 
 -- an item of a module, by what is done with it
-abbrev pub form_by_rule : ItemLook → Surroundings → Tree → ItemRule → List Seen
-form_by_rule look around item (Declared rule) = decl_form look around (range_of_node item) item rule
-form_by_rule look around item (Exported rule) = exported_seen item
-    (decl_form look around (ExportDecl-span item) (ExportDecl-decl item) rule)
-form_by_rule look around item (Linked rule) = link_seen around item rule
-form_by_rule look around item (Default rule) = default_seen around item rule
-form_by_rule look around item (Refused kind) = faulty kind (range_of_node item) ∷ []
-form_by_rule look around item Assigned = assignment_seen around.is_public around.bindings around.objects
+abbrev pub form_by_rule : ItemLook → ModuleFacts → Tree → ItemRule → List Seen
+form_by_rule look facts item (Declared rule) = decl_form look facts (range_of_node item) item rule
+form_by_rule look facts item (Exported rule) = exported_seen item
+    (decl_form look facts (ExportDecl-span item) (ExportDecl-decl item) rule)
+form_by_rule look facts item (Linked rule) = link_seen facts item rule
+form_by_rule look facts item (Default rule) = default_seen facts item rule
+form_by_rule look facts item (Refused kind) = faulty kind (range_of_node item) ∷ []
+form_by_rule look facts item Assigned = assignment_seen facts.is_public facts.bindings facts.objects
     (ExprStmt-expr item)
-form_by_rule look around item Silent = []
+form_by_rule look facts item Silent = []
 
-abbrev pub item_form : Tree → ItemLook → Surroundings → List Seen
-item_form item look around = form_by_rule look around item (item_rule item)
+abbrev pub item_form : Tree → ItemLook → ModuleFacts → List Seen
+item_form item look facts = form_by_rule look facts item (item_rule item)
 
 -- an item, and with it the items of a namespace, level by level
 unfoldable pub item_look : ItemLook
-item_look = by_descent (λ around. []) item_form
+item_look = by_descent (λ facts. []) item_form
 
-abbrev pub item_seen : Surroundings → Tree → List Seen
-item_seen around item = item_look item around
+abbrev pub item_seen : ModuleFacts → Tree → List Seen
+item_seen facts item = item_look item facts
 
 -- a declaration, and an item, by what is done with it
-abbrev pub decl_seen : Surroundings → SourceRange → Tree → DeclRule → List Seen
+abbrev pub decl_seen : ModuleFacts → SourceRange → Tree → DeclRule → List Seen
 decl_seen = decl_form item_look
 
-abbrev pub seen_by_rule : Surroundings → Tree → ItemRule → List Seen
+abbrev pub seen_by_rule : ModuleFacts → Tree → ItemRule → List Seen
 seen_by_rule = form_by_rule item_look
 
 -- the items of a module. A script is taken as a module: its fields stand in the same places.
@@ -252,5 +252,5 @@ abbrev pub items_of : Tree → List Tree
 items_of program = parts (Module-body program)
 
 -- what is seen of a module, item by item
-abbrev pub visible : Surroundings → Tree → List Seen
-visible around program = body_seen item_look around (items_of program)
+abbrev pub visible : ModuleFacts → Tree → List Seen
+visible facts program = body_seen item_look facts (items_of program)

@@ -8,7 +8,7 @@ use Rattle.fast_check_comments.specs.declared.comments.Comments.{Comments}
 use Rattle.fast_check_comments.specs.Kept.{kept}
 use Rattle.fast_check_program_forms.specs.Programs.{Module-body, Module-shebang}
 use Rattle.fast_check_signatures.specs.declared.fault.Fault.{Fault}
-use Rattle.fast_check_skeleton.specs.Surroundings.{Surroundings}
+use Rattle.fast_check_skeleton.specs.ModuleFacts.{ModuleFacts}
 use Rattle.fast_check_skeleton.specs.Skeleton.{skeleton_of, faults_of}
 use Rattle.fast_check_skeleton.specs.KeptComments.{kept_comments}
 use Rattle.fast_check_skeleton.specs.SameComments.{SameComments}
@@ -25,7 +25,7 @@ pub record SameSkeleton (r : Renaming) (t u : Tree) : Type 0 where
   pub shebang : SameTree r (Module-shebang t) (Module-shebang u)
 
 -- what is answered of t with the comments c, and of u with the comments d
-pub record SameAnswers (r : Renaming) (a : Surroundings) (t : Tree) (c : Comments) (b : Surroundings) (u : Tree)
+pub record SameAnswers (r : Renaming) (a : ModuleFacts) (t : Tree) (c : Comments) (b : ModuleFacts) (u : Tree)
     (d : Comments) : Type 0 where
   pub skeletons : SameSkeleton r (skeleton_of a t) (skeleton_of b u)
   pub faults : Each (SameFault r) (faults_of a t) (faults_of b u)
@@ -33,6 +33,6 @@ pub record SameAnswers (r : Renaming) (a : Surroundings) (t : Tree) (c : Comment
 
 -- Under each renaming under which two modules agree but for what is hidden, and so do those of their comments that a
 -- skeleton may keep, their answers are the same.
-abbrev pub TwoWorlds : Surroundings → Tree → Comments → Surroundings → Tree → Comments → Type 0
+abbrev pub TwoWorlds : ModuleFacts → Tree → Comments → ModuleFacts → Tree → Comments → Type 0
 TwoWorlds a t c b u d = (r : Renaming) → IsRenaming r → AgreeHidden r a b t u → SameComments r (kept c) (kept d) →
     SameAnswers r a t c b u d

@@ -1,6 +1,6 @@
 //! The law of two worlds, and the law of `#private`, as contracts.
 ghost use Rattle.fast_check_comments.specs.declared.comments.Comments.{Comments};
-ghost use Rattle.fast_check_skeleton.specs.Surroundings.{Surroundings};
+ghost use Rattle.fast_check_skeleton.specs.ModuleFacts.{ModuleFacts};
 ghost use Rattle.fast_check_skeleton.specs.Worlds.{TwoWorlds};
 ghost use Rattle.fast_check_skeleton.specs.ClassExample.{ClassExample};
 ghost use Rattle.fast_check_skeleton.specs.Example.{Example};
@@ -27,7 +27,7 @@ use fast_check_syntax::Tree;
 /// a class that is not public, and the second has not. So it is of two with an assignment that is not public. The
 /// last two differ by hidden changes of all kinds.
 pub fn two_worlds(first: &Tree, second: &Tree)
-    ensures law { (a : Surroundings) (c : Comments) (b : Surroundings) (d : Comments) → TwoWorlds a first.now c b second.now d }
+    ensures law { (a : ModuleFacts) (c : Comments) (b : ModuleFacts) (d : Comments) → TwoWorlds a first.now c b second.now d }
     ensures not_empty { Example }
     ensures of_classes { ClassExample }
     ensures of_modules { ModuleExample }

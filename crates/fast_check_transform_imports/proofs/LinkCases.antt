@@ -16,45 +16,45 @@ use Rattle.fast_check_signatures.specs.Seen.{Seen, written}
 use Rattle.fast_check_skeleton.specs.declared.rules.LinkRule.TheVariants.{Import, Export, All, Alias}
 use Rattle.fast_check_skeleton.specs.Links.{is_public_specifier, public_specifiers, source_of, answered_source}
 use Rattle.fast_check_skeleton.specs.Links.{with_specifiers, import_with, export_with, all_exported}
-use Rattle.fast_check_skeleton.specs.Surroundings.{Surroundings}
+use Rattle.fast_check_skeleton.specs.ModuleFacts.{ModuleFacts}
 use Rattle.fast_check_transform_imports.specs.Links.{link_answer}
 
 -- ---- sources
 
-module _ (around : Surroundings) (src : Tree) where
+module _ (facts : ModuleFacts) (src : Tree) where
   abbrev source_if : Bool → Option (List ℕ) → Tree
   source_if absent text = if absent then src else source_of src text
 
-  pub own_source : is_absent src ≡ true → src ≡ answered_source around src
-  own_source e = ap (λ b. source_if b (around.relative (Str-value src))) (sym e)
+  pub own_source : is_absent src ≡ true → src ≡ answered_source facts src
+  own_source e = ap (λ b. source_if b (facts.relative (Str-value src))) (sym e)
 
-  pub present_source : is_absent src ≡ false → {value : List ℕ} {text : Option (List ℕ)} → text ≡ around.relative value →
+  pub present_source : is_absent src ≡ false → {value : List ℕ} {text : Option (List ℕ)} → text ≡ facts.relative value →
       value ≡ Str-value src →
-      source_of src text ≡ answered_source around src
-  present_source e p q = λ i. source_if (sym e i) ((p ∙ ap around.relative q) i)
+      source_of src text ≡ answered_source facts src
+  present_source e p q = λ i. source_if (sym e i) ((p ∙ ap facts.relative q) i)
 
 -- ---- specifiers
 
-module _ (around : Surroundings) (ts : List Tree) (i : ℕ) (t : Tree) (h : i < length ts) (e : t ≡ get_or ts i t) where
+module _ (facts : ModuleFacts) (ts : List Tree) (i : ℕ) (t : Tree) (h : i < length ts) (e : t ≡ get_or ts i t) where
   abbrev more_if : Bool → List Tree
-  more_if b = filter (is_public_specifier around) (take i ts) ++ cond b (t ∷ []) []
+  more_if b = filter (is_public_specifier facts) (take i ts) ++ cond b (t ∷ []) []
 
-  more_is : filter (is_public_specifier around) (take (i + 1) ts) ≡ more_if (is_public_specifier around t)
+  more_is : filter (is_public_specifier facts) (take (i + 1) ts) ≡ more_if (is_public_specifier facts t)
   more_is =
-      filter_more (is_public_specifier around) ts i t h
-      ∙ ap (λ u. filter (is_public_specifier around) (take i ts) ++ cond (is_public_specifier around u) (u ∷ []) []) (sym e)
+      filter_more (is_public_specifier facts) ts i t h
+      ∙ ap (λ u. filter (is_public_specifier facts) (take i ts) ++ cond (is_public_specifier facts u) (u ∷ []) []) (sym e)
 
-  pub public_more : is_public_specifier around t ≡ true → {xs ys : List Tree} → xs ≡ filter (is_public_specifier around) (take i ts) →
-      ys ≡ xs ++ t ∷ [] → ys ≡ filter (is_public_specifier around) (take (i + 1) ts)
+  pub public_more : is_public_specifier facts t ≡ true → {xs ys : List Tree} → xs ≡ filter (is_public_specifier facts) (take i ts) →
+      ys ≡ xs ++ t ∷ [] → ys ≡ filter (is_public_specifier facts) (take (i + 1) ts)
   public_more p q r = r ∙ (ap (λ xs. xs ++ t ∷ []) q ∙ sym (more_is ∙ ap more_if p))
 
-  pub private_more : is_public_specifier around t ≡ false → {xs : List Tree} → xs ≡ filter (is_public_specifier around) (take i ts) →
-      xs ≡ filter (is_public_specifier around) (take (i + 1) ts)
-  private_more p q = q ∙ sym (more_is ∙ (ap more_if p ∙ append-nil (filter (is_public_specifier around) (take i ts))))
+  pub private_more : is_public_specifier facts t ≡ false → {xs : List Tree} → xs ≡ filter (is_public_specifier facts) (take i ts) →
+      xs ≡ filter (is_public_specifier facts) (take (i + 1) ts)
+  private_more p q = q ∙ sym (more_is ∙ (ap more_if p ∙ append-nil (filter (is_public_specifier facts) (take i ts))))
 
-pub all_specifiers : (around : Surroundings) (ts : List Tree) (i : ℕ) → length ts ≤ i → (specifiers : Tree) → ts ≡ parts specifiers →
-    {xs : List Tree} → xs ≡ filter (is_public_specifier around) (take i ts) → xs ≡ public_specifiers around specifiers
-all_specifiers around ts i h specifiers p q = q ∙ ap (filter (is_public_specifier around)) (take_all i ts h ∙ p)
+pub all_specifiers : (facts : ModuleFacts) (ts : List Tree) (i : ℕ) → length ts ≤ i → (specifiers : Tree) → ts ≡ parts specifiers →
+    {xs : List Tree} → xs ≡ filter (is_public_specifier facts) (take i ts) → xs ≡ public_specifiers facts specifiers
+all_specifiers facts ts i h specifiers p q = q ∙ ap (filter (is_public_specifier facts)) (take_all i ts h ∙ p)
 
 -- ---- imports and exports
 
@@ -70,47 +70,47 @@ some_left : (make : List Tree → Tree) {xs ys : List Tree} → xs ≡ ys → (x
 some_left make {xs = xs} p n q = ap (λ zs. answer_of (with_specifiers make zs)) (sym p) ∙
     (one_made make xs n ∙ ap (λ u. faultless (u ∷ [])) (sym q))
 
-module _ (around : Surroundings) (t : Tree) where
-  pub no_import : {xs : List Tree} {specifiers : Tree} → xs ≡ public_specifiers around specifiers → specifiers ≡ ImportDecl-specifiers t →
+module _ (facts : ModuleFacts) (t : Tree) where
+  pub no_import : {xs : List Tree} {specifiers : Tree} → xs ≡ public_specifiers facts specifiers → specifiers ≡ ImportDecl-specifiers t →
       xs ≡ [] →
-      link_answer around t Import ≡ faultless []
+      link_answer facts t Import ≡ faultless []
   unfolding link_answer
-  no_import p q e = none_left (import_with around t) (p ∙ ap (public_specifiers around) q) e
+  no_import p q e = none_left (import_with facts t) (p ∙ ap (public_specifiers facts) q) e
 
-  pub made_import : {xs : List Tree} {specifiers : Tree} → xs ≡ public_specifiers around specifiers → specifiers ≡ ImportDecl-specifiers t →
-      (xs ≡ [] → ⊥) → {made : Tree} → made ≡ import_with around t xs → link_answer around t Import ≡ faultless (made ∷ [])
+  pub made_import : {xs : List Tree} {specifiers : Tree} → xs ≡ public_specifiers facts specifiers → specifiers ≡ ImportDecl-specifiers t →
+      (xs ≡ [] → ⊥) → {made : Tree} → made ≡ import_with facts t xs → link_answer facts t Import ≡ faultless (made ∷ [])
   unfolding link_answer
-  made_import p q n r = some_left (import_with around t) (p ∙ ap (public_specifiers around) q) n r
+  made_import p q n r = some_left (import_with facts t) (p ∙ ap (public_specifiers facts) q) n r
 
-  pub no_export : {xs : List Tree} {specifiers : Tree} → xs ≡ public_specifiers around specifiers → specifiers ≡ NamedExport-specifiers t →
+  pub no_export : {xs : List Tree} {specifiers : Tree} → xs ≡ public_specifiers facts specifiers → specifiers ≡ NamedExport-specifiers t →
       xs ≡ [] →
-      link_answer around t Export ≡ faultless []
+      link_answer facts t Export ≡ faultless []
   unfolding link_answer
-  no_export p q e = none_left (export_with around t) (p ∙ ap (public_specifiers around) q) e
+  no_export p q e = none_left (export_with facts t) (p ∙ ap (public_specifiers facts) q) e
 
-  pub made_export : {xs : List Tree} {specifiers : Tree} → xs ≡ public_specifiers around specifiers →
+  pub made_export : {xs : List Tree} {specifiers : Tree} → xs ≡ public_specifiers facts specifiers →
       specifiers ≡ NamedExport-specifiers t →
-      (xs ≡ [] → ⊥) → {made : Tree} → made ≡ export_with around t xs → link_answer around t Export ≡ faultless (made ∷ [])
+      (xs ≡ [] → ⊥) → {made : Tree} → made ≡ export_with facts t xs → link_answer facts t Export ≡ faultless (made ∷ [])
   unfolding link_answer
-  made_export p q n r = some_left (export_with around t) (p ∙ ap (public_specifiers around) q) n r
+  made_export p q n r = some_left (export_with facts t) (p ∙ ap (public_specifiers facts) q) n r
 
   abbrev one_if : Bool → Tree → List Seen
   one_if p made = if p then written made ∷ [] else []
 
-  pub no_all : around.is_public (ExportAll-span t) ≡ false → link_answer around t All ≡ faultless []
+  pub no_all : facts.is_public (ExportAll-span t) ≡ false → link_answer facts t All ≡ faultless []
   unfolding link_answer
-  no_all e = ap (λ p. answer_of (one_if p (all_exported around t))) e
+  no_all e = ap (λ p. answer_of (one_if p (all_exported facts t))) e
 
-  pub made_all : around.is_public (ExportAll-span t) ≡ true → {made : Tree} → made ≡ all_exported around t →
-      link_answer around t All ≡ faultless (made ∷ [])
+  pub made_all : facts.is_public (ExportAll-span t) ≡ true → {made : Tree} → made ≡ all_exported facts t →
+      link_answer facts t All ≡ faultless (made ∷ [])
   unfolding link_answer
   made_all e r = (λ i. answer_of (one_if (e i) (sym r i)))
 
-  pub no_alias : around.is_public (TsImportEqualsDecl-span t) ≡ false → link_answer around t Alias ≡ faultless []
+  pub no_alias : facts.is_public (TsImportEqualsDecl-span t) ≡ false → link_answer facts t Alias ≡ faultless []
   unfolding link_answer
   no_alias e = ap (λ p. answer_of (one_if p t)) e
 
-  pub made_alias : around.is_public (TsImportEqualsDecl-span t) ≡ true → {made : Tree} → made ≡ t →
-      link_answer around t Alias ≡ faultless (made ∷ [])
+  pub made_alias : facts.is_public (TsImportEqualsDecl-span t) ≡ true → {made : Tree} → made ≡ t →
+      link_answer facts t Alias ≡ faultless (made ∷ [])
   unfolding link_answer
   made_alias e r = (λ i. answer_of (one_if (e i) (sym r i)))

@@ -1,4 +1,4 @@
 pub mod Links
 pub mod Relative
 pub mod StaticSources
-pub mod surroundings
+pub mod module_facts

@@ -2,10 +2,10 @@
 -- What stands for the sources of a module, as it is kept from one import to the next.
 use Rattle.std.specs.Prelude.{◌≡◌, ℕ, List, Option, Some}
 use Rattle.std.specs.BTreeMap.{get_by_text}
-use Rattle.fast_check_skeleton.specs.Surroundings.{Surroundings}
+use Rattle.fast_check_skeleton.specs.ModuleFacts.{ModuleFacts}
 use Rattle.fast_check_transform_imports.specs.declared.relative.RelativeSources.{RelativeSources}
 
 -- under a text what stands for it
-abbrev pub AreRelative : Surroundings → RelativeSources → Type 0
-AreRelative around kept = (text : List ℕ) (other : Option (List ℕ)) → get_by_text kept.by_text text ≡ Some other →
-    other ≡ around.relative text
+abbrev pub AreRelative : ModuleFacts → RelativeSources → Type 0
+AreRelative facts kept = (text : List ℕ) (other : Option (List ℕ)) → get_by_text kept.by_text text ≡ Some other →
+    other ≡ facts.relative text

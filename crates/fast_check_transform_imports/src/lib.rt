@@ -2,9 +2,9 @@
 #![tactic(auto)]
 
 mod links;
+pub mod module_facts;
 mod relative;
 mod sources;
-pub mod surroundings;
 
 pub use fast_check_diagnostics::parsed_source::StaticSource;
 pub use links::transform_link;

@@ -4,14 +4,14 @@ ghost use Rattle.fast_check_syntax.specs.Part.{seen};
 ghost use Rattle.fast_check_signatures.specs.Answers.{faultless};
 ghost use Rattle.fast_check_skeleton.specs.Links.{answered_source, public_specifiers};
 ghost use Rattle.fast_check_skeleton.specs.declared.rules.LinkRule.TheVariants as links;
-ghost use Rattle.fast_check_transform_imports.specs.surroundings.Surroundings.{seen_around};
-ghost use Rattle.fast_check_transform_imports.specs.surroundings.Kept.{as_list};
+ghost use Rattle.fast_check_transform_imports.specs.module_facts.ModuleFacts.{facts_of};
+ghost use Rattle.fast_check_transform_imports.specs.module_facts.Kept.{as_list};
 ghost use Rattle.fast_check_transform_imports.specs.Links.{link_answer};
 ghost use Rattle.fast_check_transform_imports.specs.Relative.{AreRelative};
 
+use crate::module_facts::ModuleFacts;
+use crate::module_facts::skeleton::LinkRule;
 use crate::relative::RelativeSources;
-use crate::surroundings::Surroundings;
-use crate::surroundings::skeleton::LinkRule;
 use fast_check_program_forms::{ExportAll, ImportDecl, NamedExport, Str, TsImportEqualsDecl};
 use fast_check_swc_helpers::ranges::range_of_node;
 use fast_check_syntax::{Atom, Items, Part, Tree};
@@ -21,19 +21,19 @@ use std::alloc::{AllocError, Global};
 /// has none.
 fn answered_source(
     alloc: Global,
-    around: Surroundings<'_>,
+    facts: ModuleFacts<'_>,
     src: Part<'_>,
     sources: &mut RelativeSources,
 ) -> Result<Tree, AllocError>
-    ensures answer { IfOk result (λ tree. AreRelative (seen_around around.entry) sources.old →
-        tree ≡ answered_source (seen_around around.entry) (seen src.entry)) }
-    ensures sources { IfOk result (λ _. AreRelative (seen_around around.entry) sources.old → AreRelative (seen_around around.entry) sources.new) }
+    ensures answer { IfOk result (λ tree. AreRelative (facts_of facts.entry) sources.old →
+        tree ≡ answered_source (facts_of facts.entry) (seen src.entry)) }
+    ensures sources { IfOk result (λ _. AreRelative (facts_of facts.entry) sources.old → AreRelative (facts_of facts.entry) sources.new) }
 {
     if src.is_absent() {
         return src.to_tree(alloc);
     }
     let Str { span, value, .. } = Str::of(src);
-    match sources.of_text(alloc, around, value)? {
+    match sources.of_text(alloc, facts, value)? {
         Some(value) => {
             let source = Str {
                 span,
@@ -49,17 +49,17 @@ fn answered_source(
 /// The source as it is answered, and the attributes as they are.
 fn source_and_attributes(
     alloc: Global,
-    around: Surroundings<'_>,
+    facts: ModuleFacts<'_>,
     src: Part<'_>,
     with: Part<'_>,
     sources: &mut RelativeSources,
 ) -> Result<(Tree, Tree), AllocError>
-    ensures source { IfOk result (λ made. AreRelative (seen_around around.entry) sources.old →
-        made.0 ≡ answered_source (seen_around around.entry) (seen src.entry)) }
+    ensures source { IfOk result (λ made. AreRelative (facts_of facts.entry) sources.old →
+        made.0 ≡ answered_source (facts_of facts.entry) (seen src.entry)) }
     ensures attributes { IfOk result (λ made. made.1 ≡ seen with.entry) }
-    ensures sources { IfOk result (λ _. AreRelative (seen_around around.entry) sources.old → AreRelative (seen_around around.entry) sources.new) }
+    ensures sources { IfOk result (λ _. AreRelative (facts_of facts.entry) sources.old → AreRelative (facts_of facts.entry) sources.new) }
 {
-    let src = answered_source(alloc, around, src, sources)?;
+    let src = answered_source(alloc, facts, src, sources)?;
     let with = with.to_tree(alloc)?;
     Ok((src, with))
 }
@@ -67,15 +67,15 @@ fn source_and_attributes(
 /// The specifiers of an import or an export that are public, each by its own range.
 fn public_specifiers(
     alloc: Global,
-    around: Surroundings<'_>,
+    facts: ModuleFacts<'_>,
     specifiers: Part<'_>,
 ) -> Result<Items<Tree>, AllocError>
-    ensures { IfOk result (λ items. items ≡ public_specifiers (seen_around around.entry) (seen specifiers.entry)) }
+    ensures { IfOk result (λ items. items ≡ public_specifiers (facts_of facts.entry) (seen specifiers.entry)) }
 {
     let mut items = Items::new(alloc);
     for specifier in specifiers.parts() {
         let specifier = specifier.read();
-        if !around.public_ranges.contains(&range_of_node(specifier)) {
+        if !facts.public_ranges.contains(&range_of_node(specifier)) {
             continue;
         }
         items.push(specifier.to_tree(alloc)?)?;
@@ -86,13 +86,13 @@ fn public_specifiers(
 /// An import with its public specifiers; none where it has none.
 fn transform_import(
     alloc: Global,
-    around: Surroundings<'_>,
+    facts: ModuleFacts<'_>,
     item: Part<'_>,
     sources: &mut RelativeSources,
 ) -> Result<Option<Tree>, AllocError>
-    ensures answer { IfOk result (λ tree. AreRelative (seen_around around.entry) sources.old →
-        link_answer (seen_around around.entry) (seen item.entry) links.Import ≡ faultless (as_list tree)) }
-    ensures sources { IfOk result (λ _. AreRelative (seen_around around.entry) sources.old → AreRelative (seen_around around.entry) sources.new) }
+    ensures answer { IfOk result (λ tree. AreRelative (facts_of facts.entry) sources.old →
+        link_answer (facts_of facts.entry) (seen item.entry) links.Import ≡ faultless (as_list tree)) }
+    ensures sources { IfOk result (λ _. AreRelative (facts_of facts.entry) sources.old → AreRelative (facts_of facts.entry) sources.new) }
 {
     let ImportDecl {
         span,
@@ -102,12 +102,12 @@ fn transform_import(
         with,
         phase,
     } = ImportDecl::of(item);
-    let specifiers = public_specifiers(alloc, around, specifiers)?;
+    let specifiers = public_specifiers(alloc, facts, specifiers)?;
     if specifiers.is_empty() {
         return Ok(None);
     }
     let phase = Atom::from_str(alloc, phase)?;
-    let (src, with) = source_and_attributes(alloc, around, src, with, sources)?;
+    let (src, with) = source_and_attributes(alloc, facts, src, with, sources)?;
     let import = ImportDecl {
         span,
         specifiers: Tree::list(specifiers),
@@ -122,13 +122,13 @@ fn transform_import(
 /// An export of names with its public specifiers; none where it has none.
 fn transform_export_names(
     alloc: Global,
-    around: Surroundings<'_>,
+    facts: ModuleFacts<'_>,
     item: Part<'_>,
     sources: &mut RelativeSources,
 ) -> Result<Option<Tree>, AllocError>
-    ensures answer { IfOk result (λ tree. AreRelative (seen_around around.entry) sources.old →
-        link_answer (seen_around around.entry) (seen item.entry) links.Export ≡ faultless (as_list tree)) }
-    ensures sources { IfOk result (λ _. AreRelative (seen_around around.entry) sources.old → AreRelative (seen_around around.entry) sources.new) }
+    ensures answer { IfOk result (λ tree. AreRelative (facts_of facts.entry) sources.old →
+        link_answer (facts_of facts.entry) (seen item.entry) links.Export ≡ faultless (as_list tree)) }
+    ensures sources { IfOk result (λ _. AreRelative (facts_of facts.entry) sources.old → AreRelative (facts_of facts.entry) sources.new) }
 {
     let NamedExport {
         span,
@@ -137,11 +137,11 @@ fn transform_export_names(
         type_only,
         with,
     } = NamedExport::of(item);
-    let specifiers = public_specifiers(alloc, around, specifiers)?;
+    let specifiers = public_specifiers(alloc, facts, specifiers)?;
     if specifiers.is_empty() {
         return Ok(None);
     }
-    let (src, with) = source_and_attributes(alloc, around, src, with, sources)?;
+    let (src, with) = source_and_attributes(alloc, facts, src, with, sources)?;
     let export = NamedExport {
         span,
         specifiers: Tree::list(specifiers),
@@ -155,13 +155,13 @@ fn transform_export_names(
 /// `export * from source`; none where it is not public.
 fn transform_export_all(
     alloc: Global,
-    around: Surroundings<'_>,
+    facts: ModuleFacts<'_>,
     item: Part<'_>,
     sources: &mut RelativeSources,
 ) -> Result<Option<Tree>, AllocError>
-    ensures answer { IfOk result (λ tree. AreRelative (seen_around around.entry) sources.old →
-        link_answer (seen_around around.entry) (seen item.entry) links.All ≡ faultless (as_list tree)) }
-    ensures sources { IfOk result (λ _. AreRelative (seen_around around.entry) sources.old → AreRelative (seen_around around.entry) sources.new) }
+    ensures answer { IfOk result (λ tree. AreRelative (facts_of facts.entry) sources.old →
+        link_answer (facts_of facts.entry) (seen item.entry) links.All ≡ faultless (as_list tree)) }
+    ensures sources { IfOk result (λ _. AreRelative (facts_of facts.entry) sources.old → AreRelative (facts_of facts.entry) sources.new) }
 {
     let ExportAll {
         span,
@@ -169,10 +169,10 @@ fn transform_export_all(
         type_only,
         with,
     } = ExportAll::of(item);
-    if !around.public_ranges.contains(&span) {
+    if !facts.public_ranges.contains(&span) {
         return Ok(None);
     }
-    let (src, with) = source_and_attributes(alloc, around, src, with, sources)?;
+    let (src, with) = source_and_attributes(alloc, facts, src, with, sources)?;
     let export = ExportAll {
         span,
         src,
@@ -185,12 +185,12 @@ fn transform_export_all(
 /// `import A = B.C` as it is written; none where it is not public.
 fn transform_alias(
     alloc: Global,
-    around: Surroundings<'_>,
+    facts: ModuleFacts<'_>,
     item: Part<'_>,
 ) -> Result<Option<Tree>, AllocError>
-    ensures { IfOk result (λ tree. link_answer (seen_around around.entry) (seen item.entry) links.Alias ≡ faultless (as_list tree)) }
+    ensures { IfOk result (λ tree. link_answer (facts_of facts.entry) (seen item.entry) links.Alias ≡ faultless (as_list tree)) }
 {
-    if !around
+    if !facts
         .public_ranges
         .contains(&TsImportEqualsDecl::of(item).span)
     {
@@ -202,19 +202,19 @@ fn transform_alias(
 /// What is public of an import or an export with which this is done; none where nothing is. Nothing can be wrong with it.
 pub fn transform_link(
     alloc: Global,
-    around: Surroundings<'_>,
+    facts: ModuleFacts<'_>,
     item: Part<'_>,
     rule: LinkRule,
     sources: &mut RelativeSources,
 ) -> Result<Option<Tree>, AllocError>
-    ensures answer { IfOk result (λ tree. AreRelative (seen_around around.entry) sources.old →
-        link_answer (seen_around around.entry) (seen item.entry) rule ≡ faultless (as_list tree)) }
-    ensures sources { IfOk result (λ _. AreRelative (seen_around around.entry) sources.old → AreRelative (seen_around around.entry) sources.new) }
+    ensures answer { IfOk result (λ tree. AreRelative (facts_of facts.entry) sources.old →
+        link_answer (facts_of facts.entry) (seen item.entry) rule ≡ faultless (as_list tree)) }
+    ensures sources { IfOk result (λ _. AreRelative (facts_of facts.entry) sources.old → AreRelative (facts_of facts.entry) sources.new) }
 {
     match rule {
-        LinkRule::Import => transform_import(alloc, around, item, sources),
-        LinkRule::Export => transform_export_names(alloc, around, item, sources),
-        LinkRule::All => transform_export_all(alloc, around, item, sources),
-        LinkRule::Alias => transform_alias(alloc, around, item),
+        LinkRule::Import => transform_import(alloc, facts, item, sources),
+        LinkRule::Export => transform_export_names(alloc, facts, item, sources),
+        LinkRule::All => transform_export_all(alloc, facts, item, sources),
+        LinkRule::Alias => transform_alias(alloc, facts, item),
     }
 }

@@ -1,10 +1,10 @@
 //! The texts that stand for the sources of a module, from one import to the next.
 ghost use Rattle.std.specs.Prelude.{◌≡◌, IfOk, OnOk};
-ghost use Rattle.fast_check_skeleton.specs.Surroundings.{Surroundings as Asked};
-ghost use Rattle.fast_check_transform_imports.specs.surroundings.Surroundings.{seen_around};
+ghost use Rattle.fast_check_skeleton.specs.ModuleFacts.{ModuleFacts as Asked};
+ghost use Rattle.fast_check_transform_imports.specs.module_facts.ModuleFacts.{facts_of};
 ghost use Rattle.fast_check_transform_imports.specs.Relative.{AreRelative};
 
-use crate::surroundings::{Surroundings, relative_source};
+use crate::module_facts::{ModuleFacts, relative_source};
 use fast_check_syntax::Atom;
 use std::alloc::{AllocError, Global};
 use std::collections::BTreeMap;
@@ -15,13 +15,13 @@ const LONG: usize = 1_000;
 /// What stands for a source text of a module, if anything does.
 fn relative_text(
     alloc: Global,
-    around: Surroundings<'_>,
+    facts: ModuleFacts<'_>,
     text: &str,
 ) -> Result<Option<Atom>, AllocError>
-    ensures { IfOk result (λ other. other ≡ (seen_around around.entry).relative text.now) }
+    ensures { IfOk result (λ other. other ≡ (facts_of facts.entry).relative text.now) }
 {
-    let referrer = around.es_module_info.specifier();
-    match relative_source(alloc, around.resolutions, referrer, text)? {
+    let referrer = facts.es_module_info.specifier();
+    match relative_source(alloc, facts.resolutions, referrer, text)? {
         Some(other) => Ok(Some(Atom::from_str(alloc, &other)?)),
         None => Ok(None),
     }
@@ -47,7 +47,7 @@ pub struct RelativeSources {
 impl RelativeSources {
     /// Nothing was asked for. It takes no memory.
     pub fn new(alloc: Global) -> RelativeSources
-        ensures { (around : Asked) → AreRelative around result }
+        ensures { (facts : Asked) → AreRelative facts result }
     {
         RelativeSources {
             by_text: BTreeMap::new(alloc),
@@ -56,7 +56,7 @@ impl RelativeSources {
 
     /// Keeps what stands for a text.
     fn keep(&mut self, alloc: Global, text: &str, other: Option<Atom>) -> Result<(), AllocError>
-        ensures { OnOk result ((around : Asked) → other ≡ around.relative text.now → AreRelative around self.old → AreRelative around self.new) }
+        ensures { OnOk result ((facts : Asked) → other ≡ facts.relative text.now → AreRelative facts self.old → AreRelative facts self.new) }
     {
         let text = String::from_str(alloc, text)?;
         self.by_text.insert(text, other)?;
@@ -67,19 +67,19 @@ impl RelativeSources {
     pub fn of_text(
         &mut self,
         alloc: Global,
-        around: Surroundings<'_>,
+        facts: ModuleFacts<'_>,
         text: &str,
     ) -> Result<Option<Atom>, AllocError>
-        ensures found { IfOk result (λ other. AreRelative (seen_around around.entry) self.old → other ≡ (seen_around around.entry).relative text.now) }
-        ensures kept { OnOk result (AreRelative (seen_around around.entry) self.old → AreRelative (seen_around around.entry) self.new) }
+        ensures found { IfOk result (λ other. AreRelative (facts_of facts.entry) self.old → other ≡ (facts_of facts.entry).relative text.now) }
+        ensures kept { OnOk result (AreRelative (facts_of facts.entry) self.old → AreRelative (facts_of facts.entry) self.new) }
     {
-        if around.es_module_info.specifier().as_str().len() < LONG {
-            return relative_text(alloc, around, text);
+        if facts.es_module_info.specifier().as_str().len() < LONG {
+            return relative_text(alloc, facts, text);
         }
         if let Some(other) = self.by_text.get(text) {
             return shared(other);
         }
-        let other = relative_text(alloc, around, text)?;
+        let other = relative_text(alloc, facts, text)?;
         let copy = shared(&other)?;
         self.keep(alloc, text, copy)?;
         Ok(other)

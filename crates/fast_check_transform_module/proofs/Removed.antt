@@ -11,27 +11,27 @@ use Rattle.fast_check_syntax.specs.Shape.{parts}
 use Rattle.fast_check_syntax.specs.Height.{height, height_read}
 use Rattle.fast_check_comments.specs.declared.comments.Comments.{Comments}
 use Rattle.fast_check_comments.specs.Kept.{without_leading}
-use Rattle.fast_check_transform_statements.specs.transform_declarations.links.surroundings.skeleton.Surroundings.{Surroundings}
+use Rattle.fast_check_transform_statements.specs.transform_declarations.links.module_facts.skeleton.ModuleFacts.{ModuleFacts}
 use Rattle.fast_check_signatures.specs.Seen.{Seen}
 use Rattle.fast_check_swc_helpers.specs.ranges.Ranges.{range_of_node}
-use Rattle.fast_check_transform_statements.specs.transform_declarations.links.surroundings.skeleton.Rules.{is_assigned, item_rule}
+use Rattle.fast_check_transform_statements.specs.transform_declarations.links.module_facts.skeleton.Rules.{is_assigned, item_rule}
 use Rattle.std.specs.Prelude.{Bool, true, false, if◌then◌else◌}
 use Rattle.fast_check_expression_forms.specs.Operators.{AssignExpr-span}
 use Rattle.fast_check_statement_forms.specs.Statements.{ExprStmt-expr}
 use Rattle.fast_check_signatures.specs.Seen.{tested}
-use Rattle.fast_check_transform_statements.specs.transform_declarations.links.surroundings.skeleton.expandos.Assignments.{right_seen, missing_place}
+use Rattle.fast_check_transform_statements.specs.transform_declarations.links.module_facts.skeleton.expandos.Assignments.{right_seen, missing_place}
 use Rattle.fast_check_syntax.specs.declared.source.SourceRange.{SourceRange}
-use Rattle.fast_check_transform_statements.specs.transform_declarations.links.surroundings.skeleton.declared.rules.DeclRule.{DeclRule}
-use Rattle.fast_check_transform_statements.specs.transform_declarations.links.surroundings.skeleton.declared.rules.ItemRule.{ItemRule}
-use Rattle.fast_check_transform_statements.specs.transform_declarations.links.surroundings.skeleton.declared.rules.ItemRule.TheVariants.{Assigned, Declared}
-use Rattle.fast_check_transform_statements.specs.transform_declarations.links.surroundings.skeleton.Visible.{seen_by_rule}
-use Rattle.fast_check_transform_statements.specs.transform_declarations.links.surroundings.skeleton.Visible.{item_seen}
+use Rattle.fast_check_transform_statements.specs.transform_declarations.links.module_facts.skeleton.declared.rules.DeclRule.{DeclRule}
+use Rattle.fast_check_transform_statements.specs.transform_declarations.links.module_facts.skeleton.declared.rules.ItemRule.{ItemRule}
+use Rattle.fast_check_transform_statements.specs.transform_declarations.links.module_facts.skeleton.declared.rules.ItemRule.TheVariants.{Assigned, Declared}
+use Rattle.fast_check_transform_statements.specs.transform_declarations.links.module_facts.skeleton.Visible.{seen_by_rule}
+use Rattle.fast_check_transform_statements.specs.transform_declarations.links.module_facts.skeleton.Visible.{item_seen}
 use Rattle.fast_check_signatures.specs.declared.fault.Fault.{Fault}
 use Rattle.fast_check_signatures.specs.Answers.{Adds, with_tree, answer_of}
-use Rattle.fast_check_transform_statements.specs.transform_declarations.links.surroundings.skeleton.KeptComments.{start_of_unseen, starts_inside, starts_in_body, starts_below}
-use Rattle.fast_check_transform_statements.specs.transform_declarations.links.surroundings.skeleton.KeptComments.{start_look, removed_start, removed_from, without_all_leading}
-use Rattle.fast_check_transform_statements.proofs.transform_declarations.links_proofs.surroundings.skeleton_proofs.Namespaces.{item_seen_is, removed_start_is}
-use Rattle.fast_check_transform_statements.proofs.transform_declarations.links_proofs.surroundings.skeleton_proofs.Standing.{OneTree, item_one}
+use Rattle.fast_check_transform_statements.specs.transform_declarations.links.module_facts.skeleton.KeptComments.{start_of_unseen, starts_inside, starts_in_body, starts_below}
+use Rattle.fast_check_transform_statements.specs.transform_declarations.links.module_facts.skeleton.KeptComments.{start_look, removed_start, removed_from, without_all_leading}
+use Rattle.fast_check_transform_statements.proofs.transform_declarations.links_proofs.module_facts.skeleton_proofs.Namespaces.{item_seen_is, removed_start_is}
+use Rattle.fast_check_transform_statements.proofs.transform_declarations.links_proofs.module_facts.skeleton_proofs.Standing.{OneTree, item_one}
 use Rattle.fast_check_transform_module.specs.PartAnswers.{item_answer}
 
 pub without_append : (xs ys : List SourcePos) (c : Comments) → without_all_leading (xs ++ ys) c ≡ without_all_leading ys
@@ -39,8 +39,8 @@ pub without_append : (xs ys : List SourcePos) (c : Comments) → without_all_lea
 without_append [] ys c = refl
 without_append (x ∷ xs) ys c = without_append xs ys (without_leading x c)
 
-module _ (around : Surroundings) (item : Tree) where
-  unseen : (ss : List Seen) → OneTree around ss → (answer_of ss).stays ≡ [] → start_of_unseen item ss ≡ (range_of_node item).start ∷ []
+module _ (facts : ModuleFacts) (item : Tree) where
+  unseen : (ss : List Seen) → OneTree facts ss → (answer_of ss).stays ≡ [] → start_of_unseen item ss ≡ (range_of_node item).start ∷ []
   unseen [] one e = refl
   unseen (s ∷ []) one e = let f : one.0 ∷ [] ≡ [] = sym (ap (λ o. with_tree o []) one.1) ∙ e in cc
   unseen (s ∷ t ∷ ss) one e = absurd one
@@ -50,55 +50,55 @@ module _ (around : Surroundings) (item : Tree) where
   seen_one (s ∷ ss) t e = refl
 
   abbrev pub inside : List SourcePos
-  inside = starts_inside around item (item_rule item)
+  inside = starts_inside facts item (item_rule item)
 
   abbrev pub below : List SourcePos
-  below = starts_below start_look around item (item_rule item)
+  below = starts_below start_look facts item (item_rule item)
 
   pub removed_if_none : is_assigned (item_rule item) ≡ false → {xs : List Tree} {old new : List Fault} →
-      Adds (item_answer around item) xs old new → xs ≡ [] →
-      removed_start around item ≡ below ++ ((range_of_node item).start ∷ inside)
+      Adds (item_answer facts item) xs old new → xs ≡ [] →
+      removed_start facts item ≡ below ++ ((range_of_node item).start ∷ inside)
   unfolding item_answer
   removed_if_none n h e =
-      removed_start_is around item
-      ∙ ap (λ ps. below ++ (ps ++ inside)) (unseen (item_seen around item)
-      (subst (OneTree around) (sym (item_seen_is around item)) (item_one around item (item_rule item) n)) (ap (λ a. a.stays) h.is ∙ e))
+      removed_start_is facts item
+      ∙ ap (λ ps. below ++ (ps ++ inside)) (unseen (item_seen facts item)
+      (subst (OneTree facts) (sym (item_seen_is facts item)) (item_one facts item (item_rule item) n)) (ap (λ a. a.stays) h.is ∙ e))
 
-  pub removed_if_some : {t : Tree} {xs : List Tree} {old new : List Fault} → Adds (item_answer around item) xs old new → xs ≡ t ∷ [] →
-      removed_start around item ≡ below ++ inside
+  pub removed_if_some : {t : Tree} {xs : List Tree} {old new : List Fault} → Adds (item_answer facts item) xs old new → xs ≡ t ∷ [] →
+      removed_start facts item ≡ below ++ inside
   unfolding item_answer
   removed_if_some {t} h e =
-      removed_start_is around item ∙ ap (λ ps. below ++ (ps ++ inside)) (seen_one (item_seen around item) t (ap (λ a. a.stays) h.is ∙ e))
+      removed_start_is facts item ∙ ap (λ ps. below ++ (ps ++ inside)) (seen_one (item_seen facts item) t (ap (λ a. a.stays) h.is ∙ e))
 
   -- the start of an assignment
-  pub removed_if_assigned : item_rule item ≡ Assigned → removed_start around item ≡ (range_of_node item).start ∷ []
+  pub removed_if_assigned : item_rule item ≡ Assigned → removed_start facts item ≡ (range_of_node item).start ∷ []
   removed_if_assigned e =
-      removed_start_is around item
-      ∙ (λ i. starts_below start_look around item
-      (e i) ++ (start_of_unseen item ((item_seen_is around item ∙ ap (seen_by_rule around item) e) i)
-      ++ starts_inside around item (e i)))
-      ∙ go (around.is_public (AssignExpr-span (ExprStmt-expr item)))
+      removed_start_is facts item
+      ∙ (λ i. starts_below start_look facts item
+      (e i) ++ (start_of_unseen item ((item_seen_is facts item ∙ ap (seen_by_rule facts item) e) i)
+      ++ starts_inside facts item (e i)))
+      ∙ go (facts.is_public (AssignExpr-span (ExprStmt-expr item)))
     where
-      go : (p : Bool) → start_of_unseen item (if p then tested (missing_place around.objects (ExprStmt-expr item))
-          (right_seen around.bindings (ExprStmt-expr item)) ∷ []
+      go : (p : Bool) → start_of_unseen item (if p then tested (missing_place facts.objects (ExprStmt-expr item))
+          (right_seen facts.bindings (ExprStmt-expr item)) ∷ []
           else []) ++ (if p then (range_of_node item).start ∷ [] else []) ≡ (range_of_node item).start ∷ []
       go true = refl
       go false = refl
 
   -- what goes below it, by its rule
-  pub below_nothing : {rule : ItemRule} (c : Comments) → item_rule item ≡ rule → starts_below start_look around item rule ≡ [] →
+  pub below_nothing : {rule : ItemRule} (c : Comments) → item_rule item ≡ rule → starts_below start_look facts item rule ≡ [] →
       c ≡ without_all_leading below c
-  below_nothing c e n = ap (λ ss. without_all_leading ss c) (sym n ∙ ap (starts_below start_look around item) (sym e))
+  below_nothing c e n = ap (λ ss. without_all_leading ss c) (sym n ∙ ap (starts_below start_look facts item) (sym e))
 
   pub below_declared : {T E : Type 0} (made : Result T E) {rule : DeclRule} {place : SourceRange} (new c : Comments) →
       item_rule item ≡ Declared rule → place ≡ range_of_node item →
-      IfOk made (λ _. new ≡ without_all_leading (starts_in_body start_look around place item rule) c) →
+      IfOk made (λ _. new ≡ without_all_leading (starts_in_body start_look facts place item rule) c) →
       IfOk made (λ _. new ≡ without_all_leading below c)
   below_declared made {rule} {place} new c e at = IfOk-weaker made _ _ (λ _. go)
     where
-      go : new ≡ without_all_leading (starts_in_body start_look around place item rule) c → new ≡ without_all_leading below c
+      go : new ≡ without_all_leading (starts_in_body start_look facts place item rule) c → new ≡ without_all_leading below c
       go h = h ∙ ap (λ ss. without_all_leading ss c)
-          (ap (λ p. starts_in_body start_look around p item rule) at ∙ ap (starts_below start_look around item) (sym e))
+          (ap (λ p. starts_in_body start_look facts p item rule) at ∙ ap (starts_below start_look facts item) (sym e))
 
 -- an item is lower than its body
 pub item_lower : (body item : Tree) (items : List Tree) (i : ℕ) → i < length items → items ≡ parts body → item ≡ get_or items i item →
@@ -108,15 +108,15 @@ item_lower body item items i h e p =
     (height_read body i item (subst (λ ts. i < length ts) e h))
 
 -- the comments without those before one more item
-pub one_more : (around : Surroundings) (items : List Tree) (i : ℕ) (item : Tree) (starts : List SourcePos) (c : Comments) →
+pub one_more : (facts : ModuleFacts) (items : List Tree) (i : ℕ) (item : Tree) (starts : List SourcePos) (c : Comments) →
     i < length items →
     item ≡ get_or items i item →
-    removed_start around item ≡ starts →
-    without_all_leading (removed_from around (take (i + 1) items)) c ≡ without_all_leading starts
-    (without_all_leading (removed_from around (take i items)) c)
-one_more around items i item starts c h e r =
-    ap (λ ts. without_all_leading (removed_from around ts) c) (take_more items i item h ∙ ap (λ t. take i items ++ t ∷ []) (sym e))
+    removed_start facts item ≡ starts →
+    without_all_leading (removed_from facts (take (i + 1) items)) c ≡ without_all_leading starts
+    (without_all_leading (removed_from facts (take i items)) c)
+one_more facts items i item starts c h e r =
+    ap (λ ts. without_all_leading (removed_from facts ts) c) (take_more items i item h ∙ ap (λ t. take i items ++ t ∷ []) (sym e))
     ∙ (ap (λ ps. without_all_leading ps c)
-    (flat_map-append (removed_start around) (take i items) (item ∷ [])
-    ∙ ap (λ ps. removed_from around (take i items) ++ ps) (append-nil (removed_start around item) ∙ r))
-    ∙ without_append (removed_from around (take i items)) starts c)
+    (flat_map-append (removed_start facts) (take i items) (item ∷ [])
+    ∙ ap (λ ps. removed_from facts (take i items) ++ ps) (append-nil (removed_start facts item) ∙ r))
+    ∙ without_append (removed_from facts (take i items)) starts c)

@@ -1,7 +1,7 @@
 -- What is answered to a module. A tree that is the skeleton of a module without faults stands in the grammar.
 use Rattle.std.specs.Prelude.{◌≡◌, List, [], ◌++◌}
 use Rattle.std.proofs.Common.{ap, ◌∙◌, subst, sym}
-use Rattle.fast_check_transform_statements.specs.transform_declarations.links.surroundings.bindings.Bindings.{bindings_of}
+use Rattle.fast_check_transform_statements.specs.transform_declarations.links.module_facts.bindings.Bindings.{bindings_of}
 use Rattle.fast_check_syntax.specs.declared.tree.Tree.{Tree}
 use Rattle.fast_check_syntax.specs.Shape.{parts, list}
 use Rattle.fast_check_program_forms.specs.Programs.{Module-span, Module-body, Module-shebang, module'}
@@ -11,14 +11,14 @@ use Rattle.fast_check_diagnostics.specs.parsed_source.MediaType.{is_declaration}
 use Rattle.fast_check_modules.specs.diagnostics.PublicRanges.{PublicRanges}
 use Rattle.fast_check_signatures.specs.declared.fault.Fault.{Fault}
 use Rattle.fast_check_signatures.specs.Answers.{Adds}
-use Rattle.fast_check_transform_statements.specs.transform_declarations.links.surroundings.skeleton.Grammar.{IsSkeleton}
-use Rattle.fast_check_transform_statements.specs.transform_declarations.links.surroundings.skeleton.Surroundings.{Surroundings}
-use Rattle.fast_check_transform_statements.proofs.transform_declarations.links_proofs.surroundings.skeleton_proofs.Standing.{skeleton_stands}
+use Rattle.fast_check_transform_statements.specs.transform_declarations.links.module_facts.skeleton.Grammar.{IsSkeleton}
+use Rattle.fast_check_transform_statements.specs.transform_declarations.links.module_facts.skeleton.ModuleFacts.{ModuleFacts}
+use Rattle.fast_check_transform_statements.proofs.transform_declarations.links_proofs.module_facts.skeleton_proofs.Standing.{skeleton_stands}
 use Rattle.fast_check_transform_module.specs.PartAnswers.{items_answer}
-use Rattle.fast_check_transform_module.specs.Transform.{surroundings_of, skeleton, faults}
+use Rattle.fast_check_transform_module.specs.Transform.{facts_of_module, skeleton, faults}
 
-module _ (graph : ModuleGraph) (info : EsModule) (public : PublicRanges) {around : Surroundings} {seen items : List Tree}
-    {old fs : List Fault} (h : Adds (items_answer around seen) items old fs) (e : around ≡ surroundings_of graph info public)
+module _ (graph : ModuleGraph) (info : EsModule) (public : PublicRanges) {facts : ModuleFacts} {seen items : List Tree}
+    {old fs : List Fault} (h : Adds (items_answer facts seen) items old fs) (e : facts ≡ facts_of_module graph info public)
     (p : seen ≡ parts (Module-body info.source.program)) (o : old ≡ []) where
   abbrev module_of : List Tree → Tree
   module_of ts = module' (Module-span info.source.program) (list ts) (Module-shebang info.source.program)
@@ -35,4 +35,4 @@ pub in_grammar : (graph : ModuleGraph) (info : EsModule) (public : PublicRanges)
     faults graph info public ≡ [] → IsSkeleton (bindings_of info) (is_declaration info.source.media_type) t
 in_grammar graph info public e n =
     subst (IsSkeleton (bindings_of info) (is_declaration info.source.media_type)) (sym e)
-    (skeleton_stands (surroundings_of graph info public) info.source.program n)
+    (skeleton_stands (facts_of_module graph info public) info.source.program n)

@@ -7,27 +7,27 @@ use Rattle.fast_check_swc_helpers.specs.ranges.Ranges.{range_of_node}
 use Rattle.fast_check_signatures.specs.declared.fault.FaultKind.{FaultKind}
 use Rattle.fast_check_signatures.specs.Seen.{faulty}
 use Rattle.fast_check_signatures.specs.Answers.{Answer, answer_of}
-use Rattle.fast_check_transform_statements.specs.transform_declarations.links.surroundings.skeleton.declared.rules.DeclRule.{DeclRule}
-use Rattle.fast_check_transform_statements.specs.transform_declarations.links.surroundings.skeleton.Surroundings.{Surroundings}
-use Rattle.fast_check_transform_statements.specs.transform_declarations.links.surroundings.skeleton.Visible.{item_look, body_seen, namespace_seen, decl_seen}
-use Rattle.fast_check_transform_statements.specs.transform_declarations.links.surroundings.skeleton.Visible.{item_seen}
+use Rattle.fast_check_transform_statements.specs.transform_declarations.links.module_facts.skeleton.declared.rules.DeclRule.{DeclRule}
+use Rattle.fast_check_transform_statements.specs.transform_declarations.links.module_facts.skeleton.ModuleFacts.{ModuleFacts}
+use Rattle.fast_check_transform_statements.specs.transform_declarations.links.module_facts.skeleton.Visible.{item_look, body_seen, namespace_seen, decl_seen}
+use Rattle.fast_check_transform_statements.specs.transform_declarations.links.module_facts.skeleton.Visible.{item_seen}
 
 -- to a namespace, which is public by `place`
-unfoldable pub namespace_answer : Surroundings → SourceRange → Tree → Answer (List Tree)
-namespace_answer around place decl = answer_of (namespace_seen item_look around place decl)
+unfoldable pub namespace_answer : ModuleFacts → SourceRange → Tree → Answer (List Tree)
+namespace_answer facts place decl = answer_of (namespace_seen item_look facts place decl)
 
 -- to a declaration, by what is done with it; it is public by the range of its export, or else by its own
-unfoldable pub decl_answer : Surroundings → SourceRange → Tree → DeclRule → Answer (List Tree)
-decl_answer around place decl rule = answer_of (decl_seen around place decl rule)
+unfoldable pub decl_answer : ModuleFacts → SourceRange → Tree → DeclRule → Answer (List Tree)
+decl_answer facts place decl rule = answer_of (decl_seen facts place decl rule)
 
 -- to an item that no skeleton has
 unfoldable pub refused_answer : Tree → FaultKind → Answer (List Tree)
 refused_answer item kind = answer_of (faulty kind (range_of_node item) ∷ [])
 
 -- to an item
-unfoldable pub item_answer : Surroundings → Tree → Answer (List Tree)
-item_answer around item = answer_of (item_seen around item)
+unfoldable pub item_answer : ModuleFacts → Tree → Answer (List Tree)
+item_answer facts item = answer_of (item_seen facts item)
 
 -- to the items of a body, with the namespaces behind them
-unfoldable pub items_answer : Surroundings → List Tree → Answer (List Tree)
-items_answer around items = answer_of (body_seen item_look around items)
+unfoldable pub items_answer : ModuleFacts → List Tree → Answer (List Tree)
+items_answer facts items = answer_of (body_seen item_look facts items)

@@ -1,7 +1,7 @@
 //! What the transform of a module gathers.
 ghost use Rattle.std.specs.Prelude.{◌≡◌, []};
 ghost use Rattle.fast_check_comments.specs.Kept.{kept};
-ghost use Rattle.fast_check_transform_statements.specs.transform_declarations.links.surroundings.skeleton.Surroundings.{Surroundings};
+ghost use Rattle.fast_check_transform_statements.specs.transform_declarations.links.module_facts.skeleton.ModuleFacts.{ModuleFacts};
 ghost use Rattle.fast_check_transform_imports.specs.Relative.{AreRelative};
 
 use fast_check_comments::{Comments, CommentsMut};
@@ -23,7 +23,7 @@ impl TransformContext {
     /// takes no memory.
     pub fn new(alloc: Global, comments: Comments) -> TransformContext
         ensures comments { result.comments ≡ kept comments }
-        ensures sources { (around : Surroundings) → AreRelative around result.sources }
+        ensures sources { (facts : ModuleFacts) → AreRelative facts result.sources }
         ensures faults { result.faults.items ≡ [] }
     {
         TransformContext {

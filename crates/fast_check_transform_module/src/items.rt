@@ -3,12 +3,12 @@ ghost use Rattle.std.specs.Prelude.{◌≡◌, false, IfOk};
 ghost use Rattle.fast_check_syntax.specs.Part.{seen};
 ghost use Rattle.fast_check_syntax.specs.Shape.{parts};
 ghost use Rattle.fast_check_signatures.specs.Answers.{Adds};
-ghost use Rattle.fast_check_transform_statements.specs.transform_declarations.links.surroundings.skeleton.KeptComments.{removed_from, start_look};
-ghost use Rattle.fast_check_transform_statements.specs.transform_declarations.links.surroundings.skeleton.KeptComments.{starts_in_body, starts_in_namespace};
-ghost use Rattle.fast_check_transform_statements.specs.transform_declarations.links.surroundings.skeleton.KeptComments.{starts_below, without_all_leading};
-ghost use Rattle.fast_check_transform_statements.specs.transform_declarations.links.surroundings.skeleton.Rules.{is_assigned, item_rule};
-ghost use Rattle.fast_check_transform_statements.specs.transform_declarations.links.surroundings.Surroundings.{seen_around};
-ghost use Rattle.fast_check_transform_statements.specs.transform_declarations.links.surroundings.Kept.{as_list};
+ghost use Rattle.fast_check_transform_statements.specs.transform_declarations.links.module_facts.skeleton.KeptComments.{removed_from, start_look};
+ghost use Rattle.fast_check_transform_statements.specs.transform_declarations.links.module_facts.skeleton.KeptComments.{starts_in_body, starts_in_namespace};
+ghost use Rattle.fast_check_transform_statements.specs.transform_declarations.links.module_facts.skeleton.KeptComments.{starts_below, without_all_leading};
+ghost use Rattle.fast_check_transform_statements.specs.transform_declarations.links.module_facts.skeleton.Rules.{is_assigned, item_rule};
+ghost use Rattle.fast_check_transform_statements.specs.transform_declarations.links.module_facts.ModuleFacts.{facts_of};
+ghost use Rattle.fast_check_transform_statements.specs.transform_declarations.links.module_facts.Kept.{as_list};
 ghost use Rattle.fast_check_transform_imports.specs.Relative.{AreRelative};
 ghost use Rattle.fast_check_transform_module.specs.PartAnswers.{namespace_answer, decl_answer, refused_answer, item_answer};
 ghost use Rattle.fast_check_transform_module.specs.PartAnswers.{items_answer};
@@ -20,11 +20,11 @@ use fast_check_statement_forms::ExprStmt;
 use fast_check_swc_helpers::ranges::range_of_node;
 use fast_check_syntax::{Items, Part, SourceRange, Tree};
 use fast_check_transform_imports::transform_link;
-use fast_check_transform_statements::transform_declarations::surroundings::Surroundings;
-use fast_check_transform_statements::transform_declarations::surroundings::skeleton::expandos::{
+use fast_check_transform_statements::transform_declarations::module_facts::ModuleFacts;
+use fast_check_transform_statements::transform_declarations::module_facts::skeleton::expandos::{
     ExpandoProperty, keep_namespaces,
 };
-use fast_check_transform_statements::transform_declarations::surroundings::skeleton::{
+use fast_check_transform_statements::transform_declarations::module_facts::skeleton::{
     DeclRule, ItemRule, item_rule,
 };
 use fast_check_transform_statements::transform_declarations::{
@@ -41,16 +41,16 @@ use std::alloc::{AllocError, Global};
 #[cycle(items)]
 pub fn transform_items(
     alloc: Global,
-    around: Surroundings<'_>,
+    facts: ModuleFacts<'_>,
     body: Part<'_>,
     context: &mut TransformContext,
 ) -> Result<Items<Tree>, AllocError>
-    requires sources { AreRelative (seen_around around) context.old.sources }
+    requires sources { AreRelative (facts_of facts) context.old.sources }
     ensures answer { IfOk result (λ items.
-        Adds (items_answer (seen_around around.entry) (parts (seen body.entry))) items context.old.faults.items context.new.faults.items) }
+        Adds (items_answer (facts_of facts.entry) (parts (seen body.entry))) items context.old.faults.items context.new.faults.items) }
     ensures comments { IfOk result (λ _.
-        context.new.comments ≡ without_all_leading (removed_from (seen_around around.entry) (parts (seen body.entry))) context.old.comments) }
-    ensures sources { IfOk result (λ _. AreRelative (seen_around around.entry) context.new.sources) }
+        context.new.comments ≡ without_all_leading (removed_from (facts_of facts.entry) (parts (seen body.entry))) context.old.comments) }
+    ensures sources { IfOk result (λ _. AreRelative (facts_of facts.entry) context.new.sources) }
 {
     let mut items = Items::new(alloc);
     let mut properties = Vec::new(alloc);
@@ -59,18 +59,18 @@ pub fn transform_items(
         if is_assigned(item) {
             let expr = ExprStmt::of(item).expr;
             let faults = &mut context.faults;
-            transform_assignment(alloc, around, expr, &mut properties, faults)?;
+            transform_assignment(alloc, facts, expr, &mut properties, faults)?;
             context.comments.remove_leading(range_of_node(item).start);
             continue;
         }
-        match transform_item(alloc, around, item, context)? {
+        match transform_item(alloc, facts, item, context)? {
             None => {
                 context.comments.remove_leading(range_of_node(item).start);
-                remove_inside(alloc, around, item, &mut context.comments)?;
+                remove_inside(alloc, facts, item, &mut context.comments)?;
                 continue;
             }
             Some(tree) => {
-                remove_inside(alloc, around, item, &mut context.comments)?;
+                remove_inside(alloc, facts, item, &mut context.comments)?;
                 items.push(tree)?;
             }
         }
@@ -84,26 +84,26 @@ pub fn transform_items(
 #[cycle(items)]
 fn transform_namespace(
     alloc: Global,
-    around: Surroundings<'_>,
+    facts: ModuleFacts<'_>,
     place: SourceRange,
     decl: Part<'_>,
     context: &mut TransformContext,
 ) -> Result<Option<Tree>, AllocError>
-    requires sources { AreRelative (seen_around around) context.old.sources }
+    requires sources { AreRelative (facts_of facts) context.old.sources }
     ensures answer { IfOk result (λ tree.
-        Adds (namespace_answer (seen_around around.entry) place (seen decl.entry)) (as_list tree) context.old.faults.items context.new.faults.items) }
+        Adds (namespace_answer (facts_of facts.entry) place (seen decl.entry)) (as_list tree) context.old.faults.items context.new.faults.items) }
     ensures comments { IfOk result (λ _.
-        context.new.comments ≡ without_all_leading (starts_in_namespace start_look (seen_around around.entry) place (seen decl.entry)) context.old.comments) }
-    ensures sources { IfOk result (λ _. AreRelative (seen_around around.entry) context.new.sources) }
+        context.new.comments ≡ without_all_leading (starts_in_namespace start_look (facts_of facts.entry) place (seen decl.entry)) context.old.comments) }
+    ensures sources { IfOk result (λ _. AreRelative (facts_of facts.entry) context.new.sources) }
 {
     if let Some(fault) = module_fault(decl) {
         context.faults.push(fault)?;
         return Ok(Some(Tree::Absent));
     }
-    if !around.public_ranges.contains(&place) {
+    if !facts.public_ranges.contains(&place) {
         return Ok(None);
     }
-    let items = transform_items(alloc, around.inside(decl), items_inside(decl), context)?;
+    let items = transform_items(alloc, facts.inside(decl), items_inside(decl), context)?;
     Ok(Some(namespace_with(alloc, decl, items)?))
 }
 
@@ -111,27 +111,27 @@ fn transform_namespace(
 #[cycle(items)]
 fn transform_decl(
     alloc: Global,
-    around: Surroundings<'_>,
+    facts: ModuleFacts<'_>,
     place: SourceRange,
     decl: Part<'_>,
     rule: DeclRule,
     context: &mut TransformContext,
 ) -> Result<Option<Tree>, AllocError>
-    requires sources { AreRelative (seen_around around) context.old.sources }
+    requires sources { AreRelative (facts_of facts) context.old.sources }
     ensures answer { IfOk result (λ tree.
-        Adds (decl_answer (seen_around around.entry) place (seen decl.entry) rule) (as_list tree) context.old.faults.items context.new.faults.items) }
+        Adds (decl_answer (facts_of facts.entry) place (seen decl.entry) rule) (as_list tree) context.old.faults.items context.new.faults.items) }
     ensures comments { IfOk result (λ _.
-        context.new.comments ≡ without_all_leading (starts_in_body start_look (seen_around around.entry) place (seen decl.entry) rule) context.old.comments) }
-    ensures sources { IfOk result (λ _. AreRelative (seen_around around.entry) context.new.sources) }
+        context.new.comments ≡ without_all_leading (starts_in_body start_look (facts_of facts.entry) place (seen decl.entry) rule) context.old.comments) }
+    ensures sources { IfOk result (λ _. AreRelative (facts_of facts.entry) context.new.sources) }
 {
     let faults = &mut context.faults;
     match rule {
-        DeclRule::Variables => transform_statement(alloc, around, decl, faults),
-        DeclRule::Function => transform_public_function(alloc, around, place, decl, faults),
-        DeclRule::Class => transform_public_class(alloc, around, place, decl, faults),
-        DeclRule::Standing => transform_standing(alloc, around, place, decl),
-        DeclRule::Namespace => transform_namespace(alloc, around, place, decl, context),
-        DeclRule::Using => transform_using(around, place, decl, faults),
+        DeclRule::Variables => transform_statement(alloc, facts, decl, faults),
+        DeclRule::Function => transform_public_function(alloc, facts, place, decl, faults),
+        DeclRule::Class => transform_public_class(alloc, facts, place, decl, faults),
+        DeclRule::Standing => transform_standing(alloc, facts, place, decl),
+        DeclRule::Namespace => transform_namespace(alloc, facts, place, decl, context),
+        DeclRule::Using => transform_using(facts, place, decl, faults),
         DeclRule::NoDeclaration => Ok(None),
     }
 }
@@ -161,34 +161,34 @@ fn is_assigned(item: Part<'_>) -> bool
 #[cycle(items)]
 fn transform_item(
     alloc: Global,
-    around: Surroundings<'_>,
+    facts: ModuleFacts<'_>,
     item: Part<'_>,
     context: &mut TransformContext,
 ) -> Result<Option<Tree>, AllocError>
     requires no_assignment { is_assigned (item_rule (seen item)) ≡ false }
-    requires sources { AreRelative (seen_around around) context.old.sources }
+    requires sources { AreRelative (facts_of facts) context.old.sources }
     ensures answer { IfOk result (λ tree.
-        Adds (item_answer (seen_around around.entry) (seen item.entry)) (as_list tree) context.old.faults.items context.new.faults.items) }
+        Adds (item_answer (facts_of facts.entry) (seen item.entry)) (as_list tree) context.old.faults.items context.new.faults.items) }
     ensures comments { IfOk result (λ _.
         context.new.comments ≡ without_all_leading
-        (starts_below start_look (seen_around around.entry) (seen item.entry) (item_rule (seen item.entry))) context.old.comments) }
-    ensures sources { IfOk result (λ _. AreRelative (seen_around around.entry) context.new.sources) }
+        (starts_below start_look (facts_of facts.entry) (seen item.entry) (item_rule (seen item.entry))) context.old.comments) }
+    ensures sources { IfOk result (λ _. AreRelative (facts_of facts.entry) context.new.sources) }
 {
     match item_rule(item) {
         ItemRule::Declared(rule) => {
-            transform_decl(alloc, around, range_of_node(item), item, rule, context)
+            transform_decl(alloc, facts, range_of_node(item), item, rule, context)
         }
         ItemRule::Exported(rule) => {
             let ExportDecl { span, decl } = ExportDecl::of(item);
-            match transform_decl(alloc, around, span, decl, rule, context)? {
+            match transform_decl(alloc, facts, span, decl, rule, context)? {
                 Some(decl) => Ok(Some(ExportDecl { span, decl }.into_tree(alloc)?)),
                 None => Ok(None),
             }
         }
-        ItemRule::Linked(rule) => transform_link(alloc, around, item, rule, &mut context.sources),
+        ItemRule::Linked(rule) => transform_link(alloc, facts, item, rule, &mut context.sources),
         ItemRule::Default(rule) => {
             let faults = &mut context.faults;
-            transform_default_export(alloc, around, item, rule, faults)
+            transform_default_export(alloc, facts, item, rule, faults)
         }
         ItemRule::Refused(kind) => refuse(item, kind, &mut context.faults),
         ItemRule::Assigned => Ok(None),

@@ -1,7 +1,7 @@
 //! What stays of a whole module.
 ghost use Rattle.std.specs.Prelude.{◌≡◌, IfOk};
-ghost use Rattle.fast_check_transform_statements.specs.transform_declarations.links.surroundings.Surroundings.{seen_around};
-ghost use Rattle.fast_check_transform_module.specs.Transform.{surroundings_of, skeleton, comments, faults};
+ghost use Rattle.fast_check_transform_statements.specs.transform_declarations.links.module_facts.ModuleFacts.{facts_of};
+ghost use Rattle.fast_check_transform_module.specs.Transform.{facts_of_module, skeleton, comments, faults};
 
 use crate::context::TransformContext;
 use crate::items::transform_items;
@@ -12,7 +12,7 @@ use fast_check_modules::diagnostics::ModulePublicRanges;
 use fast_check_program_forms::Module;
 use fast_check_signatures::Fault;
 use fast_check_syntax::Tree;
-use fast_check_transform_statements::transform_declarations::surroundings::Surroundings;
+use fast_check_transform_statements::transform_declarations::module_facts::ModuleFacts;
 use std::alloc::{AllocError, Global};
 
 /// What is public of a module, the comments that stay with it, and what is wrong with it, in reading order.
@@ -24,15 +24,15 @@ pub struct KeptModule {
 }
 
 /// What is asked of a module of this graph beside its tree.
-fn surroundings_of<'a>(
+fn facts_of_module<'a>(
     graph: &'a ModuleGraph,
     es_module_info: &'a EsModuleInfo,
     public_ranges: &'a ModulePublicRanges,
-) -> Surroundings<'a>
-    ensures { seen_around result ≡ surroundings_of graph.now es_module_info.now public_ranges.now }
+) -> ModuleFacts<'a>
+    ensures { facts_of result ≡ facts_of_module graph.now es_module_info.now public_ranges.now }
 {
     let resolutions = graph.resolutions_of(es_module_info.specifier());
-    Surroundings::of(resolutions, es_module_info, public_ranges)
+    ModuleFacts::of(resolutions, es_module_info, public_ranges)
 }
 
 /// What is public of the module with these tables, the comments that stay with it, and what is wrong with it: of a module with faults
@@ -47,7 +47,7 @@ pub fn transform_es_module(
     ensures comments { IfOk result (λ kept. kept.comments ≡ comments graph.now es_module_info.now public_ranges.now) }
     ensures faults { IfOk result (λ kept. kept.faults.items ≡ faults graph.now es_module_info.now public_ranges.now) }
 {
-    let around = surroundings_of(graph, es_module_info, public_ranges);
+    let facts = facts_of_module(graph, es_module_info, public_ranges);
     let source = es_module_info.source();
     let Module {
         span,
@@ -55,7 +55,7 @@ pub fn transform_es_module(
         shebang,
     } = Module::of(source.program.read());
     let mut context = TransformContext::new(alloc, source.comments.clone()?);
-    let items = transform_items(alloc, around, body, &mut context)?;
+    let items = transform_items(alloc, facts, body, &mut context)?;
     let module = Module {
         span,
         body: Tree::list(items),

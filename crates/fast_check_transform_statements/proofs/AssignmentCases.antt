@@ -21,7 +21,7 @@ use Rattle.fast_check_expandos.specs.Assignments.{right_seen, is_declared, missi
 use Rattle.fast_check_expandos.specs.Expandos.{object_of}
 use Rattle.fast_check_expandos.specs.ModuleObjects.{objects_of}
 use Rattle.fast_check_expandos.specs.Objects.{Objects, exports_name, stands_exported}
-use Rattle.fast_check_transform_imports.specs.surroundings.skeleton.Surroundings.{Surroundings}
+use Rattle.fast_check_transform_imports.specs.module_facts.skeleton.ModuleFacts.{ModuleFacts}
 use Rattle.fast_check_transform_statements.specs.Assigned.{assignment_answer, assignment_properties, missing_at}
 use Rattle.fast_check_transform_statements.specs.PartAnswers.{value_answer}
 
@@ -44,60 +44,60 @@ tested_adds (Some place) s o {old} {mid} {new} h e =
       faults = e ∙ (ap (λ fs. fs ++ unless_stays o fault) h.faults ∙ append_assoc old h.added (unless_stays o fault));
     }
 
-module _ (around : Surroundings) (a : Tree) where
-  pub hidden_assignment : around.is_public (AssignExpr-span a) ≡ false → (old : List Fault) → Adds (assignment_answer around a) [] old old
+module _ (facts : ModuleFacts) (a : Tree) where
+  pub hidden_assignment : facts.is_public (AssignExpr-span a) ≡ false → (old : List Fault) → Adds (assignment_answer facts a) [] old old
   unfolding assignment_answer
   hidden_assignment e old =
-      adds_same (ap (λ p. answer_of (if p then tested (missing_place around.objects a) (right_seen around.bindings a) ∷ [] else [])) e)
+      adds_same (ap (λ p. answer_of (if p then tested (missing_place facts.objects a) (right_seen facts.bindings a) ∷ [] else [])) e)
       (adds_nothing [] old)
 
-  pub hidden_properties : around.is_public (AssignExpr-span a) ≡ false → assignment_properties around a ≡ []
+  pub hidden_properties : facts.is_public (AssignExpr-span a) ≡ false → assignment_properties facts a ≡ []
   unfolding assignment_properties
   hidden_properties e =
-      ap (λ p. if p && is_expando_assignment a then kept_property around.objects (AssignExpr-span a) (AssignExpr-left a)
-      (answer_to (right_seen around.bindings a)).stays else []) e
+      ap (λ p. if p && is_expando_assignment a then kept_property facts.objects (AssignExpr-span a) (AssignExpr-left a)
+      (answer_to (right_seen facts.bindings a)).stays else []) e
 
   -- of one that is public
-  pub tested_assignment : around.is_public (AssignExpr-span a) ≡ true →
+  pub tested_assignment : facts.is_public (AssignExpr-span a) ≡ true →
       {place : SourceRange} {value : Tree} (o : Option Tree) {old mid new : List Fault} →
-      Adds (value_answer around place value) o old mid → place ≡ range_of_node (AssignExpr-right a) → value ≡ AssignExpr-right a →
-      new ≡ mid ++ missing_at (missing_place around.objects a) o → Adds (assignment_answer around a) [] old new
+      Adds (value_answer facts place value) o old mid → place ≡ range_of_node (AssignExpr-right a) → value ≡ AssignExpr-right a →
+      new ≡ mid ++ missing_at (missing_place facts.objects a) o → Adds (assignment_answer facts a) [] old new
   unfolding assignment_answer value_answer
   tested_assignment e o h p q f =
-      adds_same (ap (λ p. answer_of (if p then tested (missing_place around.objects a) (right_seen around.bindings a) ∷ [] else [])) e)
-      (tested_adds (missing_place around.objects a) (right_seen around.bindings a) o
-      (adds_same (λ i. value_answer around (sym p i) (sym q i)) h) f)
+      adds_same (ap (λ p. answer_of (if p then tested (missing_place facts.objects a) (right_seen facts.bindings a) ∷ [] else [])) e)
+      (tested_adds (missing_place facts.objects a) (right_seen facts.bindings a) o
+      (adds_same (λ i. value_answer facts (sym p i) (sym q i)) h) f)
 
   -- of one that is no expando nothing is missing, and it declares nothing
   pub nothing_missing : is_expando_assignment a ≡ false → (o : Option Tree) (old : List Fault) →
-      old ≡ old ++ missing_at (missing_place around.objects a) o
+      old ≡ old ++ missing_at (missing_place facts.objects a) o
   nothing_missing e o old =
-      sym (append-nil old) ∙ sym (ap (λ x. old ++ missing_at (if x && not (is_declared around.objects (AssignExpr-left a)) then
+      sym (append-nil old) ∙ sym (ap (λ x. old ++ missing_at (if x && not (is_declared facts.objects (AssignExpr-left a)) then
       Some (MemberExpr-span (AssignExpr-left a)) else None) o) e)
 
-  pub no_property : is_expando_assignment a ≡ false → assignment_properties around a ≡ []
+  pub no_property : is_expando_assignment a ≡ false → assignment_properties facts a ≡ []
   unfolding assignment_properties
-  no_property e = go (around.is_public (AssignExpr-span a))
+  no_property e = go (facts.is_public (AssignExpr-span a))
     where
-      go : (p : Bool) → (if p && is_expando_assignment a then kept_property around.objects (AssignExpr-span a) (AssignExpr-left a)
-          (answer_to (right_seen around.bindings a)).stays else []) ≡ []
+      go : (p : Bool) → (if p && is_expando_assignment a then kept_property facts.objects (AssignExpr-span a) (AssignExpr-left a)
+          (answer_to (right_seen facts.bindings a)).stays else []) ≡ []
       go true =
-          ap (λ x. if x then kept_property around.objects (AssignExpr-span a) (AssignExpr-left a)
-          (answer_to (right_seen around.bindings a)).stays
+          ap (λ x. if x then kept_property facts.objects (AssignExpr-span a) (AssignExpr-left a)
+          (answer_to (right_seen facts.bindings a)).stays
           else []) e
       go false = refl
 
-  pub property_stays : around.is_public (AssignExpr-span a) ≡ true → is_expando_assignment a ≡ true →
+  pub property_stays : facts.is_public (AssignExpr-span a) ≡ true → is_expando_assignment a ≡ true →
       {place : SourceRange} {value : Tree} (o : Option Tree)
-      {old mid : List Fault} → Adds (value_answer around place value) o old mid → place ≡ range_of_node (AssignExpr-right a) →
+      {old mid : List Fault} → Adds (value_answer facts place value) o old mid → place ≡ range_of_node (AssignExpr-right a) →
       value ≡ AssignExpr-right a →
-      assignment_properties around a ≡ kept_property around.objects (AssignExpr-span a) (AssignExpr-left a) o
+      assignment_properties facts a ≡ kept_property facts.objects (AssignExpr-span a) (AssignExpr-left a) o
   unfolding assignment_properties value_answer
   property_stays e f o h p q =
-      (λ i. if e i && f i then kept_property around.objects (AssignExpr-span a) (AssignExpr-left a)
-      (answer_to (right_seen around.bindings a)).stays else [])
-      ∙ ap (λ (x : Answer (Option Tree)). kept_property around.objects (AssignExpr-span a) (AssignExpr-left a) x.stays)
-      ((λ i. value_answer around (sym p i) (sym q i)) ∙ h.is)
+      (λ i. if e i && f i then kept_property facts.objects (AssignExpr-span a) (AssignExpr-left a)
+      (answer_to (right_seen facts.bindings a)).stays else [])
+      ∙ ap (λ (x : Answer (Option Tree)). kept_property facts.objects (AssignExpr-span a) (AssignExpr-left a) x.stays)
+      ((λ i. value_answer facts (sym p i) (sym q i)) ∙ h.is)
 
 -- ---- what the symbols of a module say
 

@@ -8,8 +8,8 @@ use Rattle.fast_check_syntax.specs.Height.{height, height_part}
 use Rattle.fast_check_statement_forms.specs.TsDeclarations.{TsModuleBlock-span, TsNamespaceDecl-span, TsNamespaceDecl-declare}
 use Rattle.fast_check_statement_forms.specs.TsDeclarations.{TsNamespaceDecl-global, TsNamespaceDecl-id, TsNamespaceDecl-body}
 use Rattle.fast_check_statement_forms.specs.TsDeclarations.{ts_module_block}
-use Rattle.fast_check_transform_imports.specs.surroundings.skeleton.Namespaces.{inner_namespace, body_with}
-use Rattle.fast_check_transform_imports.proofs.surroundings.skeleton_proofs.StandingNamespaces.{body_with_is}
+use Rattle.fast_check_transform_imports.specs.module_facts.skeleton.Namespaces.{inner_namespace, body_with}
+use Rattle.fast_check_transform_imports.proofs.module_facts.skeleton_proofs.StandingNamespaces.{body_with_is}
 
 -- what follows a name is lower
 pub follows_lower : (t : Tree) → kind_of t is TsNamespaceDecl ≡ true → height (TsNamespaceDecl-body t) < height t

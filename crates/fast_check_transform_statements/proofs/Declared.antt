@@ -26,31 +26,31 @@ use Rattle.fast_check_signatures.specs.Expressions.{expr_seen}
 use Rattle.fast_check_signatures.specs.Functions.{function_seen, implementation_seen}
 use Rattle.fast_check_signatures.proofs.Choices.{of_choice}
 use Rattle.fast_check_signatures.proofs.Adding.{adds_nothing, adds_fault, adds_same, adds_made, adds_demanded, adds_missing, adds_visited}
-use Rattle.fast_check_transform_imports.specs.surroundings.skeleton.Mutability.{mutability_of}
-use Rattle.fast_check_transform_imports.specs.surroundings.skeleton.Surroundings.{Surroundings}
-use Rattle.fast_check_transform_imports.specs.surroundings.skeleton.Visible.{declared_ident, declared_type, declarator_head, typed_declarator, value_seen}
-use Rattle.fast_check_transform_imports.specs.surroundings.skeleton.Visible.{untyped_seen, ident_declarator_seen, declarator_seen, is_ambient_statement}
-use Rattle.fast_check_transform_imports.specs.surroundings.skeleton.Visible.{is_public_declarator, public_declarator, public_declarators, statement_seen}
-use Rattle.fast_check_transform_imports.specs.surroundings.skeleton.Visible.{signature_of, function_decl_seen, is_public_using, using_place, using_seen}
-use Rattle.fast_check_transform_imports.proofs.surroundings.skeleton_proofs.Standing.{declarator_one, statement_is}
+use Rattle.fast_check_transform_imports.specs.module_facts.skeleton.Mutability.{mutability_of}
+use Rattle.fast_check_transform_imports.specs.module_facts.skeleton.ModuleFacts.{ModuleFacts}
+use Rattle.fast_check_transform_imports.specs.module_facts.skeleton.Visible.{declared_ident, declared_type, declarator_head, typed_declarator, value_seen}
+use Rattle.fast_check_transform_imports.specs.module_facts.skeleton.Visible.{untyped_seen, ident_declarator_seen, declarator_seen, is_ambient_statement}
+use Rattle.fast_check_transform_imports.specs.module_facts.skeleton.Visible.{is_public_declarator, public_declarator, public_declarators, statement_seen}
+use Rattle.fast_check_transform_imports.specs.module_facts.skeleton.Visible.{signature_of, function_decl_seen, is_public_using, using_place, using_seen}
+use Rattle.fast_check_transform_imports.proofs.module_facts.skeleton_proofs.Standing.{declarator_one, statement_is}
 use Rattle.fast_check_transform_statements.specs.PartAnswers.{retyped, value_answer, valued_answer, ident_answer, declarator_answer, public_answer}
 use Rattle.fast_check_transform_statements.specs.PartAnswers.{declarators_answer, statement_answer, using_answer}
-use Rattle.fast_check_transform_imports.proofs.surroundings.Listed.{alone, one_more, whole}
+use Rattle.fast_check_transform_imports.proofs.module_facts.Listed.{alone, one_more, whole}
 
 -- ---- declarators
 
-module _ (around : Surroundings) (place : SourceRange) (value : Tree) where
-  pub absent_value : is_absent value ≡ true → (old : List Fault) → Adds (value_answer around place value) None old old
+module _ (facts : ModuleFacts) (place : SourceRange) (value : Tree) where
+  pub absent_value : is_absent value ≡ true → (old : List Fault) → Adds (value_answer facts place value) None old old
   unfolding value_answer
-  absent_value e old = adds_same (ap (λ b. answer_to (if b then refused else expr_seen around.bindings value (Some place))) e)
+  absent_value e old = adds_same (ap (λ b. answer_to (if b then refused else expr_seen facts.bindings value (Some place))) e)
       (adds_nothing None old)
 
   pub present_value : is_absent value ≡ false → {o : Option Tree} {old new : List Fault} →
-      Adds (answer_to (expr_seen around.bindings value (Some place))) o old new → Adds (value_answer around place value) o old new
+      Adds (answer_to (expr_seen facts.bindings value (Some place))) o old new → Adds (value_answer facts place value) o old new
   unfolding value_answer
-  present_value e h = adds_same (ap (λ b. answer_to (if b then refused else expr_seen around.bindings value (Some place))) e) h
+  present_value e h = adds_same (ap (λ b. answer_to (if b then refused else expr_seen facts.bindings value (Some place))) e) h
 
-module _ (around : Surroundings) (d : Tree) where
+module _ (facts : ModuleFacts) (d : Tree) where
   abbrev name_place : SourceRange
   name_place = Ident-span (declared_ident d)
 
@@ -59,109 +59,109 @@ module _ (around : Surroundings) (d : Tree) where
 
   -- where the value stays, and where it may not
   pub value_stays : {place : SourceRange} {value t : Tree} {o : Option Tree} {old new : List Fault} →
-      Adds (value_answer around place value) o old new →
-      place ≡ name_place → value ≡ VarDeclarator-init d → o ≡ Some t → Adds (valued_answer around d) (Some (retyped d Absent t)) old new
+      Adds (value_answer facts place value) o old new →
+      place ≡ name_place → value ≡ VarDeclarator-init d → o ≡ Some t → Adds (valued_answer facts d) (Some (retyped d Absent t)) old new
   unfolding value_answer valued_answer
   value_stays {old = old} {new = new} h p q e =
       adds_made (λ v. Some (valued_declarator (declarator_head d) v))
-      (adds_demanded missing (subst (λ x. Adds (answer_to (value_seen around name_place (VarDeclarator-init d))) x old new) e
-      (adds_same (λ i. answer_to (value_seen around (sym p i) (sym q i))) h)))
+      (adds_demanded missing (subst (λ x. Adds (answer_to (value_seen facts name_place (VarDeclarator-init d))) x old new) e
+      (adds_same (λ i. answer_to (value_seen facts (sym p i) (sym q i))) h)))
 
   pub value_goes : {place : SourceRange} {value : Tree} {o : Option Tree} {old new : List Fault} →
-      Adds (value_answer around place value) o old new →
+      Adds (value_answer facts place value) o old new →
       place ≡ name_place → value ≡ VarDeclarator-init d → o ≡ None → {all : List Fault} → all ≡ new ++ fault_at MissingExplicitType place ∷
       [] →
-      Adds (valued_answer around d) (Some (retyped d Absent Absent)) old all
+      Adds (valued_answer facts d) (Some (retyped d Absent Absent)) old all
   unfolding value_answer valued_answer
   value_goes {old = old} {new = new} h p q e f =
-      subst (λ fs. Adds (answer_to (declarator (declarator_head d) (value_seen around name_place (VarDeclarator-init d))))
+      subst (λ fs. Adds (answer_to (declarator (declarator_head d) (value_seen facts name_place (VarDeclarator-init d))))
       (Some (retyped d Absent Absent)) old fs)
       (sym (f ∙ ap (λ r. new ++ fault_at MissingExplicitType r ∷ []) p))
       (adds_made (λ v. Some (valued_declarator (declarator_head d) v))
-      (adds_missing missing (subst (λ x. Adds (answer_to (value_seen around name_place (VarDeclarator-init d))) x old new) e
-      (adds_same (λ i. answer_to (value_seen around (sym p i) (sym q i))) h))))
+      (adds_missing missing (subst (λ x. Adds (answer_to (value_seen facts name_place (VarDeclarator-init d))) x old new) e
+      (adds_same (λ i. answer_to (value_seen facts (sym p i) (sym q i))) h))))
 
-module _ (around : Surroundings) (mutability : DeclMutabilityKind) (d : Tree) where
+module _ (facts : ModuleFacts) (mutability : DeclMutabilityKind) (d : Tree) where
   abbrev shown : Option Tree
-  shown = inferred_type mutability around.bindings.unresolved (VarDeclarator-init d)
+  shown = inferred_type mutability facts.bindings.unresolved (VarDeclarator-init d)
 
   abbrev ident_if : Bool → Option Tree → Seen
-  ident_if absent o = if absent then untyped_seen around d o else written (typed_declarator (declarator_head d) (declared_type d))
+  ident_if absent o = if absent then untyped_seen facts d o else written (typed_declarator (declarator_head d) (declared_type d))
 
   pub written_ident : is_absent (declared_type d) ≡ false → (old : List Fault) →
-      Adds (ident_answer around mutability d) (Some (retyped d (declared_type d) never_value)) old old
+      Adds (ident_answer facts mutability d) (Some (retyped d (declared_type d) never_value)) old old
   unfolding ident_answer
   written_ident e old = adds_same (ap (λ b. answer_to (ident_if b shown)) e) (adds_nothing _ old)
 
   pub shown_ident : (type : Tree) → is_absent (declared_type d) ≡ true → shown ≡ Some type → (old : List Fault) →
-      Adds (ident_answer around mutability d) (Some (retyped d (type_ann type) never_value)) old old
+      Adds (ident_answer facts mutability d) (Some (retyped d (type_ann type) never_value)) old old
   unfolding ident_answer
   shown_ident type e f old = adds_same (λ i. answer_to (ident_if (e i) (f i))) (adds_nothing _ old)
 
   pub valued_ident : is_absent (declared_type d) ≡ true → shown ≡ None → {t : Tree} {old new : List Fault} →
-      Adds (valued_answer around d) (Some t) old new → Adds (ident_answer around mutability d) (Some t) old new
+      Adds (valued_answer facts d) (Some t) old new → Adds (ident_answer facts mutability d) (Some t) old new
   unfolding ident_answer valued_answer
   valued_ident e f h = adds_same (λ i. answer_to (ident_if (e i) (f i))) h
 
   abbrev typed_if : Bool → Seen
-  typed_if b = if b then ident_declarator_seen around mutability d else faulty UnsupportedDestructuring
+  typed_if b = if b then ident_declarator_seen facts mutability d else faulty UnsupportedDestructuring
       (range_of_node (VarDeclarator-name d))
 
   pub typed_ident : kind_of (VarDeclarator-name d) is BindingIdent ≡ true → {t : Tree} {old new : List Fault} →
-      Adds (ident_answer around mutability d) (Some t) old new → Adds (declarator_answer around mutability d) (Some t) old new
+      Adds (ident_answer facts mutability d) (Some t) old new → Adds (declarator_answer facts mutability d) (Some t) old new
   unfolding ident_answer declarator_answer
   typed_ident e h = adds_same (ap (λ b. answer_to (typed_if b)) e) h
 
   pub typed_pattern : kind_of (VarDeclarator-name d) is BindingIdent ≡ false → {old new : List Fault} →
       new ≡ old ++ fault_at UnsupportedDestructuring (range_of_node (VarDeclarator-name d)) ∷ [] →
-      Adds (declarator_answer around mutability d) (Some Absent) old new
+      Adds (declarator_answer facts mutability d) (Some Absent) old new
   unfolding declarator_answer
   typed_pattern e {old} p =
       adds_same (ap (λ b. answer_to (typed_if b)) e)
       (subst (λ fs. Adds (answer_to (typed_if false)) (Some Absent) old fs) (sym p) (adds_fault (Some Absent) _ old))
 
-module _ (around : Surroundings) (statement d : Tree) where
+module _ (facts : ModuleFacts) (statement d : Tree) where
   abbrev in_if : Bool → Bool → List Seen
-  in_if p a = if p then (if a then written d else declarator_seen around (mutability_of (VarDecl-kind statement)) d) ∷ [] else []
+  in_if p a = if p then (if a then written d else declarator_seen facts (mutability_of (VarDecl-kind statement)) d) ∷ [] else []
 
-  pub private_declarator : is_public_declarator around d ≡ false → (old : List Fault) → Adds (public_answer around statement d) [] old old
+  pub private_declarator : is_public_declarator facts d ≡ false → (old : List Fault) → Adds (public_answer facts statement d) [] old old
   unfolding public_answer
-  private_declarator e old = adds_same (ap (λ p. answer_of (in_if p (is_ambient_statement around statement))) e) (adds_nothing [] old)
+  private_declarator e old = adds_same (ap (λ p. answer_of (in_if p (is_ambient_statement facts statement))) e) (adds_nothing [] old)
 
-  pub ambient_declarator : is_public_declarator around d ≡ true → is_ambient_statement around statement ≡ true → {t : Tree} → t ≡ d →
+  pub ambient_declarator : is_public_declarator facts d ≡ true → is_ambient_statement facts statement ≡ true → {t : Tree} → t ≡ d →
       (old : List Fault) →
-      Adds (public_answer around statement d) (t ∷ []) old old
+      Adds (public_answer facts statement d) (t ∷ []) old old
   unfolding public_answer
   ambient_declarator e f p old =
-      subst (λ u. Adds (answer_of (public_declarator around statement d)) (u ∷ []) old old) (sym p)
+      subst (λ u. Adds (answer_of (public_declarator facts statement d)) (u ∷ []) old old) (sym p)
       (adds_same (λ i. answer_of (in_if (e i) (f i))) (adds_nothing (d ∷ []) old))
 
-  pub public_declarator_stays : is_public_declarator around d ≡ true → is_ambient_statement around statement ≡ false →
+  pub public_declarator_stays : is_public_declarator facts d ≡ true → is_ambient_statement facts statement ≡ false →
       {t : Tree} {old new : List Fault} →
-      Adds (declarator_answer around (mutability_of (VarDecl-kind statement)) d) (Some t) old new →
-      Adds (public_answer around statement d) (t ∷ []) old new
+      Adds (declarator_answer facts (mutability_of (VarDecl-kind statement)) d) (Some t) old new →
+      Adds (public_answer facts statement d) (t ∷ []) old new
   unfolding public_answer declarator_answer
   public_declarator_stays e f h = adds_same (λ i. answer_of (in_if (e i) (f i)))
-      (alone (declarator_seen around (mutability_of (VarDecl-kind statement)) d) h)
+      (alone (declarator_seen facts (mutability_of (VarDecl-kind statement)) d) h)
 
 -- ---- statements
 
-module _ (around : Surroundings) (statement : Tree) where
-  pub no_declarators : {xs : List Tree} → xs ≡ [] → (old : List Fault) → Adds (declarators_answer around statement []) xs old old
+module _ (facts : ModuleFacts) (statement : Tree) where
+  pub no_declarators : {xs : List Tree} → xs ≡ [] → (old : List Fault) → Adds (declarators_answer facts statement []) xs old old
   unfolding declarators_answer
   no_declarators e old = subst (λ x. Adds (answer_of []) x old old) (sym e) (adds_nothing [] old)
 
   pub one_more_declarator : (ds : List Tree) (i : ℕ) (d : Tree) → i < length ds → d ≡ get_or ds i d →
-      {xs ys zs : List Tree} {old mid new : List Fault} → Adds (declarators_answer around statement (take i ds)) xs old mid →
-      Adds (public_answer around statement d) ys mid new → zs ≡ xs ++ ys →
-      Adds (declarators_answer around statement (take (i + 1) ds)) zs old new
+      {xs ys zs : List Tree} {old mid new : List Fault} → Adds (declarators_answer facts statement (take i ds)) xs old mid →
+      Adds (public_answer facts statement d) ys mid new → zs ≡ xs ++ ys →
+      Adds (declarators_answer facts statement (take (i + 1) ds)) zs old new
   unfolding declarators_answer public_answer
-  one_more_declarator ds i d h e g k p = one_more (public_declarator around statement) ds i d h e g k p
+  one_more_declarator ds i d h e g k p = one_more (public_declarator facts statement) ds i d h e g k p
 
   pub all_declarators : {ds es : List Tree} (i : ℕ) → length ds ≤ i → ds ≡ es → {xs : List Tree} {old new : List Fault} →
-      Adds (declarators_answer around statement (take i ds)) xs old new → Adds (declarators_answer around statement es) xs old new
+      Adds (declarators_answer facts statement (take i ds)) xs old new → Adds (declarators_answer facts statement es) xs old new
   unfolding declarators_answer
-  all_declarators i h e g = whole (public_declarator around statement) i h e g
+  all_declarators i h e g = whole (public_declarator facts statement) i h e g
 
   -- each declarator that is seen is answered by one tree
   abbrev HasTree : Seen → Type 0
@@ -175,14 +175,14 @@ module _ (around : Surroundings) (statement : Tree) where
   all_append [] ys p q = q
   all_append (x ∷ xs) ys p q = (p.0, all_append xs ys p.1 q)
 
-  declarators_have : (ds : List Tree) → AllHave (flat_map (public_declarator around statement) ds)
+  declarators_have : (ds : List Tree) → AllHave (flat_map (public_declarator facts statement) ds)
   declarators_have [] = tt
   declarators_have (d ∷ ds) =
-      all_append (public_declarator around statement d) (flat_map (public_declarator around statement) ds)
-      (of_choice AllHave (is_public_declarator around d) _ _
+      all_append (public_declarator facts statement d) (flat_map (public_declarator facts statement) ds)
+      (of_choice AllHave (is_public_declarator facts d) _ _
       (λ e. (
-        of_choice HasTree (is_ambient_statement around statement) _ _ (λ e. (d, refl))
-            (λ e. declarator_one around (mutability_of (VarDecl-kind statement)) d),
+        of_choice HasTree (is_ambient_statement facts statement) _ _ (λ e. (d, refl))
+            (λ e. declarator_one facts (mutability_of (VarDecl-kind statement)) d),
         tt,
       )) (λ e. tt))
       (declarators_have ds)
@@ -192,11 +192,11 @@ module _ (around : Surroundings) (statement : Tree) where
   none_seen (s ∷ ss) h e = let f : h.0.0 ∷ (answer_of ss).stays ≡ [] = sym (ap (λ o. with_tree o (answer_of ss).stays) h.0.1) ∙ e in cc
 
   pub no_statement : {xs : List Tree} {old new : List Fault} → Adds
-      (declarators_answer around statement (parts (VarDecl-decls statement))) xs old new →
-      xs ≡ [] → Adds (statement_answer around statement) [] old new
+      (declarators_answer facts statement (parts (VarDecl-decls statement))) xs old new →
+      xs ≡ [] → Adds (statement_answer facts statement) [] old new
   unfolding declarators_answer statement_answer
   no_statement {old = old} {new = new} h e =
-      let ss = public_declarators around statement in
+      let ss = public_declarators facts statement in
       let none : ss ≡ [] = none_seen ss (declarators_have (parts (VarDecl-decls statement))) (ap (λ a. a.stays) h.is ∙ e) in
       adds_same (ap (λ x. answer_of (statement_seen statement x)) none ∙ sym (ap answer_of none))
       (subst (λ x. Adds (answer_of ss) x old new) e h)
@@ -214,74 +214,74 @@ module _ (around : Surroundings) (statement : Tree) where
       Adds (answer_of (statement_seen statement ss)) (with_declarators xs ∷ []) old new
   seen_statement [] h some = absurd (some (sym (ap (λ a. a.stays) h.is)))
   seen_statement (s ∷ ss) h some =
-      alone (statement_form (s ∷ ss)) (adds_same (statement_is around statement (s ∷ ss)) (adds_made (λ ds. Some (with_declarators ds)) h))
+      alone (statement_form (s ∷ ss)) (adds_same (statement_is facts statement (s ∷ ss)) (adds_made (λ ds. Some (with_declarators ds)) h))
 
   pub made_statement : {xs : List Tree} {old new : List Fault} →
-      Adds (declarators_answer around statement (parts (VarDecl-decls statement))) xs old new →
-      (xs ≡ [] → ⊥) → {t : Tree} → t ≡ with_declarators xs → Adds (statement_answer around statement) (t ∷ []) old new
+      Adds (declarators_answer facts statement (parts (VarDecl-decls statement))) xs old new →
+      (xs ≡ [] → ⊥) → {t : Tree} → t ≡ with_declarators xs → Adds (statement_answer facts statement) (t ∷ []) old new
   unfolding declarators_answer statement_answer
   made_statement {old = old} {new = new} h some p =
-      let seen = statement_seen statement (public_declarators around statement) in
-      subst (λ u. Adds (answer_of seen) (u ∷ []) old new) (sym p) (seen_statement (public_declarators around statement) h some)
+      let seen = statement_seen statement (public_declarators facts statement) in
+      subst (λ u. Adds (answer_of seen) (u ∷ []) old new) (sym p) (seen_statement (public_declarators facts statement) h some)
 
 -- ---- functions
 
-module _ (around : Surroundings) (place : SourceRange) (decl : Tree) where
+module _ (facts : ModuleFacts) (place : SourceRange) (decl : Tree) where
   abbrev signature_if : Bool → Seen
   signature_if b =
       if b then implementation_seen (FnDecl-function decl)
-      else function_seen around.bindings (expr_seen around.bindings) DeclarationLike (Ident-span (FnDecl-ident decl)) (FnDecl-function decl)
+      else function_seen facts.bindings (expr_seen facts.bindings) DeclarationLike (Ident-span (FnDecl-ident decl)) (FnDecl-function decl)
 
-  pub implementation : around.is_implementation place ≡ true → {f t : Tree} → f ≡ FnDecl-function decl →
+  pub implementation : facts.is_implementation place ≡ true → {f t : Tree} → f ≡ FnDecl-function decl →
       answer_to (implementation_seen f) ≡ faultless (Some t) → (old : List Fault) →
-      Adds (answer_to (signature_of around place decl)) (Some t) old old
+      Adds (answer_to (signature_of facts place decl)) (Some t) old old
   implementation e q p old =
       adds_same (ap (λ b. answer_to (signature_if b)) e ∙ (ap (λ f. answer_to (implementation_seen f)) (sym q) ∙ p)) (adds_nothing _ old)
 
-  pub signature : around.is_implementation place ≡ false → {name : SourceRange} {function t : Tree} {old new : List Fault} →
-      Adds (answer_to (function_seen around.bindings (expr_seen around.bindings) DeclarationLike name function)) (Some t) old new →
+  pub signature : facts.is_implementation place ≡ false → {name : SourceRange} {function t : Tree} {old new : List Fault} →
+      Adds (answer_to (function_seen facts.bindings (expr_seen facts.bindings) DeclarationLike name function)) (Some t) old new →
       name ≡ Ident-span (FnDecl-ident decl) → function ≡ FnDecl-function decl →
-      Adds (answer_to (signature_of around place decl)) (Some t) old new
+      Adds (answer_to (signature_of facts place decl)) (Some t) old new
   signature e h p q =
       adds_same (ap (λ b. answer_to (signature_if b)) e
-      ∙ (λ i. answer_to (function_seen around.bindings (expr_seen around.bindings) DeclarationLike (sym p i) (sym q i)))) h
+      ∙ (λ i. answer_to (function_seen facts.bindings (expr_seen facts.bindings) DeclarationLike (sym p i) (sym q i)))) h
 
   abbrev decl_if : Bool → Seen
   decl_if b =
       if b then written decl else round FnDecl
-      (seens (written (FnDecl-ident decl) ∷ flag (FnDecl-declare decl) ∷ signature_of around place decl ∷ []))
+      (seens (written (FnDecl-ident decl) ∷ flag (FnDecl-declare decl) ∷ signature_of facts place decl ∷ []))
 
-  pub ambient_function : around.is_ambient ≡ true → {t : Tree} → t ≡ decl → (old : List Fault) →
-      Adds (answer_to (function_decl_seen around place decl)) (Some t) old old
+  pub ambient_function : facts.is_ambient ≡ true → {t : Tree} → t ≡ decl → (old : List Fault) →
+      Adds (answer_to (function_decl_seen facts place decl)) (Some t) old old
   ambient_function e {t} p old =
-      subst (λ u. Adds (answer_to (function_decl_seen around place decl)) (Some u) old old) (sym p)
+      subst (λ u. Adds (answer_to (function_decl_seen facts place decl)) (Some u) old old) (sym p)
       (adds_same (ap (λ b. answer_to (decl_if b)) e) (adds_nothing _ old))
 
-  pub made_function : around.is_ambient ≡ false → {function t : Tree} {old new : List Fault} →
-      Adds (answer_to (signature_of around place decl)) (Some function) old new →
+  pub made_function : facts.is_ambient ≡ false → {function t : Tree} {old new : List Fault} →
+      Adds (answer_to (signature_of facts place decl)) (Some function) old new →
       t ≡ fn_decl (FnDecl-ident decl) (FnDecl-declare decl) function →
-      Adds (answer_to (function_decl_seen around place decl)) (Some t) old new
+      Adds (answer_to (function_decl_seen facts place decl)) (Some t) old new
   made_function e {old = old} {new = new} h p =
-      subst (λ u. Adds (answer_to (function_decl_seen around place decl)) (Some u) old new) (sym p)
+      subst (λ u. Adds (answer_to (function_decl_seen facts place decl)) (Some u) old new) (sym p)
       (adds_same (ap (λ b. answer_to (decl_if b)) e)
       (adds_made (option_map (node FnDecl)) (adds_visited (adds_nothing (Some (FnDecl-ident decl)) _)
       (adds_visited (adds_nothing (Some (tree.Flag (FnDecl-declare decl))) _) (adds_visited h (adds_nothing (Some []) new))))))
 
 -- ---- `using`
 
-module _ (around : Surroundings) (place : SourceRange) (decl : Tree) where
+module _ (facts : ModuleFacts) (place : SourceRange) (decl : Tree) where
   abbrev using_if : Bool → List Seen
   using_if p = if p then faulty UnsupportedUsing (using_place decl) ∷ [] else []
 
-  pub private_using : is_public_using around place decl ≡ false → (old : List Fault) → Adds (using_answer around place decl) [] old old
+  pub private_using : is_public_using facts place decl ≡ false → (old : List Fault) → Adds (using_answer facts place decl) [] old old
   unfolding using_answer
   private_using e old = adds_same (ap (λ p. answer_of (using_if p)) e) (adds_nothing [] old)
 
-  pub public_using : is_public_using around place decl ≡ true → {at : SourceRange} → at ≡ using_place decl → {old new : List Fault} →
-      new ≡ old ++ fault_at UnsupportedUsing at ∷ [] → Adds (using_answer around place decl) (Absent ∷ []) old new
+  pub public_using : is_public_using facts place decl ≡ true → {at : SourceRange} → at ≡ using_place decl → {old new : List Fault} →
+      new ≡ old ++ fault_at UnsupportedUsing at ∷ [] → Adds (using_answer facts place decl) (Absent ∷ []) old new
   unfolding using_answer
   public_using e p {old} f =
-      subst (λ fs. Adds (answer_of (using_seen around place decl)) (Absent ∷ []) old fs)
+      subst (λ fs. Adds (answer_of (using_seen facts place decl)) (Absent ∷ []) old fs)
       (sym (f ∙ ap (λ r. old ++ fault_at UnsupportedUsing r ∷ []) p))
       (adds_same (ap (λ p. answer_of (using_if p)) e)
       (alone (faulty UnsupportedUsing (using_place decl)) (adds_fault (Some Absent) (fault_at UnsupportedUsing (using_place decl)) old)))

@@ -8,15 +8,15 @@ use Rattle.fast_check_signatures.specs.declared.fault.FaultKind.TheVariants.{Mis
 use Rattle.fast_check_signatures.specs.Answers.{Answer, answer_of, fault_at, unless_stays}
 use Rattle.fast_check_expandos.specs.declared.properties.ExpandoProperty.{ExpandoProperty}
 use Rattle.fast_check_expandos.specs.Assignments.{assignment_seen, declared_properties}
-use Rattle.fast_check_transform_imports.specs.surroundings.skeleton.Surroundings.{Surroundings}
+use Rattle.fast_check_transform_imports.specs.module_facts.skeleton.ModuleFacts.{ModuleFacts}
 
 -- what is answered to one, and the properties that it declares
-unfoldable pub assignment_answer : Surroundings → Tree → Answer (List Tree)
-assignment_answer around assignment =
-    answer_of (assignment_seen around.is_public around.bindings around.objects assignment)
+unfoldable pub assignment_answer : ModuleFacts → Tree → Answer (List Tree)
+assignment_answer facts assignment =
+    answer_of (assignment_seen facts.is_public facts.bindings facts.objects assignment)
 
-unfoldable pub assignment_properties : Surroundings → Tree → List ExpandoProperty
-assignment_properties around assignment = declared_properties around.is_public around.bindings around.objects assignment
+unfoldable pub assignment_properties : ModuleFacts → Tree → List ExpandoProperty
+assignment_properties facts assignment = declared_properties facts.is_public facts.bindings facts.objects assignment
 
 -- what is missing at a place, if there is one, where nothing stays
 abbrev pub missing_at : Option SourceRange → Option Tree → List Fault

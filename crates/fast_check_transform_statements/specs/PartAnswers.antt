@@ -15,13 +15,13 @@ use Rattle.fast_check_signatures.specs.declared.fault.Fault.{Fault}
 use Rattle.fast_check_signatures.specs.declared.fault.FaultKind.TheVariants.{UnsupportedGlobalModule}
 use Rattle.fast_check_signatures.specs.declared.fault.FaultKind.TheVariants.{UnsupportedAmbientModule}
 use Rattle.fast_check_signatures.specs.Answers.{Answer, fault_at, answer_to, answer_of}
-use Rattle.fast_check_transform_imports.specs.surroundings.skeleton.Namespaces.{is_ambient_module}
-use Rattle.fast_check_transform_imports.specs.surroundings.skeleton.Surroundings.{Surroundings}
-use Rattle.fast_check_transform_imports.specs.surroundings.skeleton.Visible.{declared_ident, declarator_head, value_seen}
-use Rattle.fast_check_transform_imports.specs.surroundings.skeleton.Visible.{ident_declarator_seen, declarator_seen, public_declarator}
-use Rattle.fast_check_transform_imports.specs.surroundings.skeleton.Visible.{public_declarators, statement_seen}
-use Rattle.fast_check_transform_imports.specs.surroundings.skeleton.Visible.{public_function, standing_seen}
-use Rattle.fast_check_transform_imports.specs.surroundings.skeleton.Visible.{using_seen}
+use Rattle.fast_check_transform_imports.specs.module_facts.skeleton.Namespaces.{is_ambient_module}
+use Rattle.fast_check_transform_imports.specs.module_facts.skeleton.ModuleFacts.{ModuleFacts}
+use Rattle.fast_check_transform_imports.specs.module_facts.skeleton.Visible.{declared_ident, declarator_head, value_seen}
+use Rattle.fast_check_transform_imports.specs.module_facts.skeleton.Visible.{ident_declarator_seen, declarator_seen, public_declarator}
+use Rattle.fast_check_transform_imports.specs.module_facts.skeleton.Visible.{public_declarators, statement_seen}
+use Rattle.fast_check_transform_imports.specs.module_facts.skeleton.Visible.{public_function, standing_seen}
+use Rattle.fast_check_transform_imports.specs.module_facts.skeleton.Visible.{using_seen}
 
 -- a declarator of another type and value
 abbrev pub retyped : Tree → Tree → Tree → Tree
@@ -29,45 +29,45 @@ retyped d type value = var_declarator (VarDeclarator-span d) (binding_ident (dec
     (VarDeclarator-definite d)
 
 -- to a value that is to give a type, which the identifier at `place` names
-unfoldable pub value_answer : Surroundings → SourceRange → Tree → Answer (Option Tree)
-value_answer around place value = answer_to (value_seen around place value)
+unfoldable pub value_answer : ModuleFacts → SourceRange → Tree → Answer (Option Tree)
+value_answer facts place value = answer_to (value_seen facts place value)
 
 -- to a declarator that nothing but its value gives a type
-unfoldable pub valued_answer : Surroundings → Tree → Answer (Option Tree)
-valued_answer around d =
+unfoldable pub valued_answer : ModuleFacts → Tree → Answer (Option Tree)
+valued_answer facts d =
     answer_to
-    (declarator (declarator_head d) (value_seen around (Ident-span (declared_ident d)) (VarDeclarator-init d)))
+    (declarator (declarator_head d) (value_seen facts (Ident-span (declared_ident d)) (VarDeclarator-init d)))
 
 -- to a declarator of an identifier
-unfoldable pub ident_answer : Surroundings → DeclMutabilityKind → Tree → Answer (Option Tree)
-ident_answer around mutability d = answer_to (ident_declarator_seen around mutability d)
+unfoldable pub ident_answer : ModuleFacts → DeclMutabilityKind → Tree → Answer (Option Tree)
+ident_answer facts mutability d = answer_to (ident_declarator_seen facts mutability d)
 
 -- to a declarator that is not ambient
-unfoldable pub declarator_answer : Surroundings → DeclMutabilityKind → Tree → Answer (Option Tree)
-declarator_answer around mutability d = answer_to (declarator_seen around mutability d)
+unfoldable pub declarator_answer : ModuleFacts → DeclMutabilityKind → Tree → Answer (Option Tree)
+declarator_answer facts mutability d = answer_to (declarator_seen facts mutability d)
 
 -- to a declarator of a statement, and to some of them
-unfoldable pub public_answer : Surroundings → Tree → Tree → Answer (List Tree)
-public_answer around statement d = answer_of (public_declarator around statement d)
+unfoldable pub public_answer : ModuleFacts → Tree → Tree → Answer (List Tree)
+public_answer facts statement d = answer_of (public_declarator facts statement d)
 
-unfoldable pub declarators_answer : Surroundings → Tree → List Tree → Answer (List Tree)
-declarators_answer around statement ds = answer_of (flat_map (public_declarator around statement) ds)
+unfoldable pub declarators_answer : ModuleFacts → Tree → List Tree → Answer (List Tree)
+declarators_answer facts statement ds = answer_of (flat_map (public_declarator facts statement) ds)
 
 -- to a variable statement
-unfoldable pub statement_answer : Surroundings → Tree → Answer (List Tree)
-statement_answer around statement = answer_of (statement_seen statement (public_declarators around statement))
+unfoldable pub statement_answer : ModuleFacts → Tree → Answer (List Tree)
+statement_answer facts statement = answer_of (statement_seen statement (public_declarators facts statement))
 
 -- to a function, which is public by `place`
-unfoldable pub public_function_answer : Surroundings → SourceRange → Tree → Answer (List Tree)
-public_function_answer around place decl = answer_of (public_function around place decl)
+unfoldable pub public_function_answer : ModuleFacts → SourceRange → Tree → Answer (List Tree)
+public_function_answer facts place decl = answer_of (public_function facts place decl)
 
 -- to what stands as it is written
-unfoldable pub standing_answer : Surroundings → SourceRange → Tree → Answer (List Tree)
-standing_answer around place decl = answer_of (standing_seen around place decl)
+unfoldable pub standing_answer : ModuleFacts → SourceRange → Tree → Answer (List Tree)
+standing_answer facts place decl = answer_of (standing_seen facts place decl)
 
 -- to `using`, which is public by `place` or by a declarator
-unfoldable pub using_answer : Surroundings → SourceRange → Tree → Answer (List Tree)
-using_answer around place decl = answer_of (using_seen around place decl)
+unfoldable pub using_answer : ModuleFacts → SourceRange → Tree → Answer (List Tree)
+using_answer facts place decl = answer_of (using_seen facts place decl)
 
 -- what is wrong with a module that no skeleton has
 abbrev pub module_fault : Tree → Option Fault

@@ -12,7 +12,7 @@ ghost use Rattle.fast_check_expandos.specs.Assignments.{missing_place, kept_prop
 ghost use Rattle.fast_check_expandos.specs.Expandos.{object_of, property_name};
 ghost use Rattle.fast_check_expandos.specs.ModuleObjects.{objects_of};
 ghost use Rattle.fast_check_expandos.specs.Objects.{exports_name};
-ghost use Rattle.fast_check_transform_imports.specs.surroundings.Surroundings.{seen_around};
+ghost use Rattle.fast_check_transform_imports.specs.module_facts.ModuleFacts.{facts_of};
 ghost use Rattle.fast_check_transform_statements.specs.Assigned.{assignment_answer, assignment_properties, missing_at};
 
 use crate::declarations::transform_init;
@@ -22,7 +22,7 @@ use fast_check_modules::{Symbol, is_expando_assignment};
 use fast_check_signatures::{Fault, FaultKind};
 use fast_check_swc_helpers::ranges::range_of_node;
 use fast_check_syntax::{Part, Tree};
-use fast_check_transform_imports::surroundings::Surroundings;
+use fast_check_transform_imports::module_facts::ModuleFacts;
 use std::alloc::{AllocError, Global};
 
 /// An assignment that is a statement. Nothing of it stays. Where it is public, by its own range, its right side is tested, and what
@@ -30,30 +30,30 @@ use std::alloc::{AllocError, Global};
 /// at the target, unless the object exports a property of this name.
 pub fn transform_assignment(
     alloc: Global,
-    around: Surroundings<'_>,
+    facts: ModuleFacts<'_>,
     assignment: Part<'_>,
     properties: &mut Vec<ExpandoProperty>,
     faults: &mut Vec<Fault>,
 ) -> Result<(), AllocError>
-    ensures answer { OnOk result (Adds (assignment_answer (seen_around around.entry) (seen assignment.entry)) [] faults.old.items faults.new.items) }
+    ensures answer { OnOk result (Adds (assignment_answer (facts_of facts.entry) (seen assignment.entry)) [] faults.old.items faults.new.items) }
     ensures properties { OnOk result (properties.new.items ≡
-        properties.old.items ++ assignment_properties (seen_around around.entry) (seen assignment.entry)) }
+        properties.old.items ++ assignment_properties (facts_of facts.entry) (seen assignment.entry)) }
 {
     let AssignExpr { span, right, .. } = AssignExpr::of(assignment);
-    if !around.public_ranges.contains(&span) {
+    if !facts.public_ranges.contains(&span) {
         return Ok(());
     }
-    let value = transform_init(alloc, around, range_of_node(right), right, faults)?;
+    let value = transform_init(alloc, facts, range_of_node(right), right, faults)?;
     if !is_expando_assignment(assignment) {
         return Ok(());
     }
-    transform_expando(alloc, around, assignment, value, properties, faults)
+    transform_expando(alloc, facts, assignment, value, properties, faults)
 }
 
 /// The property that an assignment of expando form declares, if its right side may stay.
 fn transform_expando(
     alloc: Global,
-    around: Surroundings<'_>,
+    facts: ModuleFacts<'_>,
     assignment: Part<'_>,
     value: Option<Tree>,
     properties: &mut Vec<ExpandoProperty>,
@@ -61,12 +61,12 @@ fn transform_expando(
 ) -> Result<(), AllocError>
     requires { is_expando_assignment (seen assignment) ≡ true }
     ensures properties { OnOk result (properties.new.items ≡ properties.old.items ++
-        kept_property (objects_of around.entry.es_module_info.now) (AssignExpr-span (seen assignment.entry)) (AssignExpr-left (seen assignment.entry)) value) }
+        kept_property (objects_of facts.entry.es_module_info.now) (AssignExpr-span (seen assignment.entry)) (AssignExpr-left (seen assignment.entry)) value) }
     ensures faults { OnOk result (faults.new.items ≡ faults.old.items ++
-        missing_at (missing_place (objects_of around.entry.es_module_info.now) (seen assignment.entry)) value) }
+        missing_at (missing_place (objects_of facts.entry.es_module_info.now) (seen assignment.entry)) value) }
 {
     let target = AssignExpr::of(assignment).left;
-    let symbol = symbol_of_object(alloc, around, target)?;
+    let symbol = symbol_of_object(alloc, facts, target)?;
     match value {
         Some(value) => {
             let property = expando_property(alloc, symbol, assignment, value)?;
@@ -80,13 +80,13 @@ fn transform_expando(
 /// The symbol of the object of a target `object.name`, if there is one.
 fn symbol_of_object<'a>(
     alloc: Global,
-    around: Surroundings<'a>,
+    facts: ModuleFacts<'a>,
     target: Part<'_>,
 ) -> Result<Option<&'a Symbol>, AllocError>
-    ensures { IfOk result (λ symbol. option_copied symbol ≡ symbol_of_swc around.entry.es_module_info.now.tables (object_of (seen target.entry))) }
+    ensures { IfOk result (λ symbol. option_copied symbol ≡ symbol_of_swc facts.entry.es_module_info.now.tables (object_of (seen target.entry))) }
 {
     let object = object_of(alloc, target)?;
-    Ok(around.es_module_info.symbol_from_swc(&object))
+    Ok(facts.es_module_info.symbol_from_swc(&object))
 }
 
 /// The type of a property is missing at its target, unless the symbol of the object exports it.

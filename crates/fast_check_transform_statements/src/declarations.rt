@@ -6,10 +6,10 @@ ghost use Rattle.fast_check_syntax.specs.Shape.{parts};
 ghost use Rattle.fast_check_statement_forms.specs.Declarations.{VarDecl-decls};
 ghost use Rattle.fast_check_swc_helpers.specs.Builders.{never_value};
 ghost use Rattle.fast_check_signatures.specs.Answers.{Adds, faultless};
-ghost use Rattle.fast_check_transform_imports.specs.surroundings.skeleton.Mutability.{mutability_of};
-ghost use Rattle.fast_check_transform_imports.specs.surroundings.skeleton.Visible.{is_ambient_statement, is_public_declarator, is_public_using, using_place};
-ghost use Rattle.fast_check_transform_imports.specs.surroundings.Surroundings.{seen_around};
-ghost use Rattle.fast_check_transform_imports.specs.surroundings.Kept.{as_list};
+ghost use Rattle.fast_check_transform_imports.specs.module_facts.skeleton.Mutability.{mutability_of};
+ghost use Rattle.fast_check_transform_imports.specs.module_facts.skeleton.Visible.{is_ambient_statement, is_public_declarator, is_public_using, using_place};
+ghost use Rattle.fast_check_transform_imports.specs.module_facts.ModuleFacts.{facts_of};
+ghost use Rattle.fast_check_transform_imports.specs.module_facts.Kept.{as_list};
 ghost use Rattle.fast_check_transform_statements.specs.PartAnswers.{retyped, value_answer, valued_answer, ident_answer};
 ghost use Rattle.fast_check_transform_statements.specs.PartAnswers.{declarator_answer, public_answer, declarators_answer, statement_answer, standing_answer};
 ghost use Rattle.fast_check_transform_statements.specs.PartAnswers.{using_answer};
@@ -21,8 +21,8 @@ use fast_check_swc_helpers::ranges::range_of_node;
 use fast_check_swc_helpers::{DeclMutabilityKind, maybe_infer_type, never_value, type_ann};
 use fast_check_syntax::{Items, Kind, Part, SourceRange, Tree, Word};
 use fast_check_transform_expressions::transform_expr;
-use fast_check_transform_imports::surroundings::Surroundings;
-use fast_check_transform_imports::surroundings::bindings::unresolved_context;
+use fast_check_transform_imports::module_facts::ModuleFacts;
+use fast_check_transform_imports::module_facts::bindings::unresolved_context;
 use std::alloc::{AllocError, Global};
 
 /// Whether what a statement of this kind declares keeps its value.
@@ -37,10 +37,10 @@ fn mutability_of(kind: Part<'_>) -> DeclMutabilityKind
 }
 
 /// Whether a variable statement stands as it is written, since it is ambient.
-fn is_ambient_statement(around: Surroundings<'_>, statement: Part<'_>) -> bool
-    ensures { result ≡ is_ambient_statement (seen_around around.entry) (seen statement.entry) }
+fn is_ambient_statement(facts: ModuleFacts<'_>, statement: Part<'_>) -> bool
+    ensures { result ≡ is_ambient_statement (facts_of facts.entry) (seen statement.entry) }
 {
-    around.is_ambient || VarDecl::of(statement).declare
+    facts.is_ambient || VarDecl::of(statement).declare
 }
 
 /// A declarator with this type and this value.
@@ -72,32 +72,32 @@ fn declared(alloc: Global, declarator: Part<'_>, ty: Tree) -> Result<Tree, Alloc
 /// named by the identifier at `place`.
 pub fn transform_init(
     alloc: Global,
-    around: Surroundings<'_>,
+    facts: ModuleFacts<'_>,
     place: SourceRange,
     value: Part<'_>,
     faults: &mut Vec<Fault>,
 ) -> Result<Option<Tree>, AllocError>
-    ensures { IfOk result (λ tree. Adds (value_answer (seen_around around.entry) place (seen value.entry)) tree faults.old.items faults.new.items) }
+    ensures { IfOk result (λ tree. Adds (value_answer (facts_of facts.entry) place (seen value.entry)) tree faults.old.items faults.new.items) }
 {
     if value.is_absent() {
         return Ok(None);
     }
-    transform_expr(alloc, around.es_module_info, value, Some(place), faults)
+    transform_expr(alloc, facts.es_module_info, value, Some(place), faults)
 }
 
 /// A declarator without type, with the value that gives it. Where there is none that may stay, that is a fault at the
 /// identifier.
 fn valued_declarator(
     alloc: Global,
-    around: Surroundings<'_>,
+    facts: ModuleFacts<'_>,
     declarator: Part<'_>,
     faults: &mut Vec<Fault>,
 ) -> Result<Tree, AllocError>
-    ensures { IfOk result (λ tree. Adds (valued_answer (seen_around around.entry) (seen declarator.entry)) (Some tree) faults.old.items faults.new.items) }
+    ensures { IfOk result (λ tree. Adds (valued_answer (facts_of facts.entry) (seen declarator.entry)) (Some tree) faults.old.items faults.new.items) }
 {
     let VarDeclarator { name, init, .. } = VarDeclarator::of(declarator);
     let place = Ident::of(BindingIdent::of(name).id).span;
-    match transform_init(alloc, around, place, init, faults)? {
+    match transform_init(alloc, facts, place, init, faults)? {
         Some(value) => retyped(alloc, declarator, Tree::Absent, value),
         None => {
             faults.push(Fault {
@@ -113,13 +113,13 @@ fn valued_declarator(
 /// stay.
 fn ident_declarator(
     alloc: Global,
-    around: Surroundings<'_>,
+    facts: ModuleFacts<'_>,
     mutability: DeclMutabilityKind,
     declarator: Part<'_>,
     faults: &mut Vec<Fault>,
 ) -> Result<Tree, AllocError>
     ensures { IfOk result (λ tree.
-        Adds (ident_answer (seen_around around.entry) mutability (seen declarator.entry)) (Some tree) faults.old.items faults.new.items) }
+        Adds (ident_answer (facts_of facts.entry) mutability (seen declarator.entry)) (Some tree) faults.old.items faults.new.items) }
 {
     let VarDeclarator { name, init, .. } = VarDeclarator::of(declarator);
     let ty = BindingIdent::of(name).type_ann;
@@ -130,10 +130,10 @@ fn ident_declarator(
         alloc,
         init,
         mutability,
-        unresolved_context(around.es_module_info),
+        unresolved_context(facts.es_module_info),
     )? {
         Some(ty) => declared(alloc, declarator, type_ann(alloc, ty)?),
-        None => valued_declarator(alloc, around, declarator, faults),
+        None => valued_declarator(alloc, facts, declarator, faults),
     }
 }
 
@@ -141,17 +141,17 @@ fn ident_declarator(
 /// none, or where a pattern stands for the identifier, that is a fault.
 fn typed_declarator(
     alloc: Global,
-    around: Surroundings<'_>,
+    facts: ModuleFacts<'_>,
     mutability: DeclMutabilityKind,
     declarator: Part<'_>,
     faults: &mut Vec<Fault>,
 ) -> Result<Tree, AllocError>
     ensures { IfOk result (λ tree.
-        Adds (declarator_answer (seen_around around.entry) mutability (seen declarator.entry)) (Some tree) faults.old.items faults.new.items) }
+        Adds (declarator_answer (facts_of facts.entry) mutability (seen declarator.entry)) (Some tree) faults.old.items faults.new.items) }
 {
     let name = VarDeclarator::of(declarator).name;
     if name.kind() == Kind::BindingIdent {
-        return ident_declarator(alloc, around, mutability, declarator, faults);
+        return ident_declarator(alloc, facts, mutability, declarator, faults);
     }
     faults.push(Fault {
         kind: FaultKind::UnsupportedDestructuring,
@@ -163,39 +163,39 @@ fn typed_declarator(
 /// A declarator of a statement, that of an ambient one as it is written; none where it is not public.
 fn transform_declarator(
     alloc: Global,
-    around: Surroundings<'_>,
+    facts: ModuleFacts<'_>,
     statement: Part<'_>,
     declarator: Part<'_>,
     faults: &mut Vec<Fault>,
 ) -> Result<Option<Tree>, AllocError>
     ensures { IfOk result (λ tree.
-        Adds (public_answer (seen_around around.entry) (seen statement.entry) (seen declarator.entry)) (as_list tree) faults.old.items faults.new.items) }
+        Adds (public_answer (facts_of facts.entry) (seen statement.entry) (seen declarator.entry)) (as_list tree) faults.old.items faults.new.items) }
 {
     let span = VarDeclarator::of(declarator).span;
-    if !around.public_ranges.contains(&span) {
+    if !facts.public_ranges.contains(&span) {
         return Ok(None);
     }
-    if is_ambient_statement(around, statement) {
+    if is_ambient_statement(facts, statement) {
         return Ok(Some(declarator.to_tree(alloc)?));
     }
     let mutability = mutability_of(VarDecl::of(statement).kind);
-    Ok(Some(typed_declarator(alloc, around, mutability, declarator, faults)?))
+    Ok(Some(typed_declarator(alloc, facts, mutability, declarator, faults)?))
 }
 
 /// The public declarators of a statement.
 fn public_declarators(
     alloc: Global,
-    around: Surroundings<'_>,
+    facts: ModuleFacts<'_>,
     statement: Part<'_>,
     faults: &mut Vec<Fault>,
 ) -> Result<Items<Tree>, AllocError>
     ensures { IfOk result (λ items.
-        Adds (declarators_answer (seen_around around.entry) (seen statement.entry) (parts (VarDecl-decls (seen statement.entry))))
+        Adds (declarators_answer (facts_of facts.entry) (seen statement.entry) (parts (VarDecl-decls (seen statement.entry))))
         items faults.old.items faults.new.items) }
 {
     let mut items = Items::new(alloc);
     for declarator in VarDecl::of(statement).decls.parts() {
-        match transform_declarator(alloc, around, statement, declarator.read(), faults)? {
+        match transform_declarator(alloc, facts, statement, declarator.read(), faults)? {
             None => continue,
             Some(declarator) => items.push(declarator)?,
         }
@@ -206,13 +206,13 @@ fn public_declarators(
 /// A variable statement with its public declarators; none where it has none.
 pub fn transform_statement(
     alloc: Global,
-    around: Surroundings<'_>,
+    facts: ModuleFacts<'_>,
     statement: Part<'_>,
     faults: &mut Vec<Fault>,
 ) -> Result<Option<Tree>, AllocError>
-    ensures { IfOk result (λ tree. Adds (statement_answer (seen_around around.entry) (seen statement.entry)) (as_list tree) faults.old.items faults.new.items) }
+    ensures { IfOk result (λ tree. Adds (statement_answer (facts_of facts.entry) (seen statement.entry)) (as_list tree) faults.old.items faults.new.items) }
 {
-    let decls = public_declarators(alloc, around, statement, faults)?;
+    let decls = public_declarators(alloc, facts, statement, faults)?;
     if decls.is_empty() {
         return Ok(None);
     }
@@ -235,27 +235,26 @@ pub fn transform_statement(
 }
 
 /// Whether a declarator is public.
-fn is_public_declarator(around: Surroundings<'_>, declarator: Part<'_>) -> bool
-    ensures { result ≡ is_public_declarator (seen_around around.entry) (seen declarator.entry) }
+fn is_public_declarator(facts: ModuleFacts<'_>, declarator: Part<'_>) -> bool
+    ensures { result ≡ is_public_declarator (facts_of facts.entry) (seen declarator.entry) }
 {
-    around
+    facts
         .public_ranges
         .contains(&VarDeclarator::of(declarator).span)
 }
 
 /// Whether one of some declarators is public.
-fn has_public_declarator(around: Surroundings<'_>, decls: Part<'_>) -> bool
-    ensures { result ≡ list_any (is_public_declarator (seen_around around.entry)) (parts (seen decls.entry)) }
+fn has_public_declarator(facts: ModuleFacts<'_>, decls: Part<'_>) -> bool
+    ensures { result ≡ list_any (is_public_declarator (facts_of facts.entry)) (parts (seen decls.entry)) }
 {
-    decls.parts().iter().any(|declarator| is_public_declarator(around, declarator.read()))
+    decls.parts().iter().any(|declarator| is_public_declarator(facts, declarator.read()))
 }
 
 /// Whether `using` is public: by `place`, or by one of its declarators.
-fn is_public_using(around: Surroundings<'_>, place: SourceRange, decl: Part<'_>) -> bool
-    ensures { result ≡ is_public_using (seen_around around.entry) place (seen decl.entry) }
+fn is_public_using(facts: ModuleFacts<'_>, place: SourceRange, decl: Part<'_>) -> bool
+    ensures { result ≡ is_public_using (facts_of facts.entry) place (seen decl.entry) }
 {
-    around.public_ranges.contains(&place)
-        || has_public_declarator(around, UsingDecl::of(decl).decls)
+    facts.public_ranges.contains(&place) || has_public_declarator(facts, UsingDecl::of(decl).decls)
 }
 
 /// Where `using` is refused: at its first declarator, or at itself where it has none.
@@ -271,14 +270,14 @@ fn using_place(decl: Part<'_>) -> SourceRange
 
 /// The fault of `using`, if it is public; no skeleton has what it declares.
 pub fn transform_using(
-    around: Surroundings<'_>,
+    facts: ModuleFacts<'_>,
     place: SourceRange,
     decl: Part<'_>,
     faults: &mut Vec<Fault>,
 ) -> Result<Option<Tree>, AllocError>
-    ensures { IfOk result (λ tree. Adds (using_answer (seen_around around.entry) place (seen decl.entry)) (as_list tree) faults.old.items faults.new.items) }
+    ensures { IfOk result (λ tree. Adds (using_answer (facts_of facts.entry) place (seen decl.entry)) (as_list tree) faults.old.items faults.new.items) }
 {
-    if !is_public_using(around, place, decl) {
+    if !is_public_using(facts, place, decl) {
         return Ok(None);
     }
     faults.push(Fault {
@@ -291,13 +290,13 @@ pub fn transform_using(
 /// A declaration that stands as it is written, which is public by `place`; none where it is not.
 pub fn transform_standing(
     alloc: Global,
-    around: Surroundings<'_>,
+    facts: ModuleFacts<'_>,
     place: SourceRange,
     decl: Part<'_>,
 ) -> Result<Option<Tree>, AllocError>
-    ensures { IfOk result (λ tree. standing_answer (seen_around around.entry) place (seen decl.entry) ≡ faultless (as_list tree)) }
+    ensures { IfOk result (λ tree. standing_answer (facts_of facts.entry) place (seen decl.entry) ≡ faultless (as_list tree)) }
 {
-    if !around.public_ranges.contains(&place) {
+    if !facts.public_ranges.contains(&place) {
         return Ok(None);
     }
     Ok(Some(decl.to_tree(alloc)?))

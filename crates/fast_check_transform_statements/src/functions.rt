@@ -2,8 +2,8 @@
 ghost use Rattle.std.specs.Prelude.{IfOk};
 ghost use Rattle.fast_check_syntax.specs.Part.{seen};
 ghost use Rattle.fast_check_signatures.specs.Answers.{Adds};
-ghost use Rattle.fast_check_transform_imports.specs.surroundings.Surroundings.{seen_around};
-ghost use Rattle.fast_check_transform_imports.specs.surroundings.Kept.{as_list};
+ghost use Rattle.fast_check_transform_imports.specs.module_facts.ModuleFacts.{facts_of};
+ghost use Rattle.fast_check_transform_imports.specs.module_facts.Kept.{as_list};
 ghost use Rattle.fast_check_transform_statements.specs.PartAnswers.{public_function_answer};
 
 use fast_check_program_forms::Ident;
@@ -11,25 +11,25 @@ use fast_check_signatures::{Fault, FunctionKind};
 use fast_check_statement_forms::FnDecl;
 use fast_check_syntax::{Part, SourceRange, Tree};
 use fast_check_transform_expressions::{transform_fn, transform_implementation};
-use fast_check_transform_imports::surroundings::Surroundings;
+use fast_check_transform_imports::module_facts::ModuleFacts;
 use std::alloc::{AllocError, Global};
 
 /// A function, which is public by `place`; none where it is not. Where all is ambient the function stands as it is written; an
 /// implementation behind overloads by the count of its parameters; another function by its signature.
 pub fn transform_public_function(
     alloc: Global,
-    around: Surroundings<'_>,
+    facts: ModuleFacts<'_>,
     place: SourceRange,
     decl: Part<'_>,
     faults: &mut Vec<Fault>,
 ) -> Result<Option<Tree>, AllocError>
     ensures { IfOk result (λ tree.
-        Adds (public_function_answer (seen_around around.entry) place (seen decl.entry)) (as_list tree) faults.old.items faults.new.items) }
+        Adds (public_function_answer (facts_of facts.entry) place (seen decl.entry)) (as_list tree) faults.old.items faults.new.items) }
 {
-    if !around.public_ranges.contains(&place) {
+    if !facts.public_ranges.contains(&place) {
         return Ok(None);
     }
-    if around.is_ambient {
+    if facts.is_ambient {
         return Ok(Some(decl.to_tree(alloc)?));
     }
     let FnDecl {
@@ -38,11 +38,11 @@ pub fn transform_public_function(
         function,
     } = FnDecl::of(decl);
     let name = Ident::of(ident).span;
-    let function = if around.public_ranges.is_impl_with_overloads(&place) {
+    let function = if facts.public_ranges.is_impl_with_overloads(&place) {
         transform_implementation(alloc, function)?
     } else {
         let kind = FunctionKind::DeclarationLike;
-        transform_fn(alloc, around.es_module_info, kind, name, function, faults)?
+        transform_fn(alloc, facts.es_module_info, kind, name, function, faults)?
     };
     let made = FnDecl {
         ident: ident.to_tree(alloc)?,

@@ -9,6 +9,6 @@ pub mod transform_declarations;
 
 pub use assignments::transform_assignment;
 pub use declarations::{transform_standing, transform_statement, transform_using};
-pub use fast_check_transform_imports::surroundings;
+pub use fast_check_transform_imports::module_facts;
 pub use functions::transform_public_function;
 pub use namespaces::{items_inside, module_fault, namespace_with};

@@ -2,7 +2,7 @@
 ghost use Rattle.std.specs.Prelude.{◌≡◌, IfOk};
 ghost use Rattle.fast_check_syntax.specs.Part.{seen};
 ghost use Rattle.fast_check_statement_forms.specs.TsDeclarations.{TsModuleDecl-body, TsModuleBlock-body};
-ghost use Rattle.fast_check_transform_imports.specs.surroundings.skeleton.Namespaces.{is_ambient_module, innermost, inner_namespace, body_with, namespace_with};
+ghost use Rattle.fast_check_transform_imports.specs.module_facts.skeleton.Namespaces.{is_ambient_module, innermost, inner_namespace, body_with, namespace_with};
 ghost use Rattle.fast_check_transform_statements.specs.PartAnswers.{module_fault};
 
 use fast_check_signatures::{Fault, FaultKind};

@@ -1,4 +1,4 @@
--- Items of which the examples are made agree in surroundings with one public test, whatever is known of names and of objects.
+-- Items of which the examples are made agree by facts with one public test, whatever is known of names and of objects.
 use Rattle.std.specs.Prelude.{◌≡◌, ℕ, Bool, false, Option, List, [], ◌∷◌, refl}
 use Rattle.std.specs.List.{list_any}
 use Rattle.std.proofs.Common.{ap, ◌∙◌, sym, subst₂}
@@ -30,7 +30,7 @@ use Rattle.fast_check_skeleton.specs.SameClasses.{SamePropertyHead, SameMembers,
 use Rattle.fast_check_skeleton.specs.SameClasses as s
 use Rattle.fast_check_skeleton.specs.SameValues.{SameExpr, SameFunction, SameParams, SamePat}
 use Rattle.fast_check_skeleton.specs.SameValues as v
-use Rattle.fast_check_skeleton.specs.Surroundings.{Surroundings}
+use Rattle.fast_check_skeleton.specs.ModuleFacts.{ModuleFacts}
 use Rattle.fast_check_skeleton.specs.Mutability.{mutability_of}
 use Rattle.fast_check_skeleton.specs.Hidden.{SameHead, SameDeclarator, SameDeclarators, SameStatement, SameFunctionDecl}
 use Rattle.fast_check_skeleton.specs.Hidden.{SameClassDecl, SameDecl, SameItem}
@@ -54,9 +54,9 @@ use Rattle.fast_check_skeleton.proofs.Example.{context_of_context}
 use Rattle.fast_check_skeleton.proofs.ModuleExample.{text_of_text}
 use Rattle.fast_check_skeleton.proofs.ExpandoExample.{span_made}
 
--- the surroundings of a module that is no declaration file and has no overloads
-abbrev pub around : (SourceRange → Bool) → Bindings → (List ℕ → Option (List ℕ)) → Objects → Surroundings
-around public bindings relative objects = record {
+-- the facts of a module that is no declaration file and has no overloads
+abbrev pub facts : (SourceRange → Bool) → Bindings → (List ℕ → Option (List ℕ)) → Objects → ModuleFacts
+facts public bindings relative objects = record {
   is_public = public;
   is_implementation = λ r. false;
   bindings = bindings;
@@ -175,11 +175,11 @@ module _ (c d : Bindings) where
 -- ---- items
 
 module _ (public : SourceRange → Bool) (c d : Bindings) (x y : List ℕ → Option (List ℕ)) (o o' : Objects) where
-  abbrev a : Surroundings
-  a = around public c x o
+  abbrev a : ModuleFacts
+  a = facts public c x o
 
-  abbrev b : Surroundings
-  b = around public d y o'
+  abbrev b : ModuleFacts
+  b = facts public d y o'
 
   both_public : (p q : SourceRange) → p ≡ none_range → q ≡ none_range → public p ≡ public q
   both_public p q e f = ap public e ∙ sym (ap public f)

@@ -1,4 +1,4 @@
--- The modules of the examples agree in surroundings with one public test, and do not where what was hidden is public.
+-- The modules of the examples agree by facts with one public test, and do not where what was hidden is public.
 use Rattle.std.specs.Prelude.{◌≡◌, ℕ, ◌+◌, Bool, true, false, Option, Some, List, [], ◌∷◌, ◌++◌, map, length, refl, if◌then◌else◌}
 use Rattle.std.specs.List.{flat_map}
 use Rattle.std.proofs.Common.{arith, ap, ◌∙◌, sym, subst₂}
@@ -34,7 +34,7 @@ use Rattle.fast_check_skeleton.specs.SameValues as v
 use Rattle.fast_check_skeleton.specs.declared.rules.DeclRule.TheVariants.{Variables, Function, Class}
 use Rattle.fast_check_skeleton.specs.declared.rules.ItemRule.TheVariants.{Declared, Exported, Assigned}
 use Rattle.fast_check_skeleton.specs.Rules.{item_rule}
-use Rattle.fast_check_skeleton.specs.Surroundings.{Surroundings}
+use Rattle.fast_check_skeleton.specs.ModuleFacts.{ModuleFacts}
 use Rattle.fast_check_skeleton.specs.Visible.{item_seen, seen_by_rule, class_decl_seen, function_decl_seen, declarator_in}
 use Rattle.fast_check_skeleton.specs.Visible.{public_declarator, public_declarators}
 use Rattle.fast_check_skeleton.specs.Visible.{statement_seen, exported_seen}
@@ -56,7 +56,7 @@ use Rattle.fast_check_skeleton.proofs.ExpandoExample.{right_made, assignment_mad
 use Rattle.fast_check_skeleton.proofs.PrivateClassExample.{begins_alone as class_alone}
 use Rattle.fast_check_skeleton.proofs.SilentAssignmentExample.{begins_alone as silent_alone}
 use Rattle.fast_check_transformer.specs.Examples.{null, first_assigned, second_assigned}
-use Rattle.fast_check_transformer.proofs.ExampleItems.{around, class_place, declared, function_place}
+use Rattle.fast_check_transformer.proofs.ExampleItems.{facts, class_place, declared, function_place}
 use Rattle.fast_check_transformer.proofs.ExampleItems.{all_parameters, operands, exports, function_items}
 use Rattle.fast_check_transformer.proofs.ExampleItems.{assigned_items, class_items, refused_items}
 
@@ -113,11 +113,11 @@ silent_span = simp (part_node, range_of_range)
 
 module _ (public : SourceRange → Bool) (c d : Bindings) (x y : List ℕ → Option (List ℕ)) (o o' : Objects)
     (unresolved : IsPair no_places.scopes c.unresolved.0 d.unresolved.0) where
-  abbrev a : Surroundings
-  a = around public c x o
+  abbrev a : ModuleFacts
+  a = facts public c x o
 
-  abbrev b : Surroundings
-  b = around public d y o'
+  abbrev b : ModuleFacts
+  b = facts public d y o'
 
   modules : (ts us : List Tree) → SameItems no_places a b ts us → AgreeHidden no_places a b (module_of ts) (module_of us)
   modules ts us same = record {
@@ -160,11 +160,11 @@ module _ (public : SourceRange → Bool) (c d : Bindings) (x y : List ℕ → Op
 
 -- ---- modules that do not: what is seen of them has other counts
 
-abbrev count : Surroundings → List Tree → ℕ
-count around [] = 0
-count around (t ∷ ts) = length (item_seen around t) + count around ts
+abbrev count : ModuleFacts → List Tree → ℕ
+count facts [] = 0
+count facts (t ∷ ts) = length (item_seen facts t) + count facts ts
 
-counts : (r : Renaming) → IsRenaming r → {a b : Surroundings} {ts us : List Tree} → SameBindings r a.bindings b.bindings →
+counts : (r : Renaming) → IsRenaming r → {a b : ModuleFacts} {ts us : List Tree} → SameBindings r a.bindings b.bindings →
     a.is_ambient ≡ b.is_ambient → SameItems r a b ts us → count a ts ≡ count b us
 counts r ok s m h.SameItems.end = refl
 counts r ok s m (h.SameItems.left {a = a} {b = b} {t = t} {ts = ts} {us = us} q n rest) =
@@ -183,8 +183,8 @@ counts r ok s m (h.SameItems.next {a = a} {b = b} {t = t} {u = u} {ts = ts} {us 
     omega (arith, one, same)
 
 module _ (public : SourceRange → Bool) (c : Bindings) (x : List ℕ → Option (List ℕ)) (o : Objects) where
-  abbrev here : Surroundings
-  here = around public c x o
+  abbrev here : ModuleFacts
+  here = facts public c x o
 
   -- what is public is seen once
 
@@ -244,11 +244,11 @@ module _ (public : SourceRange → Bool) (c : Bindings) (x : List ℕ → Option
 
 module _ (r : Renaming) (ok : IsRenaming r) (public public' : SourceRange → Bool) (c d : Bindings) (x y : List ℕ → Option (List ℕ))
     (o o' : Objects) (shown : public none_range ≡ true) (shown' : public' none_range ≡ true) where
-  abbrev left : Surroundings
-  left = around public c x o
+  abbrev left : ModuleFacts
+  left = facts public c x o
 
-  abbrev right : Surroundings
-  right = around public' d y o'
+  abbrev right : ModuleFacts
+  right = facts public' d y o'
 
   as_many : (ts us : List Tree) → AgreeHidden r left right (module_of ts) (module_of us) → count left ts ≡ count right us
   as_many ts us g =

@@ -4,7 +4,7 @@ use Rattle.std.proofs.Common.{inl, ap, ◌∙◌, sym}
 use Rattle.fast_check_bindings.specs.Bindings.{bindings_of}
 use Rattle.fast_check_comments.specs.declared.comments.Comments.{Comments}
 use Rattle.fast_check_comments.specs.Kept.{kept}
-use Rattle.fast_check_transform_module.specs.Transform.{surroundings_of}
+use Rattle.fast_check_transform_module.specs.Transform.{facts_of_module}
 use Rattle.fast_check_graph.specs.declared.graph.ModuleGraph.{ModuleGraph}
 use Rattle.fast_check_graph.specs.Graph.{resolutions_of}
 use Rattle.fast_check_modules.specs.EsModule.{EsModule}
@@ -15,9 +15,9 @@ use Rattle.fast_check_expandos.specs.Assignments.{is_declared, mentioned_by}
 use Rattle.fast_check_expandos.specs.Expandos.{object_of}
 use Rattle.fast_check_expandos.specs.ModuleObjects.{objects_of}
 use Rattle.fast_check_expandos.specs.Objects.{Objects, exports_name, stands_exported}
-use Rattle.fast_check_transform_imports.specs.surroundings.Sources.{relative_source}
+use Rattle.fast_check_transform_imports.specs.module_facts.Sources.{relative_source}
 use Rattle.fast_check_skeleton.specs.Example.{at}
-use Rattle.fast_check_skeleton.specs.Surroundings.{Surroundings}
+use Rattle.fast_check_skeleton.specs.ModuleFacts.{ModuleFacts}
 use Rattle.fast_check_skeleton.specs.ClassExample.{no_places}
 use Rattle.fast_check_skeleton.specs.ExpandoExample.{target, assignment, x_value}
 use Rattle.fast_check_skeleton.specs.HiddenChangesExample as changes
@@ -69,8 +69,8 @@ object_is : object_of target ≡ name_f
 object_is = λ i. record { 0 = object_text i; 1 = object_scope i }
 
 module _ (graph : ModuleGraph) where
-  abbrev of : EsModule → PublicRanges → Tree → Surroundings
-  of m ranges t = surroundings_of graph (with_program m t) ranges
+  abbrev of : EsModule → PublicRanges → Tree → ModuleFacts
+  of m ranges t = facts_of_module graph (with_program m t) ranges
 
   abbrev sources : EsModule → Tree → List ℕ → Option (List ℕ)
   sources m t = relative_source (resolutions_of graph m.specifier) (with_program m t).specifier

@@ -2,7 +2,7 @@
 use Rattle.std.specs.Prelude.{◌≡◌, Bool, Ok, Err, refl}
 use Rattle.std.proofs.Common.{sym, subst, true≢false}
 use Rattle.fast_check_graph.specs.declared.graph.ModuleGraph.{ModuleGraph}
-use Rattle.fast_check_transform_module.specs.Transform.{surroundings_of, faults}
+use Rattle.fast_check_transform_module.specs.Transform.{facts_of_module, faults}
 use Rattle.fast_check_modules.specs.EsModule.{EsModule}
 use Rattle.fast_check_modules.specs.diagnostics.PublicRanges.{PublicRanges}
 use Rattle.fast_check_skeleton.specs.SameComments.{SameComments}
@@ -23,8 +23,8 @@ both R {x = x} {w = w} p q h = subst (R x) (sym q) (subst (λ v. R v w) (sym p) 
 module _ (graph : ModuleGraph) (a : EsModule) (ranges_a : PublicRanges) (b : EsModule) (ranges_b : PublicRanges) (first_alone : Bool) where
   abbrev Same : Renaming → Type 0
   Same r =
-      SameAnswers r (surroundings_of graph a ranges_a) a.source.program a.source.comments
-      (surroundings_of graph b ranges_b) b.source.program b.source.comments
+      SameAnswers r (facts_of_module graph a ranges_a) a.source.program a.source.comments
+      (facts_of_module graph b ranges_b) b.source.program b.source.comments
 
   answer_same : (r : Renaming) → IsRenaming r → a.specifier ≡ b.specifier → Same r → (x y : ModuleAnswer) →
       IsTransformed graph a ranges_a first_alone x → IsTransformed graph b ranges_b first_alone y → SameAnswer r x y
@@ -46,6 +46,6 @@ module _ (graph : ModuleGraph) (a : EsModule) (ranges_a : PublicRanges) (b : EsM
       KeepsHidden graph a ranges_a b ranges_b x y
   keeps_hidden x y i j r ok h =
       answer_same r ok h.specifier
-      (two_worlds (surroundings_of graph a ranges_a) a.source.program a.source.comments
-      (surroundings_of graph b ranges_b) b.source.program b.source.comments
+      (two_worlds (facts_of_module graph a ranges_a) a.source.program a.source.comments
+      (facts_of_module graph b ranges_b) b.source.program b.source.comments
       r ok h.program h.comments) x y i j

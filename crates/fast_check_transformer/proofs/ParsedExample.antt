@@ -39,7 +39,7 @@ use Rattle.fast_check_skeleton.specs.SameClasses.{SamePropertyHead, SameMembers,
 use Rattle.fast_check_skeleton.specs.SameClasses as s
 use Rattle.fast_check_skeleton.specs.SameValues.{SameExpr, SameFunctionHead, SameReturn, SameFunction, SameParams, SamePat}
 use Rattle.fast_check_skeleton.specs.SameValues as v
-use Rattle.fast_check_skeleton.specs.Surroundings.{Surroundings}
+use Rattle.fast_check_skeleton.specs.ModuleFacts.{ModuleFacts}
 use Rattle.fast_check_skeleton.specs.Hidden.{AgreeHidden, SameItem, SameItems}
 use Rattle.fast_check_skeleton.specs.Hidden as h
 use Rattle.fast_check_skeleton.specs.SameAssignments.{SameAssignment}
@@ -55,7 +55,7 @@ use Rattle.fast_check_transformer.specs.ParsedExample.{assignment, assigned, fir
 use Rattle.fast_check_transformer.specs.ParsedExample.{first_value, second_value, first_class, second_class, first_call, second_call}
 use Rattle.fast_check_transformer.specs.ParsedExample.{first, second, first_public, second_public, renaming}
 use Rattle.fast_check_transformer.specs.Examples.{exactly}
-use Rattle.fast_check_transformer.proofs.ExampleItems.{around}
+use Rattle.fast_check_transformer.proofs.ExampleItems.{facts}
 
 -- ---- pairs that rise on both sides are one to one
 
@@ -324,11 +324,11 @@ both_public : (a b p q : SourceRange) → a ≡ p → b ≡ q → left_public p 
 both_public a b p q e f left right = ap left_public e ∙ left ∙ sym (ap right_public f ∙ right)
 
 module _ (c d : Bindings) (x y : List ℕ → Option (List ℕ)) (o o' : Objects) where
-  abbrev a : Surroundings
-  a = around left_public c x o
+  abbrev a : ModuleFacts
+  a = facts left_public c x o
 
-  abbrev b : Surroundings
-  b = around right_public d y o'
+  abbrev b : ModuleFacts
+  b = facts right_public d y o'
 
   function_items : SameItem renaming a b first_function second_function
   function_items = h.SameItem.decl (h.SameDecl.function (record {

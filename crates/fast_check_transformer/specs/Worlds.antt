@@ -1,7 +1,7 @@
 -- The law of two worlds of what is answered: an edit of what is hidden leaves both answers the same, under each
 -- renaming under which the modules agree.
 use Rattle.std.specs.Prelude.{◌≡◌, Ok, Err}
-use Rattle.fast_check_transform_module.specs.Transform.{surroundings_of}
+use Rattle.fast_check_transform_module.specs.Transform.{facts_of_module}
 use Rattle.fast_check_comments.specs.Kept.{kept}
 use Rattle.fast_check_graph.specs.declared.graph.ModuleGraph.{ModuleGraph}
 use Rattle.fast_check_modules.specs.EsModule.{EsModule}
@@ -21,7 +21,7 @@ use Rattle.fast_check_transformer.specs.Transformed.{ModuleAnswer}
 pub record AgreePair (r : Renaming) (graph : ModuleGraph) (a : EsModule) (ranges_a : PublicRanges) (b : EsModule)
     (ranges_b : PublicRanges) : Type 0 where
   pub specifier : a.specifier ≡ b.specifier
-  pub program : AgreeHidden r (surroundings_of graph a ranges_a) (surroundings_of graph b ranges_b) a.source.program
+  pub program : AgreeHidden r (facts_of_module graph a ranges_a) (facts_of_module graph b ranges_b) a.source.program
       b.source.program
   pub comments : SameComments r (kept a.source.comments) (kept b.source.comments)
 

@@ -51,18 +51,16 @@ pub fn say_found(
     }
 }
 
-/// Refuses the calls of the provider behind so many, and tells where that is another answer than out of memory. Where none is left to be refused, the answer
-/// has to be the one that was said without. Answers whether a call was refused.
-fn refuse_behind(
+/// Finds again with a provider whose calls are refused from one on, and says where that is another answer than out of memory. Where none is left to be refused,
+/// the answer has to be the one that was said without. Answers whether a call was refused.
+fn find_refused(
     alloc: Global,
     world: &World,
     root_symbol: &RootSymbol,
     ranges: &[SourceRange],
-    calls: u64,
     wanted: &Said,
     said: &mut Said,
 ) -> bool {
-    world.provider.answer(calls);
     let mut again = Said::new(alloc);
     say_found(alloc, world, root_symbol, ranges, &mut again);
     let has_refused = world.provider.has_refused();
@@ -86,7 +84,8 @@ pub fn refuse_calls(
     said: &mut Said,
 ) -> bool {
     for calls in 0..MOST_CALLS {
-        if !refuse_behind(alloc, world, root_symbol, ranges, calls, wanted, said) {
+        world.provider.answer(calls);
+        if !find_refused(alloc, world, root_symbol, ranges, wanted, said) {
             return calls > 0;
         }
     }

@@ -20,33 +20,33 @@ use Rattle.fast_check_signatures.specs.Answers.{Adds, answer_to}
 use Rattle.fast_check_signatures.specs.Classes.{plain_class_seen, ambient_class}
 use Rattle.fast_check_signatures.specs.Members.{stays_behind, each_behind, if_removed}
 use Rattle.fast_check_signatures.proofs.Adding.{adds_nothing, adds_same, adds_made, adds_visited}
-use Rattle.fast_check_transform_imports.specs.surroundings.skeleton.KeptComments.{without_all_leading}
-use Rattle.fast_check_transform_imports.specs.surroundings.skeleton.Surroundings.{Surroundings}
-use Rattle.fast_check_transform_imports.specs.surroundings.skeleton.Visible.{is_ambient_class, class_in, class_decl_seen}
+use Rattle.fast_check_transform_imports.specs.module_facts.skeleton.KeptComments.{without_all_leading}
+use Rattle.fast_check_transform_imports.specs.module_facts.skeleton.ModuleFacts.{ModuleFacts}
+use Rattle.fast_check_transform_imports.specs.module_facts.skeleton.Visible.{is_ambient_class, class_in, class_decl_seen}
 
-module _ (around : Surroundings) (decl : Tree) where
+module _ (facts : ModuleFacts) (decl : Tree) where
   abbrev class_if : Bool → Seen
   class_if a =
       if a then written (ambient_class (ClassDecl-class decl))
-      else plain_class_seen around.bindings around.is_implementation (ClassDecl-class decl)
+      else plain_class_seen facts.bindings facts.is_implementation (ClassDecl-class decl)
 
-  pub ambient_class_stays : is_ambient_class around decl ≡ true → {class t : Tree} → t ≡ ambient_class class →
-      class ≡ ClassDecl-class decl → (old : List Fault) → Adds (answer_to (class_in around decl)) (Some t) old old
+  pub ambient_class_stays : is_ambient_class facts decl ≡ true → {class t : Tree} → t ≡ ambient_class class →
+      class ≡ ClassDecl-class decl → (old : List Fault) → Adds (answer_to (class_in facts decl)) (Some t) old old
   ambient_class_stays e {t = t} q p old =
-      subst (λ u. Adds (answer_to (class_in around decl)) (Some u) old old) (sym (q ∙ ap ambient_class p))
+      subst (λ u. Adds (answer_to (class_in facts decl)) (Some u) old old) (sym (q ∙ ap ambient_class p))
       (adds_same (ap (λ b. answer_to (class_if b)) e) (adds_nothing _ old))
 
-  pub plain_class_stays : is_ambient_class around decl ≡ false → {class t : Tree} {old new : List Fault} →
-      Adds (answer_to (plain_class_seen around.bindings around.is_implementation class)) (Some t) old new → class ≡ ClassDecl-class decl →
-      Adds (answer_to (class_in around decl)) (Some t) old new
+  pub plain_class_stays : is_ambient_class facts decl ≡ false → {class t : Tree} {old new : List Fault} →
+      Adds (answer_to (plain_class_seen facts.bindings facts.is_implementation class)) (Some t) old new → class ≡ ClassDecl-class decl →
+      Adds (answer_to (class_in facts decl)) (Some t) old new
   plain_class_stays e h p =
       adds_same (ap (λ b. answer_to (class_if b)) e
-      ∙ ap (λ c. answer_to (plain_class_seen around.bindings around.is_implementation c)) (sym p)) h
+      ∙ ap (λ c. answer_to (plain_class_seen facts.bindings facts.is_implementation c)) (sym p)) h
 
-  pub made_class : {class t : Tree} {old new : List Fault} → Adds (answer_to (class_in around decl)) (Some class) old new →
-      t ≡ class_decl (ClassDecl-ident decl) (ClassDecl-declare decl) class → Adds (answer_to (class_decl_seen around decl)) (Some t) old new
+  pub made_class : {class t : Tree} {old new : List Fault} → Adds (answer_to (class_in facts decl)) (Some class) old new →
+      t ≡ class_decl (ClassDecl-ident decl) (ClassDecl-declare decl) class → Adds (answer_to (class_decl_seen facts decl)) (Some t) old new
   made_class {old = old} {new = new} h p =
-      subst (λ u. Adds (answer_to (class_decl_seen around decl)) (Some u) old new) (sym p)
+      subst (λ u. Adds (answer_to (class_decl_seen facts decl)) (Some u) old new) (sym p)
       (adds_made (option_map (node kinds.ClassDecl)) (adds_visited (adds_nothing (Some (ClassDecl-ident decl)) _)
       (adds_visited (adds_nothing (Some (tree.Flag (ClassDecl-declare decl))) _) (adds_visited h (adds_nothing (Some []) new)))))
 

@@ -7,20 +7,20 @@ use Rattle.fast_check_signatures.specs.declared.fault.Fault.{Fault}
 use Rattle.fast_check_signatures.specs.Seen.{Seen}
 use Rattle.fast_check_signatures.specs.Answers.{Adds, answer_to, answer_of}
 use Rattle.fast_check_signatures.proofs.Adding.{adds_nothing, adds_same}
-use Rattle.fast_check_transform_imports.specs.surroundings.skeleton.Surroundings.{Surroundings}
-use Rattle.fast_check_transform_imports.specs.surroundings.skeleton.Visible.{class_decl_seen}
+use Rattle.fast_check_transform_imports.specs.module_facts.skeleton.ModuleFacts.{ModuleFacts}
+use Rattle.fast_check_transform_imports.specs.module_facts.skeleton.Visible.{class_decl_seen}
 use Rattle.fast_check_transform_statements.specs.transform_declarations.ClassAnswers.{public_class_answer}
-use Rattle.fast_check_transform_imports.proofs.surroundings.Listed.{alone}
+use Rattle.fast_check_transform_imports.proofs.module_facts.Listed.{alone}
 
-module _ (around : Surroundings) (place : SourceRange) (decl : Tree) where
+module _ (facts : ModuleFacts) (place : SourceRange) (decl : Tree) where
   abbrev if_public : Bool → Seen → List Seen
   if_public p seen = if p then seen ∷ [] else []
 
-  pub class_stays : around.is_public place ≡ true → {t : Tree} {old new : List Fault} →
-      Adds (answer_to (class_decl_seen around decl)) (Some t) old new → Adds (public_class_answer around place decl) (t ∷ []) old new
+  pub class_stays : facts.is_public place ≡ true → {t : Tree} {old new : List Fault} →
+      Adds (answer_to (class_decl_seen facts decl)) (Some t) old new → Adds (public_class_answer facts place decl) (t ∷ []) old new
   unfolding public_class_answer
-  class_stays e h = adds_same (ap (λ p. answer_of (if_public p (class_decl_seen around decl))) e) (alone (class_decl_seen around decl) h)
+  class_stays e h = adds_same (ap (λ p. answer_of (if_public p (class_decl_seen facts decl))) e) (alone (class_decl_seen facts decl) h)
 
-  pub class_goes : around.is_public place ≡ false → (old : List Fault) → Adds (public_class_answer around place decl) [] old old
+  pub class_goes : facts.is_public place ≡ false → (old : List Fault) → Adds (public_class_answer facts place decl) [] old old
   unfolding public_class_answer
-  class_goes e old = adds_same (ap (λ p. answer_of (if_public p (class_decl_seen around decl))) e) (adds_nothing [] old)
+  class_goes e old = adds_same (ap (λ p. answer_of (if_public p (class_decl_seen facts decl))) e) (adds_nothing [] old)

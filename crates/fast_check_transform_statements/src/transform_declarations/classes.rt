@@ -3,12 +3,12 @@ ghost use Rattle.std.specs.Prelude.{◌≡◌, IfOk};
 ghost use Rattle.fast_check_syntax.specs.Part.{seen};
 ghost use Rattle.fast_check_syntax.specs.Shape.{parts};
 ghost use Rattle.fast_check_signatures.specs.Answers.{Adds};
-ghost use Rattle.fast_check_transform_imports.specs.surroundings.skeleton.KeptComments.{starts_of_removed, starts_in_decl, starts_in_default, starts_inside};
-ghost use Rattle.fast_check_transform_imports.specs.surroundings.skeleton.KeptComments.{without_all_leading};
-ghost use Rattle.fast_check_transform_imports.specs.surroundings.skeleton.Rules.{item_rule};
-ghost use Rattle.fast_check_transform_imports.specs.surroundings.skeleton.Visible.{is_ambient_class};
-ghost use Rattle.fast_check_transform_imports.specs.surroundings.Surroundings.{seen_around};
-ghost use Rattle.fast_check_transform_imports.specs.surroundings.Kept.{as_list};
+ghost use Rattle.fast_check_transform_imports.specs.module_facts.skeleton.KeptComments.{starts_of_removed, starts_in_decl, starts_in_default, starts_inside};
+ghost use Rattle.fast_check_transform_imports.specs.module_facts.skeleton.KeptComments.{without_all_leading};
+ghost use Rattle.fast_check_transform_imports.specs.module_facts.skeleton.Rules.{item_rule};
+ghost use Rattle.fast_check_transform_imports.specs.module_facts.skeleton.Visible.{is_ambient_class};
+ghost use Rattle.fast_check_transform_imports.specs.module_facts.ModuleFacts.{facts_of};
+ghost use Rattle.fast_check_transform_imports.specs.module_facts.Kept.{as_list};
 ghost use Rattle.fast_check_transform_statements.specs.transform_declarations.ClassAnswers.{public_class_answer};
 
 use fast_check_class_forms::Class;
@@ -21,32 +21,32 @@ use fast_check_swc_helpers::ranges::range_of_node;
 use fast_check_syntax::{Part, SourceRange, Tree};
 use fast_check_transform_classes::class_nodes::Earlier;
 use fast_check_transform_classes::{ambient_class, transform_class};
-use fast_check_transform_imports::surroundings::Surroundings;
-use fast_check_transform_imports::surroundings::skeleton::{
+use fast_check_transform_imports::module_facts::ModuleFacts;
+use fast_check_transform_imports::module_facts::skeleton::{
     DeclRule, DefaultRule, ItemRule, item_rule,
 };
 use std::alloc::{AllocError, Global};
 
 /// Whether a class is ambient.
-fn is_ambient_class(around: Surroundings<'_>, decl: Part<'_>) -> bool
-    ensures { result ≡ is_ambient_class (seen_around around.entry) (seen decl.entry) }
+fn is_ambient_class(facts: ModuleFacts<'_>, decl: Part<'_>) -> bool
+    ensures { result ≡ is_ambient_class (facts_of facts.entry) (seen decl.entry) }
 {
-    around.is_ambient || ClassDecl::of(decl).declare
+    facts.is_ambient || ClassDecl::of(decl).declare
 }
 
 /// A class declaration, which is public by `place`; none where it is not. An ambient one stands as it is written, but for private
 /// members with computed keys.
 pub fn transform_public_class(
     alloc: Global,
-    around: Surroundings<'_>,
+    facts: ModuleFacts<'_>,
     place: SourceRange,
     decl: Part<'_>,
     faults: &mut Vec<Fault>,
 ) -> Result<Option<Tree>, AllocError>
     ensures { IfOk result (λ tree.
-        Adds (public_class_answer (seen_around around.entry) place (seen decl.entry)) (as_list tree) faults.old.items faults.new.items) }
+        Adds (public_class_answer (facts_of facts.entry) place (seen decl.entry)) (as_list tree) faults.old.items faults.new.items) }
 {
-    if !around.public_ranges.contains(&place) {
+    if !facts.public_ranges.contains(&place) {
         return Ok(None);
     }
     let ClassDecl {
@@ -54,11 +54,11 @@ pub fn transform_public_class(
         declare,
         class,
     } = ClassDecl::of(decl);
-    let class = if is_ambient_class(around, decl) {
+    let class = if is_ambient_class(facts, decl) {
         ambient_class(alloc, class)?
     } else {
-        let ranges = around.public_ranges;
-        transform_class(alloc, ranges, around.es_module_info, class, faults)?
+        let ranges = facts.public_ranges;
+        transform_class(alloc, ranges, facts.es_module_info, class, faults)?
     };
     let made = ClassDecl {
         ident: ident.to_tree(alloc)?,
@@ -90,18 +90,18 @@ fn remove_before_members(
 /// Removes the comments before what goes inside of a declaration that stays and with which this is done.
 fn remove_in_decl(
     alloc: Global,
-    around: Surroundings<'_>,
+    facts: ModuleFacts<'_>,
     place: SourceRange,
     decl: Part<'_>,
     rule: DeclRule,
     comments: &mut CommentsMut,
 ) -> Result<(), AllocError>
     ensures { IfOk result (λ _.
-        comments.new ≡ without_all_leading (starts_in_decl (seen_around around.entry) place (seen decl.entry) rule) comments.old) }
+        comments.new ≡ without_all_leading (starts_in_decl (facts_of facts.entry) place (seen decl.entry) rule) comments.old) }
 {
     match rule {
         DeclRule::Class => {
-            if !around.public_ranges.contains(&place) || is_ambient_class(around, decl) {
+            if !facts.public_ranges.contains(&place) || is_ambient_class(facts, decl) {
                 return Ok(());
             }
             remove_before_members(alloc, ClassDecl::of(decl).class, comments)
@@ -118,18 +118,18 @@ fn remove_in_decl(
 /// Removes the comments before what goes inside of a default export with which this is done.
 fn remove_in_default(
     alloc: Global,
-    around: Surroundings<'_>,
+    facts: ModuleFacts<'_>,
     item: Part<'_>,
     rule: DefaultRule,
     comments: &mut CommentsMut,
 ) -> Result<(), AllocError>
     ensures { IfOk result (λ _.
-        comments.new ≡ without_all_leading (starts_in_default (seen_around around.entry) (seen item.entry) rule) comments.old) }
+        comments.new ≡ without_all_leading (starts_in_default (facts_of facts.entry) (seen item.entry) rule) comments.old) }
 {
     match rule {
         DefaultRule::Class => {
             let ExportDefaultDecl { span, decl } = ExportDefaultDecl::of(item);
-            if !around.public_ranges.contains(&span) {
+            if !facts.public_ranges.contains(&span) {
                 return Ok(());
             }
             remove_before_members(alloc, ClassExpr::of(decl).class, comments)
@@ -141,25 +141,25 @@ fn remove_in_default(
 /// Removes the comments before what goes inside of an item.
 pub fn remove_inside(
     alloc: Global,
-    around: Surroundings<'_>,
+    facts: ModuleFacts<'_>,
     item: Part<'_>,
     comments: &mut CommentsMut,
 ) -> Result<(), AllocError>
     ensures { IfOk result (λ _.
-        comments.new ≡ without_all_leading (starts_inside (seen_around around.entry) (seen item.entry) (item_rule (seen item.entry))) comments.old) }
+        comments.new ≡ without_all_leading (starts_inside (facts_of facts.entry) (seen item.entry) (item_rule (seen item.entry))) comments.old) }
 {
     match item_rule(item) {
         ItemRule::Declared(rule) => {
-            remove_in_decl(alloc, around, range_of_node(item), item, rule, comments)
+            remove_in_decl(alloc, facts, range_of_node(item), item, rule, comments)
         }
         ItemRule::Exported(rule) => {
             let ExportDecl { span, decl } = ExportDecl::of(item);
-            remove_in_decl(alloc, around, span, decl, rule, comments)
+            remove_in_decl(alloc, facts, span, decl, rule, comments)
         }
-        ItemRule::Default(rule) => remove_in_default(alloc, around, item, rule, comments),
+        ItemRule::Default(rule) => remove_in_default(alloc, facts, item, rule, comments),
         ItemRule::Assigned => {
             let assignment = AssignExpr::of(ExprStmt::of(item).expr);
-            if around.public_ranges.contains(&assignment.span) {
+            if facts.public_ranges.contains(&assignment.span) {
                 comments.remove_leading(range_of_node(item).start);
             }
             Ok(())

@@ -2,9 +2,9 @@
 ghost use Rattle.std.specs.Prelude.{◌≡◌, IfOk, Some};
 ghost use Rattle.fast_check_syntax.specs.Part.{seen};
 ghost use Rattle.fast_check_signatures.specs.Answers.{Adds};
-ghost use Rattle.fast_check_transform_imports.specs.surroundings.skeleton.Defaults.{default_place, is_public_value};
-ghost use Rattle.fast_check_transform_imports.specs.surroundings.Surroundings.{seen_around};
-ghost use Rattle.fast_check_transform_imports.specs.surroundings.Kept.{as_list};
+ghost use Rattle.fast_check_transform_imports.specs.module_facts.skeleton.Defaults.{default_place, is_public_value};
+ghost use Rattle.fast_check_transform_imports.specs.module_facts.ModuleFacts.{facts_of};
+ghost use Rattle.fast_check_transform_imports.specs.module_facts.Kept.{as_list};
 ghost use Rattle.fast_check_transform_statements.specs.transform_declarations.ClassAnswers.{is_public_default, default_value_answer, default_class_answer};
 ghost use Rattle.fast_check_transform_statements.specs.transform_declarations.ClassAnswers.{default_function_answer, default_decl_answer, default_answer};
 
@@ -18,26 +18,26 @@ use fast_check_transform_classes::transform_class;
 use fast_check_transform_classes::values::{
     transform_expr, transform_fn, transform_implementation,
 };
-use fast_check_transform_imports::surroundings::Surroundings;
-use fast_check_transform_imports::surroundings::skeleton::DefaultRule;
+use fast_check_transform_imports::module_facts::ModuleFacts;
+use fast_check_transform_imports::module_facts::skeleton::DefaultRule;
 use std::alloc::{AllocError, Global};
 
 /// Whether the default export of an expression is public: by its own range, or by that of the expression.
-fn is_public_value(around: Surroundings<'_>, item: Part<'_>) -> bool
-    ensures { result ≡ is_public_value (seen_around around.entry) (seen item.entry) }
+fn is_public_value(facts: ModuleFacts<'_>, item: Part<'_>) -> bool
+    ensures { result ≡ is_public_value (facts_of facts.entry) (seen item.entry) }
 {
     let ExportDefaultExpr { span, expr } = ExportDefaultExpr::of(item);
-    around.public_ranges.contains(&span) || around.public_ranges.contains(&range_of_node(expr))
+    facts.public_ranges.contains(&span) || facts.public_ranges.contains(&range_of_node(expr))
 }
 
 /// Whether a default export with which this is done is public.
-fn is_public_default(around: Surroundings<'_>, item: Part<'_>, rule: DefaultRule) -> bool
-    ensures { result ≡ is_public_default (seen_around around.entry) (seen item.entry) rule }
+fn is_public_default(facts: ModuleFacts<'_>, item: Part<'_>, rule: DefaultRule) -> bool
+    ensures { result ≡ is_public_default (facts_of facts.entry) (seen item.entry) rule }
 {
     match rule {
-        DefaultRule::Value => is_public_value(around, item),
+        DefaultRule::Value => is_public_value(facts, item),
         DefaultRule::Class | DefaultRule::Function | DefaultRule::Interface => {
-            around
+            facts
                 .public_ranges
                 .contains(&ExportDefaultDecl::of(item).span)
         }
@@ -47,14 +47,14 @@ fn is_public_default(around: Surroundings<'_>, item: Part<'_>, rule: DefaultRule
 /// The default export of an expression. Where the expression may not stay, that is a fault.
 fn transform_default_value(
     alloc: Global,
-    around: Surroundings<'_>,
+    facts: ModuleFacts<'_>,
     item: Part<'_>,
     faults: &mut Vec<Fault>,
 ) -> Result<Tree, AllocError>
-    ensures { IfOk result (λ tree. Adds (default_value_answer (seen_around around.entry) (seen item.entry)) (Some tree) faults.old.items faults.new.items) }
+    ensures { IfOk result (λ tree. Adds (default_value_answer (facts_of facts.entry) (seen item.entry)) (Some tree) faults.old.items faults.new.items) }
 {
     let ExportDefaultExpr { span, expr } = ExportDefaultExpr::of(item);
-    match transform_expr(alloc, around.es_module_info, expr, None, faults)? {
+    match transform_expr(alloc, facts.es_module_info, expr, None, faults)? {
         Some(expr) => ExportDefaultExpr { span, expr }.into_tree(alloc),
         None => {
             faults.push(Fault {
@@ -70,19 +70,19 @@ fn transform_default_value(
 /// A class that is exported by default. It is never ambient.
 fn transform_class_decl(
     alloc: Global,
-    around: Surroundings<'_>,
+    facts: ModuleFacts<'_>,
     decl: Part<'_>,
     faults: &mut Vec<Fault>,
 ) -> Result<Tree, AllocError>
-    ensures { IfOk result (λ tree. Adds (default_class_answer (seen_around around.entry) (seen decl.entry)) (Some tree) faults.old.items faults.new.items) }
+    ensures { IfOk result (λ tree. Adds (default_class_answer (facts_of facts.entry) (seen decl.entry)) (Some tree) faults.old.items faults.new.items) }
 {
     let ClassExpr { ident, class } = ClassExpr::of(decl);
     let made = ClassExpr {
         ident: ident.to_tree(alloc)?,
         class: transform_class(
             alloc,
-            around.public_ranges,
-            around.es_module_info,
+            facts.public_ranges,
+            facts.es_module_info,
             class,
             faults,
         )?,
@@ -106,24 +106,24 @@ fn default_place(decl: Part<'_>) -> SourceRange
 /// its parameters; another function by its signature.
 fn transform_default_function(
     alloc: Global,
-    around: Surroundings<'_>,
+    facts: ModuleFacts<'_>,
     place: SourceRange,
     decl: Part<'_>,
     faults: &mut Vec<Fault>,
 ) -> Result<Tree, AllocError>
     ensures { IfOk result (λ tree.
-        Adds (default_function_answer (seen_around around.entry) place (seen decl.entry)) (Some tree) faults.old.items faults.new.items) }
+        Adds (default_function_answer (facts_of facts.entry) place (seen decl.entry)) (Some tree) faults.old.items faults.new.items) }
 {
-    if around.is_ambient {
+    if facts.is_ambient {
         return decl.to_tree(alloc);
     }
     let FnExpr { ident, function } = FnExpr::of(decl);
-    let function = if around.public_ranges.is_impl_with_overloads(&place) {
+    let function = if facts.public_ranges.is_impl_with_overloads(&place) {
         transform_implementation(alloc, function)?
     } else {
         let kind = FunctionKind::DeclarationLike;
         let name = default_place(decl);
-        transform_fn(alloc, around.es_module_info, kind, name, function, faults)?
+        transform_fn(alloc, facts.es_module_info, kind, name, function, faults)?
     };
     let made = FnExpr {
         ident: ident.to_tree(alloc)?,
@@ -135,23 +135,23 @@ fn transform_default_function(
 /// A public default export with which this is done.
 fn transform_public_default(
     alloc: Global,
-    around: Surroundings<'_>,
+    facts: ModuleFacts<'_>,
     item: Part<'_>,
     rule: DefaultRule,
     faults: &mut Vec<Fault>,
 ) -> Result<Tree, AllocError>
     ensures { IfOk result (λ tree.
-        Adds (default_decl_answer (seen_around around.entry) (seen item.entry) rule) (Some tree) faults.old.items faults.new.items) }
+        Adds (default_decl_answer (facts_of facts.entry) (seen item.entry) rule) (Some tree) faults.old.items faults.new.items) }
 {
     let ExportDefaultDecl { span, decl } = ExportDefaultDecl::of(item);
     match rule {
-        DefaultRule::Value => transform_default_value(alloc, around, item, faults),
+        DefaultRule::Value => transform_default_value(alloc, facts, item, faults),
         DefaultRule::Class => {
-            let decl = transform_class_decl(alloc, around, decl, faults)?;
+            let decl = transform_class_decl(alloc, facts, decl, faults)?;
             ExportDefaultDecl { span, decl }.into_tree(alloc)
         }
         DefaultRule::Function => {
-            let decl = transform_default_function(alloc, around, span, decl, faults)?;
+            let decl = transform_default_function(alloc, facts, span, decl, faults)?;
             ExportDefaultDecl { span, decl }.into_tree(alloc)
         }
         DefaultRule::Interface => {
@@ -164,16 +164,16 @@ fn transform_public_default(
 /// What is public of a default export with which this is done; none where nothing is.
 pub fn transform_default_export(
     alloc: Global,
-    around: Surroundings<'_>,
+    facts: ModuleFacts<'_>,
     item: Part<'_>,
     rule: DefaultRule,
     faults: &mut Vec<Fault>,
 ) -> Result<Option<Tree>, AllocError>
     ensures { IfOk result (λ tree.
-        Adds (default_answer (seen_around around.entry) (seen item.entry) rule) (as_list tree) faults.old.items faults.new.items) }
+        Adds (default_answer (facts_of facts.entry) (seen item.entry) rule) (as_list tree) faults.old.items faults.new.items) }
 {
-    if !is_public_default(around, item, rule) {
+    if !is_public_default(facts, item, rule) {
         return Ok(None);
     }
-    Ok(Some(transform_public_default(alloc, around, item, rule, faults)?))
+    Ok(Some(transform_public_default(alloc, facts, item, rule, faults)?))
 }

@@ -3,28 +3,28 @@ use Rattle.std.proofs.lemmas.Result.{IfOk-weaker}
 use Rattle.fast_check_syntax.specs.Part.{seen}
 use Rattle.fast_check_syntax.specs.declared.tree.Tree.{Absent}
 use Rattle.fast_check_program_forms.specs.Literals.{str}
-use Rattle.fast_check_transform_imports.specs.surroundings.Surroundings.{seen_around}
+use Rattle.fast_check_transform_imports.specs.module_facts.ModuleFacts.{facts_of}
 use Rattle.fast_check_transform_imports.proofs.LinkCases.{own_source, present_source}
 use Rattle.fast_check_transform_imports.proofs.links.answered_source.Goals as goal
 
 pub returns-then-is_absent-clause-answer : goal.returns-then-is_absent-clause-answer
 returns-then-is_absent-clause-answer c =
     IfOk-weaker c.to_tree.result _ _
-    (λ tree p kept. p ∙ own_source (seen_around c.args.around) (seen c.args.src)
+    (λ tree p kept. p ∙ own_source (facts_of c.args.facts) (seen c.args.src)
     (sym c.is_absent.ensures ∙ c.if-is_absent.true)) c.to_tree.ensures
 
 pub returns-in-Some-clause-answer : goal.returns-in-Some-clause-answer
 returns-in-Some-clause-answer c =
     IfOk-weaker c.into_tree.result _ _
     (λ tree made kept. made ∙ ((λ i. str (c.of.ensures.span i) c.in-Some.value Absent)
-    ∙ present_source (seen_around c.args.around) (seen c.args.src) (sym c.is_absent.ensures ∙ c.if-is_absent.false)
+    ∙ present_source (facts_of c.args.facts) (seen c.args.src) (sym c.is_absent.ensures ∙ c.if-is_absent.false)
     {text = Some c.in-Some.value} (sym c.in-Some.is ∙ c.in_ok-value.ensures.found kept) c.of.ensures.value))
     c.into_tree.ensures
 
 pub returns-in-None-clause-answer : goal.returns-in-None-clause-answer
 returns-in-None-clause-answer c =
     IfOk-weaker c.to_tree-in-None.result _ _
-    (λ tree same kept. same ∙ present_source (seen_around c.args.around) (seen c.args.src)
+    (λ tree same kept. same ∙ present_source (facts_of c.args.facts) (seen c.args.src)
     (sym c.is_absent.ensures ∙ c.if-is_absent.false)
     {text = None} (sym c.in-None.is ∙ c.in_ok-value.ensures.found kept) c.of.ensures.value)
     c.to_tree-in-None.ensures

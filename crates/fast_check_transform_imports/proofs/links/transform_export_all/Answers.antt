@@ -3,19 +3,19 @@ use Rattle.fast_check_syntax.specs.Part.{seen}
 use Rattle.fast_check_diagnostics.specs.PublicRanges.{is_public}
 use Rattle.fast_check_program_forms.specs.ModuleDecls.{export_all}
 use Rattle.fast_check_skeleton.specs.Links.{answered_source}
-use Rattle.fast_check_transform_imports.specs.surroundings.Surroundings.{seen_around}
+use Rattle.fast_check_transform_imports.specs.module_facts.ModuleFacts.{facts_of}
 use Rattle.fast_check_transform_imports.proofs.LinkCases.{no_all, made_all}
 use Rattle.fast_check_transform_imports.proofs.links.transform_export_all.Goals as goal
 
 pub returns-then-not-contains-clause-answer : goal.returns-then-not-contains-clause-answer
 returns-then-not-contains-clause-answer c = λ kept.
-    no_all (seen_around c.args.around) (seen c.args.item)
-    (ap (is_public c.args.around.public_ranges.now) (sym c.of-type_only.ensures.span) ∙ (sym c.contains.ensures ∙ c.if-not-contains.true))
+    no_all (facts_of c.args.facts) (seen c.args.item)
+    (ap (is_public c.args.facts.public_ranges.now) (sym c.of-type_only.ensures.span) ∙ (sym c.contains.ensures ∙ c.if-not-contains.true))
 
 pub returns-clause-answer : goal.returns-clause-answer
 returns-clause-answer c = λ kept.
-    made_all (seen_around c.args.around) (seen c.args.item)
-    (ap (is_public c.args.around.public_ranges.now) (sym c.of-type_only.ensures.span) ∙ (sym c.contains.ensures ∙ c.if-not-contains.false))
+    made_all (facts_of c.args.facts) (seen c.args.item)
+    (ap (is_public c.args.facts.public_ranges.now) (sym c.of-type_only.ensures.span) ∙ (sym c.contains.ensures ∙ c.if-not-contains.false))
     (c.in_ok-into_tree.ensures ∙ (λ i. export_all (c.of-type_only.ensures.span i)
-    ((c.in_ok-src.ensures.source kept ∙ ap (answered_source (seen_around c.args.around)) c.of-type_only.ensures.src) i)
+    ((c.in_ok-src.ensures.source kept ∙ ap (answered_source (facts_of c.args.facts)) c.of-type_only.ensures.src) i)
     (c.of-type_only.ensures.type_only i) ((c.in_ok-src.ensures.attributes ∙ c.of-type_only.ensures.with) i)))

@@ -3,20 +3,20 @@ use Rattle.std.proofs.lemmas.Bool.{false≢true}
 use Rattle.fast_check_syntax.specs.Part.{seen}
 use Rattle.fast_check_program_forms.specs.ModuleDecls.{import_decl}
 use Rattle.fast_check_skeleton.specs.Links.{answered_source}
-use Rattle.fast_check_transform_imports.specs.surroundings.Surroundings.{seen_around}
+use Rattle.fast_check_transform_imports.specs.module_facts.ModuleFacts.{facts_of}
 use Rattle.fast_check_transform_imports.proofs.LinkCases.{no_import, made_import}
 use Rattle.fast_check_transform_imports.proofs.links.transform_import.Goals as goal
 
 pub returns-then-is_empty-clause-answer : goal.returns-then-is_empty-clause-answer
 returns-then-is_empty-clause-answer c = λ kept.
-    no_import (seen_around c.args.around) (seen c.args.item) c.in_ok-specifiers.ensures c.of-type_only.ensures.specifiers
+    no_import (facts_of c.args.facts) (seen c.args.item) c.in_ok-specifiers.ensures c.of-type_only.ensures.specifiers
     (c.if-is_empty.ensures.0 refl)
 
 pub returns-clause-answer : goal.returns-clause-answer
 returns-clause-answer c = λ kept.
-    made_import (seen_around c.args.around) (seen c.args.item) c.in_ok-specifiers.ensures c.of-type_only.ensures.specifiers
+    made_import (facts_of c.args.facts) (seen c.args.item) c.in_ok-specifiers.ensures c.of-type_only.ensures.specifiers
     (λ e. false≢true (c.if-is_empty.ensures.1 e))
     (c.in_ok-into_tree.ensures ∙ (λ i. import_decl (c.of-type_only.ensures.span i) (c.list.ensures i)
-    ((c.in_ok-src.ensures.source kept ∙ ap (answered_source (seen_around c.args.around)) c.of-type_only.ensures.src) i)
+    ((c.in_ok-src.ensures.source kept ∙ ap (answered_source (facts_of c.args.facts)) c.of-type_only.ensures.src) i)
     (c.of-type_only.ensures.type_only i) ((c.in_ok-src.ensures.attributes ∙ c.of-type_only.ensures.with) i)
     ((c.in_ok-phase.ensures ∙ c.of-type_only.ensures.phase) i)))

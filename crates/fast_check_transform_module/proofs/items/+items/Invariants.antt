@@ -2,10 +2,10 @@ use Rattle.std.proofs.Common.{◌≡◌, ◌+◌, ◌*◌, take}
 use Rattle.fast_check_syntax.specs.Part.{seen}
 use Rattle.fast_check_syntax.specs.Height.{height}
 use Rattle.fast_check_signatures.specs.Answers.{Adds}
-use Rattle.fast_check_transform_statements.specs.transform_declarations.links.surroundings.skeleton.KeptComments.{removed_from, without_all_leading}
+use Rattle.fast_check_transform_statements.specs.transform_declarations.links.module_facts.skeleton.KeptComments.{removed_from, without_all_leading}
 use Rattle.std.specs.List.{flat_map}
-use Rattle.fast_check_transform_statements.specs.transform_declarations.links.surroundings.skeleton.Visible.{item_properties}
-use Rattle.fast_check_transform_statements.specs.transform_declarations.links.surroundings.Surroundings.{seen_around}
+use Rattle.fast_check_transform_statements.specs.transform_declarations.links.module_facts.skeleton.Visible.{item_properties}
+use Rattle.fast_check_transform_statements.specs.transform_declarations.links.module_facts.ModuleFacts.{facts_of}
 use Rattle.fast_check_transform_imports.specs.Relative.{AreRelative}
 use Rattle.fast_check_transform_module.proofs.ByRule.{each_answer}
 use Rattle.fast_check_transform_module.proofs.items.+items.Given as goal
@@ -24,10 +24,10 @@ decreases-transform_item l = 4 * height (seen l.item) + 3
 
 abbrev pub invariant-transform_items-loop-item : goal.invariant-transform_items-loop-item
 invariant-transform_items-loop-item l = record {
-  answer : Adds (each_answer (seen_around l.around) (take l.item-index l.item-items)) l.items
+  answer : Adds (each_answer (facts_of l.facts) (take l.item-index l.item-items)) l.items
       l.initial.context.faults.items l.context.faults.items;
-  properties : l.properties.items ≡ flat_map (item_properties (seen_around l.around)) (take l.item-index l.item-items);
-  comments : l.context.comments ≡ without_all_leading (removed_from (seen_around l.around) (take l.item-index l.item-items))
+  properties : l.properties.items ≡ flat_map (item_properties (facts_of l.facts)) (take l.item-index l.item-items);
+  comments : l.context.comments ≡ without_all_leading (removed_from (facts_of l.facts) (take l.item-index l.item-items))
       l.initial.context.comments;
-  sources : AreRelative (seen_around l.around) l.context.sources;
+  sources : AreRelative (facts_of l.facts) l.context.sources;
 }

@@ -18,7 +18,7 @@ use Rattle.fast_check_transform_statements.proofs.assignments.transform_expando.
 
 pub returns-in_ok-push-in-Some-clause-properties : goal.returns-in_ok-push-in-Some-clause-properties
 returns-in_ok-push-in-Some-clause-properties c =
-    let info = c.args.around.es_module_info.now in
+    let info = c.args.facts.es_module_info.now in
     let a = seen c.args.assignment in
     let s = c.in_ok-symbol.ensures ∙ ap (λ t. symbol_of_swc info.tables (object_of t)) c.of.ensures.left in
     let old = c.args.properties.now.items in
@@ -30,7 +30,7 @@ returns-in_ok-push-in-Some-clause-properties c =
 
 pub returns-in_ok-push-in-Some-clause-faults : goal.returns-in_ok-push-in-Some-clause-faults
 returns-in_ok-push-in-Some-clause-faults c =
-    let place = missing_place (objects_of c.args.around.es_module_info.now) (seen c.args.assignment) in
+    let place = missing_place (objects_of c.args.facts.es_module_info.now) (seen c.args.assignment) in
     none_missing place c.in-Some.value c.args.faults.now.items ∙ ap (λ v. c.args.faults.now.items ++ missing_at place v) (sym c.in-Some.is)
 
 pub returns-in-None-clause-properties : goal.returns-in-None-clause-properties
@@ -39,13 +39,13 @@ returns-in-None-clause-properties c =
     let old = c.args.properties.now.items in
     on_ok_weaker c.push_missing.result
     (λ f. sym (append-nil old)
-    ∙ ap (λ v. old ++ kept_property (objects_of c.args.around.es_module_info.now) (AssignExpr-span a) (AssignExpr-left a) v)
+    ∙ ap (λ v. old ++ kept_property (objects_of c.args.facts.es_module_info.now) (AssignExpr-span a) (AssignExpr-left a) v)
     (sym c.in-None.is))
     c.push_missing.ensures
 
 pub returns-in-None-clause-faults : goal.returns-in-None-clause-faults
 returns-in-None-clause-faults c =
-    let info = c.args.around.es_module_info.now in
+    let info = c.args.facts.es_module_info.now in
     let a = seen c.args.assignment in
     let s = c.in_ok-symbol.ensures ∙ ap (λ t. symbol_of_swc info.tables (object_of t)) c.of.ensures.left in
     let old = c.args.faults.now.items in

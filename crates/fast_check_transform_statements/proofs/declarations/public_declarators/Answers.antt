@@ -1,17 +1,17 @@
 use Rattle.std.proofs.Common.{rules, ap, sym, ◌∙◌, ◌++◌, append-nil}
 use Rattle.fast_check_syntax.specs.Part.{seen}
 use Rattle.fast_check_syntax.specs.Shape.{parts}
-use Rattle.fast_check_transform_imports.specs.surroundings.Surroundings.{seen_around}
-use Rattle.fast_check_transform_imports.specs.surroundings.Kept.{as_list}
+use Rattle.fast_check_transform_imports.specs.module_facts.ModuleFacts.{facts_of}
+use Rattle.fast_check_transform_imports.specs.module_facts.Kept.{as_list}
 use Rattle.fast_check_transform_statements.proofs.Declared.{no_declarators, one_more_declarator, all_declarators}
 use Rattle.fast_check_transform_statements.proofs.declarations.public_declarators.Goals as goal
 
 pub loop-declarator-init : goal.loop-declarator-init
-loop-declarator-init c = no_declarators (seen_around c.args.around) (seen c.args.statement) c.new-items.ensures c.args.faults.now.items
+loop-declarator-init c = no_declarators (facts_of c.args.facts) (seen c.args.statement) c.new-items.ensures c.args.faults.now.items
 
 pub loop-declarator-preserved : goal.loop-declarator-preserved
 loop-declarator-preserved c =
-    one_more_declarator (seen_around c.args.around)
+    one_more_declarator (facts_of c.args.facts)
     (seen c.args.statement) c.parts-declarator-items.result.now c.loop-declarator.declarator-index
     (seen c.read.result)
     c.loop-declarator-test.true (search rules) c.loop-declarator.invariant c.in_ok-transform_declarator.ensures
@@ -19,7 +19,7 @@ loop-declarator-preserved c =
 
 pub loop-declarator-preserved-in-None : goal.loop-declarator-preserved-in-None
 loop-declarator-preserved-in-None c =
-    one_more_declarator (seen_around c.args.around)
+    one_more_declarator (facts_of c.args.facts)
     (seen c.args.statement) c.parts-declarator-items.result.now c.loop-declarator.declarator-index
     (seen c.read.result)
     c.loop-declarator-test.true (search rules) c.loop-declarator.invariant c.in_ok-transform_declarator.ensures
@@ -27,5 +27,5 @@ loop-declarator-preserved-in-None c =
 
 pub returns : goal.returns
 returns c =
-    all_declarators (seen_around c.args.around) (seen c.args.statement) c.loop-declarator.declarator-index c.loop-declarator-test.false
+    all_declarators (facts_of c.args.facts) (seen c.args.statement) c.loop-declarator.declarator-index c.loop-declarator-test.false
     (c.parts-declarator-items.ensures ∙ ap parts c.of.ensures.decls) c.loop-declarator.invariant

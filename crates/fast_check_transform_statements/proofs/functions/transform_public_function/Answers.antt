@@ -3,8 +3,8 @@ use Rattle.fast_check_program_forms.specs.Names.{Ident-span}
 use Rattle.fast_check_statement_forms.specs.Declarations.{fn_decl}
 use Rattle.fast_check_syntax.specs.Part.{seen}
 use Rattle.fast_check_signatures.specs.Answers.{Adds, answer_to}
-use Rattle.fast_check_transform_imports.specs.surroundings.skeleton.Visible.{signature_of}
-use Rattle.fast_check_transform_imports.specs.surroundings.Surroundings.{seen_around}
+use Rattle.fast_check_transform_imports.specs.module_facts.skeleton.Visible.{signature_of}
+use Rattle.fast_check_transform_imports.specs.module_facts.ModuleFacts.{facts_of}
 use Rattle.fast_check_transform_statements.proofs.Declared.{implementation, signature, ambient_function, made_function}
 use Rattle.fast_check_transform_statements.proofs.Joined.{adds_joined_way}
 use Rattle.fast_check_transform_statements.proofs.PublicCases.{function_stays, function_goes}
@@ -14,34 +14,34 @@ use Rattle.fast_check_transform_statements.proofs.functions.transform_public_fun
 
 pub returns-then-not-contains : goal.returns-then-not-contains
 returns-then-not-contains c =
-    function_goes (seen_around c.args.around) c.args.place (seen c.args.decl)
+    function_goes (facts_of c.args.facts) c.args.place (seen c.args.decl)
     (sym c.contains.ensures ∙ c.if-not-contains.true) c.args.faults.now.items
 
-pub returns-then-around : goal.returns-then-around
-returns-then-around c =
-    function_stays (seen_around c.args.around) c.args.place (seen c.args.decl) (sym c.contains.ensures ∙ c.if-not-contains.false)
-    (ambient_function (seen_around c.args.around) c.args.place (seen c.args.decl) c.if-around.true c.in_ok-to_tree.ensures
+pub returns-then-facts : goal.returns-then-facts
+returns-then-facts c =
+    function_stays (facts_of c.args.facts) c.args.place (seen c.args.decl) (sym c.contains.ensures ∙ c.if-not-contains.false)
+    (ambient_function (facts_of c.args.facts) c.args.place (seen c.args.decl) c.if-facts.true c.in_ok-to_tree.ensures
     c.args.faults.now.items)
 
 pub returns : goal.returns
 returns c =
-    let around = seen_around c.args.around in
+    let facts = facts_of c.args.facts in
     let place = c.args.place in
     let decl = seen c.args.decl in
     let of = c.of-declare.ensures in
     let function = c.if-is_impl_with_overloads.function in
-    let signed : Adds (answer_to (signature_of around place decl)) (Some function) c.args.faults.now.items
+    let signed : Adds (answer_to (signature_of facts place decl)) (Some function) c.args.faults.now.items
     c.if-is_impl_with_overloads.faults.items =
     elim c.if-is_impl_with_overloads.branch [
       | then-is_impl_with_overloads+in_ok-function w ↦
           adds_joined_way w.function-is (ap (λ v. v.items) w.faults-is)
-          (implementation around place decl (sym c.is_impl_with_overloads.ensures ∙ w.if-is_impl_with_overloads.true) of.function
+          (implementation facts place decl (sym c.is_impl_with_overloads.ensures ∙ w.if-is_impl_with_overloads.true) of.function
           w.in_ok-function.ensures c.args.faults.now.items)
       | else-is_impl_with_overloads+in_ok-function-2 w ↦
           adds_joined_way w.function-is (ap (λ v. v.items) w.faults-is)
-          (signature around place decl (sym c.is_impl_with_overloads.ensures ∙ w.if-is_impl_with_overloads.false)
+          (signature facts place decl (sym c.is_impl_with_overloads.ensures ∙ w.if-is_impl_with_overloads.false)
           w.in_ok-function-2.ensures (c.of.ensures.span ∙ ap Ident-span of.ident) of.function)
     ] in
-    function_stays around place decl (sym c.contains.ensures ∙ c.if-not-contains.false)
-    (made_function around place decl c.if-around.false signed
+    function_stays facts place decl (sym c.contains.ensures ∙ c.if-not-contains.false)
+    (made_function facts place decl c.if-facts.false signed
     (c.in_ok-into_tree.ensures ∙ (λ i. fn_decl ((c.in_ok-to_tree-2.ensures ∙ of.ident) i) (of.declare i) function)))

@@ -6,7 +6,7 @@ use Rattle.fast_check_syntax.specs.Part.{seen}
 use Rattle.fast_check_syntax.specs.Shape.{◌is◌, kind_of}
 use Rattle.fast_check_syntax.specs.Height.{height}
 use Rattle.fast_check_statement_forms.specs.TsDeclarations.{ts_module_block}
-use Rattle.fast_check_transform_imports.specs.surroundings.skeleton.Namespaces.{inner_namespace, body_with}
+use Rattle.fast_check_transform_imports.specs.module_facts.skeleton.Namespaces.{inner_namespace, body_with}
 use Rattle.fast_check_transform_statements.proofs.Blocks.{follows_lower, inner_made, block_made}
 use Rattle.fast_check_transform_statements.proofs.namespaces.+body_with.Goals as goal
 

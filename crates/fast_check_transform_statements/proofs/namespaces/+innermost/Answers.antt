@@ -4,8 +4,8 @@ use Rattle.fast_check_syntax.specs.declared.kind.Kind.TheVariants.{TsNamespaceDe
 use Rattle.fast_check_syntax.specs.Part.{seen}
 use Rattle.fast_check_syntax.specs.Shape.{◌is◌, kind_of}
 use Rattle.fast_check_syntax.specs.Height.{height}
-use Rattle.fast_check_transform_imports.specs.surroundings.skeleton.Namespaces.{innermost}
-use Rattle.fast_check_transform_imports.proofs.surroundings.skeleton_proofs.Namespaces.{innermost_block, innermost_inner}
+use Rattle.fast_check_transform_imports.specs.module_facts.skeleton.Namespaces.{innermost}
+use Rattle.fast_check_transform_imports.proofs.module_facts.skeleton_proofs.Namespaces.{innermost_block, innermost_inner}
 use Rattle.fast_check_transform_statements.proofs.Blocks.{follows_lower}
 use Rattle.fast_check_transform_statements.proofs.namespaces.+innermost.Goals as goal
 

@@ -1,7 +1,7 @@
 use Rattle.std.proofs.Common.{◌∙◌, sym, ap}
 use Rattle.std.proofs.lemmas.Result.{IfOk-weaker}
 use Rattle.std.specs.Option.{option_copied}
-use Rattle.fast_check_transform_imports.specs.surroundings.Surroundings.{seen_around}
+use Rattle.fast_check_transform_imports.specs.module_facts.ModuleFacts.{facts_of}
 use Rattle.fast_check_transform_imports.proofs.relative.RelativeSources.of_text.Goals as goal
 
 pub returns-in-Some-clause-found : goal.returns-in-Some-clause-found
@@ -12,4 +12,4 @@ returns-in-Some-clause-found c =
 
 pub returns-clause-kept : goal.returns-clause-kept
 returns-clause-kept c = λ kept.
-    c.in_ok-keep.ensures (seen_around c.args.around) (c.in_ok-copy.ensures ∙ c.in_ok-other.ensures) kept
+    c.in_ok-keep.ensures (facts_of c.args.facts) (c.in_ok-copy.ensures ∙ c.in_ok-other.ensures) kept

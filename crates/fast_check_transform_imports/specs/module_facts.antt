@@ -1,5 +1,5 @@
 pub use Rattle.fast_check_bindings.specs as bindings
 pub use Rattle.fast_check_skeleton.specs as skeleton
 pub mod Sources
-pub mod Surroundings
+pub mod ModuleFacts
 pub mod Kept

@@ -6,7 +6,7 @@ use Rattle.fast_check_statement_forms.specs.TsDeclarations.{TsModuleDecl-declare
 use Rattle.fast_check_signatures.specs.Bindings.{Bindings}
 use Rattle.fast_check_expandos.specs.Objects.{Objects}
 
-pub record Surroundings : Type 0 where
+pub record ModuleFacts : Type 0 where
   -- whether a range is public, so that what stands there may be seen from outside
   pub is_public : SourceRange → Bool
   -- whether the function of a public range is an implementation behind overloads, so that its own signature is not seen
@@ -23,16 +23,16 @@ pub record Surroundings : Type 0 where
   pub objects : Objects
 
 -- the same, but for whether all is ambient
-abbrev pub with_ambient : Bool → Surroundings → Surroundings
-with_ambient is_ambient around = record {
-  is_public = around.is_public;
-  is_implementation = around.is_implementation;
-  bindings = around.bindings;
+abbrev pub with_ambient : Bool → ModuleFacts → ModuleFacts
+with_ambient is_ambient facts = record {
+  is_public = facts.is_public;
+  is_implementation = facts.is_implementation;
+  bindings = facts.bindings;
   is_ambient = is_ambient;
-  relative = around.relative;
-  objects = around.objects;
+  relative = facts.relative;
+  objects = facts.objects;
 }
 
 -- what surrounds the items of a namespace: inside of one with `declare` all is ambient
-abbrev pub inside : Surroundings → Tree → Surroundings
-inside around decl = with_ambient (around.is_ambient || TsModuleDecl-declare decl) around
+abbrev pub inside : ModuleFacts → Tree → ModuleFacts
+inside facts decl = with_ambient (facts.is_ambient || TsModuleDecl-declare decl) facts

@@ -9,7 +9,7 @@ use Rattle.std.proofs.lemmas.Slice.Eq.{bytes_eq-Decides}
 use Rattle.url.specs.Host.{host_text}
 use Rattle.url.specs.Parts.{Parts, cannot_be_a_base, host_or_empty}
 use Rattle.url.specs.Relative.{CanRelate, IsRelative, relative_text}
-use Rattle.fast_check_transform_imports.specs.surroundings.Sources.{is_relatable, relative_url}
+use Rattle.fast_check_transform_imports.specs.module_facts.Sources.{is_relatable, relative_url}
 
 same_port : (a b : Option ℕ) → Decides (option_eq nat_eq a b) (a ≡ b)
 same_port None None = (λ e. refl, λ e. refl)

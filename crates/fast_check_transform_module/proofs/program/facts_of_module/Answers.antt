@@ -1,11 +1,11 @@
 use Rattle.std.proofs.Common.{◌∙◌, ap}
 use Rattle.fast_check_graph.specs.Graph.{resolutions_of}
-use Rattle.fast_check_transform_statements.specs.transform_declarations.links.surroundings.Surroundings.{surroundings_by}
-use Rattle.fast_check_transform_module.proofs.program.surroundings_of.Goals as goal
+use Rattle.fast_check_transform_statements.specs.transform_declarations.links.module_facts.ModuleFacts.{facts_by}
+use Rattle.fast_check_transform_module.proofs.program.facts_of_module.Goals as goal
 
 pub returns : goal.returns
 returns c =
     let info = c.args.es_module_info.now in
     c.of.ensures
-    ∙ ap (λ r. surroundings_by r info c.args.public_ranges.now)
+    ∙ ap (λ r. facts_by r info c.args.public_ranges.now)
     (c.resolutions_of-resolutions.ensures ∙ ap (resolutions_of c.args.graph.now) c.specifier.ensures)

@@ -2,7 +2,7 @@
 ghost use Rattle.std.specs.Prelude.{◌≡◌, IfOk, option_map, string_bytes};
 ghost use Rattle.std.specs.Option.{option_and_then, option_copied};
 ghost use Rattle.fast_check_graph.specs.Resolutions.{text_resolved};
-ghost use Rattle.fast_check_transform_imports.specs.surroundings.Sources.{dotted, relative_source, relative_url};
+ghost use Rattle.fast_check_transform_imports.specs.module_facts.Sources.{dotted, relative_source, relative_url};
 
 use std::alloc::{AllocError, Global};
 use std::collections::BTreeMap;

@@ -5,15 +5,15 @@ use Rattle.fast_check_modules.specs.diagnostics.PublicRanges.{PublicRanges, is_p
 use Rattle.fast_check_modules.specs.EsModule.{EsModule}
 use Rattle.fast_check_bindings.specs.Bindings.{bindings_of}
 use Rattle.fast_check_skeleton.specs.expandos.ModuleObjects.{objects_of}
-use Rattle.fast_check_transform_imports.specs.surroundings.Sources.{Resolutions, relative_source}
-use Rattle.fast_check_skeleton.specs.Surroundings.{Surroundings}
-use Rattle.fast_check_transform_imports.specs.declared.surroundings.surroundings.Surroundings.{Surroundings as Lent}
+use Rattle.fast_check_transform_imports.specs.module_facts.Sources.{Resolutions, relative_source}
+use Rattle.fast_check_skeleton.specs.ModuleFacts.{ModuleFacts}
+use Rattle.fast_check_transform_imports.specs.declared.module_facts.facts.ModuleFacts.{ModuleFacts as Lent}
 
 -- what a module's skeleton depends on beside its tree: what is public of it, what is known of its names, whether it is
 -- a declaration file, all of which is ambient, where its texts resolve to, and what is known of the objects of its
 -- expando properties
-abbrev pub surroundings_by : Resolutions → EsModule → PublicRanges → Surroundings
-surroundings_by resolutions info public = record {
+abbrev pub facts_by : Resolutions → EsModule → PublicRanges → ModuleFacts
+facts_by resolutions info public = record {
   is_public = is_public public;
   is_implementation = is_implementation public;
   bindings = bindings_of info;
@@ -23,8 +23,8 @@ surroundings_by resolutions info public = record {
 }
 
 -- what is asked beside the tree
-abbrev pub seen_around : Lent → Surroundings
-seen_around asked = record {
+abbrev pub facts_of : Lent → ModuleFacts
+facts_of asked = record {
   is_public = is_public asked.public_ranges.now;
   is_implementation = is_implementation asked.public_ranges.now;
   bindings = bindings_of asked.es_module_info.now;

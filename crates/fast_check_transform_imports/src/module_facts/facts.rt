@@ -11,7 +11,7 @@ use url::Url;
 
 /// What the transform asks beside the tree.
 #[derive(Clone, Copy)]
-pub struct Surroundings<'a> {
+pub struct ModuleFacts<'a> {
     /// What the texts of its imports resolve to, where the graph has some.
     pub resolutions: Option<&'a BTreeMap<String, Url>>,
     pub es_module_info: &'a EsModuleInfo,
@@ -20,10 +20,10 @@ pub struct Surroundings<'a> {
     pub is_ambient: bool,
 }
 
-impl<'a> Surroundings<'a> {
+impl<'a> ModuleFacts<'a> {
     ghost use Rattle.fast_check_syntax.specs.Part.{seen};
-    ghost use Rattle.fast_check_skeleton.specs.Surroundings.{inside};
-    ghost use Rattle.fast_check_transform_imports.specs.surroundings.Surroundings.{seen_around, surroundings_by};
+    ghost use Rattle.fast_check_skeleton.specs.ModuleFacts.{inside};
+    ghost use Rattle.fast_check_transform_imports.specs.module_facts.ModuleFacts.{facts_of, facts_by};
 
     /// What is asked of a module whose texts resolve to these, with these public ranges.
     pub fn of(
@@ -31,9 +31,9 @@ impl<'a> Surroundings<'a> {
         es_module_info: &'a EsModuleInfo,
         public_ranges: &'a ModulePublicRanges,
     ) -> Self
-        ensures { seen_around result ≡ surroundings_by (option_copied resolutions.entry) es_module_info.now public_ranges.now }
+        ensures { facts_of result ≡ facts_by (option_copied resolutions.entry) es_module_info.now public_ranges.now }
     {
-        Surroundings {
+        ModuleFacts {
             resolutions,
             es_module_info,
             public_ranges,
@@ -43,9 +43,9 @@ impl<'a> Surroundings<'a> {
 
     /// What is asked of the items of a namespace: inside of one with `declare` all is ambient.
     pub fn inside(self, decl: Part<'_>) -> Self
-        ensures { seen_around result ≡ inside (seen_around self.entry) (seen decl.entry) }
+        ensures { facts_of result ≡ inside (facts_of self.entry) (seen decl.entry) }
     {
-        Surroundings {
+        ModuleFacts {
             resolutions: self.resolutions,
             es_module_info: self.es_module_info,
             public_ranges: self.public_ranges,

@@ -1,7 +1,7 @@
 use Rattle.std.specs.Prelude.{string_bytes, option_map}
 use Rattle.std.proofs.lemmas.Result.{IfOk-weaker}
-use Rattle.fast_check_transform_imports.proofs.surroundings.Related.{relative_is}
-use Rattle.fast_check_transform_imports.proofs.surroundings.sources.relative_url.Goals as goal
+use Rattle.fast_check_transform_imports.proofs.module_facts.Related.{relative_is}
+use Rattle.fast_check_transform_imports.proofs.module_facts.sources.relative_url.Goals as goal
 
 pub returns : goal.returns
 returns c =

@@ -1,5 +1,0 @@
-use Rattle.std.proofs.Common.{rules}
-use Rattle.fast_check_transform_imports.proofs.surroundings.surroundings.Surroundings.inside.Goals as goal
-
-pub returns : goal.returns
-returns c = search rules
