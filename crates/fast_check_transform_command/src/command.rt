@@ -1,9 +1,7 @@
 //! The command `transform`: the request in the bytes of its file, and its answer.
 
 ghost use Rattle.std.specs.Prelude.{◌≡◌, ◌<◌, IfOk, IfErr};
-ghost use Rattle.fast_check_modules.specs.EsModule.{Admits};
 ghost use Rattle.fast_check_requests.specs.Run.{IsOfBytes};
-ghost use Rattle.fast_check_transform_command.specs.Line.{IsAnswer};
 ghost use Rattle.fast_check_transform_command.specs.Transform.{AnswersModule, RefusesModule, AnswersRequest, RefusesRequest, IsAnswerTo, RefusesBytes};
 
 use crate::answer::line_of;
@@ -12,7 +10,7 @@ use fast_check_modules::EsModuleInfo;
 use fast_check_modules::diagnostics::ModulePublicRanges;
 use fast_check_requests::{Answer, EsModuleParts, Refusal, TransformRequest, read_request};
 use fast_check_transform_module::{TransformOptions, transform};
-use std::alloc::{AllocError, Global};
+use std::alloc::Global;
 
 /// The answer to the bytes of a file, or why they are refused. They are dropped when the request is read.
 pub fn answer_transform(alloc: Global, bytes: Vec<u8>) -> Result<Answer, Refusal>
@@ -68,22 +66,7 @@ fn answer_if_admitted(
         workspace_members: Vec::new(alloc),
         should_error_on_first_diagnostic,
     };
-    Ok(answer_module(alloc, graph, es_module_info, public_ranges, &options)?)
-}
-
-/// The answer to a module whose ranges are admitted.
-fn answer_module(
-    alloc: Global,
-    graph: &ModuleGraph,
-    es_module_info: &EsModuleInfo,
-    public_ranges: &ModulePublicRanges,
-    options: &TransformOptions,
-) -> Result<Answer, AllocError>
-    requires admitted { Admits es_module_info.now public_ranges.now }
-    ensures { IfOk result (λ answer. IsAnswer graph.now es_module_info.now public_ranges.now
-        options.now.should_error_on_first_diagnostic answer.line.items answer.status) }
-{
-    let answer = transform(alloc, graph, es_module_info, public_ranges, options)?;
+    let answer = transform(alloc, graph, es_module_info, public_ranges, &options)?;
     Ok(Answer {
         line: line_of(alloc, &answer)?,
         status: if answer.is_ok() { 0 } else { 1 },
