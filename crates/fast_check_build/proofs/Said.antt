@@ -34,7 +34,7 @@ found_public k roots found answers a says named = record {
   own = own_answers k a.0 (found_yields found) a.2 named answers says;
 }
 
--- what holds by the items that a lent cache demand_yields under a seed holds by those under its own seed
+-- what holds by the items that a lent cache gives under a seed holds by those under its own seed
 pub with_lent : {C : Type 0} (lent : Option C) (own : C → List ℕ) (by : C → List ℕ → Used) (seed : List ℕ) (k : Known)
     (So : Known → Type 0) → MatchOption lent ⊤ (λ c. seed ≡ own c) → So (with_used (used_of lent (λ c. by c seed)) k) →
     So (with_used (used_of lent (λ c. by c (own c))) k)

@@ -39,7 +39,7 @@ pub record OwnsRanges (root : RootSymbol) (t : Text) (m : PublicRanges) : Type 0
 
 -- There is an account of demands, from the packages that are handed in, whose export texts all join; and the answers
 -- say what its demands give, and nothing else, each of a package of the account. A package whose item is used demands
--- what the item depends on, and demand_yields the item. What is public in a module is declared in it, so that the module admits it.
+-- what the item depends on, and gives the item. What is public in a module is declared in it, so that the module admits it.
 pub record IsFound (k : Known) (roots : List Nv) (answers : BTreeMap PackageNv PackagePublicRanges) : Type 0 where
   pub account : Account
   pub yields : List Yield

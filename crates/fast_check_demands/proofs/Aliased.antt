@@ -26,7 +26,7 @@ use Rattle.fast_check_demands.specs.Yields.{Adds}
 use Rattle.fast_check_demands.proofs.Elements.{no_element, in_flat, of_flat}
 use Rattle.fast_check_symbols.specs.Symbols.{symbol_of}
 
--- what the declaration at a place demand_yields
+-- what the declaration at a place gives
 abbrev pub at : {Y : Type 0} → (SymbolDeclKind → List Y) → List SymbolDecl → ℕ → List Y
 at f decls place = each_of f (option_map (λ d. d.kind) (slice_get decls place))
 
@@ -37,7 +37,7 @@ in_each f (Some x) y c = (x, refl, c)
 in_option : {X : Type 0} (o : Option X) (x : X) → o ≡ Some x → Contains (option_to_list o) x
 in_option {X} o x e = subst (λ (p : Option X). Contains (option_to_list p) x) (sym e) (0, omega arith, refl)
 
--- f demand_yields of an alias what g demand_yields of that for which it stands
+-- f gives of an alias what g gives of that for which it stands
 module _ {Y : Type 0} (f : SymbolDeclKind → List Y) (g : Alias → List Y) (by : (k : SymbolDeclKind) → f k ≡ each_of g (alias_of k))
     (decls : List SymbolDecl) (places : List ℕ) (are : AreAliases decls places) where
   at_is : (place : ℕ) → at f decls place ≡ each_of g (alias_at decls place)

@@ -23,7 +23,7 @@ use Rattle.fast_check_package_ranges.specs.Answers.{entry_points_of, dependencie
 use Rattle.fast_check_package_ranges.specs.Parts.{urls_at, item_at, named_at}
 use Rattle.fast_check_package_ranges.proofs.Lists.{all_append, all_map, all_flat, none_given}
 
--- it demand_yields nothing of what is found of modules
+-- it gives nothing of what is found of modules
 pub record IsSilent {X : Type 0} (f : Yield → List X) : Type 0 where
   pub known : (nv : Nv) → f (known_package nv) ≡ []
   pub recorded : (nv : Nv) (t : Text) → f (recorded nv t) ≡ []
@@ -60,7 +60,7 @@ module _ {X : Type 0} (f : Yield → List X) (silent : IsSilent f) (packages : L
       flat_map-append f e (d ++ (m ++ u)) ∙ ap (λ x. flat_map f e ++ x)
       (flat_map-append f d (m ++ u) ∙ (ap (λ x. flat_map f d ++ x) none ∙ append-nil (flat_map f d)))
 
-  -- where it demand_yields nothing of entry points
+  -- where it gives nothing of entry points
   pub of_entered : ((t : Text) → f (entry_point nv t) ≡ []) → (urls : List Parts) (faults : List (Parts × EntryFault)) →
       flat_map f (known_package nv ∷ (map (λ url. entry_point nv (serialize url)) urls ++ flat_map (entry_fault_yields nv) faults)) ≡ []
   of_entered h urls faults =

@@ -89,7 +89,7 @@ faults_seen nv m (f ∷ fs) =
     map-append (placed_yield nv (own_text m)) (placed_seen (source_in m) f) (flat_map (placed_seen (source_in m)) fs) ∙
     ap (λ (ys : List Yield). placed_yields nv (own_text m) (placed_seen (source_in m) f) ++ ys) (faults_seen nv m fs)
 
--- what a module demand_yields, by its parts
+-- what a module gives, by its parts
 abbrev pub parts : Nv → TracedModule → List SourceRange → List SourceRange → List Fault → List Yield
 parts nv m ranges implementations faults = recorded nv (own_text m) ∷ (public_at nv m ranges ++ (implementing_at nv m implementations ++
     faults_at nv m faults))

@@ -55,7 +55,7 @@ module _ {X : Type 0} where
     whole = λ x t. Contains-append_right xs b x (p.whole x t);
   }
 
--- what one element more demand_yields
+-- what one element more gives
 pub joins_push : {X Y : Type 0} (f : X → List Y) (xs : List X) (x : X) → Joins (f x) (flat_map f xs) (flat_map f (xs ++ x ∷ []))
 joins_push {X} {Y} f xs x = subst (λ (ys : List Y). Joins (f x) (flat_map f xs) ys)
     (sym (flat_map-append f xs (x ∷ []) ∙ ap (λ ys. flat_map f xs ++ ys) (append-nil (f x)))) (joins_last (f x) (flat_map f xs))

@@ -1,4 +1,4 @@
--- What a demand demand_yields is of its package.
+-- What a demand yields is of its package.
 use Rattle.std.proofs.Common.{◌≡◌, refl, List, [], ◌∷◌, ◌++◌, map, Option, Some, None}
 use Rattle.std.specs.Prelude.{option_to_list}
 use Rattle.std.specs.List.{flat_map}

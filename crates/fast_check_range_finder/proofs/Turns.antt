@@ -22,7 +22,7 @@ use Rattle.fast_check_range_finder.proofs.Accounted.{accounted_all, more_all, no
 use Rattle.fast_check_range_finder.proofs.Inside.{inside}
 use Rattle.fast_check_range_finder.proofs.Falls.{falls_all, falls_taken}
 
--- what one more demand demand_yields
+-- what one more demand yields
 yielded_more : {Y : Type 0} (demand_yields : Demand → List Y) (done : List Demand) (d : Demand) (old new : List Y) → IsYield demand_yields done old →
     Joins (demand_yields d) old new → IsYield demand_yields (done ++ d ∷ []) new
 yielded_more {Y} demand_yields done d old new y j = record {

@@ -71,7 +71,7 @@ module _ (g : ModuleGraph) (r : RootSymbol) (f b : Finder) (sound : IsSound g r 
     aliases = aliases;
   }
 
-  -- what it demand_yields is of the same module
+  -- what it gives is of the same module
   new_parts : followed_yields (e.0, m) ≡ parts (place_nv e) t m.found.ranges.items m.found.implementations.items (map fault_seen m.found.faults.items)
   new_parts = parts_of g r (place_nv e) m.found ∙ ap (λ (i : AnyModuleInfo). parts (place_nv e) (traced_in g r i) m.found.ranges.items
       m.found.implementations.items (map fault_seen m.found.faults.items)) info

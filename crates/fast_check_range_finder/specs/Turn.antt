@@ -17,7 +17,7 @@ pub record AreSame {X : Type 0} (these those : List X) : Type 0 where
   pub sound : (x : X) → Contains these x → Contains those x
   pub complete : (x : X) → Contains those x → Contains these x
 
--- what follows from a demand was asked for, and what it demand_yields was found
+-- what follows from a demand was asked for, and what it yields was found
 pub record IsFollowed {Y : Type 0} (followers : Followers) (demand_yields : Demand → List Y) (d : Demand) (a b : Search) (old new : List Y) : Type 0 where
   pub demand_sets : List DemandSet
   pub are : AreSame demand_sets (followers d)

@@ -1,4 +1,4 @@
--- What a demand demand_yields.
+-- What a demand yields.
 use Rattle.std.specs.Prelude.{ℕ, cond, List, [], ◌∷◌, ◌++◌, map, Option, Some, None, option_to_list}
 use Rattle.std.specs.List.{flat_map}
 use Rattle.std.specs.Rc.{rc_str_bytes}
@@ -79,7 +79,7 @@ untyped_yields g nv t = cond (untyped_at g t) (faulty_module nv t untyped_module
 abbrev pub entry_fault_yields : Nv → Parts × EntryFault → List Yield
 entry_fault_yields nv f = faulty_module nv (serialize f.0) (entry_fault f.1)
 
--- a package whose item is used demand_yields the item, and nothing of its entry points
+-- a package whose item is used gives the item, and nothing of its entry points
 abbrev pub entered_yields : ModuleGraph → Nv → List Parts → Option ItemView → List Yield
 entered_yields g nv urls (Some item) = cached nv urls item ∷ []
 entered_yields g nv urls None =

@@ -41,7 +41,7 @@ use fast_check_packages::PackageNv;
 use std::alloc::{AllocError, Global};
 use url::Url;
 
-/// Adds what a demand of a symbol of a module demand_yields.
+/// Adds what a demand of a symbol of a module yields.
 fn add_yields<'a>(at: SymbolAt<'a>, followed: &mut FollowedModule<'a>) -> Result<(), AllocError>
     ensures ranges { OnOk result (followed.new.found.ranges.items
         ≡ followed.old.found.ranges.items ++ ranges (tables_in followed.old.found.info.now) (demand_of at.entry.demand)) }
@@ -248,7 +248,7 @@ impl<'a> Finder<'a> {
         }
     }
 
-    /// What a demand of a symbol demand_yields, and what follows from it within its module. Answers what it asks of other files.
+    /// What a demand of a symbol yields, and what follows from it within its module. Answers what it asks of other files.
     fn follow_at(
         &mut self,
         alloc: Global,

@@ -26,7 +26,7 @@ HasDefault each_name = Unit {0}
 HasDefault (subset_at p) = BeginsWithDefault p
 HasDefault (whole_at p) = BeginsWithDefault p
 
--- beside a star, `default` or something below it demand_yields `default` whole and all names, under the package of either
+-- beside a star, `default` or something below it gives `default` whole and all names, under the package of either
 pub record IsWidening (p q : Nv) (a b : NameDemand) (r : Nv) (c : NameDemand) : Type 0 where
   pub starred : IsStarred a
   pub default : HasDefault b

@@ -49,7 +49,7 @@ module_yields nv m =
 abbrev pub entry_fault_yields : Nv → Parts × EntryFault → List Yield
 entry_fault_yields nv f = faulty_module nv (serialize f.0) (entry_fault f.1)
 
--- a package whose item is used demand_yields the item, and nothing of its entry points
+-- a package whose item is used gives the item, and nothing of its entry points
 abbrev pub entrance_yields : Nv → Option Entrance → List Yield
 entrance_yields nv None = []
 entrance_yields nv (Some (Entered entry_points faults)) =

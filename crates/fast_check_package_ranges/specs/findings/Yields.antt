@@ -1,4 +1,4 @@
--- What a demand demand_yields.
+-- What a demand yields.
 use Rattle.std.specs.Prelude.{List}
 use Rattle.url.specs.Parts.{Parts}
 use Rattle.fast_check_syntax.specs.declared.source.SourceRange.{SourceRange}
