@@ -6,6 +6,7 @@ use Rattle.fast_check_graph.specs.declared.root_symbol.RootSymbol.{RootSymbol}
 use Rattle.fast_check_requests.specs.declared.refusal.Refusal.{Refusal}
 use Rattle.fast_check_requests.specs.declared.refusal.Refusal.TheVariants as refusals
 use Rattle.fast_check_requests.specs.declared.build_requests.request.BuildRequest.{BuildRequest}
+use Rattle.fast_check_requests.specs.Run.{IsOfBytes}
 use Rattle.fast_check_requests.specs.Input.{Lacks}
 use Rattle.fast_check_requests.specs.build_requests.Input.{HoldsBuild}
 use Rattle.fast_check_requests.specs.build_requests.Request.{build_of}
@@ -48,3 +49,15 @@ one_or_none false = lit< tt
 
 pub answer_status : (asked : BuildRequest) (line : List ℕ) (status : ℕ) → AnswersBuild asked line status → status < 2
 answer_status asked line status h = subst (λ n. n < 2) (sym h.is_line.status_is) (one_or_none (list_any has_diagnostics h.answers))
+
+-- bytes are not refused by the words, by their file or by an output
+pub of_bytes : (refusal : Refusal) (bytes : List ℕ) → RefusesBytes refusal bytes → IsOfBytes refusal
+of_bytes refusals.NotJson bytes refuses = tt
+of_bytes refusals.BadForm bytes refuses = tt
+of_bytes refusals.OutOfMemory bytes refuses = tt
+of_bytes refusals.Usage bytes refuses = elim refuses [ inl h ↦ h | inr h ↦ h.2 ]
+of_bytes refusals.Unreadable bytes refuses = elim refuses [ inl h ↦ h | inr h ↦ h.2 ]
+of_bytes (refusals.TableFault fault) bytes refuses = tt
+of_bytes refusals.RangesNotAdmitted bytes refuses = tt
+of_bytes refusals.InvalidExport bytes refuses = tt
+of_bytes refusals.Unwritable bytes refuses = elim refuses [ inl h ↦ h | inr h ↦ h.2 ]

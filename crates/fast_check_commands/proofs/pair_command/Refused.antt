@@ -2,6 +2,7 @@
 use Rattle.std.proofs.Common.{ℕ, ◌<◌, List, Ok, Err, inl, inr, subst, sym, lit<}
 use Rattle.fast_check_requests.specs.declared.refusal.Refusal.{Refusal}
 use Rattle.fast_check_requests.specs.declared.refusal.Refusal.TheVariants as refusals
+use Rattle.fast_check_requests.specs.Run.{IsOfBytes}
 use Rattle.fast_check_modules.specs.EsModule.{EsModule}
 use Rattle.fast_check_modules.specs.diagnostics.PublicRanges.{PublicRanges}
 use Rattle.fast_check_transform_command.specs.Transform.{IsModuleOf}
@@ -62,3 +63,15 @@ pub answer_status : (asked : PairRequest) (line : List ℕ) (status : ℕ) → A
 answer_status asked line status h =
     let answer = h.answer.1 in
     subst (λ n. n < 2) (sym answer.status_is) (zero_or_one answer.first answer.second)
+
+-- bytes are not refused by the words, by their file or by an output
+pub of_bytes : (refusal : Refusal) (bytes : List ℕ) → RefusesBytes refusal bytes → IsOfBytes refusal
+of_bytes refusals.NotJson bytes refuses = tt
+of_bytes refusals.BadForm bytes refuses = tt
+of_bytes refusals.OutOfMemory bytes refuses = tt
+of_bytes refusals.Usage bytes refuses = elim refuses [ inl h ↦ h | inr h ↦ h.2 ]
+of_bytes refusals.Unreadable bytes refuses = elim refuses [ inl h ↦ h | inr h ↦ h.2 ]
+of_bytes (refusals.TableFault fault) bytes refuses = tt
+of_bytes refusals.RangesNotAdmitted bytes refuses = tt
+of_bytes refusals.InvalidExport bytes refuses = tt
+of_bytes refusals.Unwritable bytes refuses = elim refuses [ inl h ↦ h | inr h ↦ h.2 ]

@@ -1,8 +1,7 @@
 use Rattle.std.proofs.Common.{rules}
 use Rattle.std.proofs.lemmas.Result.{err_from_is_err_and, IfOk-weaker, IfErr-weaker}
-use Rattle.fast_check_commands.proofs.build_command.Refused.{refused, request_refused, answer_status}
+use Rattle.fast_check_commands.proofs.build_command.Refused.{refused, request_refused, of_bytes, answer_status}
 use Rattle.fast_check_commands.proofs.build_command.command.answer_build.Goals as goal
-use Rattle.fast_check_transform_command.proofs.Refused.{of_bytes}
 
 pub returns-in_err-read_build-clause-answer : goal.returns-in_err-read_build-clause-answer
 returns-in_err-read_build-clause-answer c = search rules
