@@ -4,8 +4,8 @@
 A body that always answers that memory ran out meets its contract, so a run has to show that the call succeeds. The calls are all functions of the crates, but
 for those of cases, whose result is a `Result` with an error that may be out of memory, and the copies that a derive writes. The program of all cases
 and `fast-check`, whole and with one command, are compiled without being proved, each such function noting its answer where it returns, and run: the first
-on all that it reads, with what it prints compared, the others on the examples. A generic function is reached if it is at one type. Where one has no code
-in these programs, nothing calls it.
+on all that it reads, with what it prints compared, the others on the examples and on a file whose name is not text. A generic function is reached if it is at
+one type. Where one has no code in these programs, nothing calls it.
 
 Usage: bench/check/reached.py [--all]     with `--all` a line for each call; about six minutes of one processor. Needs `rt` and `cc`
 """
@@ -288,12 +288,13 @@ def note(calls, program, words, inside):
 
 
 def run_examples(calls, program):
-    """Runs a program on all examples, by each command that one could be for."""
+    """Runs a program on all examples, by each command that one could be for, and on a file whose name is not text."""
     for file in sorted((TOP / "examples").glob("*.json")):
         if file.name.endswith(".answer.json"):
             continue
         for command in ("transform", "build", "pair"):
             note(calls, program, [command, file.name], TOP / "examples")
+    note(calls, program, ["transform", os.fsdecode(b"\xff.json")], TOP / "examples")
 
 
 def main(words):

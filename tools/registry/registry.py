@@ -26,7 +26,6 @@ import sys
 import tempfile
 import threading
 import time
-from collections import Counter
 from pathlib import Path
 
 try:
@@ -280,22 +279,20 @@ class Registry:
 
 
 def resumed(name, packages):
-    """The packages that a file has no result of, and how many results of each kind it has. A line that was not written whole is taken away."""
-    counts, done = dict.fromkeys(KINDS, 0), Counter()
-    whole = 0
+    """The packages that a file has no result of, and how many of the others are of each kind. A line that was not written whole is taken away."""
+    kinds, whole = {}, 0
     with open(name, "rb+") as file:
         for line in file:
             if not line.endswith(b"\n"):
                 break
             whole += len(line)
             result = json.loads(line)
-            counts[kind_of(result)] += 1
-            done[result["package"]] += 1
+            kinds.setdefault(result["package"], []).append(kind_of(result))
         file.truncate(whole)
-    left = []
+    counts, left = dict.fromkeys(KINDS, 0), []
     for each in packages:
-        if done[each] > 0:
-            done[each] -= 1
+        if kinds.get(each):
+            counts[kinds[each].pop(0)] += 1
         else:
             left.append(each)
     return left, counts

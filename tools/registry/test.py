@@ -222,6 +222,8 @@ def a_run_that_was_stopped_goes_on(client, room):
     assert "5 packages: 4 clean, 0 with messages, 1 refused, 0 failed, 0 lost, " in said.splitlines()[-1], said
     assert [room.runs(it) for it in packages] == [1, 1, 0, 1], "what has a result is not run again"
     assert command(room, "--resume", "--out", out, *packages, packages[0])[0] == 0
+    said = command(room, "--resume", "--out", out, packages[0])[1]
+    assert said.startswith("1 packages: 1 clean, 0 with messages, 0 refused, 0 failed, 0 lost, "), said
     assert command(room, "--resume", *packages)[0] == 1
 
 
