@@ -50,25 +50,8 @@ pub fn key_of(
     FastCheckCacheKey::build(cache.key_hash(seed, nv, entrypoints))
 }
 
-/// The item that a cache has under the key of a package, if it may be used.
-fn look_up_in(
-    cache: &dyn FastCheckCache,
-    seed: &str,
-    graph: &ModuleGraph,
-    nv: &PackageNv,
-    entrypoints: &BTreeSet<Url>,
-) -> Result<Option<FastCheckCacheItem>, AllocError>
-    ensures { IfOk result (λ found. option_map item_of found
-        ≡ used_item (hash_of cache.now seed.now) (stored cache.now) graph.now (nv_of nv.now) entrypoints.now.keys) }
-{
-    match cache.get(key_of(cache, seed, nv, entrypoints))? {
-        Some(item) if is_usable(graph, &item) => Ok(Some(item)),
-        _ => Ok(None),
-    }
-}
-
 /// The item of a package that is used: that which the cache has under the key of the package, if each of its modules has the source that it was
-/// kept with. None without a cache. `AllocError` where memory is wanting.
+/// kept with. None without a cache. `AllocError` if memory runs out.
 pub fn look_up(
     cache: Option<&dyn FastCheckCache>,
     seed: &str,
@@ -79,8 +62,11 @@ pub fn look_up(
     ensures { IfOk result (λ found. MatchOption cache.entry (option_map item_of found ≡ None) (λ c. option_map item_of found
         ≡ used_item (hash_of c.now seed.now) (stored c.now) graph.now (nv_of nv.now) entrypoints.now.keys)) }
 {
-    match cache {
-        Some(cache) => look_up_in(cache, seed, graph, nv, entrypoints),
-        None => Ok(None),
+    let Some(cache) = cache else {
+        return Ok(None);
+    };
+    match cache.get(key_of(cache, seed, nv, entrypoints))? {
+        Some(item) if is_usable(graph, &item) => Ok(Some(item)),
+        _ => Ok(None),
     }
 }

@@ -3,7 +3,6 @@
 ghost use Rattle.std.specs.Prelude.{◌≡◌, ◌++◌, [], ◌<◌, ◌↔◌, length, IfOk, OnOk, OnErr, IsSome, option_map, option_to_list};
 ghost use Rattle.std.specs.Map.{lookup};
 ghost use Rattle.std.specs.Option.{option_copied};
-ghost use Rattle.fast_check_packages.specs.Package.{nv_of};
 ghost use Rattle.fast_check_lattice.specs.Traces.{is_module, handled, pending, entry_of, Handles, Waits};
 
 use crate::lattice::ImportedExports;
@@ -127,28 +126,6 @@ impl PendingTraces {
         }
         self.traces
             .insert(dep_specifier, (package_nv, exports_to_trace))?;
-        Ok(())
-    }
-
-    /// The same for a package and a module that others share, which are copied only where the module does not wait yet.
-    pub fn add_copies(
-        &mut self,
-        alloc: Global,
-        package_nv: &PackageNv,
-        dep_specifier: &Url,
-        exports_to_trace: ImportedExports,
-    ) -> Result<(), AllocError>
-        ensures added { OnOk result ((copy : PackageNv) × (nv_of copy ≡ nv_of package_nv.now)
-            × Waits (pending self.old) copy dep_specifier.now exports_to_trace (pending self.new)) }
-        ensures err { OnErr result (pending self.new ≡ pending self.old) }
-    {
-        if let Some(waiting) = self.traces.get_mut(dep_specifier) {
-            let _ = waiting.1.add(alloc, exports_to_trace)?;
-            return Ok(());
-        }
-        let copy = package_nv.clone()?;
-        self.traces
-            .insert(dep_specifier.clone()?, (copy, exports_to_trace))?;
         Ok(())
     }
 

@@ -143,7 +143,7 @@ fn follow_names_in<'a>(
 ) -> Result<ReExportDemands<'a>, AllocError>
     requires info { followed.old.found.info.now ≡ traced.info.now }
     requires index { IfSome followed.old.index (IsIndexOf traced) }
-    ensures demand_sets { IfOk result (λ out. out ≡ module_followers traced.entry (names_of names.entry)) }
+    ensures demands { IfOk result (λ out. out ≡ module_followers traced.entry (names_of names.entry)) }
     ensures asks { OnOk result (AsksEach place (roots (own_tables traced.entry) (names_of names.entry)) followed.old.asked followed.new.asked
         symbols.old.items symbols.new.items) }
     ensures shows { OnOk result (AreShown followed.old → Shows (re_export_ranges traced.entry (names_of names.entry)) followed.old followed.new) }
@@ -154,7 +154,7 @@ fn follow_names_in<'a>(
     ask_each(place, &roots, &mut followed.asked, symbols)?;
     let re_exports = re_exports_of(alloc, traced, names, &mut followed.index)?;
     show(followed, re_exports.public)?;
-    Ok(re_exports.demand_sets)
+    Ok(re_exports.demands)
 }
 
 impl<'a> Finder<'a> {
@@ -187,16 +187,16 @@ impl<'a> Finder<'a> {
         lent: Lent<'a, '_>,
         nv: &PackageNv,
         info: &'a AnyModuleInfo,
-        demand_set: FileDependency<'a>,
+        dependency: FileDependency<'a>,
     ) -> Result<(), AllocError>
         ensures { let k = known lent.entry.input.sources (url_of lent.entry.provider.now) (nv_at lent.entry.provider.now) in
-            let ws = file_followers k (nv_of nv.now) (traced_as k info.now) (file_demand_of demand_set.entry) in
+            let ws = file_followers k (nv_of nv.now) (traced_as k info.now) (file_demand_of dependency.entry) in
             OnOk result (IsSound k.graph k.root_symbol self.old → Goes k.graph k.root_symbol ws (dependencies (nv_of nv.now) ws) self.old self.new) }
     {
         let graph = lent.input.sources.graph;
-        match graph.resolve_dependency(demand_set.specifier, info.specifier()) {
+        match graph.resolve_dependency(dependency.specifier, info.specifier()) {
             None => Ok(()),
-            Some(url) => self.ask_file(lent, nv, url, demand_set.names),
+            Some(url) => self.ask_file(lent, nv, url, dependency.names),
         }
     }
 
@@ -230,13 +230,13 @@ impl<'a> Finder<'a> {
         lent: Lent<'a, '_>,
         nv: &PackageNv,
         info: &'a AnyModuleInfo,
-        demand_set: ReExportDemand<'a>,
+        demand: ReExportDemand<'a>,
     ) -> Result<(), AllocError>
         ensures { let k = known lent.entry.input.sources (url_of lent.entry.provider.now) (nv_at lent.entry.provider.now) in
-            let ws = re_export_followers k (nv_of nv.now) (traced_as k info.now) (module_demand_of demand_set.entry) in
+            let ws = re_export_followers k (nv_of nv.now) (traced_as k info.now) (module_demand_of demand.entry) in
             OnOk result (IsSound k.graph k.root_symbol self.old → Goes k.graph k.root_symbol ws (dependencies (nv_of nv.now) ws) self.old self.new) }
     {
-        match demand_set {
+        match demand {
             ReExportDemand::Answered(url, names) => self.ask_behind(lent, nv, url, names),
             ReExportDemand::ReExported(text) => {
                 let graph = lent.input.sources.graph;
@@ -285,9 +285,9 @@ impl<'a> Finder<'a> {
         };
         let nv = copy_of(&place.package)?;
         let info = followed.found.info;
-        let demand_sets = self.follow_at(lent.alloc, at)?;
-        for demand_set in demand_sets.as_slice() {
-            self.ask_dependency(lent, &nv, info, *demand_set)?;
+        let dependencies = self.follow_at(lent.alloc, at)?;
+        for dependency in dependencies.as_slice() {
+            self.ask_dependency(lent, &nv, info, *dependency)?;
         }
         Ok(())
     }
@@ -334,9 +334,9 @@ impl<'a> Finder<'a> {
             Goes k.graph k.root_symbol (names_followers k (nv_of nv) d m) (names_yields k (nv_of nv) d m) self.old self.new) }
     {
         let place = place_of(lent.alloc, &mut self.modules, copy_of(&nv)?, info)?;
-        let demand_sets = self.follow_names_at(lent.alloc, lent.input.sources, place, names)?;
-        for demand_set in demand_sets.as_slice() {
-            self.ask_re_exported(lent, &nv, info, *demand_set)?;
+        let demands = self.follow_names_at(lent.alloc, lent.input.sources, place, names)?;
+        for demand in demands.as_slice() {
+            self.ask_re_exported(lent, &nv, info, *demand)?;
         }
         Ok(())
     }

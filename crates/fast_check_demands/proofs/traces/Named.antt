@@ -28,8 +28,8 @@ module _ (m : TracedModule) (name : Name) (t : Tables) (is : t ≡ own_tables m)
       ∙ (ap (first_range nodes) (first_node m name nodes)
       ∙ ap (λ (x : Option SymbolId). cond (is_some x) [] (first_range nodes (first_with m name nodes))) no_export))
 
-  pub named_followers : (d : NameDemand) (demand_sets : List ModuleDemand) → demand_sets ≡ answered_at d (option_map (λ a. a.1) o) → demand_sets ≡ path_followers m name d
-  named_followers d demand_sets e =
+  pub named_followers : (d : NameDemand) (demands : List ModuleDemand) → demands ≡ answered_at d (option_map (λ a. a.1) o) → demands ≡ path_followers m name d
+  named_followers d demands e =
       e
       ∙ (ap (λ (p : Option Answered). answered_at d (option_map (λ a. a.1) p)) from
       ∙ (ap (answered_at d) (first_answer m name nodes)

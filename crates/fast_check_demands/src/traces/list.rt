@@ -42,10 +42,10 @@ impl<'a> ReExportDemands<'a> {
     }
 
     /// One more.
-    pub fn push(&mut self, demand_set: ReExportDemand<'a>) -> Result<(), AllocError>
-        ensures { OnOk result (self.new ≡ self.old ++ module_demand_of demand_set.entry ∷ []) }
+    pub fn push(&mut self, demand: ReExportDemand<'a>) -> Result<(), AllocError>
+        ensures { OnOk result (self.new ≡ self.old ++ module_demand_of demand.entry ∷ []) }
     {
-        self.items.push(demand_set)?;
+        self.items.push(demand)?;
         Ok(())
     }
 

@@ -28,7 +28,7 @@ pub enum PublicReExports {
 #[derive(Drop)]
 pub struct ReExports<'a> {
     pub public: PublicReExports,
-    pub demand_sets: ReExportDemands<'a>,
+    pub demands: ReExportDemands<'a>,
 }
 
 fn push_ranges(nodes: &[ReExportAllNode], out: &mut Vec<SourceRange>) -> Result<(), AllocError>
@@ -65,23 +65,23 @@ fn star_re_exports<'a>(
     tables: &'a CheckedTables,
 ) -> Result<ReExports<'a>, AllocError>
     ensures public { IfOk result (λ r. shown_ranges tables.now.re_exports r.public ≡ node_ranges tables.now.re_exports) }
-    ensures demand_sets { IfOk result (λ r. r.demand_sets ≡ all_re_exported tables.now.re_exports) }
+    ensures demands { IfOk result (λ r. r.demands ≡ all_re_exported tables.now.re_exports) }
 {
-    let mut demand_sets = ReExportDemands::new(alloc);
-    push_all_re_exported(tables.re_export_all_nodes(), &mut demand_sets)?;
+    let mut demands = ReExportDemands::new(alloc);
+    push_all_re_exported(tables.re_export_all_nodes(), &mut demands)?;
     Ok(ReExports {
         public: PublicReExports::All,
-        demand_sets,
+        demands,
     })
 }
 
 fn no_re_exports<'a>(alloc: Global) -> ReExports<'a>
     ensures public { result.public ≡ Nothing }
-    ensures demand_sets { result.demand_sets ≡ [] }
+    ensures demands { result.demands ≡ [] }
 {
     ReExports {
         public: PublicReExports::Nothing,
-        demand_sets: ReExportDemands::new(alloc),
+        demands: ReExportDemands::new(alloc),
     }
 }
 
@@ -94,7 +94,7 @@ fn re_exports_at<'a>(
 ) -> Result<ReExports<'a>, AllocError>
     ensures public { IfOk result (λ r. shown_ranges tables.now.re_exports r.public
         ≡ first_range tables.now.re_exports (option_map (λ a. a.0) (option_map origin_of origin.entry))) }
-    ensures demand_sets { IfOk result (λ r. r.demand_sets ≡ answered_at (names_of demand.entry) (option_map (λ a. a.1) (option_map origin_of origin.entry))) }
+    ensures demands { IfOk result (λ r. r.demands ≡ answered_at (names_of demand.entry) (option_map (λ a. a.1) (option_map origin_of origin.entry))) }
 {
     let mut found = no_re_exports(alloc);
     match origin {
@@ -102,7 +102,7 @@ fn re_exports_at<'a>(
         Some(origin) => {
             found.public = PublicReExports::First(origin.node.range);
             found
-                .demand_sets
+                .demands
                 .push(ReExportDemand::Answered(origin.module, demand))?;
         }
     }
@@ -120,7 +120,7 @@ fn named_re_exports<'a, 'm: 'a>(
     requires { IfSome index.old (IsIndexOf traced) }
     ensures index { OnOk result (IfSome index.new (IsIndexOf traced.entry)) }
     ensures public { IfOk result (λ r. shown_ranges (tables_at traced.entry).re_exports r.public ≡ path_ranges traced.entry first.now) }
-    ensures demand_sets { IfOk result (λ r. r.demand_sets ≡ path_followers traced.entry first.now (names_of demand.entry)) }
+    ensures demands { IfOk result (λ r. r.demands ≡ path_followers traced.entry first.now (names_of demand.entry)) }
 {
     let tables = own_tables(traced);
     match own_export(tables, first) {
@@ -143,7 +143,7 @@ pub fn re_exports_of<'a, 'm: 'a>(
     requires { IfSome index.old (IsIndexOf traced) }
     ensures index { OnOk result (IfSome index.new (IsIndexOf traced.entry)) }
     ensures public { IfOk result (λ r. shown_ranges (tables_at traced.entry).re_exports r.public ≡ re_export_ranges traced.entry (names_of demand.entry)) }
-    ensures demand_sets { IfOk result (λ r. r.demand_sets ≡ module_followers traced.entry (names_of demand.entry)) }
+    ensures demands { IfOk result (λ r. r.demands ≡ module_followers traced.entry (names_of demand.entry)) }
 {
     match demand {
         NameDemand::AllButDefault | NameDemand::All => star_re_exports(alloc, own_tables(traced)),

@@ -12,9 +12,9 @@ returns-in_ok-origin-in-None-clause-public c =
     (option_map origin_of c.in_ok-origin-in-None.origin) c.in_ok-origin-in-None.ensures.origin r.public e)
     c.re_exports_at.ensures.public
 
-pub returns-in_ok-origin-in-None-clause-demand_sets : goal.returns-in_ok-origin-in-None-clause-demand_sets
-returns-in_ok-origin-in-None-clause-demand_sets c =
+pub returns-in_ok-origin-in-None-clause-demands : goal.returns-in_ok-origin-in-None-clause-demands
+returns-in_ok-origin-in-None-clause-demands c =
     IfOk-weaker c.re_exports_at.result _ _
     (λ r e. named_followers c.args.traced c.args.first.now c.own_tables-tables.result.now c.own_tables-tables.ensures c.in-None.ensures
-    (option_map origin_of c.in_ok-origin-in-None.origin) c.in_ok-origin-in-None.ensures.origin (names_of c.args.demand) r.demand_sets e)
-    c.re_exports_at.ensures.demand_sets
+    (option_map origin_of c.in_ok-origin-in-None.origin) c.in_ok-origin-in-None.ensures.origin (names_of c.args.demand) r.demands e)
+    c.re_exports_at.ensures.demands

@@ -15,7 +15,7 @@ returns-in-None g c sound =
     let m = goal.JsrUrlProvider-dyn g c.args.lent.provider.now in
     let k = known c.args.lent.input.sources (m.url_of c.args.lent.provider.now.1) (m.nv_at c.args.lent.provider.now.1) in
     let nv = nv_of c.args.nv.now in
-    let w = c.args.demand_set in
+    let w = c.args.dependency in
     asks_none k.graph k.root_symbol nv (λ (url : Parts). file_at nv (serialize url) (asked_by (names_of w.names)) (k.owner (serialize url)))
     (resolved (traced_as k c.args.info.now) w.specifier.now) c.args.self.now sound
     (ap (resolved_to k.graph w.specifier.now) (sym c.specifier.ensures) ∙ (sym c.resolve_dependency.ensures ∙ ap option_copied c.in-None.is))

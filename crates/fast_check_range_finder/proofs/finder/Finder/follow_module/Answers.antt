@@ -31,24 +31,24 @@ follow_names_at-requires-clause-sound g c =
     c.in_ok-place.place c.in_ok-place.ensures
     (record { packages = refl; entered = refl; handled = refl; names = refl; symbols = refl; entrances = refl; dependencies = refl; untyped = refl })).sound
 
-pub loop-demand_set-init : goal.loop-demand_set-init
-loop-demand_set-init g c sound = goes_nowhere _ _ c.follow_names_at.new.self sound
+pub loop-demand-init : goal.loop-demand-init
+loop-demand-init g c sound = goes_nowhere _ _ c.follow_names_at.new.self sound
 
-pub loop-demand_set-preserved : goal.loop-demand_set-preserved
-loop-demand_set-preserved g c sound =
+pub loop-demand-preserved : goal.loop-demand-preserved
+loop-demand-preserved g c sound =
     let m = goal.JsrUrlProvider-dyn g c.args.lent.provider.now in
     let k = known c.args.lent.input.sources (m.url_of c.args.lent.provider.now.1) (m.nv_at c.args.lent.provider.now.1) in
     let nv = nv_of c.args.nv in
     let h = re_export_followers k nv (traced_as k c.args.info.now) in
-    let xs = c.as_slice-demand_set-items.result.now in
-    let i = c.loop-demand_set.demand_set-index in
-    let x = c.demand_set-item.result in
-    let s = c.loop-demand_set.invariant sound in
+    let xs = c.as_slice-demand-items.result.now in
+    let i = c.loop-demand.demand-index in
+    let x = c.demand-item.result in
+    let s = c.loop-demand.invariant sound in
     let more : map module_demand_of (take (i + 1) xs) ≡ map module_demand_of (take i xs) ++ module_demand_of x ∷ [] =
-    ap (map module_demand_of) (take_more xs i x c.loop-demand_set-test.true ∙ ap (λ (y : ReExportDemand). take i xs ++ y ∷ []) (sym c.demand_set-item.is)) ∙
+    ap (map module_demand_of) (take_more xs i x c.loop-demand-test.true ∙ ap (λ (y : ReExportDemand). take i xs ++ y ∷ []) (sym c.demand-item.is)) ∙
     map-append module_demand_of (take i xs) (x ∷ []) in
     subst (λ (ds : List ModuleDemand). AsksFor k.graph k.root_symbol nv (flat_map h ds) c.follow_names_at.new.self c.ask_re_exported.new.self) (sym more)
-    (goes_more k.graph k.root_symbol h nv (map module_demand_of (take i xs)) (module_demand_of x) c.follow_names_at.new.self c.loop-demand_set.self
+    (goes_more k.graph k.root_symbol h nv (map module_demand_of (take i xs)) (module_demand_of x) c.follow_names_at.new.self c.loop-demand.self
     c.ask_re_exported.new.self s (c.in_ok-ask_re_exported.ensures s.sound))
 
 pub returns : goal.returns
@@ -60,15 +60,15 @@ returns g c =
     let nv = nv_of c.args.nv in
     let info = c.args.info.now in
     let h = re_export_followers k nv (traced_as k info) in
-    let xs = c.as_slice-demand_set-items.result.now in
+    let xs = c.as_slice-demand-items.result.now in
     let p = c.in_ok-place.ensures in
     let first = placed_goes k.graph k.root_symbol f b c.requires.sound (nv_of c.in_ok-copy_of.field-0) info c.requires.own c.in_ok-place.place p
     (record { packages = refl; entered = refl; handled = refl; names = refl; symbols = refl; entrances = refl; dependencies = refl; untyped = refl }) in
-    let here = c.in_ok-demand_sets.ensures p.followed p.here in
-    names_all k b c.follow_names_at.new.self c.loop-demand_set.self f p.followed (names_of c.args.names) nv info (map module_demand_of xs)
+    let here = c.in_ok-demands.ensures p.followed p.here in
+    names_all k b c.follow_names_at.new.self c.loop-demand.self f p.followed (names_of c.args.names) nv info (map module_demand_of xs)
     (p.nv_is ∙ c.in_ok-copy_of.ensures)
     (placed_info k.graph k.root_symbol f b c.requires.sound (nv_of c.in_ok-copy_of.field-0) info c.requires.own c.in_ok-place.place p)
-    (c.as_slice-demand_set-items.ensures ∙ here.0)
+    (c.as_slice-demand-items.ensures ∙ here.0)
     (subst (λ (q : Nv). Goes k.graph k.root_symbol [] (recorded q (serialize (specifier_of info)) ∷ []) f b) c.in_ok-copy_of.ensures first) here.1
-    (subst (λ (ds : List ReExportDemand). AsksFor k.graph k.root_symbol nv (flat_map h (map module_demand_of ds)) c.follow_names_at.new.self c.loop-demand_set.self)
-    (take_all c.loop-demand_set.demand_set-index xs c.loop-demand_set-test.false) (c.loop-demand_set.invariant here.1.sound))
+    (subst (λ (ds : List ReExportDemand). AsksFor k.graph k.root_symbol nv (flat_map h (map module_demand_of ds)) c.follow_names_at.new.self c.loop-demand.self)
+    (take_all c.loop-demand.demand-index xs c.loop-demand-test.false) (c.loop-demand.invariant here.1.sound))

@@ -8,9 +8,9 @@ use Rattle.fast_check_range_finder.specs.Finder.{IsSound, Goes}
 use Rattle.fast_check_range_finder.specs.Yields.{dependencies}
 use Rattle.fast_check_range_finder.proofs.finder.Finder.follow_module.Given as goal
 
-abbrev pub invariant-loop-demand_set : goal.invariant-loop-demand_set
-invariant-loop-demand_set g l =
+abbrev pub invariant-loop-demand : goal.invariant-loop-demand
+invariant-loop-demand g l =
     let m = goal.JsrUrlProvider-dyn g l.lent.provider.now in
     let k = known l.lent.input.sources (m.url_of l.lent.provider.now.1) (m.nv_at l.lent.provider.now.1) in
-    let ws = flat_map (re_export_followers k (nv_of l.nv) (traced_as k l.info)) (map module_demand_of (take l.demand_set-index l.demand_set-items)) in
+    let ws = flat_map (re_export_followers k (nv_of l.nv) (traced_as k l.info)) (map module_demand_of (take l.demand-index l.demand-items)) in
     IsSound k.graph k.root_symbol l.initial.self → Goes k.graph k.root_symbol ws (dependencies (nv_of l.nv) ws) l.initial.self l.self

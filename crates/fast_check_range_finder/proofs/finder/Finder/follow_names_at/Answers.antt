@@ -26,7 +26,7 @@ follow_names_in-requires-clause-index c =
     (c.requires.sound.modules (v.0, c.in-Some.followed.now) (get_in c.args.self.now.modules.entries c.args.place (v.0, c.in-Some.followed.now) v.1)).index
 
 pub returns : goal.returns
-returns c = with_ok c.follow_names_in.result c.follow_names_in.ensures.demand_sets c.follow_names_in.ensures.asks c.follow_names_in.ensures.shows
+returns c = with_ok c.follow_names_in.result c.follow_names_in.ensures.demands c.follow_names_in.ensures.asks c.follow_names_in.ensures.shows
     c.follow_names_in.ensures.index_of c.follow_names_in.ensures.aliases
     (λ out is asks shows index aliases e here.
     let f = c.args.self.now in

@@ -17,24 +17,24 @@ use Rattle.fast_check_range_finder.proofs.Steps.{goes_nowhere, goes_more}
 use Rattle.fast_check_range_finder.proofs.Whole.{symbol_all}
 use Rattle.fast_check_range_finder.proofs.finder.Finder.follow_symbol.Goals as goal
 
-pub loop-demand_set-init : goal.loop-demand_set-init
-loop-demand_set-init g c sound = goes_nowhere _ _ c.follow_at.new.self sound
+pub loop-dependency-init : goal.loop-dependency-init
+loop-dependency-init g c sound = goes_nowhere _ _ c.follow_at.new.self sound
 
-pub loop-demand_set-preserved : goal.loop-demand_set-preserved
-loop-demand_set-preserved g c sound =
+pub loop-dependency-preserved : goal.loop-dependency-preserved
+loop-dependency-preserved g c sound =
     let m = goal.JsrUrlProvider-dyn g c.args.lent.provider.now in
     let k = known c.args.lent.input.sources (m.url_of c.args.lent.provider.now.1) (m.nv_at c.args.lent.provider.now.1) in
     let nv = nv_of c.in_ok-nv.nv in
     let h = file_followers k nv (traced_as k c.in-Some.followed.now.found.info.now) in
-    let xs = c.as_slice-demand_set-items.result.now in
-    let i = c.loop-demand_set.demand_set-index in
-    let x = c.demand_set-item.result in
-    let s = c.loop-demand_set.invariant sound in
+    let xs = c.as_slice-dependency-items.result.now in
+    let i = c.loop-dependency.dependency-index in
+    let x = c.dependency-item.result in
+    let s = c.loop-dependency.invariant sound in
     let more : map file_demand_of (take (i + 1) xs) ≡ map file_demand_of (take i xs) ++ file_demand_of x ∷ [] =
-    ap (map file_demand_of) (take_more xs i x c.loop-demand_set-test.true ∙ ap (λ (y : FileDependency). take i xs ++ y ∷ []) (sym c.demand_set-item.is)) ∙
+    ap (map file_demand_of) (take_more xs i x c.loop-dependency-test.true ∙ ap (λ (y : FileDependency). take i xs ++ y ∷ []) (sym c.dependency-item.is)) ∙
     map-append file_demand_of (take i xs) (x ∷ []) in
     subst (λ (ds : List FileDemand). AsksFor k.graph k.root_symbol nv (flat_map h ds) c.follow_at.new.self c.ask_dependency.new.self) (sym more)
-    (goes_more k.graph k.root_symbol h nv (map file_demand_of (take i xs)) (file_demand_of x) c.follow_at.new.self c.loop-demand_set.self
+    (goes_more k.graph k.root_symbol h nv (map file_demand_of (take i xs)) (file_demand_of x) c.follow_at.new.self c.loop-dependency.self
     c.ask_dependency.new.self s (c.in_ok-ask_dependency.ensures s.sound))
 
 pub returns : goal.returns
@@ -46,11 +46,11 @@ returns g c e here sound =
     let nv = nv_of c.in_ok-nv.nv in
     let info = c.in-Some.followed.now.found.info.now in
     let h = file_followers k nv (traced_as k info) in
-    let xs = c.as_slice-demand_set-items.result.now in
-    let first = c.in_ok-demand_sets.ensures k.graph k.root_symbol e here sound in
-    symbol_all k c.args.self.now c.follow_at.new.self c.loop-demand_set.self e
+    let xs = c.as_slice-dependency-items.result.now in
+    let first = c.in_ok-dependencies.ensures k.graph k.root_symbol e here sound in
+    symbol_all k c.args.self.now c.follow_at.new.self c.loop-dependency.self e
     (sound.modules e (get_in c.args.self.now.modules.entries c.args.at.place e here)) (demand_of c.args.at.demand) nv info (map file_demand_of xs)
     (c.in_ok-nv.ensures ∙ ap (λ (y : Followed). place_nv y) (sym same)) (ap (λ (y : Followed). y.1.found.info.now) (sym same))
-    (c.as_slice-demand_set-items.ensures ∙ first.0) first.1
-    (subst (λ (ds : List FileDependency). AsksFor k.graph k.root_symbol nv (flat_map h (map file_demand_of ds)) c.follow_at.new.self c.loop-demand_set.self)
-    (take_all c.loop-demand_set.demand_set-index xs c.loop-demand_set-test.false) (c.loop-demand_set.invariant first.1.sound))
+    (c.as_slice-dependency-items.ensures ∙ first.0) first.1
+    (subst (λ (ds : List FileDependency). AsksFor k.graph k.root_symbol nv (flat_map h (map file_demand_of ds)) c.follow_at.new.self c.loop-dependency.self)
+    (take_all c.loop-dependency.dependency-index xs c.loop-dependency-test.false) (c.loop-dependency.invariant first.1.sound))
