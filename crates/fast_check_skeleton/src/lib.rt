@@ -10,5 +10,5 @@ pub use changes::hidden_changes;
 pub use fast_check_expandos as expandos;
 pub use fast_check_signatures as signatures;
 pub use fast_check_signatures::{Fault, FaultKind, FunctionKind};
-pub use rules::{DeclRule, DefaultRule, ItemRule, LinkRule, decl_rule, item_rule};
+pub use rules::{DeclRule, DefaultRule, ImportExportRule, ItemRule, decl_rule, item_rule};
 pub use worlds::{hash_mark, hidden_items, two_worlds};

@@ -1,7 +1,7 @@
 //! What the transform of a module gathers.
 ghost use Rattle.std.specs.Prelude.{◌≡◌, []};
 ghost use Rattle.fast_check_comments.specs.Kept.{kept};
-ghost use Rattle.fast_check_transform_statements.specs.transform_declarations.links.module_facts.skeleton.ModuleFacts.{ModuleFacts};
+ghost use Rattle.fast_check_transform_statements.specs.transform_declarations.imports_exports.module_facts.skeleton.ModuleFacts.{ModuleFacts};
 ghost use Rattle.fast_check_transform_imports.specs.Relative.{AreRelative};
 
 use fast_check_comments::{Comments, CommentsMut};

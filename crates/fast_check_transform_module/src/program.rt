@@ -1,6 +1,6 @@
 //! What stays of a whole module.
 ghost use Rattle.std.specs.Prelude.{◌≡◌, IfOk};
-ghost use Rattle.fast_check_transform_statements.specs.transform_declarations.links.module_facts.ModuleFacts.{facts_of};
+ghost use Rattle.fast_check_transform_statements.specs.transform_declarations.imports_exports.module_facts.ModuleFacts.{facts_of};
 ghost use Rattle.fast_check_transform_module.specs.Transform.{facts_of_module, skeleton, comments, faults};
 
 use crate::context::TransformContext;
