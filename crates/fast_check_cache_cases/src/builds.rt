@@ -1,4 +1,4 @@
-//! Builds with a cache, one after the other: each line of the file `cached_builds` is a run, in JSON. Told is what each build answers, and what it sets.
+//! Builds with a cache, one after the other: each line of the file `cached_builds` is a run, in JSON. Written is what each build answers, and what it sets.
 
 use crate::read::{Run, fill, read_builds, read_name, read_run, say_refused};
 use crate::run_cache::RunCache;

@@ -1,4 +1,4 @@
-//! A text that is told piece by piece.
+//! A text that is written piece by piece.
 ghost use Rattle.std.specs.Prelude.{◌≡◌, [], ◌++◌, Some, None, OnSome, MatchResult, is_ok, if◌then◌else◌};
 ghost use Rattle.std.specs.Option.{option_copied};
 ghost use Rattle.std.specs.String.{string_bytes};
@@ -7,7 +7,7 @@ ghost use Rattle.fast_check_cases.specs.Says.{Says, text_of_flag};
 use std::alloc::{AllocError, Global};
 use std::marker::Model;
 
-/// A text that is told piece by piece. Where memory is wanting, a piece is left out, and the text is no answer.
+/// A text that is written piece by piece. Where memory is wanting, a piece is left out, and the text is no answer.
 /// Contracts see it as its bytes, or as `None` once a piece was left out.
 #[derive(Drop)]
 pub struct Said {

@@ -1,4 +1,4 @@
-//! Why a module has no skeleton, and what a reader is told of it.
+//! Why a module has no skeleton, and how that is reported.
 ghost use Rattle.std.specs.Prelude.{◌≡◌, Some};
 ghost use Rattle.std.specs.Option.{option_copied};
 

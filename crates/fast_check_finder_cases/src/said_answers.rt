@@ -1,4 +1,4 @@
-//! What is told of a diagnostic.
+//! The texts of a diagnostic.
 
 use fast_check_cases::Said;
 use fast_check_diagnostics::{Diagnostic, DiagnosticLocation, FastCheckDiagnostic};

@@ -1,4 +1,4 @@
--- What is told where the first fault is wanted alone is a front of all that is told.
+-- What is reported where the first fault is wanted alone is a front of all that is reported.
 use Rattle.std.specs.Prelude.{◌≡◌, true, false, List, [], ◌∷◌, ◌++◌, map, take, Option, Some, None, refl}
 use Rattle.std.specs.List.{flat_map}
 use Rattle.std.proofs.Common.{◌∙◌, sym, ap, subst, append_assoc}

@@ -20,7 +20,7 @@ use Rattle.fast_check_package_answers.specs.Kept.{entry_of, kept_info, kept_skel
 use Rattle.fast_check_package_answers.specs.KeptAnswers.{kept_answer, named_in, kept_answers}
 use Rattle.fast_check_package_answers.proofs.Turns.{all_shown}
 
--- a fault is told of its own module
+-- a fault is reported of its own module
 diagnosed_at : (info : EsModule) (fault : Fault) (d : FastCheckDiagnostic) → IsDiagnosticOf info fault d → specifier_of d ≡ info.specifier
 unfolding report_of
 diagnosed_at info fault (kinds.MissingExplicitType place) h = h.1.specifier

@@ -86,7 +86,7 @@ goes_on true diagnostics b is e t =
 
 -- ---- one module
 
--- what the finder found is told as it is
+-- what the finder found is reported as it is
 pub found_diagnosed : (ds : List FastCheckDiagnostic) → AllZip Diagnoses (map found ds) ds
 found_diagnosed [] = tt
 found_diagnosed (d ∷ ds) = (refl, found_diagnosed ds)
@@ -183,7 +183,7 @@ faults_stop graph root ms more some =
     let f = module_faults true graph root in
     ap first_list (map-append f ms more) ∙ first_front (map f ms) (map f more) some
 
--- what is told of some modules, and of one more
+-- what is reported of some modules, and of one more
 pub diagnosed_more : (first : Bool) (graph : ModuleGraph) (root : RootSymbol) (ms : List PublicModule) (m : PublicModule)
     (old more new : List FastCheckDiagnostic) →
     (first ≡ true → old ≡ []) → AllZip Diagnoses (package_faults first graph root ms) old →
@@ -194,7 +194,7 @@ diagnosed_more first graph root ms m old more new none before one is =
     subst (λ rs. AllZip Diagnoses rs new) (sym faults)
     (subst (AllZip Diagnoses _) (sym is) (both_append Diagnoses _ old _ more before one))
 
--- where the first fault is wanted alone, what is told of some modules is all
+-- where the first fault is wanted alone, what is reported of some modules is all
 pub diagnosed_all : (first : Bool) (graph : ModuleGraph) (root : RootSymbol) (ms more all : List PublicModule)
     (diagnostics : List FastCheckDiagnostic) →
     first ≡ true → diagnostics ≢ [] → ms ++ more ≡ all → AllZip Diagnoses (package_faults first graph root ms) diagnostics →

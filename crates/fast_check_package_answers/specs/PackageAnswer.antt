@@ -73,7 +73,7 @@ abbrev pub IsRefused : List FastCheckDiagnostic → Parts → Answer → Type 0
 IsRefused list entry_point (specifier, Ok made) = ⊥
 IsRefused list entry_point (specifier, Err diagnostics) = (specifier ≡ entry_point) × AreCopies list diagnostics.items
 
--- one list tells of the reasons, and answers each entry point
+-- one list reports the reasons, and answers each entry point
 pub record AreRefused (faults : List PackageFault) (entry_points : List Parts) (answers : List Answer) : Type 0 where
   pub list : List FastCheckDiagnostic
   pub diagnoses : AllZip Diagnoses faults list

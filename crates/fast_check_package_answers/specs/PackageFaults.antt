@@ -24,7 +24,7 @@ pub data PackageFault : Type 0 where
   found : FastCheckDiagnostic → PackageFault
   met : EsModule → Fault → PackageFault
 
--- what the finder found is told as it is, and a fault as a diagnostic of its kind at its place
+-- what the finder found is reported as it is, and a fault as a diagnostic of its kind at its place
 abbrev pub Diagnoses : PackageFault → FastCheckDiagnostic → Type 0
 Diagnoses (found d) diagnosed_as = diagnosed_as ≡ d
 Diagnoses (met info fault) diagnosed_as = IsDiagnosticOf info fault diagnosed_as

@@ -133,7 +133,7 @@ fn add_diagnostics(
     Ok(())
 }
 
-/// Whether nothing more is to be told of a package.
+/// Whether nothing more is to be reported of a package.
 fn ends_early(options: &TransformOptions, diagnostics: &[FastCheckDiagnostic]) -> bool
     ensures { result ≡ (options.now.should_error_on_first_diagnostic && not (length diagnostics.now == 0)) }
 {

@@ -4,7 +4,7 @@ ghost use Rattle.fast_check_package_answers.specs.PackageAnswer.{IsFrontAlone};
 use fast_check_cache::PackagePublicRanges;
 use fast_check_graph::{ModuleGraph, RootSymbol};
 
-/// The law of the option `should_error_on_first_diagnostic`: what is told of a package under it is a front of what is told without, and
+/// The law of the option `should_error_on_first_diagnostic`: what is reported of a package under it is a front of what is reported without, and
 /// the same packages are refused. It holds of the definitions, and so of what `answer_package` answers; it does nothing when it is called.
 pub fn first_alone(
     graph: &ModuleGraph,

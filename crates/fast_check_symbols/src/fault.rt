@@ -1,7 +1,7 @@
 //! What is wrong with tables.
 use std::alloc::{AllocError, AllocFailed};
 
-/// What is wrong with tables that were handed in, in order: of several faults the first is told.
+/// What is wrong with tables that were handed in, in order: of several faults the first is reported.
 #[derive(Clone, Copy, Debug, PartialEq, Eq, Drop, thiserror::Error)]
 pub enum TableFault {
     /// A symbol id is mentioned, and no symbol has it.

@@ -11,7 +11,7 @@ pub use fast_check_modules::{
 };
 pub use fast_check_packages::{JsrUrlProvider, PackageNv, WorkspaceMember};
 
-/// What is public of a module, and what a user is told of faults.
+/// What is public of a module, and the diagnostics that a user gets.
 pub mod diagnostics {
     pub use fast_check_modules::diagnostics::{
         Diagnostic, DiagnosticLevel, DiagnosticLocation, DiagnosticSnippet, FastCheckDiagnostic,

@@ -56,7 +56,7 @@ faulty_namespace decl f e = go (TsModuleDecl-global decl) (is_ambient_module dec
     go false false e = cc
 
 module _ (facts : ModuleFacts) (place : SourceRange) (decl : Tree) where
-  -- a fault that is told
+  -- a fault that is reported
   diagnosed : {f : Fault} {old new : List Fault} → new ≡ old ++ f ∷ [] → {g : Fault} → f ≡ g →
       namespace_seen item_look facts place decl ≡ faulty g.kind g.range ∷ [] →
       Adds (namespace_answer facts place decl) (Absent ∷ []) old new

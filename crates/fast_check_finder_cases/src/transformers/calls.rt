@@ -1,4 +1,4 @@
-//! Calls of a transformer, and what is told of them.
+//! Calls of a transformer, and what comes of them.
 use crate::modules::module_of;
 use crate::said_answers::say_diagnostic;
 use fast_check_cases::Said;
