@@ -112,7 +112,7 @@ pub enum FastCheckDiagnostic {
     /// The text of a skeleton could not be written.
     Emit {
         specifier: Url,
-        /// The text of the error that was met.
+        /// The text of the error.
         inner: String,
     },
     /// An entry point is not found.

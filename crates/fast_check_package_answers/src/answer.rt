@@ -232,8 +232,8 @@ fn answer_found(
     Ok(answers)
 }
 
-/// The answer of a package, of which it is known what is public, or what a cache keeps of it. In the second case each module that is kept is
-/// answered by the skeleton that is kept of it, or else by `Cached`, in their order, and nothing goes to the entry points. In the first, where
+/// The answer of a package, of which it is known what is public, or what a cache has of it. In the second case each cached module is
+/// answered by its cached skeleton, or else by `Cached`, in their order, and nothing goes to the entry points. In the first, where
 /// nothing is wrong with it, each module with a syntax tree is answered by its skeleton, in the order of the specifiers. Else each entry point, in
 /// order, is answered by all that is wrong with the modules, and no module by a skeleton; with `should_error_on_first_diagnostic` by what the
 /// finder found wrong with the first faulty module, or by its first fault.

@@ -1,5 +1,5 @@
 //! How a package is answered, once it is known what is public in it: by the skeletons of its modules, or by what is wrong with them; or by what a
-//! cache keeps of it.
+//! cache has of it.
 #![tactic(auto)]
 
 mod answer;
