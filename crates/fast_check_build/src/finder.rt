@@ -54,7 +54,7 @@ pub(crate) fn find_seeded(
 ///
 /// The cache is asked once for each package that is followed and has exports. Where it has an item under the package's key, each module of which
 /// has the source that it was cached with, that item is answered in place of what would be found, if it has modules, and the packages that it depends on are
-/// followed. `InvalidExport` has the first export text of a package that does not join to the package's URL. `OutOfMemory` where memory is wanting,
+/// followed. `InvalidExport` has the first export text of a package that does not join to the package's URL. `OutOfMemory` if memory runs out,
 /// or a URL comes to 4 GB.
 pub fn find_public_ranges<'a>(
     alloc: Global,

@@ -10,7 +10,7 @@ use std::alloc::{AllocError, Global};
 use std::{array, io};
 use url::Url;
 
-/// The module that both are reported of, None where memory is wanting.
+/// The module that both are reported of, None if memory runs out.
 fn specifier(alloc: Global) -> Option<Url> {
     Url::parse(alloc, "file:///p/mod.ts").ok()
 }

@@ -16,7 +16,7 @@ pub enum TableFault {
     /// An expando statement's range is one of the tables', and its object has no symbol.
     #[error("table-fault 4")]
     ExpandoWithoutSymbol,
-    /// Memory is wanting.
+    /// Memory ran out.
     #[error("out of memory")]
     OutOfMemory,
 }

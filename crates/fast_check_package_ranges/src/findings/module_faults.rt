@@ -187,7 +187,7 @@ impl ModuleFaults {
     }
 
     /// The diagnostics: first those of the module as a whole, then those of demands, by their places in the text. That the types of the module are not
-    /// known is reported where nothing else is. `AllocError` where memory is wanting.
+    /// known is reported where nothing else is. `AllocError` if memory runs out.
     pub fn into_diagnostics(
         self,
         alloc: Global,
