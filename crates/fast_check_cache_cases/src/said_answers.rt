@@ -1,4 +1,4 @@
-//! What a build answers, and what it sets, as text.
+//! The answers of a build and the items that it sets, as text.
 
 use fast_check_build::package_answers::ModuleAnswer;
 use fast_check_cache::{FastCheckCacheItem, FastCheckCacheModuleItem};

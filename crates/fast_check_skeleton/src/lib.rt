@@ -1,5 +1,5 @@
-//! What the skeleton of a module is, and what is wrong with one: the definitions that the transform is proved against; the grammar of what stands in
-//! one; when two modules agree but for what is hidden; and the law that both are answered alike.
+//! The skeleton of a module, and its faults: the definitions that the transform is proved against; the grammar of skeletons; when two modules agree
+//! but for hidden code; and the law that both are answered alike.
 #![tactic(auto)]
 
 mod changes;

@@ -1,4 +1,4 @@
-//! Imports and exports: what stays of them in the skeleton of a module, and what a skeleton depends on.
+//! Imports and exports: those that stay in the skeleton of a module, and the sources that a skeleton depends on.
 #![tactic(auto)]
 
 mod imports_exports;

@@ -79,8 +79,8 @@ pub fn transform_items(
     Ok(items)
 }
 
-/// What is public of a namespace, which is public by `place`: the items in its innermost block are those of a body, and all
-/// else of it stands as it is written. None where it is not public. What no skeleton has is a fault, public or not.
+/// The public part of a namespace, which is public by `place`: the items in its innermost block are those of a body, and
+/// all else stands as it is written. None where it is not public. What no skeleton has is a fault, public or not.
 #[cycle(items)]
 fn transform_namespace(
     alloc: Global,

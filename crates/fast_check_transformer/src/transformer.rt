@@ -15,7 +15,7 @@ use fast_check_transform_module::transform_faults::diagnose;
 use fast_check_transform_module::{KeptModule, transform_es_module};
 use std::alloc::{AllocError, Global};
 
-/// Transforms a module, and keeps what is wrong with it beside what is public of it. `transform` answers the one or the other.
+/// Transforms a module, and keeps its diagnostics beside its skeleton. `transform` answers the one or the other.
 #[derive(Drop)]
 pub struct FastCheckTransformer<'a> {
     graph: &'a ModuleGraph,

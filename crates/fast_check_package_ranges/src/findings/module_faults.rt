@@ -172,8 +172,8 @@ impl ModuleFaults {
         add_fault(&mut self.others, ReportedFault::OfEntry(fault), text)
     }
 
-    /// Adds what is wrong with what was demanded of the module. A fault stands at the first declaration of its symbol, and one whose symbol has
-    /// none is left out.
+    /// Adds the faults of the demands of the module. A fault stands at the first declaration of its symbol, and one whose symbol has none is
+    /// left out.
     pub fn add_demand_faults(
         &mut self,
         alloc: Global,
