@@ -474,7 +474,7 @@ def emptied(pat):
     return {kind: dict(node, **{field: []})} if field else pat
 
 
-# ---- what a reader is told of a fault
+# ---- what a reader is shown of a fault
 
 ALL_FUNCTIONS = "all functions in the public API must have an explicit return type"
 COMMON_JS = "CommonJS features such as {} are not supported in ES modules"
