@@ -184,7 +184,7 @@ def form_library(table, crate):
         "//!",
         "//! `of` reads a node by the places of its fields, whatever its kind is. "
         "A field that is not there is absent, false, empty or",
-        "//! `DUMMY_SP`. `into_tree` fails only for want of memory.",
+        "//! `DUMMY_SP`. `into_tree` fails only if memory runs out.",
         "#![tactic(auto)]",
         "",
     ]

@@ -145,8 +145,8 @@ def members():
     """A member without version is the package of version 0.0.0, and stands for each other version too. It is handed in as @w/a@1.2.0: its entry point is
     followed for that package first, and its files are those of the other one, by which nothing new is asked of the entry point."""
     file = "file:///w/a/"
-    world = lambda link, b, *more: World(
-        {}, Module(file + "mod.ts", link, *more, resolved={"./b.ts": file + "b.ts"}), Module(file + "b.ts", b), members=[["@w/a", None, file, ["./mod.ts"]]],
+    world = lambda re_export, b, *more: World(
+        {}, Module(file + "mod.ts", re_export, *more, resolved={"./b.ts": file + "b.ts"}), Module(file + "b.ts", b), members=[["@w/a", None, file, ["./mod.ts"]]],
         pending=["w/a@1.2.0"])
     without = lambda it: it[:2] in (("module", "@w/a@0.0.0"), ("range", "@w/a@0.0.0")) and it[2] == file + "mod.ts"
     by_name, by_star = export("b", src="./b.ts"), export_all("./b.ts")
@@ -172,17 +172,17 @@ def word_of(number):
 
 def of_many(number):
     """Each package exports all of the one before it, and a name of the one of half its number. One of twenty shows no type, and one of fifty no return type."""
-    links = [export_all(f"@{number - 1}"), export(named_export("v", "half"), src=f"@{number // 2}")] if number else []
+    re_exports = [export_all(f"@{number - 1}"), export(named_export("v", "half"), src=f"@{number // 2}")] if number else []
     v = let("v") if number % 20 == 13 else func("v", [], returned(unknown())) if number % 50 == 7 else const("v", lit(str(number)))
-    return Module(f"{word_of(number)}/mod.ts", *links, v, resolved={f"@{each}": f"{word_of(each)}/mod.ts" for each in (number - 1, number // 2) if number})
+    return Module(f"{word_of(number)}/mod.ts", *re_exports, v, resolved={f"@{each}": f"{word_of(each)}/mod.ts" for each in (number - 1, number // 2) if number})
 
 
 def shown_of_many(number):
     url = f"{word_of(number)}/mod.ts"
     if number % 20 == 13 or number % 50 == 7:
         return url, [f"missing-explicit-{'type' if number % 20 == 13 else 'return-type'} {url} v"]
-    links = f'export * from "@{number - 1}"; export {{ v as half }} from "@{number // 2}"; ' if number else ""
-    return url, f"{links}export const v: {number} = {{}} as never;"
+    re_exports = f'export * from "@{number - 1}"; export {{ v as half }} from "@{number // 2}"; ' if number else ""
+    return url, f"{re_exports}export const v: {number} = {{}} as never;"
 
 
 def many_packages():

@@ -79,6 +79,6 @@ def others():
 # each group of cases with what it shows
 GROUPS = [
     ("expando properties stand in the namespaces of their objects, behind all items", properties),
-    ("right sides are tested, and what conflicts is told", faults),
+    ("right sides are tested, and conflicts are reported", faults),
     ("assignments of other forms go", others),
 ]

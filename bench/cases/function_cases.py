@@ -243,7 +243,7 @@ def faults_within_values():
     within = [
         const("a", array(arrow([], unknown()), call(ref("g")))), const("b", array(call(ref("g")), arrow([], unknown()))),
         const("c", arrow([name("x")], array(arrow([], block(THROW)), call(ref("g"))))), const("d", arrow([], arrow([], unknown())))]
-    yield Case("faults_within_a_value_are_told_until_it_cannot_stay", within,
+    yield Case("faults_within_a_value_are_reported_until_it_cannot_stay", within,
                ["return () => f()", "type a", "type b", "return definitely () => { throw 1; }", "return c", "type x", "return () => f()"])
     yield Case("the_first_fault_within_a_value", within, ["return () => f()"], more={"first": True})
     yield Case("an_arrow_in_an_array_in_an_object", [

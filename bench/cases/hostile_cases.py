@@ -1,6 +1,6 @@
 """Runs of `fast-check build` on hostile tables, in the shapes that `bench/check/shapes.py` measures and in some of its own: rings, long
 paths, names that come twice, and modules that lead back to themselves. The trees are empty, so that each module with something public is answered by an
-empty skeleton: what is shown is that the call ends, which modules are answered, and which fault of the tables is told."""
+empty skeleton: what is shown is that the call ends, which modules are answered, and which fault of the tables is reported."""
 import hostile_shapes
 import tables
 
@@ -126,7 +126,7 @@ CASES = [
     ("hostile_paths_covered", hostile_shapes.paths_covered_of_many_lengths(50), THREE),
     ("hostile_names_covered_before_others", hostile_shapes.names_covered_before_others(50), THREE),
     ("hostile_more_names_covered_before_others", hostile_shapes.names_covered_before_others(300), THREE),
-    # found and told once, though many declarations, names or paths lead to it
+    # found and reported once, though many declarations, names or paths lead to it
     ("hostile_path_of_two_askers", hostile_shapes.path_of_two_askers(50), ONE),
     ("hostile_parts_of_many_declarations", hostile_shapes.parts_of_many_declarations(50), ONE),
     ("hostile_properties_of_overloads", hostile_shapes.properties_of_overloads(50), ONE),

@@ -369,8 +369,8 @@ def names_of_two_modules_in_turns(n):
 
 def chain_asked_from_its_end(n):
     """Turns in which a name is asked for that leads to all that were asked for before."""
-    links = [symbol(i, definition(by_name(f"a{i + 1}")), name=f"a{i}") for i in range(1, n + 1)]
-    return chain_to(n, lambda i: [f"a{n + 1 - i}"], module(url("m"), links, exports_of("a", n)))
+    symbols = [symbol(i, definition(by_name(f"a{i + 1}")), name=f"a{i}") for i in range(1, n + 1)]
+    return chain_to(n, lambda i: [f"a{n + 1 - i}"], module(url("m"), symbols, exports_of("a", n)))
 
 
 def files_asked_in_turns(n):

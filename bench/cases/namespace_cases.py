@@ -153,8 +153,9 @@ def refusals():
         yield one(f"an_exported_ambient_module{what}", exported(ambient_module('"x"')), ['ambient "x"'], private=private)
         yield one(f"an_exported_module_without_body{what}", exported(ambient_module("x", body=False)), ["ambient x"], private=private)
     yield one("a_global_module_that_is_not_declared", unexported(global_module(const("a"), declare=False)), ["global global { export const a; }"])
-    yield one("faults_inside_of_a_global_module_are_not_told", unexported(global_module(const("a"))), ["global declare global { export const a; }"])
-    yield one("faults_inside_of_an_ambient_module_are_not_told", unexported(ambient_module('"x"', const("a"), export_assignment(ref("b")))), ['ambient "x"'])
+    yield one("faults_inside_of_a_global_module_are_not_reported", unexported(global_module(const("a"))), ["global declare global { export const a; }"])
+    yield one("faults_inside_of_an_ambient_module_are_not_reported", unexported(ambient_module('"x"', const("a"), export_assignment(ref("b")))),
+              ['ambient "x"'])
     for media_type in ("Dts", "Dmts"):
         yield Case(f"modules_that_no_skeleton_has_in_{media_type}", [unexported(global_module()), unexported(ambient_module('"x"'))],
                    ["global declare global {}", 'ambient "x"'], private=(0, 1), more={"media_type": media_type})

@@ -175,7 +175,7 @@ module p/mod.ts
   export a: define keyword
 ''')
 
-case('of two texts that cannot be joined the first is told', '''
+case('of two texts that cannot be joined the first is reported', '''
 package p ./mod.ts https:// http://[
 pending p
 ''')
@@ -285,7 +285,7 @@ module q/q.ts
   export a: define keyword
 ''')
 
-case('a module that is not typed is told once, as an entry point', '''
+case('a module that is not typed is reported once, as an entry point', '''
 package p ./mod.ts
 package q ./b.js
 pending q p

@@ -63,7 +63,7 @@ def both(*names):
     return interface("I", *[property_signature(each, "number") for each in names])
 
 
-# ---- what is told of pairs in the first place
+# ---- what is reported of pairs in the first place
 
 
 def first_pairs():
@@ -288,7 +288,7 @@ def options():
 
 
 def refusals():
-    title("a fault of the first module's tables is told before one of the second's, and both before ranges that are not admitted")
+    title("a fault of the first module's tables is reported before one of the second's, and both before ranges that are not admitted")
     whole = lambda **tables: with_tables(first_module().request(), **tables)
     undeclared, missing = {"symbols": [{"id": 0}, {"id": 1}]}, {"symbols": []}
     ranged = {"symbols": [{"id": 0}, {"id": 1, "decls": [definition([1, 8])]}]}

@@ -43,7 +43,7 @@ DESCRIPTIONS = {
 
 
 def shown(fault, text):
-    """What is told of a diagnostic that the transform finds."""
+    """What is reported of a diagnostic that the transform finds."""
     (start, end), size = fault["range"], len(text.encode())
     said = DESCRIPTIONS.get(fault["code"])
     description = f'Some("{said}")' if said else "None"

@@ -84,6 +84,8 @@ OF_FUNCTION = re.compile(r"/(?:Answers|Invariants)\.antt$")
 DECLARED = re.compile(r"\b(?:fn|struct|enum|trait|type|const|static|mod) (\w+)")
 IN_DECLARATION = re.compile(r"(\w+)\s*:(?!:)|[{,\]]\s*(\w+)")
 DECLARED_ANTT = re.compile(r"^\s*(?:pub |abbrev |unfoldable )*(?:(?:data|record|module|mod) ([^\s:(){}]+)|([^\s:(){}]+) :(?=\s))", re.M)
+# A module that a file of definitions or proofs passes on under a name of its own.
+PASSED_ON = re.compile(r"^pub use \S+ as (\S+)$", re.M)
 # Words of the language, which are not renamed.
 FIXED = set(
     "as bool break char const continue crate cycle dyn else enum ensures extern f32 f64 false fn for ghost i128 i16 i32 i64 i8 if impl in isize let loop match mod move "
@@ -609,10 +611,10 @@ def names_in(marks):
 
 
 def declared_in(file, text):
-    """The names of the items, fields and rules that a file declares."""
+    """The names of the items, fields and rules that a file declares, and those under which it passes on modules."""
     text = without_comments(file, text)
     if file.endswith(".antt"):
-        found = list(map("".join, DECLARED_ANTT.findall(text)))
+        found = [*map("".join, DECLARED_ANTT.findall(text)), *PASSED_ON.findall(text)]
     else:
         found = DECLARED.findall(text)
         for it in re.finditer(r"\b(?:struct|enum)\b[^;{()]*\{", text):

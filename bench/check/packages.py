@@ -46,7 +46,7 @@ def order_of_fault(fault):
 
 
 def told(url, place):
-    """What is told of a diagnostic beside its kind and its place: where a reader is led, and what is shown of the text."""
+    """What is reported of a diagnostic beside its kind and its place: where a reader is led, and what is shown of the text."""
     if not place:
         return ['      location: ' + url, '      snippet: none', '      description: None, mended: false']
     span, _, size, _ = place.split()

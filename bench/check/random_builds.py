@@ -110,7 +110,7 @@ class Writer:
             return f"@{other[:-3]}"
         return f"./{self.one(*same).split('/')[1][:-3]}" if same else "./none"
 
-    def link(self, word, free):
+    def import_or_export(self, word, free):
         text = self.text(word)
         take = lambda: [free.pop() for _ in range(min(len(free), self.random.randint(1, 2)))]
         exported_names = lambda: [named_export(each) if self.chance(0.7) else named_export(each, f"{each}{each}") for each in self.random.sample(NAMES, 2)]
@@ -122,7 +122,7 @@ class Writer:
 
     def module(self, word):
         free = self.random.sample(NAMES, len(NAMES))
-        items = [self.link(word, free) for _ in range(self.random.randint(0, 3))]
+        items = [self.import_or_export(word, free) for _ in range(self.random.randint(0, 3))]
         for _ in range(self.random.randint(1, 4)):
             items += self.declaration(free.pop()) if free else []
         if self.chance(0.2):

@@ -226,7 +226,7 @@ class Writer:
             lambda: default_decl({"Class": {"ident": None, "class": class_(superclass, *members)}}),
             lambda: default_decl(self.function_of(lambda params, *body, **more: function(params, *body, name=self.one(None, "f"), **more))))()
 
-    def link(self):
+    def import_or_export(self):
         source, is_type = self.one(*SOURCES), self.chance(0.2)
         return self.one(
             lambda: import_(source, *self.one([named_import("i"), named_import("j", "k", is_type=self.chance(0.2))], [default_import("d")], [star_import("s")], []), is_type=is_type),
@@ -247,7 +247,7 @@ class Writer:
         if kind < 0.68:
             return unexported(self.declaration(depth))
         if kind < 0.8:
-            return self.link()
+            return self.import_or_export()
         if kind < 0.87:
             return self.default()
         if kind < 0.97:

@@ -1,5 +1,5 @@
 #!/usr/bin/env python3
-"""Says which calls that can want memory answer `Ok` in a run with ample memory, and lists those that do not.
+"""Says which calls that can run out of memory answer `Ok` in a run with ample memory, and lists those that do not.
 
 A body that always answers that memory ran out meets its contract, so a run has to show that the call succeeds. The calls are all functions of the crates, but
 for those of cases, whose result is a `Result` with an error that may be out of memory, and the copies that a derive writes. The program of all cases
@@ -39,7 +39,7 @@ __attribute__((destructor)) static void tell(void) {
 
 
 class Call:
-    """A function that can want memory: its crate and modules, the words of its type and its trait, which are empty where it has none, and its name."""
+    """A function that can run out of memory: its crate and modules, the words of its type and its trait, empty where it has none, and its name."""
 
     def __init__(self, crate, modules, owner, name, where, is_public):
         self.crate, self.modules, self.name, self.where, self.is_public = crate, modules, name, where, is_public
@@ -313,7 +313,7 @@ def main(words):
             run_examples(calls, build(kit, crate, calls, Path(folder)))
     kinds = [("answers Ok", lambda it: (it or 0) & OK), ("is entered, and answers an error alone", lambda it: it and not it & OK),
              ("is not entered", lambda it: it == 0), ("has no code in the programs", lambda it: it is None)]
-    print(f"{len(calls)} calls that can want memory, in {len({call.crate for call in calls})} crates")
+    print(f"{len(calls)} calls that can run out of memory, in {len({call.crate for call in calls})} crates")
     for told, has in kinds:
         of = [call for call in calls if has(call.seen)]
         print(f"{told}: {len(of)}")

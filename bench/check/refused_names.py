@@ -1,10 +1,10 @@
 #!/usr/bin/env python3
 """Refuses each request for memory of calls that change a name set, or a map of modules with one, and tells where the value is not what it was before.
 
-For each call the driver (`bench/time/driver.sh refused DRIVER`) makes a value, calls, and, where that wants memory, compares the value with what it was: the same
-paths and the same count of nodes. Each request is refused alone, and once with all from there on, until a run ends before. A line for each call says how many
-requests there are, and how many runs ended as what: `done` (a request ahead, which is passed over), `as before`, `out of memory` (where the value is made, or the words
-are read: then with status 1).
+For each call the driver (`bench/time/driver.sh refused DRIVER`) makes a value, calls, and, where that runs out of memory, compares the value with what it
+was: the same paths and the same count of nodes. Each request is refused alone, and once with all from there on, until a run ends before. A line for each call
+says how many requests there are, and how many runs ended as what: `done` (a request ahead, which is passed over), `as before`, `out of memory` (where the value
+is made, or the words are read: then with status 1).
 The status is 1 where a run ended otherwise, or no run as before.
 
 Usage: bench/check/refused_names.py DRIVER

@@ -123,7 +123,7 @@ def is_nested(it):
 
 
 def without_nested(yields):
-    """A nested untyped module is told only where nothing else is told of the module."""
+    """A nested untyped module is reported only where nothing else is reported of the module."""
     told = {it[1:3] for it in yields if it[0] == 'fault' and not is_nested(it)}
     return {it for it in yields if not (is_nested(it) and it[1:3] in told)}
 

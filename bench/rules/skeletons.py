@@ -161,7 +161,7 @@ def is_void(written):
 
 
 class Skeleton(Classes, Expandos, Modules):
-    """The items that a skeleton has, and the faults that were met in making them, each a code, a range and two flags.
+    """The items that a skeleton has, and the faults in making them, each a code, a range and two flags.
 
     `resolved` has what the texts of sources in the module resolve to, and `plain_classes` the names with scope numbers of classes without type
     parameters."""
@@ -474,7 +474,7 @@ def emptied(pat):
     return {kind: dict(node, **{field: []})} if field else pat
 
 
-# ---- what a reader is told of a fault
+# ---- what a reader is shown of a fault
 
 ALL_FUNCTIONS = "all functions in the public API must have an explicit return type"
 COMMON_JS = "CommonJS features such as {} are not supported in ES modules"

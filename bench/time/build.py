@@ -73,9 +73,9 @@ def library(*more):
         func("trace", [name("value", "string")], *body), *more)
 
 
-def entry(links):
+def entry(re_exports):
     """An entry point with these re-exports, and a function whose types are those of other packages."""
-    return Module("p/mod.ts", import_("@next", "Point", "draw"), import_("@other", named_import("Options", is_type=True)), *links,
+    return Module("p/mod.ts", import_("@next", "Point", "draw"), import_("@other", named_import("Options", is_type=True)), *re_exports,
                   func("main", [name("at", named("Point")), name("options", named("Options"))], run(call(ref("draw"), ref("at"))), returned(ref("at")),
                        ret=named("Point")))
 
@@ -84,7 +84,7 @@ def by_name(place):
     return export(named_export("Group", f"Group{place}"), named_export("draw", f"draw{place}"), src=f"./{place}")
 
 
-def links(shape, size):
+def re_exports(shape, size):
     """The re-exports of an entry point with so many modules."""
     if shape == "hidden":
         return [by_name(1)]
@@ -111,7 +111,7 @@ def workspace(shape, packages, size):
         return names_of_a_module(packages)
     count, size = (1, packages * size) if shape == "modules" else (packages, size)
     faults = [func("wrong", [name("a")], returned(ONE)), func("also", [], returned(ONE))] if shape == "faults" else []
-    main, first, other = entry(links(shape, size)), library(*faults), library()
+    main, first, other = entry(re_exports(shape, size)), library(*faults), library()
     made = World({}, pending=[]).request()
     base = lambda p: f"{HOST}p{p % count}/"
     for p in range(count):

@@ -96,7 +96,7 @@ def classes():
     return trees.lay_items([class_cases.public(*members, super_class=trees.ref("B")), class_cases.public(*ambient, name="D", declare=True)])
 
 
-def links(number):
+def imports_and_re_exports(number):
     """Imports and re-exports of modules of their own, of the packet of this number, with the sources."""
     sources = [f"./{letter}{number}" for letter in "abcdefghijklmnopqrst"]
     imports = [module_trees.import_(source, "x", module_trees.named_import("y", "z"), is_type=place % 2 == 1) for place, source in enumerate(sources[:16])]
@@ -110,7 +110,7 @@ def modules(size):
     bodies, bodies_text = trees.lay_items(functions()[0][:1] + classes()[0][:1])
     body, ranges, resolutions, place, length, number = [], [], [], 0, 0, 0
     while length < size:
-        made, sources = links(number)
+        made, sources = imports_and_re_exports(number)
         items, text = trees.lay_items(made)
         items += [moved(item, len(text) + 1) for item in bodies]
         body += [moved(item, place) for item in items]

@@ -146,7 +146,7 @@ installs_afresh() {
 copy="$made/copy" second="$made/another place/second"
 copy_to "$copy"
 git clone -q "$copy" "$second"
-test_that "a program that was not proved here is told" ends_with 0 "the version is $(< "$top/VERSION")~unproved" build_in "$copy" --reproducible "$made/first"
+test_that "a program that was not proved here is reported" ends_with 0 "the version is $(< "$top/VERSION")~unproved" build_in "$copy" --reproducible "$made/first"
 (umask 077 && sleep 1 && build_in "$second" --reproducible "$made/second" > /dev/null 2>&1)
 test_that "two builds of a commit are the same" cmp "$made"/{first,second}/"nagdrez_$(< "$top/VERSION")~unproved_amd64.deb"
 dpkg-deb -x "$made"/first/*.deb "$made/root" || exit 1

@@ -11,7 +11,7 @@ folder to folder, or a file with the input of `fast-check build`. The results ar
 
 `status` is that of the command (0 nothing to tell but warnings, 1 messages, 2 refused or not there, above 2 failed: 5 no program, 70 a fault of the tool). A task
 whose process is killed or takes more memory than it may is tried again, as is one whose worker is lost; one that does not end in time is not. In the end it
-is told by its name, in the results and on standard error.
+is reported by its name, in the results and on standard error.
 
 Usage: tools/registry/registry.py [OPTION ..] PACKAGE ..
        tools/registry/registry.py [OPTION ..] --list FILE        (a package a line)

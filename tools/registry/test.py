@@ -87,7 +87,7 @@ def each_package_has_a_result(client, room):
     results, lost = run(client, room, packages)
     assert [it["package"] for it in results] == packages and not lost
     assert [it["status"] for it in results] == [0, 0, 1, 2, 0]
-    assert results[2]["messages"] == [{"code": "x"}], "a list that stands at two entry points is told once"
+    assert results[2]["messages"] == [{"code": "x"}], "a list that stands at two entry points is reported once"
     assert results[3]["said"] == "error: input refused: bad-form"
 
 

@@ -61,7 +61,7 @@ function writeExports(program, isDeclaration) {
 }
 
 /**
- * Whether a printed ambient body needs `export {}`, since a declaration of it is not exported. In a namespace that is told by
+ * Whether a printed ambient body needs `export {}`, since a declaration of it is not exported. In a namespace that is known by
  * another one that is; in a module `writeExports` has written the word wherever it was implied.
  */
 function needsList(items, isModule) {

@@ -81,7 +81,7 @@ function messageOf(diagnostic, { files, dir }, cwd) {
   return { ...message, lines: file.lines, start: file.lines.offset(diagnostic.range[0]), end: file.lines.offset(diagnostic.range[1]) };
 }
 
-/** The answers parted into skeletons and messages. The list of a package stands at each of its entry points, and is told once. */
+/** The answers parted into skeletons and messages. The list of a package stands at each of its entry points, and is reported once. */
 function part(answers, world, cwd) {
   const skeletons = new Map();
   const messages = new Map();

@@ -5,7 +5,7 @@ const { Baseline, withoutAllowed } = require('./allowed.js');
 const { refusalOf } = require('./faults.js');
 const { FORMATS } = require('./formats.js');
 
-/** What is told of a folder that was analysed: its messages without those that are allowed or known, and how many these are. */
+/** What is reported of a folder that was analysed: its messages without those that are allowed or known, and how many these are. */
 function toldOf(world, messages, options, baseline) {
   const found = [...world.warnings, ...messages];
   const wanted = withoutAllowed(world, found, options);
@@ -27,8 +27,8 @@ async function messagesOf(world, options, context) {
 }
 
 /**
- * The result of a folder: `world`, null where it cannot be read, `thrown`, which says why, the messages that are told, how many others are allowed and known,
- * and the status.
+ * The result of a folder: `world`, null where it cannot be read, `thrown`, which says why, the messages that are reported, how many others are allowed and
+ * known, and the status.
  */
 async function resultOf({ dir, exports }, options, { context, baseline }) {
   try {

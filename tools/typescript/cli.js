@@ -42,12 +42,12 @@ function writeMessages(messages, options, { out, paint }) {
   }
 }
 
-/** All that is told of a folder before its skeletons are looked at. */
+/** All that is reported of a folder before its skeletons are looked at. */
 function messagesOf(world) {
   return [...world.warnings, ...world.broken, ...world.messages];
 }
 
-/** The status of a folder that was analysed, by what is told of it: warnings alone are none. */
+/** The status of a folder that was analysed, by what is reported of it: warnings alone are none. */
 function statusOf(world, told) {
   const { statusOf: statusOfBroken } = require('./analysis.js');
   return statusOfBroken(world.broken) || (told.some(({ level }) => level !== 'Warning') ? 1 : 0);

@@ -17,7 +17,7 @@ const CODES = { ...from(PROGRAM, 'program'), ...from(OWN, 'own'), ...from(REFUSE
 // Those that a written type may answer.
 const FIXABLE = new Set(['missing-explicit-return-type', 'missing-explicit-type', 'unsupported-default-export-expr', 'unsupported-destructuring']);
 
-// The errors of TypeScript's compiler, which are told by their numbers.
+// The errors of TypeScript's compiler, which are reported by their numbers.
 const OF_COMPILER = /^typescript-\d+$/;
 
 /** Whether there are messages of a code. */

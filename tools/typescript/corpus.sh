@@ -7,7 +7,7 @@
 #   FAST_CHECK=PROGRAM node tools/typescript/judge.js FOLDER [--modules]      whether the skeletons declare what the sources do
 #
 # Nothing is installed. The installed packages are those of the machine's own lists, as of the last `apt-get update`; for source packages apt works with lists of
-# its own below FOLDER. Of each the first suite counts whose archive is there. What is not fetched is told.
+# its own below FOLDER. Of each the first suite counts whose archive is there. What is not fetched is reported.
 set -u
 folder=${1:?usage: corpus.sh FOLDER}
 packages="node-lumino node-jose node-inquirer node-recast node-ast-types jest node-graphql node-dom-helpers node-yaml node-undici

@@ -15,7 +15,7 @@ function differenceOf(a, b) {
   return [...a.slice(0, head).map((it) => [' ', it]), ...middle, ...a.slice(a.length - tail).map((it) => [' ', it])];
 }
 
-// The most cells of the table of common lines; past that all lines are told as replaced.
+// The most cells of the table of common lines; past that all lines are shown as replaced.
 const MOST_CELLS = 4_000_000;
 
 function common(a, b) {
@@ -87,7 +87,7 @@ function unified(name, before, after) {
 
 const textsIn = (closure) => [...closure.values()].sort().join('\n');
 
-/** The declarations of a name that differ: where each stands, and its lines. Of those that are told already the lines are left out. */
+/** The declarations of a name that differ: where each stands, and its lines. Of those that are shown already the lines are left out. */
 function changedParts(old, now, told) {
   const keys = [...new Set([...old.closure.keys(), ...now.closure.keys()])].filter((key) => old.closure.get(key) !== now.closure.get(key));
   return keys.map((key) => {

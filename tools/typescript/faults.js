@@ -1,5 +1,5 @@
 'use strict';
-// What goes wrong with the tool itself, which is no refusal: told with its place, and a status of its own.
+// What goes wrong with the tool itself, which is no refusal: reported with its place, and a status of its own.
 const path = require('path');
 
 /** The status of a run in which the tool itself is at fault. */
@@ -21,7 +21,7 @@ function placeOf(error) {
   return frame ? `${path.basename(frame[1])}:${frame[2]}` : 'fast-check-ts';
 }
 
-/** What is told of a fault of the tool, with the module that it was at, where that is known. */
+/** What is reported of a fault of the tool, with the module that it was at, where that is known. */
 function internalText(error, module) {
   const [first] = String((error && error.message) || error).split('\n');
   return `internal error in ${placeOf(error || {})}${module ? ` (module ${module})` : ''}: ${first}, please report it`;

@@ -103,7 +103,7 @@ class Project {
   }
 }
 
-/** The errors of some files, as they are told, with their codes and places. */
+/** The errors of some files, as they are reported, with their codes and places. */
 function errorsOf(program, names) {
   return names.flatMap((name) => {
     const file = program.getSourceFile(name);

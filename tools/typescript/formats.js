@@ -12,7 +12,7 @@ function count(number, noun) {
   return `${number} ${noun}${number === 1 ? '' : 's'}`;
 }
 
-/** The seconds since the command began, as they are told. */
+/** The seconds since the command began, as they are printed. */
 function seconds(context) {
   return `${(Number(process.hrtime.bigint() - context.begun) / 1e9).toFixed(2)} s`;
 }
@@ -20,7 +20,7 @@ function seconds(context) {
 const sum = (list) => list.reduce((all, each) => all + each, 0);
 
 /**
- * The last line of a check: how many files were read, how many of their modules are public, what was not followed, what was told, what was left out since it
+ * The last line of a check: how many files were read, how many of their modules are public, what was not followed, what was reported, what was left out since it
  * is allowed or known, and the time.
  */
 function summary(results, context) {
@@ -59,7 +59,7 @@ function takenOf({ info }, cwd) {
   return info.taken.map(({ written, dir, file }) => ({ entry: written, package: shownName(dir, cwd), taken: shownName(file, cwd) }));
 }
 
-/** What is told of a folder beside its messages, as lines. */
+/** What is reported of a folder beside its messages, as lines. */
 function notesOf(world, options, cwd) {
   const imports = options.externals ? externalsOf(world, cwd) : [];
   return [
@@ -228,7 +228,7 @@ function junitMessage(message, classname) {
   return `    <testcase${attributes({ classname, name, file, line })}>${inside}</testcase>`;
 }
 
-/** A folder as a suite of tests: its messages, and each file of which nothing is told. */
+/** A folder as a suite of tests: its messages, and each file of which nothing is reported. */
 function junitSuite(result, context) {
   const name = shownName(result.dir, context.cwd);
   const told = new Set(result.messages.map(({ file }) => file));

@@ -8,7 +8,7 @@
 // Of each seed a package of up to four modules is made: of modules of `fuzz_modules.js`, or of real modules of the FOLDERs with edits (empty bodies, types
 // dropped, members and items moved, twice there or gone). A module that the compiler's parser refuses is left out. Each command has to end with status 0 or 1,
 // but where a value is nested too deep; a tree that is printed has to be read back as the same, and so has each skeleton; and a second `fix` has to change
-// nothing. What fails is told with its seed; the package of one seed is made again by `fuzz.js 1 SEED`.
+// nothing. What fails is reported with its seed; the package of one seed is made again by `fuzz.js 1 SEED`.
 //
 // With `--types` each seed takes one of the packages below the FOLDERs, drops up to four written types in its texts (no file changes), and lets `fix` write types:
 // the compiler may find no error that it has not found without them, and has to declare what it has declared; and a second run has to change nothing.

@@ -6,7 +6,7 @@ const { valueOf } = require('./request.js');
 const { Names } = require('./ways.js');
 
 const ROUNDS = 10;
-// What is wrong with a reference is told by the tables; all else by the tree.
+// What is wrong with a reference is reported by the tables; all else by the tree.
 const REFERENCES = new Set(['not-found-reference', 'unsupported-complex-reference', 'unsupported-private-member-reference']);
 const JAVASCRIPT = new Set(['unsupported-nested-javascript', 'unsupported-javascript-entrypoint']);
 
@@ -111,7 +111,7 @@ function diagnosticsOf(answers) {
 
 /**
  * What is right of a folder of which something is wrong: `skeletons` of the modules that nothing is wrong with, `partial` with those of the others, as far as
- * they go, and `unknown`, the declarations that are not in them, as `specifier\nname`. Null where that cannot be told. `ask(request)` answers for the program.
+ * they go, and `unknown`, the declarations that are not in them, as `specifier\nname`. Null where that is not known. `ask(request)` answers for the program.
  */
 async function previewOf(request, answers, ask) {
   const less = new Lessened(request);

@@ -100,7 +100,7 @@ function editOne(folder, run) {
   fs.writeFileSync(file, fs.readFileSync(file, 'utf8').replace(/const sum = /, `void ${run};\n  const sum = `));
 }
 
-/** The least seconds from an edit until `check --watch` has told of it. */
+/** The least seconds from an edit until `check --watch` has reported it. */
 async function watched(folder) {
   const child = childProcess.spawn(LAUNCHER, ['check', '--watch', folder], { stdio: ['ignore', 'pipe', 'ignore'] });
   const ended = () => new Promise((resolve) => child.stdout.on('data', (part) => /\d s\n$|may tell more\n$/.test(part) && resolve()));

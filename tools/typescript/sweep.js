@@ -6,9 +6,9 @@
 //   FAST_CHECK=PROGRAM node sweep.js FOLDER .. --fix [--lines]
 //
 // A package is a folder with a package.json and with TypeScript in it, outside of `node_modules` and of what tests are fed. With `--verify` the compiler checks
-// the skeletons too, and with `--lines` there is a line of JSON for each package. A status that is none of 0, 1 and 2, or a refusal without a message, is told,
-// and gives the status 1. With `--fix` the types that messages ask for are written into the texts of each package that has such messages, where it lies, but
-// into no file: how many are clean then, why the others are not, whether a second run changes anything, and what `--verify` finds.
+// the skeletons too, and with `--lines` there is a line of JSON for each package. A status that is none of 0, 1 and 2, or a refusal without a message, is
+// reported, and gives the status 1. With `--fix` the types that messages ask for are written into the texts of each package that has such messages, where it lies,
+// but into no file: how many are clean then, why the others are not, whether a second run changes anything, and what `--verify` finds.
 
 const fs = require('fs');
 const path = require('path');
@@ -78,7 +78,7 @@ async function sweepFixes(folders, words) {
   const sums = { packages: 0, clean: 0, messages: 0, types: 0, left: 0, changed: 0, wrong: 0, failed: 0 };
   for (const dir of folders.flatMap((it) => packagesBelow(path.resolve(it)))) {
     const found = await fixed(dir).catch((error) => ({ dir, failed: error.message }));
-    // What cannot be read is told without `--fix`.
+    // What cannot be read is reported without `--fix`.
     if (!found || (found.failed && !(await check(dir, [])).messages.length)) continue;
     sums.packages += found.failed ? 0 : 1;
     if (found.failed) continue;

@@ -125,7 +125,7 @@ function variables(t, node, parent, flags) {
   return made;
 }
 
-/** A declared function. Overloads are told when all of them are known. */
+/** A declared function. Overloads are reported when all of them are known. */
 function functionDeclaration(t, ident, node, range, parent, flags) {
   const symbol = ident ? t.symbolOf(ident, parent) : t.unnamedDefault(parent);
   const marks = { has_body: Boolean(node.body) };

@@ -40,7 +40,7 @@ function threadFor(limit) {
   return threads.get(key);
 }
 
-/** What the thread says to something that is asked. What is at work there is told meanwhile. */
+/** What the thread says to something that is asked. What is at work there is reported meanwhile. */
 function ask(asked, progress) {
   const limit = Math.floor(v8.getHeapStatistics().heap_size_limit / MEGABYTE);
   const thread = threadFor(limit);

@@ -1,6 +1,6 @@
 'use strict';
 // The types of the values that stay in skeletons, by the form of each alone. Where the form does not say the type that TypeScript's compiler finds, the value has none
-// here, and that is told.
+// here, and that is reported.
 
 const { Writer } = require('./writer');
 const print = require('./print_types');

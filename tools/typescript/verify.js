@@ -1,6 +1,6 @@
 'use strict';
-// Has TypeScript's compiler check the skeletons beside the sources: what it finds wrong in the skeletons alone is told, and each public declaration of which it
-// declares another type, module by module.
+// Has TypeScript's compiler check the skeletons beside the sources: what it finds wrong in the skeletons alone is reported, and each public declaration of which
+// it declares another type, module by module.
 const { shownName } = require('./analysis.js');
 const { programOf, resolverOf, declarationName, emitted, surfaceOf, compared, errorsIn } = require('./judge_surface.js');
 const { Lines } = require('./lines.js');

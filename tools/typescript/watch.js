@@ -52,7 +52,7 @@ class Watcher {
       watch.on('error', forget);
       this.watched.set(folder, watch);
     } catch (error) {
-      // A folder that went away is told by the one above it.
+      // A folder that went away is noticed by the one above it.
       if (error.code !== 'ENOENT') throw error;
     }
   }
@@ -88,7 +88,7 @@ function isRelevant(at, watched) {
   return Boolean(found) && found.isDirectory();
 }
 
-/** What changed, as a line before what is told. */
+/** What changed, as a line before what is reported. */
 function heading(paths, { cwd }) {
   const names = paths.map((each) => shownName(each, cwd)).sort();
   const shown = names.length > 3 ? [...names.slice(0, 3), '..'] : names;

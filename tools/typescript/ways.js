@@ -144,7 +144,7 @@ class Search {
     const names = this.names.get(specifier);
     if (!names || this.asked.has(`${specifier}\n`)) return;
     this.asked.add(`${specifier}\n`);
-    // Of a module that stands behind a name, as of `export * as names`, the names below it are told.
+    // Of a module that stands behind a name, as of `export * as names`, the names below it are shown.
     const as = (name) => ({ ...step, as: step.as ? `${step.as}.${name}` : name });
     for (const [name, local] of names.exported) this.local(specifier, local, as(name));
     for (const [name, text, orig] of names.reexported) this.other(specifier, text, orig, as(name));

@@ -14,7 +14,7 @@ pub use fast_check_tree::helpers;
 /// The graph of modules, the source and the tables of a module, and packages.
 pub use fast_check_tables as tables;
 
-/// What is public of a module, and what is told of what is wrong.
+/// The public ranges of a module, and diagnostics.
 pub use fast_check_tables::diagnostics;
 
 /// Sets of demanded names, and the modules that were followed or wait.

@@ -52,10 +52,10 @@ pub(crate) fn find_seeded(
 
 /// What is public in these packages, and in all that follow from them. A package that is handed in twice is followed once.
 ///
-/// The cache is asked once for each package that is followed and has exports. Where it has an item under the package's key, each module of which
-/// has the source that it was kept with, that item is answered in place of what would be found, if it has modules, and the packages that it depends on are
-/// followed. `InvalidExport` has the first export text of a package that does not join to the package's URL. `OutOfMemory` where memory is wanting,
-/// or a URL comes to 4 GB.
+/// The cache is asked once for each package that is followed and has exports. Where the cache has an item under the package's key, and each module of the
+/// item has the source that it was cached with, an item with modules is answered in place of findings, and the packages that the item depends on are
+/// followed. `InvalidExport` has the first export text of a package that does not join to the package's URL. `OutOfMemory` if memory runs out, or a URL
+/// comes to 4 GB.
 pub fn find_public_ranges<'a>(
     alloc: Global,
     cache: Option<&dyn FastCheckCache>,

@@ -1,4 +1,4 @@
-//! The calls over packages: what is public in them, and their skeletons or what is wrong with them.
+//! The calls over packages: their public ranges, and their skeletons or diagnostics.
 #![tactic(auto)]
 
 mod finder;

@@ -117,9 +117,9 @@ fn build_without(
 /// module by a skeleton; with `should_error_on_first_diagnostic` by what the finder found wrong with the first faulty module, or by the first
 /// fault of its transform.
 ///
-/// Where a cache is lent, a package is answered by its item, if the cache has one and each module of the item has the source that it was kept with;
+/// Where a cache is lent, a package is answered by its item, if the cache has one and each module of the item has the source that it was cached with;
 /// the item of each other package is set, when all items have been looked up. `InvalidExport` has the first export text of a package that does not
-/// join to the package's URL; nothing is set then. `OutOfMemory` where memory is wanting, or a URL comes to 4 GB; what was set before stays.
+/// join to the package's URL; nothing is set then. `OutOfMemory` if memory runs out, or a URL comes to 4 GB; what was set before stays.
 pub fn build_fast_check_type_graph(
     alloc: Global,
     cache: Option<&mut dyn FastCheckCache>,

@@ -16,7 +16,7 @@ view_of : (b : Bool) (item : FastCheckCacheItem) (o : Option FastCheckCacheItem)
 view_of true item o = refl
 view_of false item o = refl
 
--- what stands under any key is told at the hash of the key
+-- what stands under any key is known at the hash of the key
 at_hash : (m n : Items) (k : ℕ) (item : FastCheckCacheItem)
     → ((q : ℕ) → get nat_cmp n.by_hash q ≡ cond (is_at (nat_cmp k) q) (Some item) (get nat_cmp m.by_hash q))
     → items_at n ≡ with_item k (item_of item) (items_at m)

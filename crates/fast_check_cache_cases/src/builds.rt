@@ -1,4 +1,5 @@
-//! Builds with a cache, one after the other: each line of the file `cached_builds` is a run, in JSON. Told is what each build answers, and what it sets.
+//! Builds with a cache, one after the other: each line of the file `cached_builds` is a run, in JSON. The answers of each build and the items that it sets
+//! are written.
 
 use crate::read::{Run, fill, read_builds, read_name, read_run, say_refused};
 use crate::run_cache::RunCache;
@@ -60,7 +61,7 @@ fn build_cached(
     )
 }
 
-/// Says what is answered with a cache beside what is answered without.
+/// Says the answers with a cache beside those without.
 fn say_beside(answers: &[ModuleAnswer], plain: &Built, said: &mut Said) {
     match plain {
         Ok(plain) => say_answers(answers, plain.as_slice(), said),
@@ -77,7 +78,7 @@ fn say_built(alloc: Global, built: &Built, plain: &Built, said: &mut Said) {
     }
 }
 
-/// Says what is answered, and what was set.
+/// Says the answers, and the items that were set.
 fn say_build(
     alloc: Global,
     workspace: &Workspace,

@@ -22,7 +22,7 @@ pub struct Run {
 /// The item of a package: its entry points and its dependencies.
 type Row = (PackageNv, Vec<Url>, Vec<PackageNv>);
 
-/// These items in order, none where memory is wanting: then nothing is a text any more.
+/// These items in order, none if memory runs out: then nothing is a text any more.
 fn ordered<T: Ord + Drop>(alloc: Global, items: Vec<T>, said: &mut Said) -> BTreeSet<T> {
     let made: Result<BTreeSet<T>, AllocError> = items.into_iter().collect(alloc);
     match made {

@@ -1,4 +1,4 @@
-//! What a build answers, and what it sets, as text.
+//! The answers of a build and the items that it sets, as text.
 
 use fast_check_build::package_answers::ModuleAnswer;
 use fast_check_cache::{FastCheckCacheItem, FastCheckCacheModuleItem};
@@ -53,7 +53,7 @@ pub fn say_answers(answers: &[ModuleAnswer], plain: &[ModuleAnswer], said: &mut 
     }
 }
 
-/// Whether a module of an item is kept as a skeleton or as a diagnostic.
+/// Whether a module of an item is cached as a skeleton or as a diagnostic.
 pub fn kind_of(module: &FastCheckCacheModuleItem) -> &'static str {
     match module {
         FastCheckCacheModuleItem::Info(_) => "skeleton",

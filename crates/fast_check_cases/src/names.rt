@@ -71,7 +71,7 @@ fn say_line(alloc: Global, case: &mut Case, line: &str, said: &mut Said) {
     }
 }
 
-/// Prints a line, and what is told of it.
+/// Prints a line, and what comes of it.
 fn run_line(rt: &HostRuntime, case: &mut Case, line: &str) -> io::Result<()> {
     let mut said = Said::new(rt.alloc());
     say_line(rt.alloc(), case, line, &mut said);

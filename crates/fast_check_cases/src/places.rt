@@ -26,7 +26,7 @@ fn range_of(words: &str) -> SourceRange {
     }
 }
 
-/// The place of a line, None where it names no module or memory is wanting.
+/// The place of a line, None if it names no module or memory runs out.
 fn place_of(alloc: Global, line: &str) -> Option<FastCheckDiagnosticRange> {
     let (words, text) = line.split_once('|').unwrap_or((line, ""));
     let name = words.split_whitespace().next().unwrap_or("");

@@ -1,4 +1,4 @@
-//! A text that is told piece by piece.
+//! A text that is written piece by piece.
 ghost use Rattle.std.specs.Prelude.{◌≡◌, [], ◌++◌, Some, None, OnSome, MatchResult, is_ok, if◌then◌else◌};
 ghost use Rattle.std.specs.Option.{option_copied};
 ghost use Rattle.std.specs.String.{string_bytes};
@@ -7,7 +7,7 @@ ghost use Rattle.fast_check_cases.specs.Says.{Says, text_of_flag};
 use std::alloc::{AllocError, Global};
 use std::marker::Model;
 
-/// A text that is told piece by piece. Where memory is wanting, a piece is left out, and the text is no answer.
+/// A text that is written piece by piece. If memory runs out, a piece is left out, and the text is no answer.
 /// Contracts see it as its bytes, or as `None` once a piece was left out.
 #[derive(Drop)]
 pub struct Said {
@@ -69,7 +69,7 @@ impl Said {
         self.say(if flag { "true" } else { "false" });
     }
 
-    /// A copy of a text. Where memory is wanting, nothing is a text any more.
+    /// A copy of a text. If memory runs out, nothing is a text any more.
     pub fn copy(&mut self, alloc: Global, text: &str) -> String
         ensures kept { OnSome self.new (self.new ≡ self.old) }
         ensures copied { OnSome self.new (string_bytes result ≡ text.now) }
@@ -92,7 +92,7 @@ impl Said {
         }
     }
 
-    /// Notes that memory is wanting.
+    /// Notes that memory ran out.
     pub fn lack(&mut self)
         ensures { self.new ≡ None }
     {

@@ -1,4 +1,4 @@
-//! The program `fast-check`: what it does with its words and its file, all of it but opening the file.
+//! The program `fast-check`: all that it does with its words and its file, but for opening the file.
 #![tactic(auto)]
 
 pub mod build_command;

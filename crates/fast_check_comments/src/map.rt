@@ -146,7 +146,7 @@ impl CommentMap {
         self.entries.iter()
     }
 
-    /// Lays the comments at a position, in place of those that stand there. For want of memory it changes nothing.
+    /// Lays the comments at a position, in place of those that stand there. If memory runs out, it changes nothing.
     pub fn insert(&mut self, position: SourcePos, comments: CommentList) -> Result<(), AllocError>
         ensures ok { OnOk result (self.new ≡ with_comments position comments self.old) }
         ensures err { OnErr result (self.new ≡ self.old) }

@@ -1,4 +1,4 @@
--- What is told of the diagnostics whose kinds have no rule of their own.
+-- What is shown of the diagnostics whose kinds have no rule of their own.
 use Rattle.std.proofs.Common.{◌≡◌, refl}
 use Rattle.fast_check_diagnostics.specs.declared.diagnostics.FastCheckDiagnostic.{FastCheckDiagnostic}
 use Rattle.fast_check_diagnostics.specs.declared.diagnostics.FastCheckDiagnostic.TheVariants.{MissingExplicitReturnType}

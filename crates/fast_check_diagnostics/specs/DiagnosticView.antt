@@ -1,4 +1,4 @@
--- What a reader is told of a fault.
+-- What a reader is shown of a fault.
 use Rattle.std.specs.Prelude.{ℕ, List, Option}
 use Rattle.std.specs.Option.{option_copied}
 use Rattle.std.specs.Rc.{rc_str_bytes}
@@ -21,7 +21,7 @@ pub record Snippet : Type 0 where
   pub range : SourceRange
   pub description : Option (List ℕ)
 
--- all that is told of a fault
+-- all that is shown of a fault
 pub record DiagnosticView : Type 0 where
   pub level : DiagnosticLevel
   pub code : List ℕ

@@ -1,4 +1,4 @@
-//! Why a module has no skeleton, and what a reader is told of it.
+//! Why a module has no skeleton, and how that is reported.
 ghost use Rattle.std.specs.Prelude.{◌≡◌, Some};
 ghost use Rattle.std.specs.Option.{option_copied};
 
@@ -112,7 +112,7 @@ pub enum FastCheckDiagnostic {
     /// The text of a skeleton could not be written.
     Emit {
         specifier: Url,
-        /// The text of the error that was met.
+        /// The text of the error.
         inner: String,
     },
     /// An entry point is not found.

@@ -1,4 +1,4 @@
-//! What is found of a module before it is transformed, and what is said of it where it has a fault: public ranges and diagnostics.
+//! Public ranges, which are found before a module is transformed, and the diagnostics of its faults.
 #![tactic(auto)]
 
 mod diagnostics;

@@ -8,7 +8,7 @@ use semver::Version;
 use std::alloc::{AllocError, Global};
 use std::io;
 
-/// Every fault of tables, in the order in which they are told.
+/// Every fault of tables, in the order in which they are reported.
 const TABLE_FAULTS: [TableFault; 5] = [
     TableFault::MissingSymbol,
     TableFault::SymbolWithoutDecl,

@@ -1,4 +1,4 @@
-//! What is found in worlds of packages, calls of a transformer, transforms of trees that are nested deep, and what is told of diagnostics.
+//! What is found in worlds of packages, calls of a transformer, transforms of trees that are nested deep, and the texts of diagnostics.
 //! `fast_check_vectors` runs them.
 #![tactic(auto)]
 

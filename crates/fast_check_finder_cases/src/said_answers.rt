@@ -1,4 +1,4 @@
-//! What is told of a diagnostic.
+//! The texts of a diagnostic.
 
 use fast_check_cases::Said;
 use fast_check_diagnostics::{Diagnostic, DiagnosticLocation, FastCheckDiagnostic};
@@ -32,7 +32,7 @@ fn say_snippet(alloc: Global, diagnostic: &dyn Diagnostic, said: &mut Said) {
     }
 }
 
-/// Says where a diagnostic stands and which text is shown of it, what its other calls answer, and what it prints as.
+/// Says the place of a diagnostic and the text that is shown of it, the answers of its other calls, and its printed form.
 pub fn say_diagnostic(alloc: Global, diagnostic: &FastCheckDiagnostic, said: &mut Said) {
     said.say("\n      location: ");
     say_location(alloc, diagnostic, said);

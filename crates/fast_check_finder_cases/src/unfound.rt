@@ -10,7 +10,7 @@ use std::alloc::{AllocError, Global};
 use std::{array, io};
 use url::Url;
 
-/// The module that both are told of, None where memory is wanting.
+/// The module that both are reported of, None if memory runs out.
 fn specifier(alloc: Global) -> Option<Url> {
     Url::parse(alloc, "file:///p/mod.ts").ok()
 }
@@ -44,7 +44,7 @@ fn say_copy(alloc: Global, diagnostic: &FastCheckDiagnostic, said: &mut Said) {
     say_json(alloc, &copy, said);
 }
 
-/// Says the JSON of a copy, and all that is told of a diagnostic.
+/// Says the JSON of a copy, and all texts of a diagnostic.
 fn say_all(alloc: Global, diagnostic: &FastCheckDiagnostic, said: &mut Said) {
     say_copy(alloc, diagnostic, said);
     say_diagnostic(alloc, diagnostic, said);
@@ -69,7 +69,7 @@ fn say_emit(alloc: Global, said: &mut Said) {
     say_made(alloc, &made, said);
 }
 
-/// Prints what is told of both kinds.
+/// Prints the texts of both kinds.
 pub fn run_unfound_cases(rt: &HostRuntime) -> io::Result<()> {
     let mut said = Said::new(rt.alloc());
     say_cached(rt.alloc(), &mut said);

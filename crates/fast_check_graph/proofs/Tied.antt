@@ -1,4 +1,4 @@
--- Keys of maps, as they are told by their texts.
+-- Keys of maps, as they are known by their texts.
 use Rattle.std.proofs.Common.{◌≡◌, sym, ℕ, List, string_bytes}
 use Rattle.std.specs.Prelude.{String}
 use Rattle.std.specs.Str.{bytes_eq}

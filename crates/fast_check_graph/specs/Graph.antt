@@ -14,11 +14,11 @@ use Rattle.fast_check_graph.specs.declared.graph.ModuleGraph.{ModuleGraph}
 use Rattle.fast_check_graph.specs.declared.module.Module.{Module}
 use Rattle.fast_check_graph.specs.Resolutions.{text_resolved}
 
--- a specifier is told by its text
+-- a specifier is known by its text
 abbrev pub is_specifier : Parts → Parts → Bool
 is_specifier url k = bytes_eq (serialize url) (serialize k)
 
--- a package is told by name and version
+-- a package is known by name and version
 abbrev pub is_package : Nv → PackageNv → Bool
 is_package nv k = is_eq (nv_cmp nv (nv_of k))
 

@@ -29,7 +29,7 @@ pub enum Module {
 }
 
 impl Module {
-    /// Whether its types are known: by what it is written in, by the file that has its types, or since it is JSON or WebAssembly.
+    /// Whether the types of the module are known: by its media type, by a file that has its types, or since it is JSON or WebAssembly.
     pub fn is_typed(self) -> bool
         ensures { result ≡ is_typed_module self }
     {

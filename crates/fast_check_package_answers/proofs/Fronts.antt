@@ -1,4 +1,4 @@
--- What is told where the first fault is wanted alone is a front of all that is told.
+-- What is reported where the first fault is wanted alone is a front of all that is reported.
 use Rattle.std.specs.Prelude.{◌≡◌, true, false, List, [], ◌∷◌, ◌++◌, map, take, Option, Some, None, refl}
 use Rattle.std.specs.List.{flat_map}
 use Rattle.std.proofs.Common.{◌∙◌, sym, ap, subst, append_assoc}
@@ -13,7 +13,7 @@ use Rattle.fast_check_graph.specs.declared.root_symbol.AnyModuleInfo.{AnyModuleI
 use Rattle.fast_check_graph.specs.declared.root_symbol.AnyModuleInfo.TheVariants.{Esm, Json}
 use Rattle.fast_check_graph.specs.declared.root_symbol.RootSymbol.{RootSymbol}
 use Rattle.fast_check_transform_module.specs.Transform.{faults}
-use Rattle.fast_check_package_answers.specs.PackageFaults.{PublicModule, PackageFault, met, found, faults_in_tree, found_or, module_faults}
+use Rattle.fast_check_package_answers.specs.PackageFaults.{PublicModule, PackageFault, transform_fault, found, faults_in_tree, found_or, module_faults}
 use Rattle.fast_check_package_answers.specs.PackageFaults.{first_list, package_faults}
 use Rattle.fast_check_package_answers.specs.PackageAnswer.{IsFrontAlone}
 use Rattle.fast_check_signatures.proofs.Choices.{no_left}
@@ -27,9 +27,9 @@ record IsFront (front all : List PackageFault) : Type 0 where
 whole : (rs : List PackageFault) → IsFront rs rs
 whole rs = record { rest = []; joined = sym (append-nil rs); empty = λ e. e }
 
-one_fault : (info : EsModule) (fs : List Fault) → IsFront (map (met info) (take 1 fs)) (map (met info) fs)
+one_fault : (info : EsModule) (fs : List Fault) → IsFront (map (transform_fault info) (take 1 fs)) (map (transform_fault info) fs)
 one_fault info [] = whole []
-one_fault info (f ∷ fs) = record { rest = map (met info) fs; joined = refl; empty = λ e. cc }
+one_fault info (f ∷ fs) = record { rest = map (transform_fault info) fs; joined = refl; empty = λ e. cc }
 
 in_tree : (graph : ModuleGraph) (public : PublicRanges) (info : Option AnyModuleInfo) →
     IsFront (faults_in_tree true graph public info) (faults_in_tree false graph public info)

@@ -1,4 +1,4 @@
--- What is kept of modules by their answers is what is to be kept of a package.
+-- What is cached of modules by their answers is what is to be cached of a package.
 use Rattle.std.specs.Prelude.{◌≡◌, List, [], ◌∷◌, ◌++◌, map, Ok, Err, refl}
 use Rattle.std.specs.List.{AllZip}
 use Rattle.std.proofs.Common.{Bool, ◌∙◌, sym, ap, subst}
@@ -14,13 +14,13 @@ use Rattle.fast_check_graph.specs.declared.root_symbol.RootSymbol.{RootSymbol}
 use Rattle.fast_check_cache.specs.declared.item.FastCheckCacheModuleItem.{FastCheckCacheModuleItem}
 use Rattle.fast_check_cache.specs.declared.package_ranges.PackagePublicRanges.{PackagePublicRanges}
 use Rattle.fast_check_transform_module.specs.transform_faults.Diagnostics.{IsDiagnosticOf}
-use Rattle.fast_check_package_answers.specs.PackageFaults.{PackageFault, met, found, Diagnoses, subject, package_faults, sound_front}
+use Rattle.fast_check_package_answers.specs.PackageFaults.{PackageFault, transform_fault, found, Diagnoses, subject, package_faults, sound_front}
 use Rattle.fast_check_package_answers.specs.PackageAnswer.{Answer, TreeModule, IsShown, ShowsMore, tree_modules}
 use Rattle.fast_check_package_answers.specs.Kept.{entry_of, kept_info, kept_skeleton, kept_diagnostic, kept_by, kept_modules, item_for}
 use Rattle.fast_check_package_answers.specs.KeptAnswers.{kept_answer, named_in, kept_answers}
 use Rattle.fast_check_package_answers.proofs.Turns.{all_shown}
 
--- a fault is told of its own module
+-- a fault is reported of its own module
 diagnosed_at : (info : EsModule) (fault : Fault) (d : FastCheckDiagnostic) → IsDiagnosticOf info fault d → specifier_of d ≡ info.specifier
 unfolding report_of
 diagnosed_at info fault (kinds.MissingExplicitType place) h = h.1.specifier
@@ -46,7 +46,7 @@ diagnosed_at info fault (kinds.Cached a) h = absurd h
 
 diagnosed_of : (r : PackageFault) (d : FastCheckDiagnostic) → Diagnoses r d → specifier_of d ≡ subject r
 diagnosed_of (found x) d h = ap specifier_of h
-diagnosed_of (met info fault) d h = diagnosed_at info fault d h
+diagnosed_of (transform_fault info fault) d h = diagnosed_at info fault d h
 
 subjects : (rs : List PackageFault) (ds : List FastCheckDiagnostic) → AllZip Diagnoses rs ds → map specifier_of ds ≡ map subject rs
 subjects [] [] h = refl

@@ -24,7 +24,7 @@ use Rattle.fast_check_graph.specs.declared.root_symbol.RootSymbol.{RootSymbol}
 use Rattle.fast_check_cache.specs.declared.package_ranges.PackagePublicRanges.{PackagePublicRanges}
 use Rattle.fast_check_transform_module.specs.Transform.{skeleton, sources, comments}
 use Rattle.fast_check_transform_module.specs.transform_faults.Diagnostics.{AreDiagnosticsOf, diagnosed}
-use Rattle.fast_check_package_answers.specs.PackageFaults.{PublicModule, PackageFault, met, found, Diagnoses, found_or, faults_in_tree}
+use Rattle.fast_check_package_answers.specs.PackageFaults.{PublicModule, PackageFault, transform_fault, found, Diagnoses, found_or, faults_in_tree}
 use Rattle.fast_check_package_answers.specs.PackageFaults.{first_list, module_faults, package_faults, sound_front}
 use Rattle.fast_check_package_answers.specs.PackageAnswer.{Answer, TreeModule, IsShown, ShowsMore, with_tree, tree_modules, IsSkeletonOf}
 use Rattle.fast_check_package_answers.specs.PackageAnswer.{IsRefused, IsFoundAnswer, IsUsedAnswer, IsPackageAnswer, OwnsPublic, OwnsModule}
@@ -86,14 +86,14 @@ goes_on true diagnostics b is e t =
 
 -- ---- one module
 
--- what the finder found is told as it is
+-- what the finder found is reported as it is
 pub found_diagnosed : (ds : List FastCheckDiagnostic) → AllZip Diagnoses (map found ds) ds
 found_diagnosed [] = tt
 found_diagnosed (d ∷ ds) = (refl, found_diagnosed ds)
 
 -- and the faults of the transform as diagnostics
 pub faults_diagnosed : (info : EsModule) (fs : List Fault) (ds : List FastCheckDiagnostic) → AreDiagnosticsOf info fs ds →
-    AllZip Diagnoses (map (met info) fs) ds
+    AllZip Diagnoses (map (transform_fault info) fs) ds
 faults_diagnosed info [] [] h = tt
 faults_diagnosed info [] (d ∷ ds) h = absurd h
 faults_diagnosed info (f ∷ fs) [] h = absurd h
@@ -101,21 +101,21 @@ faults_diagnosed info (f ∷ fs) (d ∷ ds) h = (h.0, faults_diagnosed info fs d
 
 -- of these there are none exactly where nothing is wrong
 pub nothing_diagnosed : (first : Bool) (info : EsModule) (fs : List Fault) → fs ≡ [] →
-    AllZip Diagnoses (map (met info) (diagnosed first fs)) []
+    AllZip Diagnoses (map (transform_fault info) (diagnosed first fs)) []
 nothing_diagnosed false info [] e = tt
 nothing_diagnosed true info [] e = tt
 nothing_diagnosed first info (f ∷ fs) e = cc
 
-pub nothing_met : (first : Bool) (info : EsModule) (fs : List Fault) (ds : List FastCheckDiagnostic) →
+pub no_transform_fault : (first : Bool) (info : EsModule) (fs : List Fault) (ds : List FastCheckDiagnostic) →
     AreDiagnosticsOf info (diagnosed first fs) ds → ds ≡ [] →
     fs ≡ []
-nothing_met first info [] ds h e = refl
-nothing_met false info (f ∷ fs) [] h e = absurd h
-nothing_met true info (f ∷ fs) [] h e = absurd h
-nothing_met first info (f ∷ fs) (d ∷ ds) h e = cc
+no_transform_fault first info [] ds h e = refl
+no_transform_fault false info (f ∷ fs) [] h e = absurd h
+no_transform_fault true info (f ∷ fs) [] h e = absurd h
+no_transform_fault first info (f ∷ fs) (d ∷ ds) h e = cc
 
 pub faults_answered : (first : Bool) (info : EsModule) (fs : List Fault) (r : Made) (ds : Diagnostics) → r ≡ Err ds →
-    IfErr r (λ d. AreDiagnosticsOf info (diagnosed first fs) d.items) → AllZip Diagnoses (map (met info) (diagnosed first fs)) ds.items
+    IfErr r (λ d. AreDiagnosticsOf info (diagnosed first fs) d.items) → AllZip Diagnoses (map (transform_fault info) (diagnosed first fs)) ds.items
 faults_answered first info fs (Ok made) ds e h = cc
 faults_answered first info fs (Err d) ds e h =
     let same : d ≡ ds = cc in
@@ -183,7 +183,7 @@ faults_stop graph root ms more some =
     let f = module_faults true graph root in
     ap first_list (map-append f ms more) ∙ first_front (map f ms) (map f more) some
 
--- what is told of some modules, and of one more
+-- what is reported of some modules, and of one more
 pub diagnosed_more : (first : Bool) (graph : ModuleGraph) (root : RootSymbol) (ms : List PublicModule) (m : PublicModule)
     (old more new : List FastCheckDiagnostic) →
     (first ≡ true → old ≡ []) → AllZip Diagnoses (package_faults first graph root ms) old →
@@ -194,7 +194,7 @@ diagnosed_more first graph root ms m old more new none before one is =
     subst (λ rs. AllZip Diagnoses rs new) (sym faults)
     (subst (AllZip Diagnoses _) (sym is) (both_append Diagnoses _ old _ more before one))
 
--- where the first fault is wanted alone, what is told of some modules is all
+-- where the first fault is wanted alone, what is reported of some modules is all
 pub diagnosed_all : (first : Bool) (graph : ModuleGraph) (root : RootSymbol) (ms more all : List PublicModule)
     (diagnostics : List FastCheckDiagnostic) →
     first ≡ true → diagnostics ≢ [] → ms ++ more ≡ all → AllZip Diagnoses (package_faults first graph root ms) diagnostics →
@@ -338,7 +338,7 @@ package_found graph root ranges first begin skeletons answers diagnostics diagno
       };
     }
 
--- a package is answered by what is found, where no module of it is kept, and else by these
+-- a package is answered by what is found, where no module of it is cached, and else by these
 pub by_found : (graph : ModuleGraph) (root : RootSymbol) (ranges : PackagePublicRanges) (first : Bool) (answers : List Answer) (b : Bool) →
     b ≡ (vec_len ranges.cache_items == 0) → b ≡ true → IsFoundAnswer graph root ranges first answers →
     IsPackageAnswer graph root ranges first answers

@@ -1,4 +1,4 @@
--- What a build keeps of a package in a cache.
+-- What a build writes of a package to a cache.
 use Rattle.std.specs.Prelude.{ℕ, ◌==◌, Bool, List, [], ◌∷◌, ◌++◌, length, map, Option, if◌then◌else◌}
 use Rattle.url.specs.Parts.{Parts, serialize}
 use Rattle.fast_check_syntax.specs.declared.tree.Tree.{Tree}
@@ -16,7 +16,7 @@ use Rattle.fast_check_package_answers.specs.PackageFaults.{PublicModule, Package
 use Rattle.fast_check_package_answers.specs.PackageFaults.{subject}
 use Rattle.fast_check_package_answers.specs.PackageAnswer.{TreeModule, tree_modules}
 
--- what contracts see of a module that is kept
+-- what contracts see of a cached module
 abbrev pub entry_of : Parts × FastCheckCacheModuleItem → Parts × ModuleView
 entry_of e = (e.0, module_of e.1)
 
@@ -39,7 +39,7 @@ abbrev pub kept_by : ModuleGraph → List TreeModule → List PackageFault → L
 kept_by graph modules [] = map (kept_skeleton graph) modules
 kept_by graph modules (r ∷ rs) = map (kept_diagnostic graph) (map (λ m. m.specifier) modules ++ map subject (r ∷ rs))
 
--- what is kept of the modules of a package
+-- what is cached of the modules of a package
 abbrev pub kept_modules : Bool → ModuleGraph → RootSymbol → List PublicModule → List (Parts × ModuleView)
 kept_modules first graph root modules =
     kept_by graph (tree_modules root (sound_front first graph root modules)) (package_faults first graph root modules)

@@ -1,5 +1,5 @@
 -- Inner: no contract of a public call cites what stands here.
--- What is kept of modules, by their answers.
+-- What is cached of modules, by their answers.
 use Rattle.std.specs.Prelude.{List, [], ◌∷◌, ◌++◌, map, Ok, Err}
 use Rattle.url.specs.Parts.{Parts}
 use Rattle.fast_check_modules.specs.diagnostics.Diagnostic.{specifier_of}

@@ -73,7 +73,7 @@ abbrev pub IsRefused : List FastCheckDiagnostic → Parts → Answer → Type 0
 IsRefused list entry_point (specifier, Ok made) = ⊥
 IsRefused list entry_point (specifier, Err diagnostics) = (specifier ≡ entry_point) × AreCopies list diagnostics.items
 
--- one list tells of the reasons, and answers each entry point
+-- one list reports the reasons, and answers each entry point
 pub record AreRefused (faults : List PackageFault) (entry_points : List Parts) (answers : List Answer) : Type 0 where
   pub list : List FastCheckDiagnostic
   pub diagnoses : AllZip Diagnoses faults list
@@ -81,7 +81,7 @@ pub record AreRefused (faults : List PackageFault) (entry_points : List Parts) (
 
 -- ---- a package that a cache answers
 
--- a module is answered by the skeleton that is kept of it, and else by `Cached` alone
+-- a module is answered by the skeleton that is cached of it, and else by `Cached` alone
 abbrev pub IsUsedAnswer : Parts × FastCheckCacheModuleItem → Answer → Type 0
 IsUsedAnswer (kept, Info info) (specifier, Ok made) = (specifier ≡ kept) × ((made.program ≡ info.program) ×
     ((made.comments ≡ info.comments) × (made.module_info.sources.items ≡ info.module_info.sources.items)))
@@ -100,7 +100,7 @@ pub record IsFoundAnswer (graph : ModuleGraph) (root : RootSymbol) (ranges : Pac
   pub refused : package_faults first graph root ranges.module_ranges.entries ≢ []
       → AreRefused (package_faults first graph root ranges.module_ranges.entries) ranges.entrypoints.keys answers
 
--- by what a cache keeps of its modules, if anything, and else by what is found
+-- by what a cache has of its modules, if anything, and else by what is found
 pub record IsPackageAnswer (graph : ModuleGraph) (root : RootSymbol) (ranges : PackagePublicRanges) (first : Bool)
     (answers : List Answer) : Type 0 where
   pub used : ranges.cache_items.items ≢ [] → AllZip IsUsedAnswer ranges.cache_items.items answers

@@ -19,19 +19,19 @@ use Rattle.fast_check_transform_module.specs.transform_faults.Diagnostics.{IsDia
 abbrev pub PublicModule : Type 0
 PublicModule = Parts × PublicRanges
 
--- what the finder found wrong with a module, or a fault that the transform meets in one
+-- what the finder found wrong with a module, or a fault that the transform reports of one
 pub data PackageFault : Type 0 where
   found : FastCheckDiagnostic → PackageFault
-  met : EsModule → Fault → PackageFault
+  transform_fault : EsModule → Fault → PackageFault
 
--- what the finder found is told as it is, and a fault as a diagnostic of its kind at its place
+-- what the finder found is reported as it is, and a fault as a diagnostic of its kind at its place
 abbrev pub Diagnoses : PackageFault → FastCheckDiagnostic → Type 0
 Diagnoses (found d) diagnosed_as = diagnosed_as ≡ d
-Diagnoses (met info fault) diagnosed_as = IsDiagnosticOf info fault diagnosed_as
+Diagnoses (transform_fault info fault) diagnosed_as = IsDiagnosticOf info fault diagnosed_as
 
 -- the faults of the transform, all or the first alone; none without a syntax tree
 abbrev pub faults_in_tree : Bool → ModuleGraph → PublicRanges → Option AnyModuleInfo → List PackageFault
-faults_in_tree first graph public (Some (Esm info)) = map (met info) (diagnosed first (faults graph info public))
+faults_in_tree first graph public (Some (Esm info)) = map (transform_fault info) (diagnosed first (faults graph info public))
 faults_in_tree first graph public (Some (Json _)) = []
 faults_in_tree first graph public None = []
 
@@ -67,4 +67,4 @@ sound_front first graph root modules = take_while (is_sound first graph root) mo
 -- the module that a reason speaks of
 abbrev pub subject : PackageFault → Parts
 subject (found d) = specifier_of d
-subject (met info _) = info.specifier
+subject (transform_fault info _) = info.specifier

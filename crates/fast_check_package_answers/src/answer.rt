@@ -1,4 +1,4 @@
-//! A package of which it is known what is public, answered by skeletons or by what is wrong.
+//! The answer of a package by its public ranges: skeletons or diagnostics.
 ghost use Rattle.std.specs.Prelude.{◌≡◌, ◌≢◌, ◌==◌, ◌&&◌, not, [], ◌∷◌, ◌++◌, length, take, IfOk, OnOk};
 ghost use Rattle.std.specs.List.{AllZip};
 ghost use Rattle.fast_check_modules.specs.EsModule.{AreOwnRanges};
@@ -90,7 +90,7 @@ fn answer_if_tree(
     }
 }
 
-/// What is wrong with a module: what the finder found, or else what the transform finds. Where that is nothing, the skeleton of a module
+/// The diagnostics of a module: those of the finder, or else those of the transform. Where there are none, the skeleton of a module
 /// with a syntax tree goes to the answers.
 #[tactic(auto, using(crate::proofs::Lists::stays_pushed, crate::proofs::Lists::stays_same))]
 fn answer_module(
@@ -133,7 +133,7 @@ fn add_diagnostics(
     Ok(())
 }
 
-/// Whether nothing more is to be told of a package.
+/// Whether nothing more is to be reported of a package.
 fn ends_early(options: &TransformOptions, diagnostics: &[FastCheckDiagnostic]) -> bool
     ensures { result ≡ (options.now.should_error_on_first_diagnostic && not (length diagnostics.now == 0)) }
 {
@@ -193,7 +193,7 @@ fn refuse(
     Ok(answers)
 }
 
-/// What answers a package: the skeletons of its modules where nothing is wrong, and else each entry point by what is wrong.
+/// The answer of a package: the skeletons of its modules where nothing is wrong, and else the diagnostics at each entry point.
 pub(crate) fn skeletons_or_diagnostics(
     alloc: Global,
     entrypoints: BTreeSet<Url>,
@@ -232,14 +232,14 @@ fn answer_found(
     Ok(answers)
 }
 
-/// The answer of a package, of which it is known what is public, or what a cache keeps of it. In the second case each module that is kept is
-/// answered by the skeleton that is kept of it, or else by `Cached`, in their order, and nothing goes to the entry points. In the first, where
-/// nothing is wrong with it, each module with a syntax tree is answered by its skeleton, in the order of the specifiers. Else each entry point, in
-/// order, is answered by all that is wrong with the modules, and no module by a skeleton; with `should_error_on_first_diagnostic` by what the
-/// finder found wrong with the first faulty module, or by its first fault.
+/// The answer of a package by its public ranges, or by its item of a cache. In the second case each cached module is answered by its cached
+/// skeleton, or else by `Cached`, in their order, and nothing goes to the entry points. In the first, where nothing is wrong with it, each module
+/// with a syntax tree is answered by its skeleton, in the order of the specifiers. Else each entry point, in order, is answered by all that is
+/// wrong with the modules, and no module by a skeleton; with `should_error_on_first_diagnostic` by what the finder found wrong with the first
+/// faulty module, or by its first fault.
 ///
-/// This is what `build_fast_check_type_graph` of deno_graph does with each package where no cache is lent. What is public in a module with a syntax
-/// tree has to be declared in it, as it is where it was found. An `Err` says that memory ran out.
+/// This is what `build_fast_check_type_graph` of deno_graph does with each package where no cache is lent. The public ranges of a module with a
+/// syntax tree have to be of its own declarations, as those that the finder answers are. An `Err` says that memory ran out.
 #[tactic(auto, using(crate::proofs::Turns::by_found, crate::proofs::Turns::by_used))]
 pub fn answer_package(
     alloc: Global,

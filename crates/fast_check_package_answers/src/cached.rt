@@ -14,7 +14,7 @@ use fast_check_cache::{FastCheckCache, FastCheckCacheItem, PackagePublicRanges, 
 use fast_check_packages::PackageNv;
 use std::alloc::{AllocError, Global};
 
-/// The answer of a package that no cache answers, and what a cache is to keep of it.
+/// The answer of a package that no cache answers, and what is to be cached of it.
 fn answer_and_keep(
     alloc: Global,
     input: BuildInput<'_>,
@@ -69,9 +69,9 @@ fn answer_found_and_set(
 }
 
 /// The answer of a package as by `answer_package`, where a cache is lent, with the seed of its keys. An item is set of a package that has no
-/// module that is kept: its dependencies, and then its modules. Where nothing is wrong, these are the ones that are answered, by their skeletons;
+/// cached module: its dependencies, and then its modules. Where nothing is wrong, these are the ones that are answered, by their skeletons;
 /// else those before the first with something wrong, and that of each diagnostic, all without skeletons. Each goes with the hash that the graph has
-/// of its source, or 0. Where memory is wanting, nothing is set.
+/// of its source, or 0. If memory runs out, nothing is set.
 #[tactic(auto, using(crate::proofs::Turns::by_found, crate::proofs::Turns::by_used, crate::proofs::Sets::found_set, crate::proofs::Sets::used_set))]
 pub fn answer_and_set(
     alloc: Global,

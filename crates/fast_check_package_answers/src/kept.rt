@@ -1,4 +1,4 @@
-//! What a build keeps of a package in a cache.
+//! What a build writes of a package to a cache.
 ghost use Rattle.std.specs.Prelude.{◌≡◌, map, IfOk};
 ghost use Rattle.fast_check_package_answers.specs.Kept.{entry_of, kept_info, kept_diagnostic};
 ghost use Rattle.fast_check_package_answers.specs.KeptAnswers.{kept_answer, kept_answers, named_in};
@@ -15,10 +15,10 @@ use fast_check_syntax::clone_tree;
 use std::alloc::{AllocError, Global};
 use url::Url;
 
-/// A module that is kept.
+/// A cached module.
 type KeptModule = (Url, FastCheckCacheModuleItem);
 
-/// What is kept of a module with a skeleton: a copy of it, with the hash of the source.
+/// What is cached of a module with a skeleton: a copy of it, with the hash of the source.
 fn keep_skeleton(
     alloc: Global,
     graph: &ModuleGraph,
@@ -37,7 +37,7 @@ fn keep_skeleton(
     Ok((specifier.clone()?, FastCheckCacheModuleItem::Info(info)))
 }
 
-/// What is kept of a module without a skeleton: the hash of the source.
+/// What is cached of a module without a skeleton: the hash of the source.
 fn keep_diagnostic(graph: &ModuleGraph, specifier: &Url) -> Result<KeptModule, AllocError>
     ensures { IfOk result (λ kept. entry_of kept ≡ kept_diagnostic graph.now specifier.now) }
 {
@@ -50,7 +50,7 @@ fn keep_diagnostic(graph: &ModuleGraph, specifier: &Url) -> Result<KeptModule, A
     ))
 }
 
-/// What is kept of a module that is answered.
+/// What is cached of a module that is answered.
 fn keep_answer(
     alloc: Global,
     graph: &ModuleGraph,
@@ -65,7 +65,7 @@ fn keep_answer(
     }
 }
 
-/// What is kept of modules that are answered.
+/// What is cached of modules that are answered.
 fn keep_answers(
     alloc: Global,
     graph: &ModuleGraph,
@@ -80,7 +80,7 @@ fn keep_answers(
     Ok(kept)
 }
 
-/// What is kept of a package with which something is wrong: that the modules before the first wrong one, and those that something is wrong with,
+/// What is cached of a package with which something is wrong: that the modules before the first wrong one, and those that something is wrong with,
 /// have no skeletons.
 fn keep_faulty(
     alloc: Global,
@@ -100,7 +100,7 @@ fn keep_faulty(
     Ok(kept)
 }
 
-/// What is kept of the modules of a package.
+/// What is cached of the modules of a package.
 pub(crate) fn keep_modules(
     alloc: Global,
     graph: &ModuleGraph,

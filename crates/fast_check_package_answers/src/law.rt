@@ -4,8 +4,8 @@ ghost use Rattle.fast_check_package_answers.specs.PackageAnswer.{IsFrontAlone};
 use fast_check_cache::PackagePublicRanges;
 use fast_check_graph::{ModuleGraph, RootSymbol};
 
-/// The law of the option `should_error_on_first_diagnostic`: what is told of a package under it is a front of what is told without, and
-/// the same packages are refused. It holds of the definitions, and so of what `answer_package` answers; it does nothing when it is called.
+/// The law of the option `should_error_on_first_diagnostic`: the diagnostics of a package under the option are a front of those without, and
+/// the same packages are refused. The law holds of the definitions, and so of the answers of `answer_package`; a call of this function does nothing.
 pub fn first_alone(
     graph: &ModuleGraph,
     root_symbol: &RootSymbol,

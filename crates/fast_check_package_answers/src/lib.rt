@@ -1,5 +1,4 @@
-//! How a package is answered, once it is known what is public in it: by the skeletons of its modules, or by what is wrong with them; or by what a
-//! cache keeps of it.
+//! How a package is answered by its public ranges: with the skeletons of its modules, or with their diagnostics; or else by its item of a cache.
 #![tactic(auto)]
 
 mod answer;

@@ -74,7 +74,7 @@ fn answer_and_set_one(
 }
 
 /// The answers of packages as by `answer_all`, where a cache is lent, with the seed of its keys. The item of each package of which no module is
-/// used from the cache is set, in their order. Where memory is wanting, those of the packages before are set.
+/// used from the cache is set, in their order. If memory runs out, those of the packages before are set.
 pub fn answer_and_set_all(
     alloc: Global,
     cache: &mut dyn FastCheckCache,

@@ -1,4 +1,4 @@
-//! Answers by what a cache keeps.
+//! Answers by what a cache has.
 ghost use Rattle.std.specs.List.{AllZip};
 ghost use Rattle.std.specs.Prelude.{IfOk};
 ghost use Rattle.fast_check_package_answers.specs.PackageAnswer.{IsUsedAnswer};
@@ -10,7 +10,7 @@ use fast_check_modules::diagnostics::FastCheckDiagnostic;
 use std::alloc::{AllocError, Global};
 use url::Url;
 
-/// A module, answered by the skeleton that is kept of it, or else by `Cached`.
+/// A module, answered by its cached skeleton, or else by `Cached`.
 fn used_answer(
     alloc: Global,
     specifier: Url,
@@ -36,7 +36,7 @@ fn used_answer(
     }
 }
 
-/// The modules that are kept of a package, each answered by what is kept of it, in their order.
+/// The cached modules of a package, each answered by what is cached of it, in their order.
 pub(crate) fn used_answers(
     alloc: Global,
     items: Vec<(Url, FastCheckCacheModuleItem)>,

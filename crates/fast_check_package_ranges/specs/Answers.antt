@@ -115,8 +115,8 @@ abbrev pub IsPackageAnswer : List Yield → PackagePublicRanges → Type 0
 IsPackageAnswer ys p = IsAnswerBy (flat_map items_of ys) ys p
 
 -- The answers say what the yields say, and nothing else: each package stands exactly if a yield is about it, and each
--- module of it alike, with the sets of what the yields say of them. Each diagnostic tells what some yield says, and all
--- that is to be told is told, but nothing twice; and nothing comes from a cache but an item that is used.
+-- module of it alike, with the sets of what the yields say of them. Each diagnostic reports what some yield says, and all
+-- that is to be reported is reported, but nothing twice; and nothing comes from a cache but an item that is used.
 abbrev pub AreAnswers : List Yield → BTreeMap PackageNv PackagePublicRanges → Type 0
 AreAnswers yields answers =
     (nv : Nv) → StandsFor IsPackageAnswer (about nv yields) (lookup_package nv answers.entries)

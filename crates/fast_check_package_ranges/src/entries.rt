@@ -1,4 +1,4 @@
-//! The entry points of packages: what their exports name, and what is wrong with it.
+//! The entry points of packages, which their exports name, and the faults of these.
 
 mod entered;
 mod faults;

@@ -148,7 +148,7 @@ pub fn add_all_untyped(
     Ok(())
 }
 
-/// What is told of a module.
+/// The public ranges of a module, or its diagnostics.
 fn module_ranges(
     alloc: Global,
     specifier: &Url,
@@ -166,7 +166,7 @@ fn module_ranges(
     Ok(made)
 }
 
-/// What is told of modules.
+/// The public ranges of modules, or their diagnostics.
 pub fn all_module_ranges(
     alloc: Global,
     modules: BTreeMap<Url, ModuleParts>,

@@ -77,7 +77,7 @@ fn cached_answer(
     })
 }
 
-/// What is answered of a package by how it was entered. What is wrong with its entry points is added to what is found of modules.
+/// The answer of a package by its entrance. The faults of its entry points are added to the findings of modules.
 fn entered_answer(
     alloc: Global,
     entrance: Option<Entrance>,
@@ -137,9 +137,9 @@ fn add_dependencies(
     Ok(())
 }
 
-/// The answer of a package. One whose item is used and has modules is answered by its entry points and the item alone: what other packages ask of its
-/// modules goes, as the item stands in place of what was found. An item without modules tells the entry points and the dependencies, beside what
-/// other packages ask of the modules.
+/// The answer of a package. One whose item is used and has modules is answered by its entry points and the item alone: the demands of other packages
+/// on its modules go, as the item stands in place of the findings. An item without modules has the entry points and the dependencies, beside the
+/// demands of other packages.
 pub fn answer_of(
     alloc: Global,
     packages: &[PackageNv],

@@ -48,8 +48,8 @@ fn add_answer(
 
 /// What was found, by package and module. A package is there exactly if it was entered, or if anything was found of it.
 ///
-/// No diagnostic is told twice of a module. Those of the module as a whole come first, and then the faults of demands by their places in the text.
-/// That the types of a module are not known is told where nothing else is told of it.
+/// No diagnostic is reported twice of a module. Those of the module as a whole come first, and then the faults of demands by their places in the text.
+/// That the types of a module are not known is reported where nothing else is reported of it.
 pub fn package_ranges(
     alloc: Global,
     found: IndexMap<PackageNv, FoundPackage<'_>>,

@@ -49,7 +49,7 @@ pub struct IndexedMembers<'a> {
 impl<'a> IndexedMembers<'a> {
     ghost use Rattle.fast_check_packages.specs.MembersIn.{members_in};
 
-    /// An index of these members. Answers `AllocError` where memory is wanting.
+    /// An index of these members. Answers `AllocError` if memory runs out.
     pub fn new(
         alloc: Global,
         members: &'a [WorkspaceMember],

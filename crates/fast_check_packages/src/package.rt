@@ -69,7 +69,7 @@ pub struct WorkspaceMember {
 }
 
 impl WorkspaceMember {
-    /// The member's name and version, 0.0.0 where it has none. Answers `AllocError` where memory for the copies is wanting.
+    /// The member's name and version, 0.0.0 where it has none. Answers `AllocError` if memory for the copies runs out.
     pub fn as_nv(&self, alloc: Global) -> Result<PackageNv, AllocError>
         ensures { IfOk result (λ nv. nv_of nv ≡ (string_bytes self.now.name, version_or_zero self.now.version)) }
     {

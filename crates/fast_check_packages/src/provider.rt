@@ -17,11 +17,11 @@ pub trait JsrUrlProvider {
     /// The package that the text of a URL belongs to.
     ghost nv_at: { Self → List ℕ → Option Nv };
 
-    /// The URL that the export texts of a package are joined to, with a `/` at its end. `AllocError` where memory is wanting.
+    /// The URL that the export texts of a package are joined to, with a `/` at its end. `AllocError` if memory runs out.
     fn package_url(&self, nv: &PackageNv) -> Result<Url, AllocError>
         ensures { IfOk result (λ url. url ≡ url_of self.now (nv_of nv.now)) };
 
-    /// The package that a URL belongs to, None where that is no package. `AllocError` where memory is wanting.
+    /// The package that a URL belongs to, None where that is no package. `AllocError` if memory runs out.
     fn package_url_to_nv(&self, url: &Url) -> Result<Option<PackageNv>, AllocError>
         ensures { IfOk result (λ found. option_map nv_of found ≡ nv_at self.now (serialize url.now)) };
 }

@@ -1,5 +1,5 @@
-//! What stands of values, functions and parameters where a type checker is to read them without inference, and what is
-//! wrong with those that it could not read: the definitions that the transform is proved against.
+//! The parts of values, functions and parameters that stay where a type checker is to read them without inference, and
+//! the faults of those that it could not read: the definitions that the transform is proved against.
 #![tactic(auto)]
 
 mod fault;

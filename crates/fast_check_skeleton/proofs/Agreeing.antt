@@ -86,9 +86,9 @@ use Rattle.fast_check_expandos.proofs.PropertiesMoved.{moved_expando}
 use Rattle.fast_check_skeleton.specs.Visible.{properties_by_rule, item_properties}
 use Rattle.fast_check_skeleton.proofs.AgreeingAssignments.{PropertiesAlike, namespaces_alike as all_namespaces_alike, more_properties}
 use Rattle.fast_check_skeleton.proofs.AgreeingAssignments.{assignments_alike, properties_alike}
-use Rattle.fast_check_skeleton.proofs.AgreeingLinks.{silent_link, links_alike}
+use Rattle.fast_check_skeleton.proofs.AgreeingImportsExports.{silent_import_export, imports_exports_alike}
 use Rattle.fast_check_skeleton.proofs.AgreeingDefaults.{silent_default, defaults_alike}
-use Rattle.fast_check_skeleton.specs.SameLinks as l
+use Rattle.fast_check_skeleton.specs.SameImportsExports as l
 use Rattle.fast_check_skeleton.specs.Hidden as h
 use Rattle.fast_check_skeleton.specs.Worlds.{SameFault, SameSkeleton}
 use Rattle.fast_check_signatures.proofs.AnswersMoved.{moved_fault, moved_items, answer_of_moved}
@@ -150,7 +150,7 @@ module _ (facts : ModuleFacts) where
       item_seen_is facts t ∙ (ap (seen_by_rule facts t) (assigned_rule t k n)
       ∙ ap (λ p. if p then tested (missing_place facts.objects (ExprStmt-expr t)) (right_seen facts.bindings (ExprStmt-expr t)) ∷
       [] else []) e)
-  silent_item t (h.IsSilent.linked s) = let e = silent_link facts t s in item_seen_is facts t ∙
+  silent_item t (h.IsSilent.import_export s) = let e = silent_import_export facts t s in item_seen_is facts t ∙
       (ap (seen_by_rule facts t) e.is ∙ e.unseen)
   silent_item t (h.IsSilent.default s) = let e = silent_default facts t s in item_seen_is facts t ∙
       (ap (seen_by_rule facts t) e.is ∙ e.unseen)
@@ -165,7 +165,7 @@ module _ (facts : ModuleFacts) where
       ap (properties_by_rule facts t) (assigned_rule t k n)
       ∙ ap (λ p. if p && is_expando_assignment (ExprStmt-expr t) then kept_property facts.objects (AssignExpr-span (ExprStmt-expr t))
       (AssignExpr-left (ExprStmt-expr t)) (answer_to (right_seen facts.bindings (ExprStmt-expr t))).stays else []) e
-  silent_properties t (h.IsSilent.linked s) = ap (properties_by_rule facts t) (silent_link facts t s).is
+  silent_properties t (h.IsSilent.import_export s) = ap (properties_by_rule facts t) (silent_import_export facts t s).is
   silent_properties t (h.IsSilent.default s) = ap (properties_by_rule facts t) (silent_default facts t s).is
 
   -- what is seen of the items of a body, one by one
@@ -565,8 +565,8 @@ module _ (r : Renaming) (ok : IsRenaming r) where
   declared_alike c m (h.SameItem.exported_namespace {a = a} {b = b} {t = t} {u = u} k s d) =
       no_properties a b t u (ap (λ j. properties_by_rule a t (rule_of_kind j t)) k.left)
       (ap (λ j. properties_by_rule b u (rule_of_kind j u)) k.right)
-  declared_alike c m (h.SameItem.linked {a = a} {b = b} {t = t} {u = u} d) =
-      let e = links_alike r ok a b t u d in
+  declared_alike c m (h.SameItem.import_export {a = a} {b = b} {t = t} {u = u} d) =
+      let e = imports_exports_alike r ok a b t u d in
       no_properties a b t u (ap (properties_by_rule a t) e.left) (ap (properties_by_rule b u) e.right)
   declared_alike c m (h.SameItem.default {a = a} {b = b} {t = t} {u = u} d) =
       let e = defaults_alike r ok a b c m t u d in
@@ -617,8 +617,8 @@ module _ (r : Renaming) (ok : IsRenaming r) where
         subst₂ (AllAlike r ok) (sym (exported_namespace_of a b a t k.left n.left)) (sym (exported_namespace_of a b b u k.right n.right))
         (exported_alike a b t u (namespace_seen item_look a (ExportDecl-span t) (ExportDecl-decl t))
         (namespace_seen item_look b (ExportDecl-span u) (ExportDecl-decl u)) s (namespaces_alike c m d))
-    item_alike c m (h.SameItem.linked {a = a} {b = b} {t = t} {u = u} d) =
-        let e = links_alike r ok a b t u d in
+    item_alike c m (h.SameItem.import_export {a = a} {b = b} {t = t} {u = u} d) =
+        let e = imports_exports_alike r ok a b t u d in
         subst₂ (AllAlike r ok) (sym (item_seen_is a t)) (sym (item_seen_is b u))
         (subst₂ (λ x y. AllAlike r ok (seen_by_rule a t x) (seen_by_rule b u y)) (sym e.left) (sym e.right) e.alike)
     item_alike c m (h.SameItem.default {a = a} {b = b} {t = t} {u = u} d) =

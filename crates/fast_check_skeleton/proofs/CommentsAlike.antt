@@ -45,14 +45,14 @@ use Rattle.fast_check_skeleton.specs.Kinds.{is_standing}
 use Rattle.fast_check_skeleton.specs.declared.rules.DefaultRule.{DefaultRule}
 use Rattle.fast_check_skeleton.specs.declared.rules.DefaultRule.TheVariants.{Value, Class, Function, Interface}
 use Rattle.fast_check_skeleton.specs.declared.rules.ItemRule.{ItemRule}
-use Rattle.fast_check_skeleton.specs.declared.rules.ItemRule.TheVariants.{Declared, Exported, Linked, Default, Refused, Assigned}
+use Rattle.fast_check_skeleton.specs.declared.rules.ItemRule.TheVariants.{Declared, Exported, ImportExport, Default, Refused, Assigned}
 use Rattle.fast_check_skeleton.specs.declared.rules.DeclRule.TheVariants.{Namespace}
 use Rattle.fast_check_skeleton.specs.Rules.{decl_rule, default_rule, rule_of_kind, item_rule}
 use Rattle.fast_check_skeleton.proofs.Ruled.{assigned_rule, rule_by_kind, default_by_kind, declared_rule, silent_rule, namespace_rule}
 use Rattle.fast_check_skeleton.proofs.Ruled.{exported_namespace_rule}
 use Rattle.fast_check_skeleton.proofs.Namespaces.{innermost_block, innermost_inner, removed_start_is, global_no_namespace}
 use Rattle.fast_check_skeleton.proofs.Namespaces.{ambient_no_namespace}
-use Rattle.fast_check_skeleton.proofs.AgreeingLinks.{silent_link, links_alike}
+use Rattle.fast_check_skeleton.proofs.AgreeingImportsExports.{silent_import_export, imports_exports_alike}
 use Rattle.fast_check_skeleton.proofs.AgreeingDefaults.{silent_default, defaults_alike}
 use Rattle.fast_check_skeleton.proofs.RemovedMembers.{is_among, one_start, no_left, no_right, class_removed}
 use Rattle.fast_check_skeleton.proofs.Agreeing.{silent_declares, silent_item, ambient_class_same, decl_taken, namespace_kinds, item_alike}
@@ -162,7 +162,7 @@ silent_inside facts t (h.IsSilent.exported k s) =
     ap (λ j. starts_inside facts t (rule_of_kind j t)) k ∙ silent_decl_inside facts (ExportDecl-span t) (ExportDecl-decl t) s
 silent_inside facts t (h.IsSilent.assigned k n e) =
     ap (starts_inside facts t) (assigned_rule t k n) ∙ ap (λ b. if b then (range_of_node t).start ∷ [] else []) e
-silent_inside facts t (h.IsSilent.linked s) = ap (starts_inside facts t) (silent_link facts t s).is
+silent_inside facts t (h.IsSilent.import_export s) = ap (starts_inside facts t) (silent_import_export facts t s).is
 silent_inside facts t (h.IsSilent.default s) =
     let e = silent_default facts t s in ap (starts_inside facts t) e.is ∙ silent_default_inside facts t e.rule e.goes
 
@@ -217,7 +217,7 @@ silent_below facts t (h.IsSilent.statement s) = ap (starts_below start_look fact
 silent_below facts t (h.IsSilent.exported k s) =
     ap (λ j. starts_below start_look facts t (rule_of_kind j t)) k ∙ silent_decl_below facts (ExportDecl-span t) (ExportDecl-decl t) s
 silent_below facts t (h.IsSilent.assigned k n e) = ap (starts_below start_look facts t) (assigned_rule t k n)
-silent_below facts t (h.IsSilent.linked s) = ap (starts_below start_look facts t) (silent_link facts t s).is
+silent_below facts t (h.IsSilent.import_export s) = ap (starts_below start_look facts t) (silent_import_export facts t s).is
 silent_below facts t (h.IsSilent.default s) = ap (starts_below start_look facts t) (silent_default facts t s).is
 
 -- ---- where items begin
@@ -262,7 +262,7 @@ module _ (r : Renaming) (ok : IsRenaming r) where
     item_begins c m t u (h.SameItem.namespace (h.SameNamespace.bodies d s)) = of_modules t u d.kinds d.span
     item_begins c m t u (h.SameItem.exported_namespace k s d) =
         subst₂ (SameRange r) (sym (range_of_export t k.left)) (sym (range_of_export u k.right)) s
-    item_begins c m t u (h.SameItem.linked d) = (links_alike r ok a b t u d).begins
+    item_begins c m t u (h.SameItem.import_export d) = (imports_exports_alike r ok a b t u d).begins
     item_begins c m t u (h.SameItem.default d) = (defaults_alike r ok a b c m t u d).begins
     item_begins c m t u (h.SameItem.assigned d) = d.range
     item_begins c m t u (h.SameItem.refused kind e f s) = s
@@ -390,7 +390,8 @@ module _ (r : Renaming) (ok : IsRenaming r) where
       item_inside c m t u (h.SameItem.exported_namespace k s d) =
           let n = namespace_kinds r ok d in
           by_rules t u (Exported Namespace) (exported_namespace_rule t k.left n.left) (exported_namespace_rule u k.right n.right) refl
-      item_inside c m t u (h.SameItem.linked d) = let e = links_alike r ok a b t u d in by_rules t u (Linked e.rule) e.left e.right refl
+      item_inside c m t u (h.SameItem.import_export d) =
+          let e = imports_exports_alike r ok a b t u d in by_rules t u (ImportExport e.rule) e.left e.right refl
       item_inside c m t u (h.SameItem.default d) = default_inside t u d
       item_inside c m t u (h.SameItem.assigned d) =
           by_rules t u Assigned (assigned_rule t d.kinds.left d.assignments.kinds.left)
@@ -488,8 +489,8 @@ module _ (r : Renaming) (ok : IsRenaming r) where
           below_by_rules a b p q pair t u (Exported Namespace) (exported_namespace_rule t k.left n.left)
           (exported_namespace_rule u k.right n.right)
           (namespaces_removed c m d)
-      item_below c m (h.SameItem.linked {a = a} {b = b} {t = t} {u = u} d) =
-          let e = links_alike r ok a b t u d in below_by_rules a b p q pair t u (Linked e.rule) e.left e.right refl
+      item_below c m (h.SameItem.import_export {a = a} {b = b} {t = t} {u = u} d) =
+          let e = imports_exports_alike r ok a b t u d in below_by_rules a b p q pair t u (ImportExport e.rule) e.left e.right refl
       item_below c m (h.SameItem.default {a = a} {b = b} {t = t} {u = u} d) =
           let e = defaults_alike r ok a b c m t u d in below_by_rules a b p q pair t u (Default e.rule) e.left e.right refl
       item_below c m (h.SameItem.assigned {a = a} {b = b} {t = t} {u = u} d) =

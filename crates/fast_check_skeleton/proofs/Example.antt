@@ -31,7 +31,7 @@ use Rattle.fast_check_skeleton.specs.Hidden.{AgreeHidden, SameHead, SameDeclarat
 use Rattle.fast_check_skeleton.specs.Hidden.{SameItems}
 use Rattle.fast_check_skeleton.specs.SameClasses.{IsNoPartner}
 use Rattle.fast_check_skeleton.specs.Hidden as h
-use Rattle.fast_check_skeleton.specs.SameLinks as l
+use Rattle.fast_check_skeleton.specs.SameImportsExports as l
 use Rattle.fast_check_skeleton.specs.KeptComments.{kept_comments}
 use Rattle.fast_check_skeleton.specs.SameComments.{all_comments_at, SameComment, SameComments}
 use Rattle.fast_check_skeleton.specs.Skeleton.{skeleton_of}

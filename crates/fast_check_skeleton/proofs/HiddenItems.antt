@@ -4,7 +4,7 @@ use Rattle.fast_check_syntax.specs.declared.tree.Tree.{Tree}
 use Rattle.fast_check_syntax.specs.Moves.{Renaming}
 use Rattle.fast_check_skeleton.specs.Hidden as h
 use Rattle.fast_check_skeleton.specs.SameDefaults as defaults
-use Rattle.fast_check_skeleton.specs.SameLinks as links
+use Rattle.fast_check_skeleton.specs.SameImportsExports as imports_exports
 use Rattle.fast_check_skeleton.specs.HiddenItems.{SilentDecls, SilentItems, UnseenItems, HidesItems}
 use Rattle.fast_check_skeleton.specs.ModuleFacts.{ModuleFacts}
 
@@ -24,10 +24,10 @@ silent_items facts t = record {
   exported = λ k s. h.IsSilent.exported k s;
   statements = λ s. h.IsSilent.statement s;
   assignments = λ k n e. h.IsSilent.assigned k n e;
-  imports = λ k e. h.IsSilent.linked (links.IsSilentLink.import k e);
-  exports = λ k e. h.IsSilent.linked (links.IsSilentLink.export k e);
-  stars = λ k e. h.IsSilent.linked (links.IsSilentLink.all k e);
-  aliases = λ k n e. h.IsSilent.linked (links.IsSilentLink.alias k n e);
+  imports = λ k e. h.IsSilent.import_export (imports_exports.IsSilentImportExport.import k e);
+  exports = λ k e. h.IsSilent.import_export (imports_exports.IsSilentImportExport.export k e);
+  stars = λ k e. h.IsSilent.import_export (imports_exports.IsSilentImportExport.all k e);
+  aliases = λ k n e. h.IsSilent.import_export (imports_exports.IsSilentImportExport.alias k n e);
   values = λ k e. h.IsSilent.default (defaults.IsSilentDefault.value k e);
   defaults = λ k d e. h.IsSilent.default (defaults.IsSilentDefault.decl k d e);
 }
@@ -36,8 +36,8 @@ unseen_items : (r : Renaming) (a b : ModuleFacts) → UnseenItems r a b
 unseen_items r a b = record {
   left = λ t s alone. h.SameItems.left s alone h.SameItems.end;
   right = λ u s alone. h.SameItems.right s alone h.SameItems.end;
-  left_names = λ p q t e. links.SamePublic.left e links.SamePublic.end;
-  right_names = λ p q u e. links.SamePublic.right e links.SamePublic.end;
+  left_names = λ p q t e. imports_exports.SamePublic.left e imports_exports.SamePublic.end;
+  right_names = λ p q u e. imports_exports.SamePublic.right e imports_exports.SamePublic.end;
   shown_values = λ mutability t u x y head e n same. h.SameDeclarator.inferred x y head e n same;
 }
 

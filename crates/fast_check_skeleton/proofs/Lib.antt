@@ -25,7 +25,7 @@ pub mod Namespaces
 pub mod ItemRanges
 pub mod RemovedMembers
 pub mod AgreeingAssignments
-pub mod AgreeingLinks
+pub mod AgreeingImportsExports
 pub mod AgreeingDefaults
 pub mod Agreeing
 pub mod CommentsAlike

@@ -13,11 +13,11 @@ use Rattle.fast_check_skeleton.specs.SameValues.{SameFunction}
 use Rattle.fast_check_skeleton.proofs.TypedFunctions.{absent}
 use Rattle.fast_check_skeleton.specs.Hidden.{AgreeHidden, SameItem, SameItems}
 use Rattle.fast_check_skeleton.specs.Hidden as h
-use Rattle.fast_check_skeleton.specs.Links.{is_public_specifier}
+use Rattle.fast_check_skeleton.specs.ImportsExports.{is_public_specifier}
 use Rattle.fast_check_skeleton.specs.SameDefaults.{SameDefaultFunction}
 use Rattle.fast_check_skeleton.specs.SameDefaults as d
-use Rattle.fast_check_skeleton.specs.SameLinks.{SamePublic, SameSource, SameImport}
-use Rattle.fast_check_skeleton.specs.SameLinks as l
+use Rattle.fast_check_skeleton.specs.SameImportsExports.{SamePublic, SameSource, SameImport}
+use Rattle.fast_check_skeleton.specs.SameImportsExports as l
 use Rattle.fast_check_skeleton.specs.Skeleton.{skeleton_of}
 use Rattle.fast_check_skeleton.specs.HiddenChanges.{void_function}
 use Rattle.fast_check_skeleton.specs.ClassExample.{empty_statement, no_places, no_classes}
@@ -108,7 +108,7 @@ agree = record {
   bindings = record { unresolved = inl (refl, refl) };
   is_ambient = refl;
   items = subst₂ (SameItems no_places facts facts) (sym (items_made _)) (sym (items_made _))
-      (h.SameItems.next (h.SameItem.linked (l.SameLink.import imports))
+      (h.SameItems.next (h.SameItem.import_export (l.SameImportExport.import imports))
       (h.SameItems.next (defaults [] (empty_statement ∷ [])) h.SameItems.end));
   shebang = are_same _ _ Absent (part_node _ _ _) (part_node _ _ _) same_absent;
 }

@@ -29,7 +29,7 @@ use Rattle.fast_check_skeleton.specs.ModuleFacts.{ModuleFacts}
 use Rattle.fast_check_skeleton.specs.Hidden.{AgreeHidden, SameHead, SameDeclarator, SameDeclarators, SameStatement, SameDecl, SameItem}
 use Rattle.fast_check_skeleton.specs.Hidden.{SameItems}
 use Rattle.fast_check_skeleton.specs.Hidden as h
-use Rattle.fast_check_skeleton.specs.SameLinks as l
+use Rattle.fast_check_skeleton.specs.SameImportsExports as l
 use Rattle.fast_check_skeleton.specs.Skeleton.{skeleton_of}
 use Rattle.fast_check_skeleton.specs.ClassExample.{module_of, no_places, no_classes}
 use Rattle.fast_check_skeleton.specs.PrivateClassExample.{class_h, declarator_x, statement_x, export_x, one, new_h, first, second}

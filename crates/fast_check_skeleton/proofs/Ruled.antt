@@ -12,8 +12,8 @@ use Rattle.fast_check_signatures.specs.declared.fault.FaultKind.TheVariants.{Uns
 use Rattle.fast_check_skeleton.specs.declared.rules.DeclRule.{DeclRule}
 use Rattle.fast_check_skeleton.specs.declared.rules.DeclRule.TheVariants.{Function, Class, Standing, Namespace}
 use Rattle.fast_check_skeleton.specs.declared.rules.ItemRule.{ItemRule}
-use Rattle.fast_check_skeleton.specs.declared.rules.ItemRule.TheVariants.{Declared, Exported, Linked, Refused, Silent, Assigned}
-use Rattle.fast_check_skeleton.specs.declared.rules.LinkRule.TheVariants.{Alias}
+use Rattle.fast_check_skeleton.specs.declared.rules.ItemRule.TheVariants.{Declared, Exported, ImportExport, Refused, Silent, Assigned}
+use Rattle.fast_check_skeleton.specs.declared.rules.ImportExportRule.TheVariants.{Alias}
 use Rattle.fast_check_skeleton.specs.Hidden.{is_plain_statement}
 use Rattle.fast_check_skeleton.specs.Kinds.{is_standing, is_statement}
 use Rattle.fast_check_skeleton.specs.Rules.{decl_rule, expr_stmt_rule, default_rule, is_require, rule_of_kind, item_rule, declares}
@@ -72,8 +72,8 @@ pub default_by_kind : (t : Tree) (k : Kind) → kind_of t ≡ kinds.ExportDefaul
 default_by_kind t k e d = rule_by_kind t kinds.ExportDefaultDecl e ∙ ap default_rule d
 
 -- of `import A = B.C`
-pub alias_rule : (t : Tree) → kind_of t ≡ kinds.TsImportEqualsDecl → is_require t ≡ false → item_rule t ≡ Linked Alias
-alias_rule t e n = rule_by_kind t kinds.TsImportEqualsDecl e ∙ ap (λ b. if b then Refused UnsupportedRequire else Linked Alias) n
+pub alias_rule : (t : Tree) → kind_of t ≡ kinds.TsImportEqualsDecl → is_require t ≡ false → item_rule t ≡ ImportExport Alias
+alias_rule t e n = rule_by_kind t kinds.TsImportEqualsDecl e ∙ ap (λ b. if b then Refused UnsupportedRequire else ImportExport Alias) n
 
 -- of a namespace, exported or not
 pub namespace_rule : (t : Tree) → kind_of t ≡ kinds.TsModuleDecl → item_rule t ≡ Declared Namespace

@@ -51,14 +51,14 @@ use Rattle.fast_check_skeleton.specs.declared.rules.DeclRule.TheVariants.{NoDecl
 use Rattle.fast_check_skeleton.specs.declared.rules.DefaultRule.{DefaultRule}
 use Rattle.fast_check_skeleton.specs.declared.rules.DefaultRule.TheVariants as defaults
 use Rattle.fast_check_skeleton.specs.declared.rules.DefaultRule.TheVariants.{Value, Interface}
-use Rattle.fast_check_skeleton.specs.declared.rules.LinkRule.{LinkRule}
-use Rattle.fast_check_skeleton.specs.declared.rules.LinkRule.TheVariants.{Import, Export, All, Alias}
+use Rattle.fast_check_skeleton.specs.declared.rules.ImportExportRule.{ImportExportRule}
+use Rattle.fast_check_skeleton.specs.declared.rules.ImportExportRule.TheVariants.{Import, Export, All, Alias}
 use Rattle.fast_check_skeleton.specs.declared.rules.ItemRule.{ItemRule}
-use Rattle.fast_check_skeleton.specs.declared.rules.ItemRule.TheVariants.{Declared, Exported, Linked, Default, Refused, Silent, Assigned}
+use Rattle.fast_check_skeleton.specs.declared.rules.ItemRule.TheVariants.{Declared, Exported, ImportExport, Default, Refused, Silent, Assigned}
 use Rattle.fast_check_skeleton.specs.Defaults.{is_public_value, default_value_seen, default_class_seen, default_place, default_signature}
 use Rattle.fast_check_skeleton.specs.Defaults.{default_function_seen, public_default, default_seen}
-use Rattle.fast_check_skeleton.specs.Links as l
-use Rattle.fast_check_skeleton.specs.Links.{public_specifiers, with_specifiers, all_exported, link_seen}
+use Rattle.fast_check_skeleton.specs.ImportsExports as l
+use Rattle.fast_check_skeleton.specs.ImportsExports.{public_specifiers, with_specifiers, all_exported, import_export_seen}
 use Rattle.fast_check_skeleton.specs.Mutability.{mutability_of}
 use Rattle.fast_check_skeleton.specs.Rules.{decl_rule, expr_stmt_rule, default_rule, is_require, rule_of_kind}
 use Rattle.fast_check_skeleton.specs.ModuleFacts.{ModuleFacts, inside}
@@ -71,7 +71,7 @@ use Rattle.fast_check_skeleton.specs.Visible.{ItemLook, body_seen, namespace_see
 use Rattle.fast_check_skeleton.specs.Visible.{item_seen, decl_seen, seen_by_rule, items_of}
 use Rattle.fast_check_skeleton.specs.Skeleton.{transformed, skeleton_of, faults_of}
 use Rattle.fast_check_skeleton.specs.Grammar.{IsTypedDeclarator, IsTypedStatement, IsTypedFunctionDecl, IsTypedClassDecl, IsTypedDecl}
-use Rattle.fast_check_skeleton.specs.Grammar.{IsTypedDefaultDecl, IsLink, IsPlainItem, IsTypedItem, IsTypedNamespace, AllTypedItems}
+use Rattle.fast_check_skeleton.specs.Grammar.{IsTypedDefaultDecl, IsImportOrExport, IsPlainItem, IsTypedItem, IsTypedNamespace, AllTypedItems}
 use Rattle.fast_check_skeleton.specs.Grammar.{IsSkeleton}
 use Rattle.fast_check_skeleton.specs.Grammar as g
 use Rattle.fast_check_skeleton.proofs.StandingNamespaces.{namespace_is, namespace_typed}
@@ -457,41 +457,42 @@ module _ (facts : ModuleFacts) where
 
   -- ---- imports and exports of names
 
-  link : (t : Tree) → IsLink t → IsPlain t
-  link t h = inr (inr (inr h))
+  import_or_export : (t : Tree) → IsImportOrExport t → IsPlain t
+  import_or_export t h = inr (inr (inr h))
 
   with_stays : (make : List Tree → Tree) → ((ts : List Tree) → IsPlain (make ts)) → (ts : List Tree) →
       AllStay IsPlain (with_specifiers make ts)
   with_stays make p [] = tt
   with_stays make p (t ∷ ts) = ((λ f. p (t ∷ ts)), tt)
 
-  import_stays : (item : Tree) → AllStay IsPlain (link_seen facts item Import)
+  import_stays : (item : Tree) → AllStay IsPlain (import_export_seen facts item Import)
   import_stays item =
-      with_stays (l.import_with facts item) (λ ts. link _ (inl (kind_of_node _ _))) (public_specifiers facts (ImportDecl-specifiers item))
+      with_stays (l.import_with facts item) (λ ts. import_or_export _ (inl (kind_of_node _ _)))
+      (public_specifiers facts (ImportDecl-specifiers item))
 
-  names_stay : (item : Tree) → AllStay IsPlain (link_seen facts item Export)
+  names_stay : (item : Tree) → AllStay IsPlain (import_export_seen facts item Export)
   names_stay item =
-      with_stays (l.export_with facts item) (λ ts. link _ (inr (inl (kind_of_node _ _))))
+      with_stays (l.export_with facts item) (λ ts. import_or_export _ (inr (inl (kind_of_node _ _))))
       (public_specifiers facts (NamedExport-specifiers item))
 
-  all_stays : (item : Tree) → AllStay IsPlain (link_seen facts item All)
+  all_stays : (item : Tree) → AllStay IsPlain (import_export_seen facts item All)
   all_stays item = all_if IsPlain (facts.is_public (ExportAll-span item)) (written (all_exported facts item))
-      (λ f. link _ (inr (inr (inl (kind_of_node _ _)))))
+      (λ f. import_or_export _ (inr (inr (inl (kind_of_node _ _)))))
 
   alias_stays : (item : Tree) → kind_of item ≡ kinds.TsImportEqualsDecl → is_require item ≡ false →
-      AllStay IsPlain (link_seen facts item Alias)
+      AllStay IsPlain (import_export_seen facts item Alias)
   alias_stays item k n = all_if IsPlain (facts.is_public (TsImportEqualsDecl-span item)) (written item)
-      (λ f. link item (inr (inr (inr (k, n)))))
+      (λ f. import_or_export item (inr (inr (inr (k, n)))))
 
   with_one : (make : List Tree → Tree) (ts : List Tree) → OneTree (with_specifiers make ts)
   with_one make [] = tt
   with_one make (t ∷ ts) = (make (t ∷ ts), refl)
 
-  link_one : (item : Tree) (rule : LinkRule) → OneTree (link_seen facts item rule)
-  link_one item Import = with_one (l.import_with facts item) (public_specifiers facts (ImportDecl-specifiers item))
-  link_one item Export = with_one (l.export_with facts item) (public_specifiers facts (NamedExport-specifiers item))
-  link_one item All = one_if (facts.is_public (ExportAll-span item)) (written (all_exported facts item)) (_, refl)
-  link_one item Alias = one_if (facts.is_public (TsImportEqualsDecl-span item)) (written item) (item, refl)
+  import_export_one : (item : Tree) (rule : ImportExportRule) → OneTree (import_export_seen facts item rule)
+  import_export_one item Import = with_one (l.import_with facts item) (public_specifiers facts (ImportDecl-specifiers item))
+  import_export_one item Export = with_one (l.export_with facts item) (public_specifiers facts (NamedExport-specifiers item))
+  import_export_one item All = one_if (facts.is_public (ExportAll-span item)) (written (all_exported facts item)) (_, refl)
+  import_export_one item Alias = one_if (facts.is_public (TsImportEqualsDecl-span item)) (written item) (item, refl)
 
   -- ---- default exports
 
@@ -609,7 +610,7 @@ module _ (facts : ModuleFacts) where
   item_one item (Exported rule) e =
       export_one item (decl_seen facts (ExportDecl-span item) (ExportDecl-decl item) rule)
       (decl_one (ExportDecl-span item) (ExportDecl-decl item) rule)
-  item_one item (Linked rule) e = link_one item rule
+  item_one item (ImportExport rule) e = import_export_one item rule
   item_one item (Default rule) e = default_one item rule
   item_one item (Refused kind) e = (Absent, refl)
   item_one item Assigned e = cc

@@ -31,8 +31,8 @@ HasTypedValue bindings type value =
     ((is_absent type ≡ false) × (value ≡ never_value)) ⊎ ((is_absent value ≡ false) × IsLeavable bindings value)
 
 -- an import or an export of names, `export *`, or `import A = B.C`
-abbrev pub IsLink : Tree → Type 0
-IsLink item =
+abbrev pub IsImportOrExport : Tree → Type 0
+IsImportOrExport item =
     (kind_of item ≡ ImportDecl) ⊎ ((kind_of item ≡ NamedExport) ⊎ ((kind_of item ≡ ExportAll) ⊎
     ((kind_of item ≡ TsImportEqualsDecl) × (is_require item ≡ false))))
 
@@ -87,7 +87,7 @@ module _ (bindings : Bindings) where
   abbrev pub IsPlainItem : Bool → Tree → Type 0
   IsPlainItem is_ambient item =
       IsTypedDecl is_ambient item ⊎ (((kind_of item ≡ ExportDecl) × IsTypedDecl is_ambient (ExportDecl-decl item)) ⊎
-      (IsTypedDefault is_ambient item ⊎ IsLink item))
+      (IsTypedDefault is_ambient item ⊎ IsImportOrExport item))
 
   mutual
     -- an item of a skeleton; a namespace is one too, exported or not

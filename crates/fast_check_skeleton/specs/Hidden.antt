@@ -40,7 +40,7 @@ use Rattle.fast_check_skeleton.specs.declared.rules.ItemRule.TheVariants.{Refuse
 use Rattle.fast_check_skeleton.specs.Rules.{item_rule}
 use Rattle.fast_check_skeleton.specs.SameDefaults.{IsSilentDefault, SameDefault}
 use Rattle.fast_check_skeleton.specs.SameAssignments.{SameAssigned}
-use Rattle.fast_check_skeleton.specs.SameLinks.{IsSilentLink, SamePublic, SameLink}
+use Rattle.fast_check_skeleton.specs.SameImportsExports.{IsSilentImportExport, SamePublic, SameImportExport}
 use Rattle.fast_check_skeleton.specs.ModuleFacts.{ModuleFacts, inside}
 use Rattle.fast_check_skeleton.specs.Visible.{declared_ident, declared_type, is_ambient_statement, is_public_declarator}
 use Rattle.fast_check_skeleton.specs.Visible.{is_ambient_class, is_public_using, using_place, items_of}
@@ -79,7 +79,7 @@ pub data IsSilent (facts : ModuleFacts) : Tree → Type 0 where
   assigned : {t : Tree} → kind_of t ≡ ExprStmt → kind_of (ExprStmt-expr t) ≡ AssignExpr →
       facts.is_public (AssignExpr-span (ExprStmt-expr t)) ≡ false →
       IsSilent facts t
-  linked : {t : Tree} → IsSilentLink facts t → IsSilent facts t
+  import_export : {t : Tree} → IsSilentImportExport facts t → IsSilent facts t
   default : {t : Tree} → IsSilentDefault facts t → IsSilent facts t
 
 module _ (r : Renaming) (a b : ModuleFacts) where
@@ -213,7 +213,7 @@ module _ (r : Renaming) where
           SameRange r (ExportDecl-span t) (ExportDecl-span u) →
           SameNamespace a b (ExportDecl-span t) (ExportDecl-span u) (ExportDecl-decl t) (ExportDecl-decl u) →
           SameItem a b t u
-      linked : {a b : ModuleFacts} {t u : Tree} → SameLink r a b t u → SameItem a b t u
+      import_export : {a b : ModuleFacts} {t u : Tree} → SameImportExport r a b t u → SameItem a b t u
       default : {a b : ModuleFacts} {t u : Tree} → SameDefault r a b t u → SameItem a b t u
       assigned : {a b : ModuleFacts} {t u : Tree} → SameAssigned r a b t u → SameItem a b t u
       -- items that no skeleton has, for one reason

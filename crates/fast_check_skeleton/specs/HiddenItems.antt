@@ -24,10 +24,10 @@ use Rattle.fast_check_statement_forms.specs.Statements.{ExprStmt-expr}
 use Rattle.fast_check_skeleton.specs.SameClasses.{HasNoPartner, IsNoPartner}
 use Rattle.fast_check_skeleton.specs.Defaults.{is_public_value}
 use Rattle.fast_check_skeleton.specs.Kinds.{is_standing, is_default_decl}
-use Rattle.fast_check_skeleton.specs.Links.{public_specifiers}
+use Rattle.fast_check_skeleton.specs.ImportsExports.{public_specifiers}
 use Rattle.fast_check_skeleton.specs.Namespaces.{is_namespace}
 use Rattle.fast_check_skeleton.specs.Rules.{is_require}
-use Rattle.fast_check_skeleton.specs.SameLinks.{SamePublic}
+use Rattle.fast_check_skeleton.specs.SameImportsExports.{SamePublic}
 use Rattle.fast_check_skeleton.specs.Hidden.{is_plain_statement, IsSilentDecl, IsSilent, SameHead, SameDeclarator}
 use Rattle.fast_check_skeleton.specs.Hidden.{SameItems}
 use Rattle.fast_check_skeleton.specs.ModuleFacts.{ModuleFacts}

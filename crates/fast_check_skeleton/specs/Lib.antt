@@ -10,7 +10,7 @@ pub mod ModuleFacts
 pub mod Kinds
 pub mod Rules
 pub mod Mutability
-pub mod Links
+pub mod ImportsExports
 pub mod Defaults
 pub mod Namespaces
 pub mod Visible
@@ -19,7 +19,7 @@ pub mod Grammar
 pub mod KeptComments
 pub mod SameComments
 pub mod SameAssignments
-pub mod SameLinks
+pub mod SameImportsExports
 pub mod SameDefaults
 pub mod Hidden
 pub mod HashMark

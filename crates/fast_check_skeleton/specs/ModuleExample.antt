@@ -17,7 +17,7 @@ use Rattle.fast_check_skeleton.specs.HiddenChanges.{void_function}
 use Rattle.fast_check_skeleton.specs.ClassExample.{empty_statement, module_of, no_places, no_classes}
 use Rattle.fast_check_skeleton.specs.Example.{at}
 use Rattle.fast_check_skeleton.specs.Hidden.{AgreeHidden}
-use Rattle.fast_check_skeleton.specs.SameLinks.{SameSource}
+use Rattle.fast_check_skeleton.specs.SameImportsExports.{SameSource}
 use Rattle.fast_check_skeleton.specs.Skeleton.{skeleton_of}
 use Rattle.fast_check_expandos.specs.Objects.{no_objects}
 use Rattle.fast_check_skeleton.specs.ModuleFacts.{ModuleFacts}

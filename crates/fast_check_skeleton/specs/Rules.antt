@@ -14,9 +14,9 @@ use Rattle.fast_check_signatures.specs.declared.fault.FaultKind.TheVariants.{Uns
 use Rattle.fast_check_signatures.specs.declared.fault.FaultKind.TheVariants.{UnsupportedTsExportAssignment}
 use Rattle.fast_check_signatures.specs.declared.fault.FaultKind.TheVariants.{UnsupportedTsNamespaceExport}
 use Rattle.fast_check_skeleton.specs.declared.rules.DefaultRule.TheVariants as defaults
-use Rattle.fast_check_skeleton.specs.declared.rules.LinkRule.TheVariants as links
+use Rattle.fast_check_skeleton.specs.declared.rules.ImportExportRule.TheVariants as imports_exports
 use Rattle.fast_check_skeleton.specs.declared.rules.ItemRule.{ItemRule}
-use Rattle.fast_check_skeleton.specs.declared.rules.ItemRule.TheVariants.{Declared, Exported, Linked, Default, Refused}
+use Rattle.fast_check_skeleton.specs.declared.rules.ItemRule.TheVariants.{Declared, Exported, ImportExport, Default, Refused}
 use Rattle.fast_check_skeleton.specs.declared.rules.ItemRule.TheVariants.{Assigned, Silent}
 
 -- what is done with a declaration of a kind
@@ -50,10 +50,10 @@ is_require item = kind_of (TsImportEqualsDecl-module_ref item) is kinds.TsExtern
 -- what is done with an item of a kind
 abbrev pub rule_of_kind : Kind → Tree → ItemRule
 rule_of_kind kinds.ExportDecl item = Exported (decl_rule (kind_of (ExportDecl-decl item)))
-rule_of_kind kinds.ImportDecl item = Linked links.Import
-rule_of_kind kinds.NamedExport item = Linked links.Export
-rule_of_kind kinds.ExportAll item = Linked links.All
-rule_of_kind kinds.TsImportEqualsDecl item = if is_require item then Refused UnsupportedRequire else Linked links.Alias
+rule_of_kind kinds.ImportDecl item = ImportExport imports_exports.Import
+rule_of_kind kinds.NamedExport item = ImportExport imports_exports.Export
+rule_of_kind kinds.ExportAll item = ImportExport imports_exports.All
+rule_of_kind kinds.TsImportEqualsDecl item = if is_require item then Refused UnsupportedRequire else ImportExport imports_exports.Alias
 rule_of_kind kinds.TsExportAssignment item = Refused UnsupportedTsExportAssignment
 rule_of_kind kinds.TsNamespaceExportDecl item = Refused UnsupportedTsNamespaceExport
 rule_of_kind kinds.ExportDefaultExpr item = Default defaults.Value

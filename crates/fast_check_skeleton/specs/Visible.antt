@@ -34,14 +34,14 @@ use Rattle.fast_check_skeleton.specs.declared.rules.DeclRule.{DeclRule}
 use Rattle.fast_check_skeleton.specs.declared.rules.DeclRule.TheVariants.{Variables, Function, Class, Standing}
 use Rattle.fast_check_skeleton.specs.declared.rules.DeclRule.TheVariants.{Namespace, Using, NoDeclaration}
 use Rattle.fast_check_skeleton.specs.declared.rules.ItemRule.{ItemRule}
-use Rattle.fast_check_skeleton.specs.declared.rules.ItemRule.TheVariants.{Declared, Exported, Linked, Default, Refused}
+use Rattle.fast_check_skeleton.specs.declared.rules.ItemRule.TheVariants.{Declared, Exported, ImportExport, Default, Refused}
 use Rattle.fast_check_skeleton.specs.declared.rules.ItemRule.TheVariants.{Assigned, Silent}
 use Rattle.fast_check_expandos.specs.declared.properties.ExpandoProperty.{ExpandoProperty}
 use Rattle.fast_check_expandos.specs.Assignments.{assignment_seen, declared_properties}
 use Rattle.fast_check_expandos.specs.Expandos.{namespaces_seen}
 use Rattle.fast_check_statement_forms.specs.Statements.{ExprStmt-expr}
 use Rattle.fast_check_skeleton.specs.Defaults.{default_seen}
-use Rattle.fast_check_skeleton.specs.Links.{link_seen}
+use Rattle.fast_check_skeleton.specs.ImportsExports.{import_export_seen}
 use Rattle.fast_check_skeleton.specs.Mutability.{mutability_of}
 use Rattle.fast_check_skeleton.specs.Namespaces.{is_ambient_module, items_inside, namespace_round}
 use Rattle.fast_check_skeleton.specs.Rules.{item_rule}
@@ -223,7 +223,7 @@ abbrev pub form_by_rule : ItemLook → ModuleFacts → Tree → ItemRule → Lis
 form_by_rule look facts item (Declared rule) = decl_form look facts (range_of_node item) item rule
 form_by_rule look facts item (Exported rule) = exported_seen item
     (decl_form look facts (ExportDecl-span item) (ExportDecl-decl item) rule)
-form_by_rule look facts item (Linked rule) = link_seen facts item rule
+form_by_rule look facts item (ImportExport rule) = import_export_seen facts item rule
 form_by_rule look facts item (Default rule) = default_seen facts item rule
 form_by_rule look facts item (Refused kind) = faulty kind (range_of_node item) ∷ []
 form_by_rule look facts item Assigned = assignment_seen facts.is_public facts.bindings facts.objects

@@ -29,7 +29,7 @@ pub enum DeclRule {
 
 /// An import or an export that leads to other modules, or to other names.
 #[derive(Clone, Copy, PartialEq, Eq, Debug)]
-pub enum LinkRule {
+pub enum ImportExportRule {
     /// An import stays with its public specifiers.
     Import,
     /// An export of names stays with its public specifiers.
@@ -61,7 +61,7 @@ pub enum ItemRule {
     /// An export of a declaration, which is public by the range of the export.
     Exported(DeclRule),
     /// An import, or an export of names or of all.
-    Linked(LinkRule),
+    ImportExport(ImportExportRule),
     /// A default export.
     Default(DefaultRule),
     /// An item that no skeleton has, public or not.
@@ -124,13 +124,13 @@ pub fn item_rule(item: Part<'_>) -> ItemRule
 {
     match item.kind() {
         Kind::ExportDecl => ItemRule::Exported(decl_rule(ExportDecl::of(item).decl.kind())),
-        Kind::ImportDecl => ItemRule::Linked(LinkRule::Import),
-        Kind::NamedExport => ItemRule::Linked(LinkRule::Export),
-        Kind::ExportAll => ItemRule::Linked(LinkRule::All),
+        Kind::ImportDecl => ItemRule::ImportExport(ImportExportRule::Import),
+        Kind::NamedExport => ItemRule::ImportExport(ImportExportRule::Export),
+        Kind::ExportAll => ItemRule::ImportExport(ImportExportRule::All),
         Kind::TsImportEqualsDecl if is_require(item) => {
             ItemRule::Refused(FaultKind::UnsupportedRequire)
         }
-        Kind::TsImportEqualsDecl => ItemRule::Linked(LinkRule::Alias),
+        Kind::TsImportEqualsDecl => ItemRule::ImportExport(ImportExportRule::Alias),
         Kind::TsExportAssignment => ItemRule::Refused(FaultKind::UnsupportedTsExportAssignment),
         Kind::TsNamespaceExportDecl => ItemRule::Refused(FaultKind::UnsupportedTsNamespaceExport),
         Kind::ExportDefaultExpr => ItemRule::Default(DefaultRule::Value),

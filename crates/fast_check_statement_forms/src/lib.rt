@@ -3,7 +3,7 @@
 //! A form reads a node where its `N` is a `Part` and its `T` a `&str`, and makes one where they are a `Tree` and an `Atom`.
 //!
 //! `of` reads a node by the places of its fields, whatever its kind is. A field that is not there is absent, false, empty or
-//! `DUMMY_SP`. `into_tree` fails only for want of memory.
+//! `DUMMY_SP`. `into_tree` fails only if memory runs out.
 // Written by forms/write.py from forms/forms.txt.
 #![tactic(auto)]
 

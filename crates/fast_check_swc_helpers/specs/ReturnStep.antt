@@ -1,5 +1,5 @@
 -- Inner: no contract of a public call cites what stands here.
--- The return class of what was met so far, after one more return statement.
+-- The return class of the statements so far, after one more return statement.
 use Rattle.std.specs.Prelude.{Bool, true, false}
 use Rattle.fast_check_swc_helpers.specs.declared.return_class.ReturnStatementAnalysis.{ReturnStatementAnalysis}
 use Rattle.fast_check_swc_helpers.specs.declared.return_class.ReturnStatementAnalysis.TheVariants as class

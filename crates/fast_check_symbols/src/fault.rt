@@ -1,7 +1,7 @@
 //! What is wrong with tables.
 use std::alloc::{AllocError, AllocFailed};
 
-/// What is wrong with tables that were handed in, in order: of several faults the first is told.
+/// What is wrong with tables that were handed in, in order: of several faults the first is reported.
 #[derive(Clone, Copy, Debug, PartialEq, Eq, Drop, thiserror::Error)]
 pub enum TableFault {
     /// A symbol id is mentioned, and no symbol has it.
@@ -16,7 +16,7 @@ pub enum TableFault {
     /// An expando statement's range is one of the tables', and its object has no symbol.
     #[error("table-fault 4")]
     ExpandoWithoutSymbol,
-    /// Memory is wanting.
+    /// Memory ran out.
     #[error("out of memory")]
     OutOfMemory,
 }

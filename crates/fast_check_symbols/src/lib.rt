@@ -1,5 +1,5 @@
-//! The symbols of a module: what its declarations bind, and what these refer to; and the tables of a module, checked once, so that each symbol that
-//! they mention is found.
+//! The symbols of a module: the names that its declarations bind, and those that these refer to; and the tables of a module, checked once, so that
+//! each symbol that they mention is found.
 #![tactic(auto)]
 
 mod aliases;

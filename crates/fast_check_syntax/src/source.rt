@@ -19,7 +19,7 @@ pub const DUMMY_SP: SourceRange = SourceRange {
 ghost use Rattle.std.specs.Prelude.{◌≤◌, ◌↔◌, IsTrue};
 
 impl SourceRange {
-    /// Whether `other` lies within this range: it starts not before it, and ends not after it.
+    /// Whether `other` lies within this range: its start is not before this one's, and its end not after this one's.
     pub fn contains(&self, other: &SourceRange) -> bool
         ensures { IsTrue result ↔ ((self.now.start.0 ≤ other.now.start.0) × (other.now.end.0 ≤ self.now.end.0)) }
     {

@@ -1,4 +1,4 @@
-//! What is known of modules and packages beside their syntax trees: the graph, the tables of each module, what a caller lends, and what is wrong with it. It
+//! Modules and packages beside their syntax trees: the graph, the tables of each module, the URLs and members that a caller lends, and diagnostics. It
 //! offers the crates that hold these, and has no code.
 #![tactic(auto)]
 
@@ -11,7 +11,7 @@ pub use fast_check_modules::{
 };
 pub use fast_check_packages::{JsrUrlProvider, PackageNv, WorkspaceMember};
 
-/// What is public of a module, and what a user is told of faults.
+/// The public ranges of a module, and diagnostics.
 pub mod diagnostics {
     pub use fast_check_modules::diagnostics::{
         Diagnostic, DiagnosticLevel, DiagnosticLocation, DiagnosticSnippet, FastCheckDiagnostic,

@@ -1,3 +1,3 @@
 pub mod Kept
-pub mod LinkCases
+pub mod ImportExportCases
 pub mod SourceCases

@@ -1,4 +1,4 @@
-pub mod Links
+pub mod ImportsExports
 pub mod Relative
 pub mod StaticSources
 pub mod module_facts

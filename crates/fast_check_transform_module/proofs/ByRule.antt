@@ -11,36 +11,36 @@ use Rattle.fast_check_signatures.specs.declared.fault.FaultKind.{FaultKind}
 use Rattle.fast_check_signatures.specs.Answers.{Answer, Adds, fault_at, faultless, with_tree, answer_to, answer_of}
 use Rattle.fast_check_signatures.specs.Seen.{Seen, faulty}
 use Rattle.fast_check_signatures.proofs.Adding.{adds_nothing, adds_fault, adds_same}
-use Rattle.fast_check_transform_statements.specs.transform_declarations.links.module_facts.skeleton.declared.rules.DeclRule.{DeclRule}
-use Rattle.fast_check_transform_statements.specs.transform_declarations.links.module_facts.skeleton.declared.rules.DeclRule.TheVariants.{Variables, Function, Class, Standing}
-use Rattle.fast_check_transform_statements.specs.transform_declarations.links.module_facts.skeleton.declared.rules.DeclRule.TheVariants.{Namespace, Using, NoDeclaration}
-use Rattle.fast_check_transform_statements.specs.transform_declarations.links.module_facts.skeleton.declared.rules.DefaultRule.{DefaultRule}
-use Rattle.fast_check_transform_statements.specs.transform_declarations.links.module_facts.skeleton.declared.rules.LinkRule.{LinkRule}
-use Rattle.fast_check_transform_statements.specs.transform_declarations.links.module_facts.skeleton.declared.rules.ItemRule.{ItemRule}
-use Rattle.fast_check_transform_statements.specs.transform_declarations.links.module_facts.skeleton.declared.rules.ItemRule.TheVariants.{Declared, Exported, Linked, Default}
-use Rattle.fast_check_transform_statements.specs.transform_declarations.links.module_facts.skeleton.declared.rules.ItemRule.TheVariants.{Refused, Assigned, Silent}
+use Rattle.fast_check_transform_statements.specs.transform_declarations.imports_exports.module_facts.skeleton.declared.rules.DeclRule.{DeclRule}
+use Rattle.fast_check_transform_statements.specs.transform_declarations.imports_exports.module_facts.skeleton.declared.rules.DeclRule.TheVariants.{Variables, Function, Class, Standing}
+use Rattle.fast_check_transform_statements.specs.transform_declarations.imports_exports.module_facts.skeleton.declared.rules.DeclRule.TheVariants.{Namespace, Using, NoDeclaration}
+use Rattle.fast_check_transform_statements.specs.transform_declarations.imports_exports.module_facts.skeleton.declared.rules.DefaultRule.{DefaultRule}
+use Rattle.fast_check_transform_statements.specs.transform_declarations.imports_exports.module_facts.skeleton.declared.rules.ImportExportRule.{ImportExportRule}
+use Rattle.fast_check_transform_statements.specs.transform_declarations.imports_exports.module_facts.skeleton.declared.rules.ItemRule.{ItemRule}
+use Rattle.fast_check_transform_statements.specs.transform_declarations.imports_exports.module_facts.skeleton.declared.rules.ItemRule.TheVariants.{Declared, Exported, ImportExport, Default}
+use Rattle.fast_check_transform_statements.specs.transform_declarations.imports_exports.module_facts.skeleton.declared.rules.ItemRule.TheVariants.{Refused, Assigned, Silent}
 use Rattle.std.specs.List.{flat_map}
 use Rattle.std.specs.Prelude.{refl}
 use Rattle.std.proofs.lemmas.List.{take_more, take_all}
 use Rattle.std.proofs.lemmas.List.Concat.{flat_map-append}
 use Rattle.fast_check_statement_forms.specs.Statements.{ExprStmt-expr}
 use Rattle.fast_check_signatures.proofs.Adding.{adds_joined, answer_append}
-use Rattle.fast_check_transform_statements.specs.transform_declarations.links.module_facts.skeleton.expandos.declared.properties.ExpandoProperty.{ExpandoProperty}
-use Rattle.fast_check_transform_statements.specs.transform_declarations.links.module_facts.skeleton.expandos.Assignments.{assignment_seen, declared_properties}
-use Rattle.fast_check_transform_statements.specs.transform_declarations.links.module_facts.skeleton.expandos.Expandos.{namespaces_seen}
+use Rattle.fast_check_transform_statements.specs.transform_declarations.imports_exports.module_facts.skeleton.expandos.declared.properties.ExpandoProperty.{ExpandoProperty}
+use Rattle.fast_check_transform_statements.specs.transform_declarations.imports_exports.module_facts.skeleton.expandos.Assignments.{assignment_seen, declared_properties}
+use Rattle.fast_check_transform_statements.specs.transform_declarations.imports_exports.module_facts.skeleton.expandos.Expandos.{namespaces_seen}
 use Rattle.fast_check_transform_statements.specs.Assigned.{assignment_answer, assignment_properties}
-use Rattle.fast_check_transform_statements.specs.transform_declarations.links.module_facts.skeleton.Visible.{properties_by_rule, item_properties, item_look}
-use Rattle.fast_check_transform_statements.specs.transform_declarations.links.module_facts.skeleton.Rules.{is_assigned, item_rule}
-use Rattle.fast_check_transform_statements.specs.transform_declarations.links.module_facts.skeleton.ModuleFacts.{ModuleFacts}
-use Rattle.fast_check_transform_statements.specs.transform_declarations.links.module_facts.skeleton.Visible.{decl_seen, exported_seen, seen_by_rule, item_seen}
-use Rattle.fast_check_transform_statements.proofs.transform_declarations.links_proofs.module_facts.skeleton_proofs.Namespaces.{item_seen_is}
-use Rattle.fast_check_transform_statements.proofs.transform_declarations.links_proofs.module_facts.skeleton_proofs.Standing.{OneTree, decl_one, export_is}
-use Rattle.fast_check_transform_statements.specs.transform_declarations.links.module_facts.Kept.{as_list}
-use Rattle.fast_check_transform_imports.specs.Links.{link_answer}
+use Rattle.fast_check_transform_statements.specs.transform_declarations.imports_exports.module_facts.skeleton.Visible.{properties_by_rule, item_properties, item_look}
+use Rattle.fast_check_transform_statements.specs.transform_declarations.imports_exports.module_facts.skeleton.Rules.{is_assigned, item_rule}
+use Rattle.fast_check_transform_statements.specs.transform_declarations.imports_exports.module_facts.skeleton.ModuleFacts.{ModuleFacts}
+use Rattle.fast_check_transform_statements.specs.transform_declarations.imports_exports.module_facts.skeleton.Visible.{decl_seen, exported_seen, seen_by_rule, item_seen}
+use Rattle.fast_check_transform_statements.proofs.transform_declarations.imports_exports_proofs.module_facts.skeleton_proofs.Namespaces.{item_seen_is}
+use Rattle.fast_check_transform_statements.proofs.transform_declarations.imports_exports_proofs.module_facts.skeleton_proofs.Standing.{OneTree, decl_one, export_is}
+use Rattle.fast_check_transform_statements.specs.transform_declarations.imports_exports.module_facts.Kept.{as_list}
+use Rattle.fast_check_transform_imports.specs.ImportsExports.{import_export_answer}
 use Rattle.fast_check_transform_statements.specs.PartAnswers.{statement_answer, public_function_answer, standing_answer, using_answer}
 use Rattle.fast_check_transform_statements.specs.transform_declarations.ClassAnswers.{public_class_answer}
 use Rattle.fast_check_transform_statements.specs.transform_declarations.ClassAnswers.{default_answer}
-use Rattle.fast_check_transform_statements.proofs.transform_declarations.links_proofs.module_facts.Listed.{alone, one_more, whole}
+use Rattle.fast_check_transform_statements.proofs.transform_declarations.imports_exports_proofs.module_facts.Listed.{alone, one_more, whole}
 use Rattle.fast_check_transform_module.specs.PartAnswers.{namespace_answer, decl_answer, refused_answer, item_answer}
 use Rattle.fast_check_transform_module.specs.PartAnswers.{items_answer}
 
@@ -139,10 +139,10 @@ module _ (facts : ModuleFacts) (item : Tree) where
       (export_of seen (decl_one facts (ExportDecl-span item) (ExportDecl-decl item) rule)
       (subst (λ x. Adds (answer_of seen) x old new) n (adds_same (λ i. answer_of (decl_seen facts (sym p i) (sym q i) rule)) h))))
 
-  pub linked : {rule : LinkRule} → item_rule item ≡ Linked rule → (o : Option Tree) → link_answer facts item rule ≡ faultless (as_list o) →
-      (old : List Fault) → Adds (item_answer facts item) (as_list o) old old
-  unfolding link_answer
-  linked e o h old = adds_same (by_item_rule e ∙ h) (adds_nothing (as_list o) old)
+  pub import_export : {rule : ImportExportRule} → item_rule item ≡ ImportExport rule → (o : Option Tree) →
+      import_export_answer facts item rule ≡ faultless (as_list o) → (old : List Fault) → Adds (item_answer facts item) (as_list o) old old
+  unfolding import_export_answer
+  import_export e o h old = adds_same (by_item_rule e ∙ h) (adds_nothing (as_list o) old)
 
   pub default_export : {rule : DefaultRule} → item_rule item ≡ Default rule → {xs : List Tree} {old new : List Fault} →
       Adds (default_answer facts item rule) xs old new → Adds (item_answer facts item) xs old new
@@ -220,7 +220,7 @@ module _ (facts : ModuleFacts) where
 none_by_rule : (facts : ModuleFacts) (item : Tree) (rule : ItemRule) → is_assigned rule ≡ false → properties_by_rule facts item rule ≡ []
 none_by_rule facts item (Declared rule) e = refl
 none_by_rule facts item (Exported rule) e = refl
-none_by_rule facts item (Linked rule) e = refl
+none_by_rule facts item (ImportExport rule) e = refl
 none_by_rule facts item (Default rule) e = refl
 none_by_rule facts item (Refused kind) e = refl
 none_by_rule facts item Assigned e = cc
@@ -230,7 +230,7 @@ pub assigned_is : (rule : ItemRule) → is_assigned rule ≡ true → rule ≡ A
 assigned_is Assigned e = refl
 assigned_is (Declared rule) e = cc
 assigned_is (Exported rule) e = cc
-assigned_is (Linked rule) e = cc
+assigned_is (ImportExport rule) e = cc
 assigned_is (Default rule) e = cc
 assigned_is (Refused kind) e = cc
 assigned_is Silent e = cc

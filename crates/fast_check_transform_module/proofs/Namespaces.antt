@@ -14,16 +14,16 @@ use Rattle.fast_check_signatures.specs.declared.fault.FaultKind.TheVariants.{Uns
 use Rattle.fast_check_signatures.specs.Seen.{Seen, faulty}
 use Rattle.fast_check_signatures.specs.Answers.{Adds, fault_at, answer_of}
 use Rattle.fast_check_signatures.proofs.Adding.{adds_nothing, adds_fault, adds_made, adds_same}
-use Rattle.fast_check_transform_statements.specs.transform_declarations.links.module_facts.skeleton.KeptComments.{removed_from, start_look, starts_in_namespace}
-use Rattle.fast_check_transform_statements.specs.transform_declarations.links.module_facts.skeleton.Namespaces.{is_ambient_module, is_namespace, innermost, items_inside}
-use Rattle.fast_check_transform_statements.specs.transform_declarations.links.module_facts.skeleton.Namespaces.{namespace_round, namespace_with}
-use Rattle.fast_check_transform_statements.specs.transform_declarations.links.module_facts.skeleton.ModuleFacts.{ModuleFacts, inside}
-use Rattle.fast_check_transform_statements.specs.transform_declarations.links.module_facts.skeleton.Visible.{item_look, body_seen, namespace_seen}
-use Rattle.fast_check_transform_statements.proofs.transform_declarations.links_proofs.module_facts.skeleton_proofs.Namespaces.{innermost_at_most, namespace_if, hidden_namespace}
-use Rattle.fast_check_transform_statements.proofs.transform_declarations.links_proofs.module_facts.skeleton_proofs.Namespaces.{global_is, ambient_module_is}
-use Rattle.fast_check_transform_statements.proofs.transform_declarations.links_proofs.module_facts.skeleton_proofs.StandingNamespaces.{namespace_is}
+use Rattle.fast_check_transform_statements.specs.transform_declarations.imports_exports.module_facts.skeleton.KeptComments.{removed_from, start_look, starts_in_namespace}
+use Rattle.fast_check_transform_statements.specs.transform_declarations.imports_exports.module_facts.skeleton.Namespaces.{is_ambient_module, is_namespace, innermost, items_inside}
+use Rattle.fast_check_transform_statements.specs.transform_declarations.imports_exports.module_facts.skeleton.Namespaces.{namespace_round, namespace_with}
+use Rattle.fast_check_transform_statements.specs.transform_declarations.imports_exports.module_facts.skeleton.ModuleFacts.{ModuleFacts, inside}
+use Rattle.fast_check_transform_statements.specs.transform_declarations.imports_exports.module_facts.skeleton.Visible.{item_look, body_seen, namespace_seen}
+use Rattle.fast_check_transform_statements.proofs.transform_declarations.imports_exports_proofs.module_facts.skeleton_proofs.Namespaces.{innermost_at_most, namespace_if, hidden_namespace}
+use Rattle.fast_check_transform_statements.proofs.transform_declarations.imports_exports_proofs.module_facts.skeleton_proofs.Namespaces.{global_is, ambient_module_is}
+use Rattle.fast_check_transform_statements.proofs.transform_declarations.imports_exports_proofs.module_facts.skeleton_proofs.StandingNamespaces.{namespace_is}
 use Rattle.fast_check_transform_statements.specs.PartAnswers.{module_fault}
-use Rattle.fast_check_transform_statements.proofs.transform_declarations.links_proofs.module_facts.Listed.{alone}
+use Rattle.fast_check_transform_statements.proofs.transform_declarations.imports_exports_proofs.module_facts.Listed.{alone}
 use Rattle.fast_check_transform_module.specs.PartAnswers.{namespace_answer, items_answer}
 
 -- the items of a namespace are no higher than it
@@ -56,7 +56,7 @@ faulty_namespace decl f e = go (TsModuleDecl-global decl) (is_ambient_module dec
     go false false e = cc
 
 module _ (facts : ModuleFacts) (place : SourceRange) (decl : Tree) where
-  -- a fault that is told
+  -- a fault that is reported
   diagnosed : {f : Fault} {old new : List Fault} → new ≡ old ++ f ∷ [] → {g : Fault} → f ≡ g →
       namespace_seen item_look facts place decl ≡ faulty g.kind g.range ∷ [] →
       Adds (namespace_answer facts place decl) (Absent ∷ []) old new

@@ -1,7 +1,7 @@
 -- What is answered to a module. A tree that is the skeleton of a module without faults stands in the grammar.
 use Rattle.std.specs.Prelude.{◌≡◌, List, [], ◌++◌}
 use Rattle.std.proofs.Common.{ap, ◌∙◌, subst, sym}
-use Rattle.fast_check_transform_statements.specs.transform_declarations.links.module_facts.bindings.Bindings.{bindings_of}
+use Rattle.fast_check_transform_statements.specs.transform_declarations.imports_exports.module_facts.bindings.Bindings.{bindings_of}
 use Rattle.fast_check_syntax.specs.declared.tree.Tree.{Tree}
 use Rattle.fast_check_syntax.specs.Shape.{parts, list}
 use Rattle.fast_check_program_forms.specs.Programs.{Module-span, Module-body, Module-shebang, module'}
@@ -11,9 +11,9 @@ use Rattle.fast_check_diagnostics.specs.parsed_source.MediaType.{is_declaration}
 use Rattle.fast_check_modules.specs.diagnostics.PublicRanges.{PublicRanges}
 use Rattle.fast_check_signatures.specs.declared.fault.Fault.{Fault}
 use Rattle.fast_check_signatures.specs.Answers.{Adds}
-use Rattle.fast_check_transform_statements.specs.transform_declarations.links.module_facts.skeleton.Grammar.{IsSkeleton}
-use Rattle.fast_check_transform_statements.specs.transform_declarations.links.module_facts.skeleton.ModuleFacts.{ModuleFacts}
-use Rattle.fast_check_transform_statements.proofs.transform_declarations.links_proofs.module_facts.skeleton_proofs.Standing.{skeleton_stands}
+use Rattle.fast_check_transform_statements.specs.transform_declarations.imports_exports.module_facts.skeleton.Grammar.{IsSkeleton}
+use Rattle.fast_check_transform_statements.specs.transform_declarations.imports_exports.module_facts.skeleton.ModuleFacts.{ModuleFacts}
+use Rattle.fast_check_transform_statements.proofs.transform_declarations.imports_exports_proofs.module_facts.skeleton_proofs.Standing.{skeleton_stands}
 use Rattle.fast_check_transform_module.specs.PartAnswers.{items_answer}
 use Rattle.fast_check_transform_module.specs.Transform.{facts_of_module, skeleton, faults}
 

@@ -7,10 +7,10 @@ use Rattle.fast_check_swc_helpers.specs.ranges.Ranges.{range_of_node}
 use Rattle.fast_check_signatures.specs.declared.fault.FaultKind.{FaultKind}
 use Rattle.fast_check_signatures.specs.Seen.{faulty}
 use Rattle.fast_check_signatures.specs.Answers.{Answer, answer_of}
-use Rattle.fast_check_transform_statements.specs.transform_declarations.links.module_facts.skeleton.declared.rules.DeclRule.{DeclRule}
-use Rattle.fast_check_transform_statements.specs.transform_declarations.links.module_facts.skeleton.ModuleFacts.{ModuleFacts}
-use Rattle.fast_check_transform_statements.specs.transform_declarations.links.module_facts.skeleton.Visible.{item_look, body_seen, namespace_seen, decl_seen}
-use Rattle.fast_check_transform_statements.specs.transform_declarations.links.module_facts.skeleton.Visible.{item_seen}
+use Rattle.fast_check_transform_statements.specs.transform_declarations.imports_exports.module_facts.skeleton.declared.rules.DeclRule.{DeclRule}
+use Rattle.fast_check_transform_statements.specs.transform_declarations.imports_exports.module_facts.skeleton.ModuleFacts.{ModuleFacts}
+use Rattle.fast_check_transform_statements.specs.transform_declarations.imports_exports.module_facts.skeleton.Visible.{item_look, body_seen, namespace_seen, decl_seen}
+use Rattle.fast_check_transform_statements.specs.transform_declarations.imports_exports.module_facts.skeleton.Visible.{item_seen}
 
 -- to a namespace, which is public by `place`
 unfoldable pub namespace_answer : ModuleFacts → SourceRange → Tree → Answer (List Tree)

@@ -1,9 +1,9 @@
 //! `transform`: the skeleton of a module, or all that is wrong with it.
 ghost use Rattle.std.specs.Prelude.{◌≡◌, ◌↔◌, [], IfOk, IsOk, IfErr};
-ghost use Rattle.fast_check_transform_statements.specs.transform_declarations.links.module_facts.skeleton.Grammar.{IsSkeleton};
+ghost use Rattle.fast_check_transform_statements.specs.transform_declarations.imports_exports.module_facts.skeleton.Grammar.{IsSkeleton};
 ghost use Rattle.fast_check_diagnostics.specs.parsed_source.MediaType.{is_declaration};
 ghost use Rattle.fast_check_modules.specs.EsModule.{Admits};
-ghost use Rattle.fast_check_transform_statements.specs.transform_declarations.links.module_facts.bindings.Bindings.{bindings_of};
+ghost use Rattle.fast_check_transform_statements.specs.transform_declarations.imports_exports.module_facts.bindings.Bindings.{bindings_of};
 ghost use Rattle.fast_check_transform_module.specs.Transform.{skeleton, sources, comments, faults};
 ghost use Rattle.fast_check_transform_module.specs.transform_faults.Diagnostics.{AreDiagnosticsOf, diagnosed};
 

@@ -1,7 +1,7 @@
 //! What the transform of a module gathers.
 ghost use Rattle.std.specs.Prelude.{◌≡◌, []};
 ghost use Rattle.fast_check_comments.specs.Kept.{kept};
-ghost use Rattle.fast_check_transform_statements.specs.transform_declarations.links.module_facts.skeleton.ModuleFacts.{ModuleFacts};
+ghost use Rattle.fast_check_transform_statements.specs.transform_declarations.imports_exports.module_facts.skeleton.ModuleFacts.{ModuleFacts};
 ghost use Rattle.fast_check_transform_imports.specs.Relative.{AreRelative};
 
 use fast_check_comments::{Comments, CommentsMut};
@@ -9,8 +9,8 @@ use fast_check_signatures::Fault;
 use fast_check_transform_imports::RelativeSources;
 use std::alloc::Global;
 
-/// What the transform of a module gathers on its way through the items: the comments that stay, what stands for the texts of the
-/// sources, and what is wrong, in reading order.
+/// The comments that stay, the texts that stand for those of sources, and the faults in reading order, as the transform of a
+/// module gathers them on its way through the items.
 #[derive(Drop)]
 pub struct TransformContext {
     pub comments: CommentsMut,

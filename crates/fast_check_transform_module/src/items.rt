@@ -3,12 +3,12 @@ ghost use Rattle.std.specs.Prelude.{◌≡◌, false, IfOk};
 ghost use Rattle.fast_check_syntax.specs.Part.{seen};
 ghost use Rattle.fast_check_syntax.specs.Shape.{parts};
 ghost use Rattle.fast_check_signatures.specs.Answers.{Adds};
-ghost use Rattle.fast_check_transform_statements.specs.transform_declarations.links.module_facts.skeleton.KeptComments.{removed_from, start_look};
-ghost use Rattle.fast_check_transform_statements.specs.transform_declarations.links.module_facts.skeleton.KeptComments.{starts_in_body, starts_in_namespace};
-ghost use Rattle.fast_check_transform_statements.specs.transform_declarations.links.module_facts.skeleton.KeptComments.{starts_below, without_all_leading};
-ghost use Rattle.fast_check_transform_statements.specs.transform_declarations.links.module_facts.skeleton.Rules.{is_assigned, item_rule};
-ghost use Rattle.fast_check_transform_statements.specs.transform_declarations.links.module_facts.ModuleFacts.{facts_of};
-ghost use Rattle.fast_check_transform_statements.specs.transform_declarations.links.module_facts.Kept.{as_list};
+ghost use Rattle.fast_check_transform_statements.specs.transform_declarations.imports_exports.module_facts.skeleton.KeptComments.{removed_from, start_look};
+ghost use Rattle.fast_check_transform_statements.specs.transform_declarations.imports_exports.module_facts.skeleton.KeptComments.{starts_in_body, starts_in_namespace};
+ghost use Rattle.fast_check_transform_statements.specs.transform_declarations.imports_exports.module_facts.skeleton.KeptComments.{starts_below, without_all_leading};
+ghost use Rattle.fast_check_transform_statements.specs.transform_declarations.imports_exports.module_facts.skeleton.Rules.{is_assigned, item_rule};
+ghost use Rattle.fast_check_transform_statements.specs.transform_declarations.imports_exports.module_facts.ModuleFacts.{facts_of};
+ghost use Rattle.fast_check_transform_statements.specs.transform_declarations.imports_exports.module_facts.Kept.{as_list};
 ghost use Rattle.fast_check_transform_imports.specs.Relative.{AreRelative};
 ghost use Rattle.fast_check_transform_module.specs.PartAnswers.{namespace_answer, decl_answer, refused_answer, item_answer};
 ghost use Rattle.fast_check_transform_module.specs.PartAnswers.{items_answer};
@@ -19,7 +19,7 @@ use fast_check_signatures::{Fault, FaultKind};
 use fast_check_statement_forms::ExprStmt;
 use fast_check_swc_helpers::ranges::range_of_node;
 use fast_check_syntax::{Items, Part, SourceRange, Tree};
-use fast_check_transform_imports::transform_link;
+use fast_check_transform_imports::transform_import_export;
 use fast_check_transform_statements::transform_declarations::module_facts::ModuleFacts;
 use fast_check_transform_statements::transform_declarations::module_facts::skeleton::expandos::{
     ExpandoProperty, keep_namespaces,
@@ -79,8 +79,8 @@ pub fn transform_items(
     Ok(items)
 }
 
-/// What is public of a namespace, which is public by `place`: the items in its innermost block are those of a body, and all
-/// else of it stands as it is written. None where it is not public. What no skeleton has is a fault, public or not.
+/// The public part of a namespace, which is public by `place`: the items in its innermost block are those of a body, and
+/// all else stands as it is written. None where it is not public. What no skeleton has is a fault, public or not.
 #[cycle(items)]
 fn transform_namespace(
     alloc: Global,
@@ -185,7 +185,13 @@ fn transform_item(
                 None => Ok(None),
             }
         }
-        ItemRule::Linked(rule) => transform_link(alloc, facts, item, rule, &mut context.sources),
+        ItemRule::ImportExport(rule) => transform_import_export(
+            alloc,
+            facts,
+            item,
+            rule,
+            &mut context.sources,
+        ),
         ItemRule::Default(rule) => {
             let faults = &mut context.faults;
             transform_default_export(alloc, facts, item, rule, faults)

@@ -1,6 +1,6 @@
 //! What stays of a whole module.
 ghost use Rattle.std.specs.Prelude.{◌≡◌, IfOk};
-ghost use Rattle.fast_check_transform_statements.specs.transform_declarations.links.module_facts.ModuleFacts.{facts_of};
+ghost use Rattle.fast_check_transform_statements.specs.transform_declarations.imports_exports.module_facts.ModuleFacts.{facts_of};
 ghost use Rattle.fast_check_transform_module.specs.Transform.{facts_of_module, skeleton, comments, faults};
 
 use crate::context::TransformContext;
@@ -15,7 +15,7 @@ use fast_check_syntax::Tree;
 use fast_check_transform_statements::transform_declarations::module_facts::ModuleFacts;
 use std::alloc::{AllocError, Global};
 
-/// What is public of a module, the comments that stay with it, and what is wrong with it, in reading order.
+/// The skeleton of a module, the comments that stay with it, and the faults in reading order.
 #[derive(Drop)]
 pub struct KeptModule {
     pub program: Tree,
@@ -35,8 +35,8 @@ fn facts_of_module<'a>(
     ModuleFacts::of(resolutions, es_module_info, public_ranges)
 }
 
-/// What is public of the module with these tables, the comments that stay with it, and what is wrong with it: of a module with faults
-/// the tree is not to be used. `transform` and `FastCheckTransformer` answer what this finds. An `Err` says that memory ran out.
+/// The skeleton of the module with these tables, the comments that stay with it, and the faults: of a module with faults the tree is
+/// not to be used. `transform` and `FastCheckTransformer` answer by this call. An `Err` says that memory ran out.
 pub fn transform_es_module(
     alloc: Global,
     graph: &ModuleGraph,

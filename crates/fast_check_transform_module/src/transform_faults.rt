@@ -1,4 +1,4 @@
-//! The faults that the transform meets, as diagnostics.
+//! The faults of a transform, as diagnostics.
 
 mod diagnostics;
 

@@ -46,7 +46,7 @@ pub fn emptied_object(alloc: Global, pat: Part<'_>) -> Result<Tree, AllocError>
     .into_tree(alloc)
 }
 
-/// What a rest is gathered in: patterns are emptied, and `{}` stands for what can't be there.
+/// The target that a rest is gathered in: patterns are emptied, and `{}` stands in place of a target that cannot be there.
 pub fn rest_arg(alloc: Global, arg: Part<'_>) -> Result<Tree, AllocError>
     ensures { IfOk result (λ tree. tree ≡ rest_arg (seen arg.entry)) }
 {

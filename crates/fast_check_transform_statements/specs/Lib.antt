@@ -1,4 +1,4 @@
-pub use Rattle.fast_check_transform_imports.specs as links
+pub use Rattle.fast_check_transform_imports.specs as imports_exports
 pub mod PartAnswers
 pub mod Assigned
 pub mod transform_declarations

@@ -1,2 +1,2 @@
-pub use Rattle.fast_check_transform_imports.specs as links
+pub use Rattle.fast_check_transform_imports.specs as imports_exports
 pub mod ClassAnswers

@@ -68,8 +68,8 @@ fn declared(alloc: Global, declarator: Part<'_>, ty: Tree) -> Result<Tree, Alloc
     retyped(alloc, declarator, ty, value)
 }
 
-/// The value of a declarator as it stays, where it shows no type; none where it may not stay, or is not there. It is
-/// named by the identifier at `place`.
+/// The value that stays of a declarator without a type; none where the value may not stay or is absent. The
+/// declarator has the identifier at `place`.
 pub fn transform_init(
     alloc: Global,
     facts: ModuleFacts<'_>,
@@ -268,7 +268,7 @@ fn using_place(decl: Part<'_>) -> SourceRange
     }
 }
 
-/// The fault of `using`, if it is public; no skeleton has what it declares.
+/// The fault of `using`, if it is public; no skeleton has its declarations.
 pub fn transform_using(
     facts: ModuleFacts<'_>,
     place: SourceRange,

@@ -7,7 +7,7 @@ use Rattle.fast_check_transformer.specs.Compared.{SamePlace}
 use Rattle.fast_check_transform_module.specs.transform_faults.Diagnostics.{Diagnosed}
 use Rattle.fast_check_transformer.specs.Apart.{Compares}
 
--- what is told of some kind at some places
+-- what is reported of some kind at some places
 abbrev Diagnoses : FaultKind → FastCheckDiagnosticRange → FaultKind → FastCheckDiagnosticRange → Type 0
 Diagnoses k p m v = ◌≡◌ {A = Option Diagnosed} (Some (k, p)) (Some (m, v))
 

@@ -37,7 +37,7 @@ use Rattle.fast_check_skeleton.specs.Hidden.{SameClassDecl, SameDecl, SameItem}
 use Rattle.fast_check_skeleton.specs.Hidden as h
 use Rattle.fast_check_skeleton.specs.SameAssignments.{SameObject, SameExported, SameExpando, SameAssignment}
 use Rattle.fast_check_skeleton.specs.SameAssignments as forms
-use Rattle.fast_check_skeleton.specs.SameLinks as l
+use Rattle.fast_check_skeleton.specs.SameImportsExports as l
 use Rattle.fast_check_skeleton.specs.Example.{at}
 use Rattle.fast_check_skeleton.specs.ClassExample.{method_m, static_block, parameter, no_places}
 use Rattle.fast_check_skeleton.specs.ExpandoExample.{as_number, target, assignment, assigned}

@@ -1,4 +1,4 @@
--- The same faults are told by the same diagnostics.
+-- The same faults are reported by the same diagnostics.
 use Rattle.std.specs.Prelude.{◌≡◌, Bool, true, false, Some, List, [], ◌∷◌, take, refl}
 use Rattle.std.proofs.Common.{ap, ◌∙◌, sym, subst}
 use Rattle.fast_check_modules.specs.EsModule.{EsModule}
@@ -24,7 +24,7 @@ use Rattle.fast_check_transform_module.specs.transform_faults.Diagnostics.{IsPla
 use Rattle.fast_check_transform_module.specs.transform_faults.Diagnostics.{diagnosed_by}
 use Rattle.fast_check_transformer.specs.Compared.{SamePlace, SameDiagnostic}
 
--- a diagnostic tells its fault, at a place of the module
+-- a diagnostic reports its fault, at a place of the module
 record Diagnoses (info : EsModule) (f : Fault) (d : FastCheckDiagnostic) : Type 0 where
   place : FastCheckDiagnosticRange
   is_diagnosed : diagnosed_by d ≡ Some (f.kind, place)

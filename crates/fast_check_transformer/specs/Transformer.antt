@@ -21,7 +21,7 @@ pub record Transformer : Type 0 where
   pub first_alone : Bool
   pub diagnostics : List FastCheckDiagnostic
 
--- before the first call nothing is told
+-- before the first call nothing is reported
 abbrev pub diagnosed_so_far : Option (Vec FastCheckDiagnostic Global) → List FastCheckDiagnostic
 diagnosed_so_far None = []
 diagnosed_so_far (Some diagnostics) = diagnostics.items

@@ -15,7 +15,7 @@ use fast_check_transform_module::transform_faults::diagnose;
 use fast_check_transform_module::{KeptModule, transform_es_module};
 use std::alloc::{AllocError, Global};
 
-/// Transforms a module, and keeps what is wrong with it beside what is public of it. `transform` answers the one or the other.
+/// Transforms a module, and keeps its diagnostics beside its skeleton. `transform` answers the one or the other.
 #[derive(Drop)]
 pub struct FastCheckTransformer<'a> {
     graph: &'a ModuleGraph,
@@ -29,7 +29,7 @@ pub struct FastCheckTransformer<'a> {
 impl<'a> FastCheckTransformer<'a> {
     ghost use Rattle.fast_check_transformer.specs.Transformer.{transformer_of, own_skeleton, own_comments, own_faults, kept_faults};
 
-    /// A transformer of a module of this graph, which has told nothing so far. The module has to admit the public ranges. It takes no memory.
+    /// A transformer of a module of this graph, which has reported nothing so far. The module has to admit the public ranges. It takes no memory.
     pub fn new(
         graph: &'a ModuleGraph,
         es_module_info: &'a EsModuleInfo,

@@ -15,7 +15,7 @@ const crlf = (text) => text.replaceAll('\n', '\r\n');
 const big = (text) => Buffer.from(`\ufeff${text}`, 'utf16le').swap16();
 const little = (text) => Buffer.from(`\ufeff${text}`, 'utf16le');
 
-/** Each has a name, the text or the bytes of `mod.ts`, what they are behind `fix`, and what is told. */
+/** Each has a name, the text or the bytes of `mod.ts`, what they are behind `fix`, and what is reported. */
 const SOURCES = [
   ['a mark of byte order', `\ufeff${PLAIN}`, `\ufeff${TYPED}`],
   ['UTF-16, the lower byte first', little(PLAIN), little(TYPED)],

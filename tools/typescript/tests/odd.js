@@ -7,7 +7,7 @@ const path = require('path');
 const CONFIG = '{ "name": "@test/odd", "version": "1.0.0", "exports": "./mod.ts" }';
 const UNTYPED = 'export function f() { return Math.max(1); }\n';
 
-/** Each has a name, the files of a folder, the status of `check`, and what has to be told, or may not be told where a `!` stands before it. */
+/** Each has a name, the files of a folder, the status of `check`, and what has to be reported, or may not be reported where a `!` stands before it. */
 const FOLDERS = [
   ['a mark of byte order', { 'deno.json': `\ufeff${CONFIG}`, 'mod.ts': `\ufeff${UNTYPED}` }, 1, ['mod.ts:1:17', '|                 ^ this']],
   ['lines that end with both', { 'mod.ts': `// one\r\n\t${UNTYPED}` }, 1, ['mod.ts:2:18', '| \t                ^ this']],

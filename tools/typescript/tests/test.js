@@ -538,7 +538,7 @@ function isShown(title, place, out) {
   same(shown[at], undefined, `what the page shows in\n${out}\nand its line`);
 }
 
-/** Types that are written into a copy of a package: what is left is told, the rest is clean, and a second run changes nothing. */
+/** Types that are written into a copy of a package: what is left is reported, the rest is clean, and a second run changes nothing. */
 async function fixes() {
   await test('fix --dry writes nothing', async () => {
     const file = path.join(PACKAGES, 'fixed/mod.ts');

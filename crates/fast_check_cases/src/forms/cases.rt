@@ -14,7 +14,7 @@ use json::Writer;
 use serde_json::Value;
 use std::alloc::Global;
 
-/// Says what comes of a case. It is `refused` where what it is run on is not of its form.
+/// Says what comes of a case. A case whose JSON is not of its form is `refused`.
 pub fn say_case(alloc: Global, line: &str, said: &mut Said) {
     let (word, rest) = line.split_once(' ').unwrap_or(("", line));
     match word {

@@ -71,7 +71,8 @@ fn add(alloc: Global, demand: &mut ImportedExports, words: &[String], said: &mut
     }
 }
 
-/// Says what a call on what is demanded of a module answers and leaves, and says whether it is such a call.
+/// Makes a call on the demands of a module, if the command is one, and says its answer and the demands behind it.
+/// Answers whether the command is one.
 pub fn call(
     alloc: Global,
     demand: &mut ImportedExports,

@@ -195,7 +195,8 @@ fn add_qualified_below(alloc: Global, exports: &mut Exports, words: &[String], s
     said.note(exports.add_qualified(alloc, name, qualified));
 }
 
-/// Says what a call on what is demanded below a name answers and leaves, and says whether it is such a call.
+/// Makes a call on the demands below a name, if the command is one, and says its answer and the demands behind it.
+/// Answers whether the command is one.
 pub fn call_below(
     alloc: Global,
     exports: &mut Exports,

@@ -46,7 +46,7 @@ fn build_answers(
     }
 }
 
-/// The answers to a request, or why it is refused. The tables of its modules are looked at in their order, and the first fault is told.
+/// The answers to a request, or why it is refused. The tables of its modules are looked at in their order, and the first fault is reported.
 /// What was handed in is dropped.
 fn request_answers(alloc: Global, request: BuildRequest) -> Result<Vec<ModuleAnswer>, Refusal>
     ensures built { IfOk result (λ answers. BuildsAnswers request answers.items) }

@@ -12,7 +12,7 @@ use fast_check_requests::{EsModuleParts, member, read_es_module, read_optional_r
 use serde_json::Value;
 use std::alloc::Global;
 
-/// A module as it is handed in, with what is public of it.
+/// A module as it is handed in, with its public ranges.
 #[derive(Drop)]
 pub struct Side {
     pub es_module: EsModuleParts,

@@ -1,4 +1,4 @@
-//! What a reader is told of each of the faults that leave a module without skeleton.
+//! What a reader is shown of each of the faults that leave a module without skeleton.
 ghost use Rattle.std.specs.Prelude.{◌≡◌, IfOk, map, option_map};
 ghost use Rattle.std.specs.Option.{option_copied};
 ghost use Rattle.std.specs.String.{string_bytes};

@@ -1,4 +1,4 @@
-//! What a reader is told of every diagnostic of a kind.
+//! The texts that every diagnostic of a kind has.
 
 /// The texts of a kind that are the same for each of its diagnostics.
 pub(crate) struct Texts {

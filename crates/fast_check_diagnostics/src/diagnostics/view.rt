@@ -1,4 +1,4 @@
-//! What a reader is told of a fault, whatever kind of fault it is.
+//! What a reader is shown of a fault, whatever kind of fault it is.
 ghost use Rattle.std.specs.Prelude.{◌≡◌, IfOk, IfSome, map, option_map};
 ghost use Rattle.std.specs.Option.{option_copied};
 ghost use Rattle.std.specs.String.{string_bytes};
@@ -43,7 +43,7 @@ pub struct DiagnosticSnippet<'a> {
     pub description: Option<&'a str>,
 }
 
-/// A fault as a reader is told of it. It is lent as `&dyn Diagnostic`.
+/// A fault as it is shown to a reader. It is lent as `&dyn Diagnostic`.
 pub trait Diagnostic {
     ghost view: { Self → DiagnosticView };
 

@@ -16,7 +16,7 @@ fn range(start: u32, end: u32) -> SourceRange {
     }
 }
 
-/// The tree that was made. Where memory is wanting, nothing is a text any more.
+/// The tree that was made. If memory runs out, nothing is a text any more.
 fn noted(made: Result<Tree, AllocError>, said: &mut Said) -> Tree {
     match made {
         Ok(tree) => tree,

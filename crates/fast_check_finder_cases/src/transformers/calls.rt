@@ -1,4 +1,4 @@
-//! Calls of a transformer, and what is told of them.
+//! Calls of a transformer, and what comes of them.
 use crate::modules::module_of;
 use crate::said_answers::say_diagnostic;
 use fast_check_cases::Said;
@@ -38,7 +38,7 @@ fn say_answer(alloc: Global, transformer: &mut FastCheckTransformer<'_>, said: &
     }
 }
 
-/// Makes one call, and tells what it answers and what is kept then.
+/// Makes one call, and says its answer and the diagnostics that are kept then.
 fn say_call(alloc: Global, transformer: &mut FastCheckTransformer<'_>, said: &mut Said) {
     say_answer(alloc, transformer, said);
     said.say("    kept:");

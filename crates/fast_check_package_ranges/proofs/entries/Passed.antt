@@ -10,7 +10,7 @@ pub passed_on : {T E : Type 0} (r : Result T E) (e : E) (P : E → Type 0) → I
 passed_on (Ok x) e P is p = tt
 passed_on (Err y) e P is p = subst P (sym is) p
 
--- what is told of some texts is told of others that have the same first one
+-- what is reported of some texts is reported of others that have the same first one
 pub diagnoses_of : (nv : Nv) (one other : Option (List ℕ)) → ((text : List ℕ) → one ≡ Some text → other ≡ Some text) → (f : BuildFault) →
     Diagnoses nv one f →
     Diagnoses nv other f

@@ -51,7 +51,7 @@ some_or : {X : Type 0} (b : Bool) (v : X) (o : Option X) → is_some (cond b (So
 some_or true v o = refl
 some_or false v o = refl
 
--- a key that is there tells the same
+-- a key that is there reports the same
 told_there : (es : List (ReportedFault × RcStr Global)) (k : ReportedFault) (t : List ℕ) →
     is_some (lookup (is_at (order.cmp-value.it k)) es) ≡ list_any (λ e. same_report (fault_with k t) (fault_of e)) es
 told_there [] k t = refl

@@ -1,4 +1,4 @@
--- Faults that compare alike are told as one.
+-- Faults that compare alike are reported as one.
 use Rattle.std.proofs.Common.{◌≡◌, refl, ℕ, true, ◌==◌, List}
 use Rattle.std.specs.Cmp.{both_tied, unsigned_ties, unsigned_Decides}
 use Rattle.std.specs.Cmp.Lexicographic.{slice_cmp, texts_ties, nat_list_eq_equiv}

@@ -1,4 +1,4 @@
--- The diagnostics of a module tell what is to be told.
+-- The diagnostics of a module report what is to be reported.
 use Rattle.std.proofs.Common.{◌≡◌, ◌∙◌, refl, sym, ap, subst, Bool, true, false, cond, ◌||◌, List, [], ◌∷◌, ◌++◌, map, Some, None}
 use Rattle.std.specs.List.{list_any, AllByRecursion, Contains, IsDistinct}
 use Rattle.std.specs.declared.alloc.Global.{Global}
@@ -102,7 +102,7 @@ pub diagnosed : (t : Text) (fs : List ModuleFault) (u : Bool) (es : List (Report
     map (fault_reported t) ds ≡ reported_with u (map (λ e. Some (fault_of e)) es) → AreDiagnosed t fs ds
 diagnosed t fs u es ds v a once e = by_parts t fs ds u es (others fs) refl v a once e
 
--- that the types are not known, behind what else is told
+-- that the types are not known, behind what else is reported
 
 pub pushed : (u : Bool) (t : Text) (ds : List FastCheckDiagnostic) (d : FastCheckDiagnostic) → u ≡ true → ds ≡ [] →
     fault_reported t d ≡ Some untyped_module → map (fault_reported t) (ds ++ d ∷ []) ≡ reported_with u (map (fault_reported t) ds)

@@ -1,4 +1,4 @@
--- The diagnostics of a module have none of a cache, and none that a module as a whole is told under another specifier.
+-- The diagnostics of a module have none of a cache, and none that is reported of a module as a whole under another specifier.
 use Rattle.std.proofs.Common.{◌≡◌, ◌∙◌, sym, ap, refl, subst, Bool, true, false, cond, List, [], ◌∷◌, map, Option, Some, None, arith}
 use Rattle.std.specs.List.{Contains}
 use Rattle.std.specs.Option.{is_some}
@@ -18,7 +18,7 @@ cached_tells_nothing : (t : Text) (specifier : Parts) → fault_reported t (Cach
 unfolding demand_fault
 cached_tells_nothing t specifier = refl
 
--- each diagnostic tells something
+-- each diagnostic reports something
 each_tells : (t : Text) (ds : List FastCheckDiagnostic) (fs : List ModuleFault) → map (fault_reported t) ds ≡ map Some fs →
     AllByRecursion (λ d. is_some (fault_reported t d) ≡ true) ds
 each_tells t [] fs e = tt

@@ -33,7 +33,7 @@ reports_tie (OfDemand a) (OfEntry NotFound) t u = refl
 reports_tie (OfDemand a) (OfEntry Untyped) t u = refl
 reports_tie (OfDemand a) (OfDemand b) t u = compares a b t u
 
--- those of a map are told once
+-- those of a map are reported once
 apart : (e : ReportedFault × RcStr Global) (es : List (ReportedFault × RcStr Global)) →
     AllByRecursion (λ k. eq_by_cmp order.cmp-value.it e.0 k ≡ false) (keys_of es) →
     AllByRecursion (λ f. same_report (fault_of e) f ≡ false) (map fault_of es)

@@ -1,4 +1,4 @@
--- What is told of a module, and by which diagnostics.
+-- What is reported of a module, and by which diagnostics.
 use Rattle.std.specs.Prelude.{◌≡◌, Bool, true, false, cond, not, ◌&&◌, List, [], ◌∷◌, map, Option, Some, None, option_map}
 use Rattle.std.specs.List.{list_any, filter, Contains, IsDistinct}
 use Rattle.std.specs.Str.{bytes_eq}
@@ -44,7 +44,7 @@ is_untyped _ = false
 abbrev pub others : List ModuleFault → List ModuleFault
 others faults = filter (λ f. not (is_untyped f)) faults
 
--- That the types of a module are not known is told where nothing else is wrong with it.
+-- That the types of a module are not known is reported where nothing else is wrong with it.
 abbrev pub reported_of : List ModuleFault → List ModuleFault → List ModuleFault
 reported_of [] faults = faults
 reported_of (f ∷ fs) faults = f ∷ fs
@@ -52,7 +52,7 @@ reported_of (f ∷ fs) faults = f ∷ fs
 abbrev pub all_reported : List ModuleFault → List ModuleFault
 all_reported faults = reported_of (others faults) faults
 
--- what a diagnostic tells of the module: one of the module as a whole carries its specifier
+-- what a diagnostic reports of the module: one of the module as a whole carries its specifier
 abbrev pub fault_reported : Text → FastCheckDiagnostic → Option ModuleFault
 fault_reported t (ExportNotFound specifier) = cond (bytes_eq t (serialize specifier)) (Some missing_entry) None
 fault_reported t (UnsupportedJavaScriptEntrypoint specifier) =
@@ -61,8 +61,8 @@ fault_reported t (UnsupportedNestedJavaScript specifier) =
     cond (bytes_eq t (serialize specifier)) (Some untyped_module) None
 fault_reported t d = option_map of_demand (demand_fault d)
 
--- These diagnostics of a module tell what of these faults is to be told, with its source text, and nothing else. All
--- that is to be told is told, but no two tell the same.
+-- These diagnostics of a module report what of these faults is to be reported, with its source text, and nothing else.
+-- All that is to be reported is reported, but no two report the same.
 pub record AreDiagnosed (t : Text) (faults : List ModuleFault) (ds : List FastCheckDiagnostic) : Type 0 where
   pub reports : List ModuleFault
   pub tell : map (fault_reported t) ds ≡ map Some reports

@@ -38,7 +38,7 @@ pub record AreFaultsOf (fs : List ModuleFault) (m : ModuleFaults) : Type 0 where
 abbrev pub AddsTo : List ModuleFault → ModuleFaults → ModuleFaults → Type 0
 AddsTo more old new = (fs : List ModuleFault) → AreFaultsOf fs old → AreFaultsOf (fs ++ more) new
 
--- behind what else is told
+-- behind what else is reported
 abbrev pub reported_with : Bool → List (Option ModuleFault) → List (Option ModuleFault)
 reported_with is_untyped [] = cond is_untyped (Some untyped_module ∷ []) []
 reported_with is_untyped (x ∷ xs) = x ∷ xs

@@ -42,7 +42,7 @@ fn graph_entries(
 /// The entry points of a package: what its export texts are joined to, in order and each once. None where neither the graph nor a member
 /// of the workspace has its exports.
 ///
-/// The first text, in the order of the exports, that does not join is answered as `InvalidExport`. `OutOfMemory` where memory is wanting, or a
+/// The first text, in the order of the exports, that does not join is answered as `InvalidExport`. `OutOfMemory` if memory runs out, or a
 /// URL comes to 4 GB.
 pub fn entry_points(
     alloc: Global,

@@ -41,7 +41,7 @@ fn push_fault(
 }
 
 /// The entry points with which something is wrong, in order: those that the graph does not have, and those whose types are not known.
-/// `AllocError` where memory is wanting.
+/// `AllocError` if memory runs out.
 pub fn entry_faults(
     alloc: Global,
     graph: &ModuleGraph,

@@ -27,7 +27,7 @@ pub struct FoundModule<'a> {
     pub ranges: Vec<SourceRange>,
     /// The ranges of implementations of overloads.
     pub implementations: Vec<SourceRange>,
-    /// What is wrong with what was demanded of it.
+    /// The faults of its demands.
     pub faults: Vec<SymbolFault<'a>>,
 }
 

@@ -23,7 +23,7 @@ use std::collections::BTreeMap;
 use std::rc::RcStr;
 use url::Url;
 
-/// What is wrong with a module, but that its types are not known. They come in the order in which they are told.
+/// What is wrong with a module, but that its types are not known. They come in the order in which they are reported.
 #[derive(PartialEq, Eq, PartialOrd, Ord, Drop)]
 pub(crate) enum ReportedFault {
     OfEntry(EntryFault),
@@ -129,7 +129,7 @@ fn diagnostics_of(
     Ok(out)
 }
 
-/// Adds that the types of the module are not known, if nothing else is told.
+/// Adds that the types of the module are not known, if nothing else is reported.
 fn push_untyped(
     specifier: &Url,
     is_untyped: bool,
@@ -172,8 +172,8 @@ impl ModuleFaults {
         add_fault(&mut self.others, ReportedFault::OfEntry(fault), text)
     }
 
-    /// Adds what is wrong with what was demanded of the module. A fault stands at the first declaration of its symbol, and one whose symbol has
-    /// none is left out.
+    /// Adds the faults of the demands of the module. A fault stands at the first declaration of its symbol, and one whose symbol has none is
+    /// left out.
     pub fn add_demand_faults(
         &mut self,
         alloc: Global,
@@ -187,7 +187,7 @@ impl ModuleFaults {
     }
 
     /// The diagnostics: first those of the module as a whole, then those of demands, by their places in the text. That the types of the module are not
-    /// known is told where nothing else is. `AllocError` where memory is wanting.
+    /// known is reported where nothing else is. `AllocError` if memory runs out.
     pub fn into_diagnostics(
         self,
         alloc: Global,

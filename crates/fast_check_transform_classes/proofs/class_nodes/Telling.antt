@@ -1,4 +1,4 @@
--- What is told of a private method and the members before it.
+-- What is known of a private method and the members before it.
 use Rattle.std.specs.Prelude.{◌≡◌, ℕ, Bool, true, false, cond, not, ◌||◌, List, refl}
 use Rattle.std.specs.List.{list_any}
 use Rattle.std.specs.Str.{bytes_eq}

@@ -29,17 +29,17 @@ accessor_stays m =
     not (kind_of (AutoAccessor-key m) is kinds.PrivateName) &&
     not (is_private (AutoAccessor-accessibility m) && is_computed (AutoAccessor-key m))
 
--- what is told of the earlier members: which names private methods have, and whether a private constructor has a body
+-- what is known of the earlier members: which names private methods have, and whether a private constructor has a body
 pub record Knows (known : Earlier) (earlier : List Tree) : Type 0 where
   pub names : (name : List ℕ) → contains_by (λ k. slice_cmp nat_cmp name k.now) known.private_methods ≡ list_any
       (is_private_method_of name) earlier
   pub implementation : known.has_private_implementation ≡ list_any is_private_implementation earlier
 
--- whether a member stays behind the earlier ones, and what is told of it and them
+-- whether a member stays behind the earlier ones, and what is known of it and them
 pub record Next (new : Earlier) (earlier : List Tree) (member : Tree) (stays : Bool) : Type 0 where
   pub stays_is : stays ≡ stays_behind earlier member
   pub knows : Knows new (member ∷ earlier)
 
--- that, whatever the earlier members are of which is told
+-- that, whatever the earlier members are that are known
 abbrev pub IsNext : Earlier → Earlier → Tree → Bool → Type 0
 IsNext old new member stays = (earlier : List Tree) → Knows old earlier → Next new earlier member stays

@@ -55,7 +55,7 @@ fn never_array_type(alloc: Global) -> Result<Tree, AllocError>
     Tree::node(alloc, Kind::TsArrayType, [Tree::Range(DUMMY_SP), never])
 }
 
-/// `([] as never[])`, what is spread for what was.
+/// `([] as never[])`, which is spread in place of another list.
 fn never_array_in_parens(alloc: Global) -> Result<Tree, AllocError>
     ensures { IfOk result (λ tree. tree ≡ new.never_array_in_parens) }
 {

@@ -1,4 +1,4 @@
--- What is told of the faults that a transform meets: each as a diagnostic of its kind at its place, in their order.
+-- How the faults of a transform are reported: each as a diagnostic of its kind at its place, in their order.
 use Rattle.std.specs.Prelude.{◌≡◌, ℕ, Bool, List, [], ◌∷◌, Option, Some, None, MatchOption, take, if◌then◌else◌}
 use Rattle.std.specs.Prelude.{string_bytes}
 use Rattle.std.specs.Rc.{rc_str_bytes}
@@ -26,7 +26,7 @@ use Rattle.fast_check_signatures.specs.declared.fault.Fault.{Fault}
 use Rattle.fast_check_signatures.specs.declared.fault.FaultKind.{FaultKind}
 use Rattle.fast_check_signatures.specs.declared.fault.FaultKind.TheVariants as kinds
 
--- what is told of the faults: all of them, or the first alone
+-- the faults that are reported: all of them, or the first alone
 abbrev pub diagnosed : Bool → List Fault → List Fault
 diagnosed first_alone fs = if first_alone then take 1 fs else fs
 

@@ -164,6 +164,6 @@ pub fn remove_inside(
             }
             Ok(())
         }
-        ItemRule::Linked(_) | ItemRule::Refused(_) | ItemRule::Silent => Ok(()),
+        ItemRule::ImportExport(_) | ItemRule::Refused(_) | ItemRule::Silent => Ok(()),
     }
 }

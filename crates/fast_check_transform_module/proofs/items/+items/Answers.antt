@@ -5,20 +5,20 @@ use Rattle.std.proofs.lemmas.Result.{IfOk-weaker}
 use Rattle.fast_check_comments.specs.Kept.{without_leading}
 use Rattle.fast_check_program_forms.specs.ModuleDecls.{export_decl}
 use Rattle.fast_check_swc_helpers.specs.ranges.Ranges.{range_of_node}
-use Rattle.fast_check_transform_statements.specs.transform_declarations.links.module_facts.skeleton.KeptComments.{removed_from, start_look, starts_in_body, without_all_leading}
+use Rattle.fast_check_transform_statements.specs.transform_declarations.imports_exports.module_facts.skeleton.KeptComments.{removed_from, start_look, starts_in_body, without_all_leading}
 use Rattle.fast_check_syntax.specs.Part.{seen}
 use Rattle.fast_check_syntax.specs.Shape.{parts}
 use Rattle.fast_check_syntax.specs.Height.{height, height_at_most}
 use Rattle.fast_check_transform_statements.proofs.transform_declarations.class_proofs.Nothing.{none_of}
-use Rattle.fast_check_transform_statements.specs.transform_declarations.links.module_facts.ModuleFacts.{facts_of}
-use Rattle.fast_check_transform_statements.specs.transform_declarations.links.module_facts.Kept.{as_list}
+use Rattle.fast_check_transform_statements.specs.transform_declarations.imports_exports.module_facts.ModuleFacts.{facts_of}
+use Rattle.fast_check_transform_statements.specs.transform_declarations.imports_exports.module_facts.Kept.{as_list}
 use Rattle.fast_check_transform_module.proofs.ByRule.{variables, functions, classes, standing, namespaces, using_stays, undeclared}
-use Rattle.fast_check_transform_module.proofs.ByRule.{declared, no_export, made_export, linked, default_export, refused, silent}
+use Rattle.fast_check_transform_module.proofs.ByRule.{declared, no_export, made_export, import_export, default_export, refused, silent}
 use Rattle.fast_check_transform_module.proofs.ByRule.{no_items, one_more_item, one_more_assigned, all_items, with_namespaces}
 use Rattle.fast_check_transform_module.proofs.ByRule.{assigned_is, same_properties, more_properties, all_properties}
-use Rattle.fast_check_transform_statements.specs.transform_declarations.links.module_facts.skeleton.Rules.{is_assigned, item_rule}
+use Rattle.fast_check_transform_statements.specs.transform_declarations.imports_exports.module_facts.skeleton.Rules.{is_assigned, item_rule}
 use Rattle.fast_check_transform_module.proofs.Namespaces.{inside_at_most, refused_module, private_namespace, public_namespace}
-use Rattle.fast_check_transform_statements.specs.transform_declarations.links.module_facts.skeleton.ModuleFacts.{ModuleFacts}
+use Rattle.fast_check_transform_statements.specs.transform_declarations.imports_exports.module_facts.skeleton.ModuleFacts.{ModuleFacts}
 use Rattle.fast_check_transform_module.proofs.Namespaces.{nothing_refused, nothing_private, all_inside}
 use Rattle.fast_check_transform_module.proofs.Removed.{item_lower, inside, below, below_nothing, below_declared}
 use Rattle.fast_check_transform_module.proofs.Removed.{without_append, removed_if_none, removed_if_some, removed_if_assigned, one_more}
@@ -295,12 +295,12 @@ transform_item-returns-in-None-clause-answer t c =
     no_export (facts_of c.args.facts) (seen c.args.item) (sym c.item_rule.ensures ∙ c.in-Exported.is)
     c.in_ok-decl-in-Exported.ensures.answer c.of.ensures.span c.of.ensures.decl (ap as_list c.in-None.is)
 
-pub transform_item-returns-in-Linked-clause-answer : goal.transform_item-returns-in-Linked-clause-answer
-transform_item-returns-in-Linked-clause-answer t c =
-    IfOk-weaker c.transform_link.result _ _
-    (λ tree h. linked (facts_of c.args.facts) (seen c.args.item)
-    (sym c.item_rule.ensures ∙ c.in-Linked.is) tree (h c.requires.sources) c.args.context.now.faults.items)
-    c.transform_link.ensures.answer
+pub transform_item-returns-in-ImportExport-clause-answer : goal.transform_item-returns-in-ImportExport-clause-answer
+transform_item-returns-in-ImportExport-clause-answer t c =
+    IfOk-weaker c.transform_import_export.result _ _
+    (λ tree h. import_export (facts_of c.args.facts) (seen c.args.item)
+    (sym c.item_rule.ensures ∙ c.in-ImportExport.is) tree (h c.requires.sources) c.args.context.now.faults.items)
+    c.transform_import_export.ensures.answer
 
 pub transform_item-returns-in-Default-clause-answer : goal.transform_item-returns-in-Default-clause-answer
 transform_item-returns-in-Default-clause-answer t c =
@@ -323,12 +323,12 @@ transform_item-returns-in-Declared-clause-comments t c =
     c.in-Declared.is) c.range_of_node.ensures
     c.transform_decl.ensures.comments
 
-pub transform_item-returns-in-Linked-clause-comments : goal.transform_item-returns-in-Linked-clause-comments
-transform_item-returns-in-Linked-clause-comments t c =
-    IfOk-weaker c.transform_link.result _ _
+pub transform_item-returns-in-ImportExport-clause-comments : goal.transform_item-returns-in-ImportExport-clause-comments
+transform_item-returns-in-ImportExport-clause-comments t c =
+    IfOk-weaker c.transform_import_export.result _ _
     (λ tree h. below_nothing (facts_of c.args.facts) (seen c.args.item) c.args.context.now.comments
-    (sym c.item_rule.ensures ∙ c.in-Linked.is) refl)
-    c.transform_link.ensures.answer
+    (sym c.item_rule.ensures ∙ c.in-ImportExport.is) refl)
+    c.transform_import_export.ensures.answer
 
 pub transform_item-returns-in-Default-clause-comments : goal.transform_item-returns-in-Default-clause-comments
 transform_item-returns-in-Default-clause-comments t c =
@@ -356,6 +356,6 @@ pub transform_item-returns-in-Assigned-clause-comments : goal.transform_item-ret
 transform_item-returns-in-Assigned-clause-comments t c =
     below_nothing (facts_of c.args.facts) (seen c.args.item) c.args.context.now.comments (sym c.item_rule.ensures ∙ c.in-Assigned.is) refl
 
-pub transform_item-returns-in-Linked-clause-sources : goal.transform_item-returns-in-Linked-clause-sources
-transform_item-returns-in-Linked-clause-sources t c =
-    IfOk-weaker c.transform_link.result _ _ (λ tree h. h c.requires.sources) c.transform_link.ensures.sources
+pub transform_item-returns-in-ImportExport-clause-sources : goal.transform_item-returns-in-ImportExport-clause-sources
+transform_item-returns-in-ImportExport-clause-sources t c =
+    IfOk-weaker c.transform_import_export.result _ _ (λ tree h. h c.requires.sources) c.transform_import_export.ensures.sources

@@ -3,7 +3,7 @@ use Rattle.fast_check_program_forms.specs.Programs.{Module-span, Module-body, Mo
 use Rattle.fast_check_syntax.specs.Part.{seen}
 use Rattle.fast_check_syntax.specs.Shape.{parts}
 use Rattle.fast_check_transform_module.proofs.Transformed.{skeleton_is, faults_are}
-use Rattle.fast_check_transform_statements.specs.transform_declarations.links.module_facts.ModuleFacts.{facts_of}
+use Rattle.fast_check_transform_statements.specs.transform_declarations.imports_exports.module_facts.ModuleFacts.{facts_of}
 use Rattle.fast_check_transform_module.proofs.program.transform_es_module.Goals as goal
 
 pub transform_items-requires : goal.transform_items-requires

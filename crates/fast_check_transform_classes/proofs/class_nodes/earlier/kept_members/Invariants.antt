@@ -5,7 +5,7 @@ use Rattle.fast_check_signatures.specs.Members.{each_behind, if_kept, kept_membe
 use Rattle.fast_check_transform_classes.specs.class_nodes.Known.{Knows}
 use Rattle.fast_check_transform_classes.proofs.class_nodes.earlier.kept_members.Given as goal
 
--- some earlier members, of which is told, and behind what stays of them what stays of the others
+-- some earlier members, which are known, and behind what stays of them what stays of the others
 abbrev pub invariant-loop-member : goal.invariant-loop-member
 invariant-loop-member l =
     (before : List Tree) × (Knows l.earlier before × (kept_members l.members ≡ map seen l.kept.items ++

@@ -5,7 +5,7 @@ use Rattle.fast_check_transform_imports.specs.module_facts.skeleton.KeptComments
 use Rattle.fast_check_transform_statements.proofs.transform_declarations.ClassCases.{starts_left}
 use Rattle.fast_check_transform_statements.proofs.transform_declarations.classes.remove_before_members.Given as goal
 
--- some earlier members, of which is told, and behind them the same is left to remove
+-- some earlier members, which are known, and behind them the same is left to remove
 abbrev pub invariant-loop-member : goal.invariant-loop-member
 invariant-loop-member l =
     (before : List Tree) × (Knows l.earlier before × (without_all_leading (starts_left [] l.member-items) l.initial.comments ≡

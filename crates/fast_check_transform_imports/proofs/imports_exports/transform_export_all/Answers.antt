@@ -2,10 +2,10 @@ use Rattle.std.proofs.Common.{◌∙◌, ap, sym}
 use Rattle.fast_check_syntax.specs.Part.{seen}
 use Rattle.fast_check_diagnostics.specs.PublicRanges.{is_public}
 use Rattle.fast_check_program_forms.specs.ModuleDecls.{export_all}
-use Rattle.fast_check_skeleton.specs.Links.{answered_source}
+use Rattle.fast_check_skeleton.specs.ImportsExports.{answered_source}
 use Rattle.fast_check_transform_imports.specs.module_facts.ModuleFacts.{facts_of}
-use Rattle.fast_check_transform_imports.proofs.LinkCases.{no_all, made_all}
-use Rattle.fast_check_transform_imports.proofs.links.transform_export_all.Goals as goal
+use Rattle.fast_check_transform_imports.proofs.ImportExportCases.{no_all, made_all}
+use Rattle.fast_check_transform_imports.proofs.imports_exports.transform_export_all.Goals as goal
 
 pub returns-then-not-contains-clause-answer : goal.returns-then-not-contains-clause-answer
 returns-then-not-contains-clause-answer c = λ kept.

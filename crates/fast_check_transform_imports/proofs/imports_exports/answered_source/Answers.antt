@@ -4,8 +4,8 @@ use Rattle.fast_check_syntax.specs.Part.{seen}
 use Rattle.fast_check_syntax.specs.declared.tree.Tree.{Absent}
 use Rattle.fast_check_program_forms.specs.Literals.{str}
 use Rattle.fast_check_transform_imports.specs.module_facts.ModuleFacts.{facts_of}
-use Rattle.fast_check_transform_imports.proofs.LinkCases.{own_source, present_source}
-use Rattle.fast_check_transform_imports.proofs.links.answered_source.Goals as goal
+use Rattle.fast_check_transform_imports.proofs.ImportExportCases.{own_source, present_source}
+use Rattle.fast_check_transform_imports.proofs.imports_exports.answered_source.Goals as goal
 
 pub returns-then-is_absent-clause-answer : goal.returns-then-is_absent-clause-answer
 returns-then-is_absent-clause-answer c =

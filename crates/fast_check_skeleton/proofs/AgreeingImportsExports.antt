@@ -21,37 +21,38 @@ use Rattle.fast_check_signatures.specs.Seen.{written}
 use Rattle.fast_check_skeleton.proofs.AlikeTrees.{TreeAlike, new_alike, absent_alike, range_leaf_alike, flag_leaf_alike, node_alike}
 use Rattle.fast_check_skeleton.proofs.AlikeTrees.{range_field_alike}
 use Rattle.fast_check_skeleton.proofs.AlikeSeen.{AllAlike, same_written, written_alike, all_alike_if}
-use Rattle.fast_check_skeleton.specs.declared.rules.ItemRule.TheVariants.{Linked}
-use Rattle.fast_check_skeleton.specs.declared.rules.LinkRule.{LinkRule}
-use Rattle.fast_check_skeleton.specs.declared.rules.LinkRule.TheVariants.{Import, Export, All, Alias}
-use Rattle.fast_check_skeleton.specs.Links.{is_public_specifier, public_specifiers, source_of, answered_source, with_specifiers}
-use Rattle.fast_check_skeleton.specs.Links.{import_with, export_with, all_exported, link_seen}
+use Rattle.fast_check_skeleton.specs.declared.rules.ItemRule.TheVariants.{ImportExport}
+use Rattle.fast_check_skeleton.specs.declared.rules.ImportExportRule.{ImportExportRule}
+use Rattle.fast_check_skeleton.specs.declared.rules.ImportExportRule.TheVariants.{Import, Export, All, Alias}
+use Rattle.fast_check_skeleton.specs.ImportsExports.{is_public_specifier, public_specifiers, source_of, answered_source, with_specifiers}
+use Rattle.fast_check_skeleton.specs.ImportsExports.{import_with, export_with, all_exported, import_export_seen}
 use Rattle.fast_check_skeleton.specs.Rules.{item_rule}
-use Rattle.fast_check_skeleton.specs.SameLinks.{IsSilentLink, SamePublic, SameSource, SameImport, SameNamedExport, SameExportAll, SameLink}
-use Rattle.fast_check_skeleton.specs.SameLinks as s
+use Rattle.fast_check_skeleton.specs.SameImportsExports.{IsSilentImportExport, SamePublic, SameSource, SameImport, SameNamedExport}
+use Rattle.fast_check_skeleton.specs.SameImportsExports.{SameExportAll, SameImportExport}
+use Rattle.fast_check_skeleton.specs.SameImportsExports as s
 use Rattle.fast_check_skeleton.specs.ModuleFacts.{ModuleFacts}
 use Rattle.fast_check_skeleton.proofs.Ruled.{rule_by_kind, alias_rule}
 use Rattle.fast_check_skeleton.proofs.ItemRanges.{range_of_import, range_of_names, range_of_all, range_alike}
 
 -- one that is silent is not seen
-pub record IsUnseenLink (facts : ModuleFacts) (t : Tree) : Type 0 where
-  pub rule : LinkRule
-  pub is : item_rule t ≡ Linked rule
-  pub unseen : link_seen facts t rule ≡ []
+pub record IsUnseenImportExport (facts : ModuleFacts) (t : Tree) : Type 0 where
+  pub rule : ImportExportRule
+  pub is : item_rule t ≡ ImportExport rule
+  pub unseen : import_export_seen facts t rule ≡ []
 
-pub silent_link : (facts : ModuleFacts) (t : Tree) → IsSilentLink facts t → IsUnseenLink facts t
-silent_link facts t (s.IsSilentLink.import k e) =
+pub silent_import_export : (facts : ModuleFacts) (t : Tree) → IsSilentImportExport facts t → IsUnseenImportExport facts t
+silent_import_export facts t (s.IsSilentImportExport.import k e) =
     record { rule = Import; is = rule_by_kind t kinds.ImportDecl k; unseen = ap (with_specifiers (import_with facts t)) e }
-silent_link facts t (s.IsSilentLink.export k e) =
+silent_import_export facts t (s.IsSilentImportExport.export k e) =
     record { rule = Export; is = rule_by_kind t kinds.NamedExport k; unseen = ap (with_specifiers (export_with facts t)) e }
-silent_link facts t (s.IsSilentLink.all k e) =
+silent_import_export facts t (s.IsSilentImportExport.all k e) =
     record {
       rule = All;
       is = rule_by_kind t kinds.ExportAll k;
       unseen =
           ap (λ b. if b then written (all_exported facts t) ∷ [] else []) e;
     }
-silent_link facts t (s.IsSilentLink.alias k n e) =
+silent_import_export facts t (s.IsSilentImportExport.alias k n e) =
     record { rule = Alias; is = alias_rule t k n; unseen = ap (λ b. if b then written t ∷ [] else []) e }
 
 -- ---- what agrees is seen alike
@@ -117,7 +118,7 @@ module _ (r : Renaming) (ok : IsRenaming r) where
         go true false e f g = cc
         go false true e f g = cc
 
-    import_alike : (t u : Tree) → SameImport r a b t u → AllAlike r ok (link_seen a t Import) (link_seen b u Import)
+    import_alike : (t u : Tree) → SameImport r a b t u → AllAlike r ok (import_export_seen a t Import) (import_export_seen b u Import)
     import_alike t u d = with_alike (import_with a t) (import_with b u) go (public_specifiers a (ImportDecl-specifiers t))
         (public_specifiers b (ImportDecl-specifiers u))
         (public_alike (is_public_specifier a) (is_public_specifier b) (parts (ImportDecl-specifiers t))
@@ -134,7 +135,8 @@ module _ (r : Renaming) (ok : IsRenaming r) where
             flag_leaf_alike r ok (ImportDecl-type_only t) (ImportDecl-type_only u) d.type_only i ∷ tree_to r ok d.with i ∷
             text_alike (ImportDecl-phase t) (ImportDecl-phase u) d.phase i ∷ [])
 
-    export_alike : (t u : Tree) → SameNamedExport r a b t u → AllAlike r ok (link_seen a t Export) (link_seen b u Export)
+    export_alike : (t u : Tree) → SameNamedExport r a b t u →
+        AllAlike r ok (import_export_seen a t Export) (import_export_seen b u Export)
     export_alike t u d = with_alike (export_with a t) (export_with b u) go (public_specifiers a (NamedExport-specifiers t))
         (public_specifiers b (NamedExport-specifiers u))
         (public_alike (is_public_specifier a) (is_public_specifier b) (parts (NamedExport-specifiers t))
@@ -150,7 +152,7 @@ module _ (r : Renaming) (ok : IsRenaming r) where
             source_alike (NamedExport-src t) (NamedExport-src u) d.src i ∷
             flag_leaf_alike r ok (NamedExport-type_only t) (NamedExport-type_only u) d.type_only i ∷ tree_to r ok d.with i ∷ [])
 
-    all_alike : (t u : Tree) → SameExportAll r a b t u → AllAlike r ok (link_seen a t All) (link_seen b u All)
+    all_alike : (t u : Tree) → SameExportAll r a b t u → AllAlike r ok (import_export_seen a t All) (import_export_seen b u All)
     all_alike t u d = all_alike_if r ok (a.is_public (ExportAll-span t)) (b.is_public (ExportAll-span u)) (written (all_exported a t))
         (written (all_exported b u)) d.is_public (written_alike r ok _ _ (node_alike r ok kinds.ExportAll (parts_of a t) (parts_of b u)
         (λ i. span_alike (ExportAll-span t) (ExportAll-span u) d.span i ∷ source_alike (ExportAll-src t) (ExportAll-src u) d.src i ∷
@@ -161,36 +163,36 @@ module _ (r : Renaming) (ok : IsRenaming r) where
             ExportAll-with v ∷ []
 
     -- the same is done with both, what is seen is alike, and they begin at partners
-    pub record LinksAlike (t u : Tree) : Type 0 where
-      pub rule : LinkRule
-      pub left : item_rule t ≡ Linked rule
-      pub right : item_rule u ≡ Linked rule
-      pub alike : AllAlike r ok (link_seen a t rule) (link_seen b u rule)
+    pub record ImportsExportsAlike (t u : Tree) : Type 0 where
+      pub rule : ImportExportRule
+      pub left : item_rule t ≡ ImportExport rule
+      pub right : item_rule u ≡ ImportExport rule
+      pub alike : AllAlike r ok (import_export_seen a t rule) (import_export_seen b u rule)
       pub begins : SameRange r (range_of_node t) (range_of_node u)
 
-    pub links_alike : (t u : Tree) → SameLink r a b t u → LinksAlike t u
-    links_alike t u (s.SameLink.import d) = record {
+    pub imports_exports_alike : (t u : Tree) → SameImportExport r a b t u → ImportsExportsAlike t u
+    imports_exports_alike t u (s.SameImportExport.import d) = record {
       rule = Import;
       left = rule_by_kind t kinds.ImportDecl d.kinds.left;
       right = rule_by_kind u kinds.ImportDecl d.kinds.right;
       alike = import_alike t u d;
       begins = subst₂ (SameRange r) (sym (range_of_import t d.kinds.left)) (sym (range_of_import u d.kinds.right)) d.span;
     }
-    links_alike t u (s.SameLink.export d) = record {
+    imports_exports_alike t u (s.SameImportExport.export d) = record {
       rule = Export;
       left = rule_by_kind t kinds.NamedExport d.kinds.left;
       right = rule_by_kind u kinds.NamedExport d.kinds.right;
       alike = export_alike t u d;
       begins = subst₂ (SameRange r) (sym (range_of_names t d.kinds.left)) (sym (range_of_names u d.kinds.right)) d.span;
     }
-    links_alike t u (s.SameLink.all d) = record {
+    imports_exports_alike t u (s.SameImportExport.all d) = record {
       rule = All;
       left = rule_by_kind t kinds.ExportAll d.kinds.left;
       right = rule_by_kind u kinds.ExportAll d.kinds.right;
       alike = all_alike t u d;
       begins = subst₂ (SameRange r) (sym (range_of_all t d.kinds.left)) (sym (range_of_all u d.kinds.right)) d.span;
     }
-    links_alike t u (s.SameLink.alias k n m e d) = record {
+    imports_exports_alike t u (s.SameImportExport.alias k n m e d) = record {
       rule = Alias;
       left = alias_rule t k.left n;
       right = alias_rule u k.right m;

@@ -12,8 +12,8 @@ use Rattle.fast_check_program_forms.specs.ModuleDecls.{TsImportEqualsDecl-span, 
 use Rattle.fast_check_program_forms.specs.Literals.{Str-span, Str-value, str}
 use Rattle.fast_check_swc_helpers.specs.ranges.Ranges.{range_of_node}
 use Rattle.fast_check_signatures.specs.Seen.{Seen, written}
-use Rattle.fast_check_skeleton.specs.declared.rules.LinkRule.{LinkRule}
-use Rattle.fast_check_skeleton.specs.declared.rules.LinkRule.TheVariants.{Import, Export, All, Alias}
+use Rattle.fast_check_skeleton.specs.declared.rules.ImportExportRule.{ImportExportRule}
+use Rattle.fast_check_skeleton.specs.declared.rules.ImportExportRule.TheVariants.{Import, Export, All, Alias}
 use Rattle.fast_check_skeleton.specs.ModuleFacts.{ModuleFacts}
 
 -- a specifier is public by its own range
@@ -54,8 +54,8 @@ all_exported facts t = export_all (ExportAll-span t) (answered_source facts (Exp
     (ExportAll-with t)
 
 -- an import or an export of names, `export *` or `import A = B.C`, by which of them it is
-abbrev pub link_seen : ModuleFacts → Tree → LinkRule → List Seen
-link_seen facts t Import = with_specifiers (import_with facts t) (public_specifiers facts (ImportDecl-specifiers t))
-link_seen facts t Export = with_specifiers (export_with facts t) (public_specifiers facts (NamedExport-specifiers t))
-link_seen facts t All = if facts.is_public (ExportAll-span t) then written (all_exported facts t) ∷ [] else []
-link_seen facts t Alias = if facts.is_public (TsImportEqualsDecl-span t) then written t ∷ [] else []
+abbrev pub import_export_seen : ModuleFacts → Tree → ImportExportRule → List Seen
+import_export_seen facts t Import = with_specifiers (import_with facts t) (public_specifiers facts (ImportDecl-specifiers t))
+import_export_seen facts t Export = with_specifiers (export_with facts t) (public_specifiers facts (NamedExport-specifiers t))
+import_export_seen facts t All = if facts.is_public (ExportAll-span t) then written (all_exported facts t) ∷ [] else []
+import_export_seen facts t Alias = if facts.is_public (TsImportEqualsDecl-span t) then written t ∷ [] else []

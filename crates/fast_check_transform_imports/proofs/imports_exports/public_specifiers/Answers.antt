@@ -2,8 +2,8 @@ use Rattle.std.proofs.Common.{rules, ap, sym, ◌∙◌, ◌++◌, ◌∷◌, []
 use Rattle.fast_check_syntax.specs.Part.{seen}
 use Rattle.fast_check_diagnostics.specs.PublicRanges.{is_public}
 use Rattle.fast_check_transform_imports.specs.module_facts.ModuleFacts.{facts_of}
-use Rattle.fast_check_transform_imports.proofs.LinkCases.{public_more, private_more, all_specifiers}
-use Rattle.fast_check_transform_imports.proofs.links.public_specifiers.Goals as goal
+use Rattle.fast_check_transform_imports.proofs.ImportExportCases.{public_more, private_more, all_specifiers}
+use Rattle.fast_check_transform_imports.proofs.imports_exports.public_specifiers.Goals as goal
 
 pub loop-specifier-preserved-then-not-contains : goal.loop-specifier-preserved-then-not-contains
 loop-specifier-preserved-then-not-contains c =

@@ -2,15 +2,15 @@
 ghost use Rattle.std.specs.Prelude.{◌≡◌, IfOk};
 ghost use Rattle.fast_check_syntax.specs.Part.{seen};
 ghost use Rattle.fast_check_signatures.specs.Answers.{faultless};
-ghost use Rattle.fast_check_skeleton.specs.Links.{answered_source, public_specifiers};
-ghost use Rattle.fast_check_skeleton.specs.declared.rules.LinkRule.TheVariants as links;
+ghost use Rattle.fast_check_skeleton.specs.ImportsExports.{answered_source, public_specifiers};
+ghost use Rattle.fast_check_skeleton.specs.declared.rules.ImportExportRule.TheVariants as imports_exports;
 ghost use Rattle.fast_check_transform_imports.specs.module_facts.ModuleFacts.{facts_of};
 ghost use Rattle.fast_check_transform_imports.specs.module_facts.Kept.{as_list};
-ghost use Rattle.fast_check_transform_imports.specs.Links.{link_answer};
+ghost use Rattle.fast_check_transform_imports.specs.ImportsExports.{import_export_answer};
 ghost use Rattle.fast_check_transform_imports.specs.Relative.{AreRelative};
 
 use crate::module_facts::ModuleFacts;
-use crate::module_facts::skeleton::LinkRule;
+use crate::module_facts::skeleton::ImportExportRule;
 use crate::relative::RelativeSources;
 use fast_check_program_forms::{ExportAll, ImportDecl, NamedExport, Str, TsImportEqualsDecl};
 use fast_check_swc_helpers::ranges::range_of_node;
@@ -91,7 +91,7 @@ fn transform_import(
     sources: &mut RelativeSources,
 ) -> Result<Option<Tree>, AllocError>
     ensures answer { IfOk result (λ tree. AreRelative (facts_of facts.entry) sources.old →
-        link_answer (facts_of facts.entry) (seen item.entry) links.Import ≡ faultless (as_list tree)) }
+        import_export_answer (facts_of facts.entry) (seen item.entry) imports_exports.Import ≡ faultless (as_list tree)) }
     ensures sources { IfOk result (λ _. AreRelative (facts_of facts.entry) sources.old → AreRelative (facts_of facts.entry) sources.new) }
 {
     let ImportDecl {
@@ -127,7 +127,7 @@ fn transform_export_names(
     sources: &mut RelativeSources,
 ) -> Result<Option<Tree>, AllocError>
     ensures answer { IfOk result (λ tree. AreRelative (facts_of facts.entry) sources.old →
-        link_answer (facts_of facts.entry) (seen item.entry) links.Export ≡ faultless (as_list tree)) }
+        import_export_answer (facts_of facts.entry) (seen item.entry) imports_exports.Export ≡ faultless (as_list tree)) }
     ensures sources { IfOk result (λ _. AreRelative (facts_of facts.entry) sources.old → AreRelative (facts_of facts.entry) sources.new) }
 {
     let NamedExport {
@@ -160,7 +160,7 @@ fn transform_export_all(
     sources: &mut RelativeSources,
 ) -> Result<Option<Tree>, AllocError>
     ensures answer { IfOk result (λ tree. AreRelative (facts_of facts.entry) sources.old →
-        link_answer (facts_of facts.entry) (seen item.entry) links.All ≡ faultless (as_list tree)) }
+        import_export_answer (facts_of facts.entry) (seen item.entry) imports_exports.All ≡ faultless (as_list tree)) }
     ensures sources { IfOk result (λ _. AreRelative (facts_of facts.entry) sources.old → AreRelative (facts_of facts.entry) sources.new) }
 {
     let ExportAll {
@@ -188,7 +188,7 @@ fn transform_alias(
     facts: ModuleFacts<'_>,
     item: Part<'_>,
 ) -> Result<Option<Tree>, AllocError>
-    ensures { IfOk result (λ tree. link_answer (facts_of facts.entry) (seen item.entry) links.Alias ≡ faultless (as_list tree)) }
+    ensures { IfOk result (λ tree. import_export_answer (facts_of facts.entry) (seen item.entry) imports_exports.Alias ≡ faultless (as_list tree)) }
 {
     if !facts
         .public_ranges
@@ -200,21 +200,21 @@ fn transform_alias(
 }
 
 /// What is public of an import or an export with which this is done; none where nothing is. Nothing can be wrong with it.
-pub fn transform_link(
+pub fn transform_import_export(
     alloc: Global,
     facts: ModuleFacts<'_>,
     item: Part<'_>,
-    rule: LinkRule,
+    rule: ImportExportRule,
     sources: &mut RelativeSources,
 ) -> Result<Option<Tree>, AllocError>
     ensures answer { IfOk result (λ tree. AreRelative (facts_of facts.entry) sources.old →
-        link_answer (facts_of facts.entry) (seen item.entry) rule ≡ faultless (as_list tree)) }
+        import_export_answer (facts_of facts.entry) (seen item.entry) rule ≡ faultless (as_list tree)) }
     ensures sources { IfOk result (λ _. AreRelative (facts_of facts.entry) sources.old → AreRelative (facts_of facts.entry) sources.new) }
 {
     match rule {
-        LinkRule::Import => transform_import(alloc, facts, item, sources),
-        LinkRule::Export => transform_export_names(alloc, facts, item, sources),
-        LinkRule::All => transform_export_all(alloc, facts, item, sources),
-        LinkRule::Alias => transform_alias(alloc, facts, item),
+        ImportExportRule::Import => transform_import(alloc, facts, item, sources),
+        ImportExportRule::Export => transform_export_names(alloc, facts, item, sources),
+        ImportExportRule::All => transform_export_all(alloc, facts, item, sources),
+        ImportExportRule::Alias => transform_alias(alloc, facts, item),
     }
 }

@@ -2,10 +2,10 @@ use Rattle.std.proofs.Common.{refl, ◌∙◌, ap}
 use Rattle.std.proofs.lemmas.Bool.{false≢true}
 use Rattle.fast_check_syntax.specs.Part.{seen}
 use Rattle.fast_check_program_forms.specs.ModuleDecls.{named_export}
-use Rattle.fast_check_skeleton.specs.Links.{answered_source}
+use Rattle.fast_check_skeleton.specs.ImportsExports.{answered_source}
 use Rattle.fast_check_transform_imports.specs.module_facts.ModuleFacts.{facts_of}
-use Rattle.fast_check_transform_imports.proofs.LinkCases.{no_export, made_export}
-use Rattle.fast_check_transform_imports.proofs.links.transform_export_names.Goals as goal
+use Rattle.fast_check_transform_imports.proofs.ImportExportCases.{no_export, made_export}
+use Rattle.fast_check_transform_imports.proofs.imports_exports.transform_export_names.Goals as goal
 
 pub returns-then-is_empty-clause-answer : goal.returns-then-is_empty-clause-answer
 returns-then-is_empty-clause-answer c = λ kept.

@@ -13,11 +13,11 @@ use Rattle.fast_check_program_forms.specs.ModuleDecls.{ImportDecl-specifiers, Na
 use Rattle.fast_check_program_forms.specs.ModuleDecls.{TsImportEqualsDecl-span}
 use Rattle.fast_check_signatures.specs.Answers.{faultless, answer_of}
 use Rattle.fast_check_signatures.specs.Seen.{Seen, written}
-use Rattle.fast_check_skeleton.specs.declared.rules.LinkRule.TheVariants.{Import, Export, All, Alias}
-use Rattle.fast_check_skeleton.specs.Links.{is_public_specifier, public_specifiers, source_of, answered_source}
-use Rattle.fast_check_skeleton.specs.Links.{with_specifiers, import_with, export_with, all_exported}
+use Rattle.fast_check_skeleton.specs.declared.rules.ImportExportRule.TheVariants.{Import, Export, All, Alias}
+use Rattle.fast_check_skeleton.specs.ImportsExports.{is_public_specifier, public_specifiers, source_of, answered_source}
+use Rattle.fast_check_skeleton.specs.ImportsExports.{with_specifiers, import_with, export_with, all_exported}
 use Rattle.fast_check_skeleton.specs.ModuleFacts.{ModuleFacts}
-use Rattle.fast_check_transform_imports.specs.Links.{link_answer}
+use Rattle.fast_check_transform_imports.specs.ImportsExports.{import_export_answer}
 
 -- ---- sources
 
@@ -73,44 +73,44 @@ some_left make {xs = xs} p n q = ap (λ zs. answer_of (with_specifiers make zs))
 module _ (facts : ModuleFacts) (t : Tree) where
   pub no_import : {xs : List Tree} {specifiers : Tree} → xs ≡ public_specifiers facts specifiers → specifiers ≡ ImportDecl-specifiers t →
       xs ≡ [] →
-      link_answer facts t Import ≡ faultless []
-  unfolding link_answer
+      import_export_answer facts t Import ≡ faultless []
+  unfolding import_export_answer
   no_import p q e = none_left (import_with facts t) (p ∙ ap (public_specifiers facts) q) e
 
   pub made_import : {xs : List Tree} {specifiers : Tree} → xs ≡ public_specifiers facts specifiers → specifiers ≡ ImportDecl-specifiers t →
-      (xs ≡ [] → ⊥) → {made : Tree} → made ≡ import_with facts t xs → link_answer facts t Import ≡ faultless (made ∷ [])
-  unfolding link_answer
+      (xs ≡ [] → ⊥) → {made : Tree} → made ≡ import_with facts t xs → import_export_answer facts t Import ≡ faultless (made ∷ [])
+  unfolding import_export_answer
   made_import p q n r = some_left (import_with facts t) (p ∙ ap (public_specifiers facts) q) n r
 
   pub no_export : {xs : List Tree} {specifiers : Tree} → xs ≡ public_specifiers facts specifiers → specifiers ≡ NamedExport-specifiers t →
       xs ≡ [] →
-      link_answer facts t Export ≡ faultless []
-  unfolding link_answer
+      import_export_answer facts t Export ≡ faultless []
+  unfolding import_export_answer
   no_export p q e = none_left (export_with facts t) (p ∙ ap (public_specifiers facts) q) e
 
   pub made_export : {xs : List Tree} {specifiers : Tree} → xs ≡ public_specifiers facts specifiers →
       specifiers ≡ NamedExport-specifiers t →
-      (xs ≡ [] → ⊥) → {made : Tree} → made ≡ export_with facts t xs → link_answer facts t Export ≡ faultless (made ∷ [])
-  unfolding link_answer
+      (xs ≡ [] → ⊥) → {made : Tree} → made ≡ export_with facts t xs → import_export_answer facts t Export ≡ faultless (made ∷ [])
+  unfolding import_export_answer
   made_export p q n r = some_left (export_with facts t) (p ∙ ap (public_specifiers facts) q) n r
 
   abbrev one_if : Bool → Tree → List Seen
   one_if p made = if p then written made ∷ [] else []
 
-  pub no_all : facts.is_public (ExportAll-span t) ≡ false → link_answer facts t All ≡ faultless []
-  unfolding link_answer
+  pub no_all : facts.is_public (ExportAll-span t) ≡ false → import_export_answer facts t All ≡ faultless []
+  unfolding import_export_answer
   no_all e = ap (λ p. answer_of (one_if p (all_exported facts t))) e
 
   pub made_all : facts.is_public (ExportAll-span t) ≡ true → {made : Tree} → made ≡ all_exported facts t →
-      link_answer facts t All ≡ faultless (made ∷ [])
-  unfolding link_answer
+      import_export_answer facts t All ≡ faultless (made ∷ [])
+  unfolding import_export_answer
   made_all e r = (λ i. answer_of (one_if (e i) (sym r i)))
 
-  pub no_alias : facts.is_public (TsImportEqualsDecl-span t) ≡ false → link_answer facts t Alias ≡ faultless []
-  unfolding link_answer
+  pub no_alias : facts.is_public (TsImportEqualsDecl-span t) ≡ false → import_export_answer facts t Alias ≡ faultless []
+  unfolding import_export_answer
   no_alias e = ap (λ p. answer_of (one_if p t)) e
 
   pub made_alias : facts.is_public (TsImportEqualsDecl-span t) ≡ true → {made : Tree} → made ≡ t →
-      link_answer facts t Alias ≡ faultless (made ∷ [])
-  unfolding link_answer
+      import_export_answer facts t Alias ≡ faultless (made ∷ [])
+  unfolding import_export_answer
   made_alias e r = (λ i. answer_of (one_if (e i) (sym r i)))

@@ -14,19 +14,19 @@ use Rattle.fast_check_program_forms.specs.ModuleDecls.{NamedExport-type_only, Na
 use Rattle.fast_check_program_forms.specs.ModuleDecls.{ExportAll-src, ExportAll-type_only, ExportAll-with}
 use Rattle.fast_check_program_forms.specs.ModuleDecls.{TsImportEqualsDecl-span}
 use Rattle.fast_check_skeleton.specs.SameValues.{Both}
-use Rattle.fast_check_skeleton.specs.Links.{is_public_specifier, public_specifiers}
+use Rattle.fast_check_skeleton.specs.ImportsExports.{is_public_specifier, public_specifiers}
 use Rattle.fast_check_skeleton.specs.Rules.{is_require}
 use Rattle.fast_check_skeleton.specs.ModuleFacts.{ModuleFacts}
 
 -- an import or an export of names that goes without a word
-pub data IsSilentLink (facts : ModuleFacts) : Tree → Type 0 where
+pub data IsSilentImportExport (facts : ModuleFacts) : Tree → Type 0 where
   import : {t : Tree} → kind_of t ≡ ImportDecl → public_specifiers facts (ImportDecl-specifiers t) ≡ [] →
-      IsSilentLink facts t
+      IsSilentImportExport facts t
   export : {t : Tree} → kind_of t ≡ NamedExport → public_specifiers facts (NamedExport-specifiers t) ≡ [] →
-      IsSilentLink facts t
-  all : {t : Tree} → kind_of t ≡ ExportAll → facts.is_public (ExportAll-span t) ≡ false → IsSilentLink facts t
+      IsSilentImportExport facts t
+  all : {t : Tree} → kind_of t ≡ ExportAll → facts.is_public (ExportAll-span t) ≡ false → IsSilentImportExport facts t
   alias : {t : Tree} → kind_of t ≡ TsImportEqualsDecl → is_require t ≡ false →
-      facts.is_public (TsImportEqualsDecl-span t) ≡ false → IsSilentLink facts t
+      facts.is_public (TsImportEqualsDecl-span t) ≡ false → IsSilentImportExport facts t
 
 -- two lists one by one, what is not public of either aside
 pub data SamePublic (p q : Tree → Bool) (Same : Tree → Tree → Type 0) : List Tree → List Tree → Type 0 where
@@ -72,11 +72,11 @@ module _ (r : Renaming) (a b : ModuleFacts) where
     pub type_only : ExportAll-type_only t ≡ ExportAll-type_only u
     pub with : SameTree r (ExportAll-with t) (ExportAll-with u)
 
-  pub data SameLink : Tree → Tree → Type 0 where
-    import : {t u : Tree} → SameImport t u → SameLink t u
-    export : {t u : Tree} → SameNamedExport t u → SameLink t u
-    all : {t u : Tree} → SameExportAll t u → SameLink t u
+  pub data SameImportExport : Tree → Tree → Type 0 where
+    import : {t u : Tree} → SameImport t u → SameImportExport t u
+    export : {t u : Tree} → SameNamedExport t u → SameImportExport t u
+    all : {t u : Tree} → SameExportAll t u → SameImportExport t u
     -- `import A = B.C` stands as it is written
     alias : {t u : Tree} → Both TsImportEqualsDecl t u → is_require t ≡ false → is_require u ≡ false →
         a.is_public (TsImportEqualsDecl-span t) ≡ b.is_public (TsImportEqualsDecl-span u) → SameTree r t u →
-        SameLink t u
+        SameImportExport t u

@@ -3,10 +3,10 @@
 use Rattle.std.specs.Prelude.{List}
 use Rattle.fast_check_syntax.specs.declared.tree.Tree.{Tree}
 use Rattle.fast_check_signatures.specs.Answers.{Answer, answer_of}
-use Rattle.fast_check_skeleton.specs.declared.rules.LinkRule.{LinkRule}
-use Rattle.fast_check_skeleton.specs.Links.{link_seen}
+use Rattle.fast_check_skeleton.specs.declared.rules.ImportExportRule.{ImportExportRule}
+use Rattle.fast_check_skeleton.specs.ImportsExports.{import_export_seen}
 use Rattle.fast_check_skeleton.specs.ModuleFacts.{ModuleFacts}
 
 -- to an import, or to an export of names or of all
-unfoldable pub link_answer : ModuleFacts → Tree → LinkRule → Answer (List Tree)
-link_answer facts t rule = answer_of (link_seen facts t rule)
+unfoldable pub import_export_answer : ModuleFacts → Tree → ImportExportRule → Answer (List Tree)
+import_export_answer facts t rule = answer_of (import_export_seen facts t rule)
