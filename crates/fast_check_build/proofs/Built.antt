@@ -29,7 +29,7 @@ use Rattle.fast_check_package_answers.specs.PackageFaults.{PublicModule}
 use Rattle.fast_check_package_answers.specs.PackageAnswer.{TreeModule, with_tree, tree_modules, OwnsPublic, OwnsModule, OwnsAll}
 use Rattle.fast_check_package_answers.specs.Answered.{by_text, by_nv}
 use Rattle.fast_check_package_answers.specs.Owned.{IsOwned, AreOwned}
-use Rattle.fast_check_range_finder.specs.demands.sources.Sources.{Known}
+use Rattle.fast_check_range_finder.specs.demands.facts.GraphFacts.{Known}
 use Rattle.fast_check_range_finder.specs.Own.{IsOwnRange}
 use Rattle.fast_check_build.specs.Found.{OwnsRanges, IsFound}
 

@@ -12,7 +12,7 @@ use Rattle.fast_check_demands.specs.worklists.Demands.{Text}
 use Rattle.fast_check_package_ranges.specs.findings.Yields.{Yield}
 use Rattle.fast_check_package_ranges.specs.Answers.{about, about_module, IsModuleAnswer, AreAnswers, module_answer}
 use Rattle.fast_check_package_ranges.proofs.Shown.{shown, implemented, module_stands}
-use Rattle.fast_check_range_finder.specs.demands.sources.Sources.{Known}
+use Rattle.fast_check_range_finder.specs.demands.facts.GraphFacts.{Known}
 use Rattle.fast_check_range_finder.specs.Account.{Account, IsYield}
 use Rattle.fast_check_range_finder.specs.Yields.{demand_yields}
 use Rattle.fast_check_range_finder.specs.Own.{IsOwnYield}

@@ -11,7 +11,7 @@ use Rattle.fast_check_demands.specs.worklists.Demands.{same_nv, Demand, of_packa
 use Rattle.fast_check_demands.proofs.worklists.Maps.{first_in, rest_in}
 use Rattle.fast_check_package_ranges.specs.findings.Yields.{Yield}
 use Rattle.fast_check_package_ranges.specs.Answers.{package_of as answered_of, about, is_filled, lookup_package, IsPackageAnswer, StandsFor, AreAnswers}
-use Rattle.fast_check_range_finder.specs.demands.sources.Sources.{Known}
+use Rattle.fast_check_range_finder.specs.demands.facts.GraphFacts.{Known}
 use Rattle.fast_check_range_finder.specs.Account.{Account, HasHomes, IsYield, package_of, is_package}
 use Rattle.fast_check_range_finder.specs.Yields.{demand_yields}
 use Rattle.fast_check_range_finder.proofs.OfPackage.{of_demand}

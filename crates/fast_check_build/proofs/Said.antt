@@ -8,7 +8,7 @@ use Rattle.fast_check_cache.specs.declared.package_ranges.PackagePublicRanges.{P
 use Rattle.fast_check_package_ranges.specs.findings.Found.{found_yields}
 use Rattle.fast_check_package_ranges.specs.declared.findings.found.FoundPackage.{FoundPackage}
 use Rattle.fast_check_package_ranges.specs.Answers.{AreAnswers}
-use Rattle.fast_check_range_finder.specs.demands.sources.Sources.{Used, with_used, Known}
+use Rattle.fast_check_range_finder.specs.demands.facts.GraphFacts.{Used, with_used, Known}
 use Rattle.fast_check_range_finder.specs.Lent.{used_of}
 use Rattle.fast_check_range_finder.specs.Account.{Account, HasHomes, IsAccount, IsYield}
 use Rattle.fast_check_range_finder.specs.Rules.{followers}

@@ -9,7 +9,7 @@ use Rattle.fast_check_cache.specs.Cache.{ItemView}
 use Rattle.fast_check_cache.specs.declared.package_ranges.PackagePublicRanges.{PackagePublicRanges}
 use Rattle.fast_check_package_answers.specs.PackageAnswer.{Answer}
 use Rattle.fast_check_package_answers.specs.Answered.{by_nv, AreAnswered, sets}
-use Rattle.fast_check_range_finder.specs.demands.sources.Sources.{Known}
+use Rattle.fast_check_range_finder.specs.demands.facts.GraphFacts.{Known}
 use Rattle.fast_check_range_finder.specs.Refusals.{IsRefusal}
 use Rattle.fast_check_build.specs.Found.{IsFound}
 

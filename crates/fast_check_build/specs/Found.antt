@@ -14,7 +14,7 @@ use Rattle.fast_check_modules.specs.diagnostics.PublicRanges.{PublicRanges, is_p
 use Rattle.fast_check_demands.specs.worklists.Demands.{Text, of_package}
 use Rattle.fast_check_package_ranges.specs.findings.Yields.{Yield}
 use Rattle.fast_check_package_ranges.specs.Answers.{AreAnswers, lookup_package, module_answer}
-use Rattle.fast_check_range_finder.specs.demands.sources.Sources.{none_used, Known, owner_by, named_at}
+use Rattle.fast_check_range_finder.specs.demands.facts.GraphFacts.{none_used, Known, owner_by, named_at}
 use Rattle.fast_check_range_finder.specs.Account.{Account, IsAccount, IsYield}
 use Rattle.fast_check_range_finder.specs.Rules.{followers}
 use Rattle.fast_check_range_finder.specs.Yields.{demand_yields}

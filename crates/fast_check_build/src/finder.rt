@@ -11,7 +11,7 @@ use fast_check_cache::{FastCheckCache, PackagePublicRanges};
 use fast_check_graph::{ModuleGraph, RootSymbol};
 use fast_check_package_ranges::package_ranges;
 use fast_check_packages::{BuildFault, IndexedMembers, JsrUrlProvider, PackageNv, WorkspaceMember};
-use fast_check_range_finder::{FinderInput, Sources, find_all};
+use fast_check_range_finder::{FinderInput, GraphFacts, find_all};
 use std::alloc::Global;
 use std::collections::{BTreeMap, VecDeque};
 
@@ -33,17 +33,17 @@ pub(crate) fn find_seeded(
     jsr_url_provider: &dyn JsrUrlProvider,
     pending_nvs: VecDeque<PackageNv>,
 ) -> Result<BTreeMap<PackageNv, PackagePublicRanges>, BuildFault>
-    ensures found { let s = input.entry.sources in
+    ensures found { let s = input.entry.facts in
         let k = known_of s.graph.now s.root_symbol.now (members_in s.workspace_members.now) (url_of jsr_url_provider.now) (nv_at jsr_url_provider.now) in
         let lent = with_cache cache.entry (λ c. hash_of c.now input.entry.seed.now) (λ c. stored c.now) k in
         IfOk result (IsFound lent (map nv_of pending_nvs.items)) }
-    ensures refused { let s = input.entry.sources in
+    ensures refused { let s = input.entry.facts in
         let k = known_of s.graph.now s.root_symbol.now (members_in s.workspace_members.now) (url_of jsr_url_provider.now) (nv_at jsr_url_provider.now) in
         let lent = with_cache cache.entry (λ c. hash_of c.now input.entry.seed.now) (λ c. stored c.now) k in
         IfErr result (IsRefusal lent (map nv_of pending_nvs.items)) }
 {
     // Each module is found by its own name.
-    input.sources.root_symbol.own_names_find();
+    input.facts.root_symbol.own_names_find();
     let roots = pending_nvs.into_vec();
     let found = find_all(alloc, input, jsr_url_provider, cache, roots.as_slice())?;
     let answers = package_ranges(alloc, found)?;
@@ -74,12 +74,12 @@ pub fn find_public_ranges<'a>(
 {
     let seed = seed_of(cache);
     let members = IndexedMembers::new(alloc, workspace_members)?;
-    let sources = Sources {
+    let facts = GraphFacts {
         graph,
         root_symbol,
         workspace_members: &members,
     };
-    let input = FinderInput { sources, seed };
+    let input = FinderInput { facts, seed };
     find_seeded(alloc, input, cache, jsr_url_provider, pending_nvs)
 }
 

@@ -2,7 +2,7 @@
 ghost use Rattle.std.specs.Prelude.{◌≡◌, ⊤, map, MatchOption, IfOk, IfErr};
 ghost use Rattle.fast_check_packages.specs.Package.{nv_of};
 ghost use Rattle.fast_check_cache.specs.CachedPackages.{used_item};
-ghost use Rattle.fast_check_range_finder.specs.demands.sources.Sources.{with_used};
+ghost use Rattle.fast_check_range_finder.specs.demands.facts.GraphFacts.{with_used};
 ghost use Rattle.fast_check_range_finder.specs.Refusals.{IsRefusal};
 ghost use Rattle.fast_check_build.specs.Found.{known_of};
 ghost use Rattle.fast_check_build.specs.Build.{IsBuilt, IsBuiltWith, IsStopped};
@@ -14,7 +14,7 @@ use fast_check_graph::{ModuleGraph, RootSymbol};
 use fast_check_package_answers::transform::TransformOptions;
 use fast_check_package_answers::{BuildInput, ModuleAnswer, answer_all, answer_and_set_all};
 use fast_check_packages::{BuildFault, IndexedMembers, JsrUrlProvider, PackageNv};
-use fast_check_range_finder::{FinderInput, Sources};
+use fast_check_range_finder::{FinderInput, GraphFacts};
 use std::alloc::Global;
 use std::collections::VecDeque;
 
@@ -41,12 +41,12 @@ fn build_seeded(
     ensures hash { hash_of cache.new ≡ hash_of cache.old }
 {
     let members = IndexedMembers::new(alloc, input.options.workspace_members.as_slice())?;
-    let sources = Sources {
+    let facts = GraphFacts {
         graph: input.graph,
         root_symbol: input.root_symbol,
         workspace_members: &members,
     };
-    let lent = FinderInput { sources, seed };
+    let lent = FinderInput { facts, seed };
     let ranges = find_seeded(alloc, lent, Some(&*cache), jsr_url_provider, pending_nvs)?;
     // The map is in order.
     let _ = ranges.len();

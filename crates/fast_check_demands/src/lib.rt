@@ -2,12 +2,12 @@
 #![tactic(auto)]
 
 mod aliases;
+pub mod facts;
 mod fault;
 mod follow;
 pub mod name_demands;
 mod names;
 mod public;
-pub mod sources;
 pub mod symbol_demands;
 pub mod traces;
 pub mod worklists;

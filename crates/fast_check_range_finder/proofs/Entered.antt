@@ -9,7 +9,7 @@ use Rattle.fast_check_graph.specs.declared.graph.ModuleGraph.{ModuleGraph}
 use Rattle.fast_check_graph.specs.declared.root_symbol.RootSymbol.{RootSymbol}
 use Rattle.fast_check_package_ranges.specs.declared.findings.found.EntryFault.{EntryFault}
 use Rattle.fast_check_demands.specs.worklists.Demands.{DemandSet}
-use Rattle.fast_check_demands.specs.sources.Sources.{Used}
+use Rattle.fast_check_demands.specs.facts.GraphFacts.{Used}
 use Rattle.fast_check_range_finder.specs.declared.finder.Finder.{Finder}
 use Rattle.fast_check_range_finder.specs.Finder.{IsSound, Goes}
 use Rattle.fast_check_range_finder.specs.Lent.{used_of}

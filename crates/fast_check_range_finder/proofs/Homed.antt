@@ -10,7 +10,7 @@ use Rattle.fast_check_lattice.specs.Imports.{NameDemand}
 use Rattle.fast_check_demands.specs.worklists.Demands.{Text, same_nv, DemandSet, to_package, to_module, to_symbol, Demand, of_package, of_module}
 use Rattle.fast_check_demands.specs.worklists.Demands.{of_symbol}
 use Rattle.fast_check_demands.proofs.worklists.Maps.{none_in, first_in, rest_in, split_in}
-use Rattle.fast_check_demands.specs.sources.Sources.{Known}
+use Rattle.fast_check_demands.specs.facts.GraphFacts.{Known}
 use Rattle.fast_check_demands.proofs.Elements.{in_any}
 use Rattle.fast_check_range_finder.specs.Account.{package_of, is_package}
 use Rattle.fast_check_range_finder.specs.Search.{Search, IsPut, AsksPackage, WaitsFor, Asks, AsksAll}

@@ -21,8 +21,8 @@ use Rattle.fast_check_demands.specs.worklists.Demands.{Text, NameDemands, same_n
 use Rattle.fast_check_demands.specs.worklists.Demands.{Demand, of_package, of_module, of_symbol}
 use Rattle.fast_check_demands.proofs.worklists.Maps.{first_in}
 use Rattle.fast_check_package_ranges.specs.entries.Entries.{Entrance, passed_over, refused, entered, all_faults}
-use Rattle.fast_check_demands.specs.sources.Sources.{Known, module_at}
-use Rattle.fast_check_demands.specs.sources.Followers.{file_at, behind, resolved, file_followers, re_export_followers}
+use Rattle.fast_check_demands.specs.facts.GraphFacts.{Known, module_at}
+use Rattle.fast_check_demands.specs.facts.Followers.{file_at, behind, resolved, file_followers, re_export_followers}
 use Rattle.fast_check_range_finder.specs.Account.{package_of}
 use Rattle.fast_check_range_finder.specs.Rules.{own_text, module_of, names_followers, symbol_followers, entry_demands, unless_faulty, entrance_at}
 use Rattle.fast_check_range_finder.specs.Rules.{entered_followers, entry_followers, followers}

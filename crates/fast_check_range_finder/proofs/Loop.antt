@@ -12,7 +12,7 @@ use Rattle.fast_check_demands.proofs.Elements.{in_map, of_map, in_any}
 use Rattle.std.proofs.lemmas.Bool.{false≢true}
 use Rattle.fast_check_demands.specs.worklists.Demands.{same_nv, Demand, of_package, of_module, of_symbol, to_package}
 use Rattle.fast_check_demands.proofs.worklists.Maps.{first_in, none_in}
-use Rattle.fast_check_demands.specs.sources.Sources.{Known}
+use Rattle.fast_check_demands.specs.facts.GraphFacts.{Known}
 use Rattle.fast_check_range_finder.specs.declared.finder.Finder.{Finder}
 use Rattle.fast_check_range_finder.specs.Account.{Account, is_package, Chained, HasHomes, IsAccount, IsYield}
 use Rattle.fast_check_range_finder.specs.Finder.{search_of, yields_in, IsSound, Goes, Begins, Turns, Rests}

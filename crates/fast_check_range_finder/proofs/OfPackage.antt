@@ -21,7 +21,7 @@ use Rattle.fast_check_package_ranges.specs.findings.Findings.{faulty_module, ent
 use Rattle.fast_check_package_ranges.specs.findings.Faults.{placed}
 use Rattle.fast_check_package_ranges.specs.findings.Yields.{package_of as answered_of}
 use Rattle.fast_check_package_ranges.specs.entries.Entries.{Entrance, passed_over, refused, entered, all_faults}
-use Rattle.fast_check_demands.specs.sources.Sources.{Known, module_at, untyped_at}
+use Rattle.fast_check_demands.specs.facts.GraphFacts.{Known, module_at, untyped_at}
 use Rattle.fast_check_range_finder.specs.Account.{package_of}
 use Rattle.fast_check_range_finder.specs.Rules.{own_text, module_of, names_followers, symbol_followers, entrance_at}
 use Rattle.fast_check_range_finder.specs.Yields.{dependency_of, dependencies, public_at, implementing_at, names_yields, source_in}

@@ -29,7 +29,7 @@ use Rattle.fast_check_package_ranges.specs.findings.Yields.{Yield, known_package
 use Rattle.fast_check_package_ranges.specs.findings.Yields.{ModuleFault, recorded, faulty, untyped_module, cached}
 use Rattle.fast_check_package_ranges.specs.findings.Findings.{faulty_module, entry_fault, placed_yield, placed_yields}
 use Rattle.fast_check_package_ranges.specs.entries.Entries.{Entrance, passed_over, refused, entered, all_faults}
-use Rattle.fast_check_demands.specs.sources.Sources.{Known, is_text, node_at, named_at, traced_as, typed_info, info_at, module_at, untyped_at}
+use Rattle.fast_check_demands.specs.facts.GraphFacts.{Known, is_text, node_at, named_at, traced_as, typed_info, info_at, module_at, untyped_at}
 use Rattle.fast_check_range_finder.specs.Rules.{own_text, module_of, names_followers, symbol_followers, entrance_at}
 use Rattle.fast_check_range_finder.specs.Yields.{dependency_of, dependencies, public_at, implementing_at, names_yields, source_in}
 use Rattle.fast_check_range_finder.specs.Yields.{faults_at, fault_yields, symbol_yields, untyped_yields, entry_fault_yields, entered_yields}

@@ -6,7 +6,7 @@ use Rattle.fast_check_graph.specs.declared.root_symbol.RootSymbol.{RootSymbol}
 use Rattle.fast_check_demands.specs.symbol_demands.Rules.{each_of}
 use Rattle.fast_check_package_ranges.specs.findings.Yields.{dependency}
 use Rattle.fast_check_demands.specs.worklists.Demands.{Text, NameDemands, same_nv, DemandSet, to_package, to_module}
-use Rattle.fast_check_demands.specs.sources.Followers.{file_at, behind}
+use Rattle.fast_check_demands.specs.facts.Followers.{file_at, behind}
 use Rattle.fast_check_range_finder.specs.declared.finder.Finder.{Finder}
 use Rattle.fast_check_range_finder.specs.Finder.{IsSound, Goes}
 use Rattle.fast_check_range_finder.specs.Yields.{dependencies}

@@ -33,7 +33,7 @@ use Rattle.fast_check_package_ranges.specs.findings.Found.{own_text, source_in}
 use Rattle.fast_check_package_ranges.specs.findings.Yields.{Yield, recorded, public, implementing}
 use Rattle.fast_check_demands.specs.worklists.Demands.{Text, same_nv, Demand, of_package}
 use Rattle.fast_check_demands.proofs.worklists.Maps.{none_in, first_in, only_in, some_is}
-use Rattle.fast_check_demands.specs.sources.Sources.{named_at}
+use Rattle.fast_check_demands.specs.facts.GraphFacts.{named_at}
 use Rattle.fast_check_range_finder.specs.declared.asked.AskedAlias.{AskedAlias}
 use Rattle.fast_check_range_finder.specs.declared.demand.Dependency.{Dependency}
 use Rattle.fast_check_range_finder.specs.declared.demand.NamesAt.{NamesAt}

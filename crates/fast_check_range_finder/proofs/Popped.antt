@@ -8,7 +8,7 @@ use Rattle.fast_check_packages.proofs.Longest.{item as get_some}
 use Rattle.fast_check_lattice.specs.Traces.{handled}
 use Rattle.fast_check_demands.specs.symbol_demands.Demands.{demand_of}
 use Rattle.fast_check_demands.specs.worklists.Demands.{Demand, of_symbol}
-use Rattle.fast_check_demands.specs.sources.Sources.{Known}
+use Rattle.fast_check_demands.specs.facts.GraphFacts.{Known}
 use Rattle.fast_check_range_finder.specs.declared.demand.NamesAt.{NamesAt}
 use Rattle.fast_check_range_finder.specs.declared.demand.SymbolAt.{SymbolAt}
 use Rattle.fast_check_range_finder.specs.declared.finder.Finder.{Finder}

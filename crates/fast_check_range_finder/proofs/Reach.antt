@@ -29,8 +29,8 @@ use Rattle.fast_check_demands.specs.worklists.Demands.{of_module, of_symbol}
 use Rattle.fast_check_demands.proofs.worklists.Maps.{first_in, found_in}
 use Rattle.fast_check_package_ranges.specs.declared.findings.found.EntryFault.{EntryFault}
 use Rattle.fast_check_package_ranges.specs.entries.Entries.{Entrance, passed_over, refused, entered, all_faults}
-use Rattle.fast_check_demands.specs.sources.Sources.{Used, Known, named_at, info_at, traced_as}
-use Rattle.fast_check_demands.specs.sources.Followers.{file_at, behind, resolved, file_followers, re_export_followers}
+use Rattle.fast_check_demands.specs.facts.GraphFacts.{Used, Known, named_at, info_at, traced_as}
+use Rattle.fast_check_demands.specs.facts.Followers.{file_at, behind, resolved, file_followers, re_export_followers}
 use Rattle.fast_check_range_finder.specs.Measure.{IsWithin, IsInside, IsSetInside, IsUniverse}
 use Rattle.fast_check_range_finder.specs.Rules.{own_text, names_followers, symbol_followers, entry_demands, unless_faulty, entrance_at}
 use Rattle.fast_check_range_finder.specs.Rules.{entered_followers, entry_followers, followers}

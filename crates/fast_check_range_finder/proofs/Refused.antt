@@ -22,7 +22,7 @@ use Rattle.fast_check_package_ranges.specs.findings.Found.{source_in, own_text, 
 use Rattle.fast_check_package_ranges.specs.findings.Found.{untyped_yields, package_yields, found_yields}
 use Rattle.fast_check_package_ranges.specs.entries.Entries.{Entrance, passed_over, refused, entered, DiagnosesRefused}
 use Rattle.fast_check_demands.specs.worklists.Demands.{Text, of_package}
-use Rattle.fast_check_demands.specs.sources.Sources.{Known}
+use Rattle.fast_check_demands.specs.facts.GraphFacts.{Known}
 use Rattle.fast_check_demands.proofs.Each.{Each, each_nil, each_one, each_append, each_cons, each_map, each_flat}
 use Rattle.fast_check_demands.proofs.worklists.Maps.{first_in}
 use Rattle.fast_check_range_finder.specs.Account.{Account, Chained, IsYield}

@@ -13,7 +13,7 @@ use Rattle.fast_check_demands.specs.Yields.{Joins}
 use Rattle.fast_check_demands.proofs.worklists.Maps.{some_is}
 use Rattle.fast_check_package_ranges.specs.findings.Yields.{Yield}
 use Rattle.fast_check_demands.specs.worklists.Demands.{Demand, of_package, of_symbol}
-use Rattle.fast_check_demands.specs.sources.Sources.{Known}
+use Rattle.fast_check_demands.specs.facts.GraphFacts.{Known}
 use Rattle.fast_check_range_finder.specs.declared.finder.Finder.{Finder}
 use Rattle.fast_check_range_finder.specs.Search.{Search, IsPut, IsTaken}
 use Rattle.fast_check_range_finder.specs.Turn.{IsTurn}

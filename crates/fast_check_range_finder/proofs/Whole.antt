@@ -23,8 +23,8 @@ use Rattle.fast_check_demands.specs.traces.ReExports.{ModuleDemand, re_export_ra
 use Rattle.fast_check_package_ranges.specs.findings.Findings.{faulty_module}
 use Rattle.fast_check_package_ranges.specs.findings.Yields.{Yield, recorded, untyped_module}
 use Rattle.fast_check_demands.specs.worklists.Demands.{Text, of_symbol, of_module, DemandSet, to_symbol}
-use Rattle.fast_check_demands.specs.sources.Sources.{Known, named_at, traced_as, node_at, typed_info, info_at, is_untyped, untyped_at}
-use Rattle.fast_check_demands.specs.sources.Followers.{file_followers, re_export_followers}
+use Rattle.fast_check_demands.specs.facts.GraphFacts.{Known, named_at, traced_as, node_at, typed_info, info_at, is_untyped, untyped_at}
+use Rattle.fast_check_demands.specs.facts.Followers.{file_followers, re_export_followers}
 use Rattle.fast_check_range_finder.specs.declared.finder.Finder.{Finder}
 use Rattle.fast_check_range_finder.specs.Finder.{Followed, place_nv, place_text, IsModuleOf, Goes}
 use Rattle.fast_check_range_finder.specs.Rules.{own_text, names_followers, symbol_followers, followers}

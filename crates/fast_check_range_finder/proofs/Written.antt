@@ -44,7 +44,7 @@ use Rattle.fast_check_demands.specs.traces.Roots.{roots, exported_in, export_who
 use Rattle.fast_check_demands.specs.traces.Roots.{path_roots}
 use Rattle.fast_check_demands.specs.worklists.Demands.{Text}
 use Rattle.fast_check_demands.proofs.worklists.Maps.{first_in, found_in}
-use Rattle.fast_check_demands.specs.sources.Sources.{Known, is_text, node_at, named_at, typed_info, info_at}
+use Rattle.fast_check_demands.specs.facts.GraphFacts.{Known, is_text, node_at, named_at, typed_info, info_at}
 use Rattle.fast_check_demands.proofs.Own.{last_inside}
 use Rattle.fast_check_range_finder.specs.Measure.{IsWithin}
 use Rattle.fast_check_range_finder.specs.Universe.{symbol_ids, table_ids, IsAskedAmong, IsAmong}

@@ -27,7 +27,7 @@ use Rattle.fast_check_package_ranges.specs.findings.Found.{entrance_yields, modu
 use Rattle.fast_check_package_ranges.specs.findings.Yields.{Yield, dependency}
 use Rattle.fast_check_package_ranges.specs.declared.findings.found.Entrance.{Entrance}
 use Rattle.fast_check_demands.specs.worklists.Demands.{Text, same_nv, DemandSet, Demand, of_package, of_module, of_symbol}
-use Rattle.fast_check_demands.specs.sources.Sources.{Known, named_at, lent}
+use Rattle.fast_check_demands.specs.facts.GraphFacts.{Known, named_at, lent}
 use Rattle.fast_check_range_finder.specs.declared.asked.AskedAlias.{AskedAlias}
 use Rattle.fast_check_range_finder.specs.declared.demand.Place.{Place}
 use Rattle.fast_check_range_finder.specs.declared.demand.NamesAt.{NamesAt}

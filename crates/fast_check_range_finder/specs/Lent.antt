@@ -5,7 +5,7 @@ use Rattle.fast_check_packages.specs.Package.{Nv}
 use Rattle.fast_check_cache.specs.Cache.{ItemView}
 use Rattle.fast_check_cache.specs.CachedPackages.{used_item}
 use Rattle.fast_check_demands.specs.worklists.Demands.{Text}
-use Rattle.fast_check_demands.specs.sources.Sources.{Used, none_used, Known, known, with_used}
+use Rattle.fast_check_demands.specs.facts.GraphFacts.{Used, none_used, Known, known, with_used}
 use Rattle.fast_check_range_finder.specs.declared.options.FinderInput.{FinderInput}
 
 -- by the cache, if one is lent
@@ -20,4 +20,4 @@ with_cache cache hash stored k = with_used (used_of cache (λ c. used_item (hash
 -- for a finder
 abbrev pub known_with : {C : Type 0} → FinderInput → (Nv → Parts) → (Text → Option Nv) → Option C →
     (C → List ℕ → Nv → List Text → ℕ) → (C → ℕ → Option ItemView) → Known
-known_with i url_of nv_at cache hash stored = with_cache cache (λ c. hash c i.seed.now) stored (known i.sources url_of nv_at)
+known_with i url_of nv_at cache hash stored = with_cache cache (λ c. hash c i.seed.now) stored (known i.facts url_of nv_at)

@@ -7,7 +7,7 @@ use Rattle.fast_check_graph.specs.declared.root_symbol.AnyModuleInfo.{AnyModuleI
 use Rattle.fast_check_graph.specs.declared.root_symbol.RootSymbol.{RootSymbol}
 use Rattle.fast_check_demands.specs.traces.Modules.{tables_in}
 use Rattle.fast_check_package_ranges.specs.findings.Yields.{Yield, public, implementing}
-use Rattle.fast_check_demands.specs.sources.Sources.{named_at}
+use Rattle.fast_check_demands.specs.facts.GraphFacts.{named_at}
 
 -- a range of the tables of a module
 abbrev pub IsOwnRange : Option AnyModuleInfo → SourceRange → Type 0

@@ -24,7 +24,7 @@ use Rattle.fast_check_demands.specs.worklists.Demands.{Text}
 use Rattle.fast_check_range_finder.specs.Measure.{Universe}
 use Rattle.fast_check_range_finder.specs.Universe.{table_ids, demands_among}
 use Rattle.fast_check_package_ranges.specs.entries.Entries.{Entrance, passed_over, refused, entered}
-use Rattle.fast_check_demands.specs.sources.Sources.{Known}
+use Rattle.fast_check_demands.specs.facts.GraphFacts.{Known}
 use Rattle.fast_check_range_finder.specs.Rules.{entrance_at}
 
 -- the names that the tables of a module write

@@ -8,7 +8,7 @@ use Rattle.fast_check_demands.specs.worklists.Demands.{of_package}
 use Rattle.fast_check_range_finder.specs.Account.{Account, Chained}
 use Rattle.fast_check_package_ranges.specs.findings.Yields.{Yield, refused_export}
 use Rattle.fast_check_package_ranges.specs.entries.Entries.{Entrance, passed_over, refused, entered}
-use Rattle.fast_check_demands.specs.sources.Sources.{Known}
+use Rattle.fast_check_demands.specs.facts.GraphFacts.{Known}
 use Rattle.fast_check_range_finder.specs.Rules.{entrance_at, followers}
 
 -- a package that is demanded, and its first export text that does not join. Where memory runs out nothing is said

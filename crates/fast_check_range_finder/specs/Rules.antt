@@ -18,8 +18,8 @@ use Rattle.fast_check_package_ranges.specs.declared.findings.found.EntryFault.{E
 use Rattle.fast_check_package_ranges.specs.entries.Entries.{Entrance, passed_over, refused, entered, all_faults, entrance_of}
 use Rattle.fast_check_demands.specs.worklists.Demands.{Text, asked_by, DemandSet, to_package, to_module, to_symbol, of_package}
 use Rattle.fast_check_demands.specs.worklists.Demands.{of_module, of_symbol, Followers}
-use Rattle.fast_check_demands.specs.sources.Sources.{Used, Known, named_at, traced_as, module_at}
-use Rattle.fast_check_demands.specs.sources.Followers.{file_followers, re_export_followers}
+use Rattle.fast_check_demands.specs.facts.GraphFacts.{Used, Known, named_at, traced_as, module_at}
+use Rattle.fast_check_demands.specs.facts.Followers.{file_followers, re_export_followers}
 
 -- the module's own name
 abbrev pub own_text : TracedModule → Text

@@ -25,7 +25,7 @@ use Rattle.fast_check_package_ranges.specs.findings.Yields.{Yield, known_package
 use Rattle.fast_check_package_ranges.specs.findings.Yields.{recorded, public, implementing, untyped_module, cached}
 use Rattle.fast_check_package_ranges.specs.findings.Findings.{faulty_module, entry_fault, placed_yields}
 use Rattle.fast_check_package_ranges.specs.entries.Entries.{Entrance, passed_over, refused, entered, all_faults}
-use Rattle.fast_check_demands.specs.sources.Sources.{Used, Known, module_at, untyped_at}
+use Rattle.fast_check_demands.specs.facts.GraphFacts.{Used, Known, module_at, untyped_at}
 use Rattle.fast_check_range_finder.specs.Rules.{own_text, module_of, names_followers, symbol_followers, entrance_at}
 
 -- a package that is asked for is a dependency

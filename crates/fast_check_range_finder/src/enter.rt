@@ -11,7 +11,7 @@ ghost use Rattle.fast_check_package_ranges.specs.findings.Yields.{cached};
 ghost use Rattle.fast_check_package_ranges.specs.entries.Entries.{entrance_seen, DiagnosesRefused};
 ghost use Rattle.fast_check_package_ranges.specs.entries.MemberEntries.{AreMemberEntries};
 ghost use Rattle.fast_check_demands.specs.worklists.Demands.{of_package, to_package};
-ghost use Rattle.fast_check_demands.specs.sources.Sources.{known};
+ghost use Rattle.fast_check_demands.specs.facts.GraphFacts.{known};
 ghost use Rattle.fast_check_range_finder.specs.Finder.{IsSound, CanEnter, Goes};
 ghost use Rattle.fast_check_range_finder.specs.Lent.{used_of, known_with};
 ghost use Rattle.fast_check_range_finder.specs.Rules.{entry_demands, unless_faulty, entered_followers, entry_followers, entrance_at, followers};
@@ -20,8 +20,8 @@ ghost use Rattle.fast_check_range_finder.specs.Yields.{entered_yields, entry_yie
 use crate::finder::Finder;
 use crate::options::{FinderInput, Lent};
 use fast_check_cache::{FastCheckCacheItem, look_up};
+use fast_check_demands::facts::GraphFacts;
 use fast_check_demands::name_demands::NameDemand;
-use fast_check_demands::sources::Sources;
 use fast_check_demands::worklists::copy_of;
 use fast_check_graph::ModuleGraph;
 use fast_check_package_ranges::entries::{MemberEntries, entry_faults, entry_points};
@@ -112,16 +112,16 @@ impl<'a> Finder<'a> {
         entry_points: Rc<BTreeSet<Url>>,
     ) -> Result<(), AllocError>
         ensures { let i = lent.entry.input in
-            let used = used_of lent.entry.cache (λ c. used_item (hash_of c.now i.seed.now) (stored c.now) i.sources.graph.now) in
+            let used = used_of lent.entry.cache (λ c. used_item (hash_of c.now i.seed.now) (stored c.now) i.facts.graph.now) in
             let urls = entry_points.value.keys in
             OnOk result ((g : ModuleGraphSeen) (r : RootSymbolSeen) → IsSound g r self.old → CanEnter (nv_of nv.now) self.old
-            → Goes g r (entered_followers i.sources.graph.now (nv_of nv.now) urls (used (nv_of nv.now) urls))
-            (entered_yields i.sources.graph.now (nv_of nv.now) urls (used (nv_of nv.now) urls))
+            → Goes g r (entered_followers i.facts.graph.now (nv_of nv.now) urls (used (nv_of nv.now) urls))
+            (entered_yields i.facts.graph.now (nv_of nv.now) urls (used (nv_of nv.now) urls))
             self.old self.new) }
     {
-        let FinderInput { sources, seed } = lent.input;
-        match look_up(lent.cache, seed, sources.graph, nv, &entry_points)? {
-            None => self.enter_at(lent.alloc, sources.graph, nv, entry_points),
+        let FinderInput { facts, seed } = lent.input;
+        match look_up(lent.cache, seed, facts.graph, nv, &entry_points)? {
+            None => self.enter_at(lent.alloc, facts.graph, nv, entry_points),
             Some(item) => self.enter_cached(nv, entry_points, item),
         }
     }
@@ -140,13 +140,13 @@ impl<'a> Finder<'a> {
             OnOk result (AreMemberEntries k.workspace_members members.old → AreMemberEntries k.workspace_members members.new × (IsSound k.graph k.root_symbol self.old
             → CanEnter (nv_of nv.now) self.old → Goes k.graph k.root_symbol (followers k d) (demand_yields k d) self.old self.new)) }
         ensures refused { IfErr result (DiagnosesRefused (nv_of nv.now)
-            (entrance_at (known lent.entry.input.sources (url_of lent.entry.provider.now) (nv_at lent.entry.provider.now)) (nv_of nv.now))) }
+            (entrance_at (known lent.entry.input.facts (url_of lent.entry.provider.now) (nv_at lent.entry.provider.now)) (nv_of nv.now))) }
     {
-        let Sources {
+        let GraphFacts {
             graph,
             workspace_members,
             ..
-        } = lent.input.sources;
+        } = lent.input.facts;
         match entry_points(
             lent.alloc,
             graph,

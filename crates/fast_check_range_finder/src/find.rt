@@ -42,7 +42,7 @@ impl<'a> Finder<'a> {
         lent: Lent<'a, '_>,
         members: &mut MemberEntries,
     ) -> Result<bool, BuildFault>
-        requires sound { IsSound lent.input.sources.graph.now lent.input.sources.root_symbol.now self.old }
+        requires sound { IsSound lent.input.facts.graph.now lent.input.facts.root_symbol.now self.old }
         requires no_symbols { self.old.symbols.items ≡ [] }
         requires no_names { self.old.names.items ≡ [] }
         ensures turned { let k = known_with lent.entry.input (url_of lent.entry.provider.now) (nv_at lent.entry.provider.now)

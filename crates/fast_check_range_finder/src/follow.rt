@@ -16,8 +16,8 @@ ghost use Rattle.fast_check_demands.specs.traces.Origins.{IsIndexOf};
 ghost use Rattle.fast_check_demands.specs.traces.Roots.{roots};
 ghost use Rattle.fast_check_demands.specs.traces.ReExports.{module_followers, module_demand_of, shown_ranges, re_export_ranges};
 ghost use Rattle.fast_check_demands.specs.worklists.Demands.{asked_by, of_symbol, to_symbol};
-ghost use Rattle.fast_check_demands.specs.sources.Sources.{known, named_at, traced_as};
-ghost use Rattle.fast_check_demands.specs.sources.Followers.{file_at, behind, file_followers, re_export_followers};
+ghost use Rattle.fast_check_demands.specs.facts.GraphFacts.{known, named_at, traced_as};
+ghost use Rattle.fast_check_demands.specs.facts.Followers.{file_at, behind, file_followers, re_export_followers};
 ghost use Rattle.fast_check_range_finder.specs.Finder.{Followed, place_nv, place_text, names_seen, traced_in, AsksEach, AreAliasesAsked, AsksOwn, AreShown, Shows, IsSound, Goes};
 ghost use Rattle.fast_check_range_finder.specs.Rules.{own_text, followers, names_followers};
 ghost use Rattle.fast_check_range_finder.specs.Yields.{dependencies, public_at, implementing_at, faults_at, names_yields, demand_yields};
@@ -26,8 +26,8 @@ use crate::asked::AskedAlias;
 use crate::demand::{NamesAt, SymbolAt};
 use crate::finder::{Finder, FollowedModule, ask_each, place_of};
 use crate::options::Lent;
+use fast_check_demands::facts::{GraphFacts, info_of, is_untyped, owner_of};
 use fast_check_demands::name_demands::{FileDependencies, FileDependency, NameDemand, files_of};
-use fast_check_demands::sources::{Sources, info_of, is_untyped, owner_of};
 use fast_check_demands::traces::{
     PublicReExports, ReExportDemand, ReExportDemands, TracedModule, push_all_ranges, re_exports_of,
     roots_of, tables_of,
@@ -166,11 +166,11 @@ impl<'a> Finder<'a> {
         url: &Url,
         names: NameDemand<'a>,
     ) -> Result<(), AllocError>
-        ensures { let k = known lent.entry.input.sources (url_of lent.entry.provider.now) (nv_at lent.entry.provider.now) in
+        ensures { let k = known lent.entry.input.facts (url_of lent.entry.provider.now) (nv_at lent.entry.provider.now) in
             let ws = file_at (nv_of nv.now) (serialize url.now) (asked_by (names_of names.entry)) (k.owner (serialize url.now)) in
             OnOk result (IsSound k.graph k.root_symbol self.old → Goes k.graph k.root_symbol ws (dependencies (nv_of nv.now) ws) self.old self.new) }
     {
-        match owner_of(lent.input.sources, lent.provider, url)? {
+        match owner_of(lent.input.facts, lent.provider, url)? {
             None => Ok(()),
             Some(owner) => {
                 if is_same_package(nv, &owner) {
@@ -189,11 +189,11 @@ impl<'a> Finder<'a> {
         info: &'a AnyModuleInfo,
         dependency: FileDependency<'a>,
     ) -> Result<(), AllocError>
-        ensures { let k = known lent.entry.input.sources (url_of lent.entry.provider.now) (nv_at lent.entry.provider.now) in
+        ensures { let k = known lent.entry.input.facts (url_of lent.entry.provider.now) (nv_at lent.entry.provider.now) in
             let ws = file_followers k (nv_of nv.now) (traced_as k info.now) (file_demand_of dependency.entry) in
             OnOk result (IsSound k.graph k.root_symbol self.old → Goes k.graph k.root_symbol ws (dependencies (nv_of nv.now) ws) self.old self.new) }
     {
-        let graph = lent.input.sources.graph;
+        let graph = lent.input.facts.graph;
         match graph.resolve_dependency(dependency.specifier, info.specifier()) {
             None => Ok(()),
             Some(url) => self.ask_file(lent, nv, url, dependency.names),
@@ -208,11 +208,11 @@ impl<'a> Finder<'a> {
         url: &Url,
         names: NameDemand<'a>,
     ) -> Result<(), AllocError>
-        ensures { let k = known lent.entry.input.sources (url_of lent.entry.provider.now) (nv_at lent.entry.provider.now) in
+        ensures { let k = known lent.entry.input.facts (url_of lent.entry.provider.now) (nv_at lent.entry.provider.now) in
             let ws = behind (nv_of nv.now) (serialize url.now) (asked_by (names_of names.entry)) (k.owner (serialize url.now)) in
             OnOk result (IsSound k.graph k.root_symbol self.old → Goes k.graph k.root_symbol ws (dependencies (nv_of nv.now) ws) self.old self.new) }
     {
-        match owner_of(lent.input.sources, lent.provider, url)? {
+        match owner_of(lent.input.facts, lent.provider, url)? {
             None => Ok(()),
             Some(owner) => {
                 self.ask_names(lent.alloc, &owner, url, names)?;
@@ -232,14 +232,14 @@ impl<'a> Finder<'a> {
         info: &'a AnyModuleInfo,
         demand: ReExportDemand<'a>,
     ) -> Result<(), AllocError>
-        ensures { let k = known lent.entry.input.sources (url_of lent.entry.provider.now) (nv_at lent.entry.provider.now) in
+        ensures { let k = known lent.entry.input.facts (url_of lent.entry.provider.now) (nv_at lent.entry.provider.now) in
             let ws = re_export_followers k (nv_of nv.now) (traced_as k info.now) (module_demand_of demand.entry) in
             OnOk result (IsSound k.graph k.root_symbol self.old → Goes k.graph k.root_symbol ws (dependencies (nv_of nv.now) ws) self.old self.new) }
     {
         match demand {
             ReExportDemand::Answered(url, names) => self.ask_behind(lent, nv, url, names),
             ReExportDemand::ReExported(text) => {
-                let graph = lent.input.sources.graph;
+                let graph = lent.input.facts.graph;
                 match graph.resolve_dependency(text, info.specifier()) {
                     None => Ok(()),
                     Some(url) => self.ask_behind(lent, nv, url, NameDemand::AllButDefault),
@@ -275,7 +275,7 @@ impl<'a> Finder<'a> {
     /// Follows a demand of a symbol.
     pub fn follow_symbol(&mut self, lent: Lent<'a, '_>, at: SymbolAt<'a>) -> Result<(), AllocError>
         requires { at.place < length self.old.modules.entries }
-        ensures { let k = known lent.entry.input.sources (url_of lent.entry.provider.now) (nv_at lent.entry.provider.now) in
+        ensures { let k = known lent.entry.input.facts (url_of lent.entry.provider.now) (nv_at lent.entry.provider.now) in
             OnOk result ((e : Followed) → slice_get self.old.modules.entries at.entry.place ≡ Some e → IsSound k.graph k.root_symbol self.old
             → let d = of_symbol (place_nv e) (place_text e) (demand_of at.entry.demand) in
             Goes k.graph k.root_symbol (followers k d) (demand_yields k d) self.old self.new) }
@@ -296,14 +296,14 @@ impl<'a> Finder<'a> {
     fn follow_names_at(
         &mut self,
         alloc: Global,
-        sources: Sources<'a>,
+        facts: GraphFacts<'a>,
         place: usize,
         names: NameDemand<'a>,
     ) -> Result<ReExportDemands<'a>, AllocError>
         requires within { place < length self.old.modules.entries }
-        requires sound { IsSound sources.graph.now sources.root_symbol.now self.old }
+        requires sound { IsSound facts.graph.now facts.root_symbol.now self.old }
         ensures { IfOk result (λ out. (e : Followed) → slice_get self.old.modules.entries place ≡ Some e
-            → let g = sources.entry.graph.now in let r = sources.entry.root_symbol.now in
+            → let g = facts.entry.graph.now in let r = facts.entry.root_symbol.now in
             let m = traced_in g r e.1.found.info.now in let d = names_of names.entry in
             (out ≡ module_followers m d) × Goes g r (map (to_symbol (place_nv e) (own_text m)) (roots (own_tables m) d))
             (public_at (place_nv e) m (re_export_ranges m d)) self.old self.new) }
@@ -312,8 +312,8 @@ impl<'a> Finder<'a> {
             return Ok(ReExportDemands::new(alloc));
         };
         let traced = TracedModule {
-            graph: sources.graph,
-            root_symbol: sources.root_symbol,
+            graph: facts.graph,
+            root_symbol: facts.root_symbol,
             info: followed.found.info,
         };
         follow_names_in(alloc, traced, place, names, followed, &mut self.symbols)
@@ -327,14 +327,14 @@ impl<'a> Finder<'a> {
         nv: PackageNv,
         names: NameDemand<'a>,
     ) -> Result<(), AllocError>
-        requires sound { IsSound lent.input.sources.graph.now lent.input.sources.root_symbol.now self.old }
-        requires own { named_at lent.input.sources.root_symbol.now (serialize (specifier_of info.now)) ≡ Some info.now }
-        ensures { let k = known lent.entry.input.sources (url_of lent.entry.provider.now) (nv_at lent.entry.provider.now) in
+        requires sound { IsSound lent.input.facts.graph.now lent.input.facts.root_symbol.now self.old }
+        requires own { named_at lent.input.facts.root_symbol.now (serialize (specifier_of info.now)) ≡ Some info.now }
+        ensures { let k = known lent.entry.input.facts (url_of lent.entry.provider.now) (nv_at lent.entry.provider.now) in
             OnOk result (let m = traced_as k info.now in let d = names_of names.entry in
             Goes k.graph k.root_symbol (names_followers k (nv_of nv) d m) (names_yields k (nv_of nv) d m) self.old self.new) }
     {
         let place = place_of(lent.alloc, &mut self.modules, copy_of(&nv)?, info)?;
-        let demands = self.follow_names_at(lent.alloc, lent.input.sources, place, names)?;
+        let demands = self.follow_names_at(lent.alloc, lent.input.facts, place, names)?;
         for demand in demands.as_slice() {
             self.ask_re_exported(lent, &nv, info, *demand)?;
         }
@@ -343,8 +343,8 @@ impl<'a> Finder<'a> {
 
     /// Follows names of a module, if it has tables. One whose types are not known is noted.
     pub fn follow_names(&mut self, lent: Lent<'a, '_>, at: NamesAt<'a>) -> Result<(), AllocError>
-        requires { IsSound lent.input.sources.graph.now lent.input.sources.root_symbol.now self.old }
-        ensures { let k = known lent.entry.input.sources (url_of lent.entry.provider.now) (nv_at lent.entry.provider.now) in
+        requires { IsSound lent.input.facts.graph.now lent.input.facts.root_symbol.now self.old }
+        ensures { let k = known lent.entry.input.facts (url_of lent.entry.provider.now) (nv_at lent.entry.provider.now) in
             let d = names_seen at.entry in OnOk result (Goes k.graph k.root_symbol (followers k d) (demand_yields k d) self.old self.new) }
     {
         let NamesAt {
@@ -352,11 +352,11 @@ impl<'a> Finder<'a> {
             specifier,
             names,
         } = at;
-        let Sources {
+        let GraphFacts {
             graph,
             root_symbol,
             ..
-        } = lent.input.sources;
+        } = lent.input.facts;
         match info_of(graph, root_symbol, &specifier) {
             Some(info) => {
                 // Each module is found by its own name.

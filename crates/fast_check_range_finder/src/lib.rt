@@ -13,7 +13,7 @@ mod packages;
 
 pub use asked::{AskedAlias, AskedAs, AskedSymbol, AskedSymbols, NamePath};
 pub use demand::{Dependency, NamesAt, Place, SymbolAt};
-pub use fast_check_demands::sources::Sources;
+pub use fast_check_demands::facts::GraphFacts;
 pub use fast_check_packages::{BuildFault, PackageNv, WorkspaceMember};
 pub use find::find_all;
 pub use finder::{Finder, FollowedModule};

@@ -1,14 +1,14 @@
 //! What a caller hands to the finder.
 
 use fast_check_cache::FastCheckCache;
-use fast_check_demands::sources::Sources;
+use fast_check_demands::facts::GraphFacts;
 use fast_check_packages::JsrUrlProvider;
 use std::alloc::Global;
 
 /// What is known of modules and packages, and the seed of the keys of the cache.
 #[derive(Clone, Copy)]
 pub struct FinderInput<'a> {
-    pub sources: Sources<'a>,
+    pub facts: GraphFacts<'a>,
     pub seed: &'a str,
 }
 

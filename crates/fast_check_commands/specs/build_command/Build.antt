@@ -9,7 +9,7 @@ use Rattle.fast_check_packages.specs.declared.listed.ListedPackages.{ListedPacka
 use Rattle.fast_check_packages.specs.Listed.{url_in, nv_in, row_of, row_at}
 use Rattle.fast_check_graph.specs.declared.graph.ModuleGraph.{ModuleGraph}
 use Rattle.fast_check_graph.specs.declared.root_symbol.RootSymbol.{RootSymbol}
-use Rattle.fast_check_demands.specs.sources.Sources.{Known}
+use Rattle.fast_check_demands.specs.facts.GraphFacts.{Known}
 use Rattle.fast_check_build.specs.finder.Refusals.{IsRefusal}
 use Rattle.fast_check_build.specs.package_answers.PackageAnswer.{Answer}
 use Rattle.fast_check_build.specs.Found.{known_of}

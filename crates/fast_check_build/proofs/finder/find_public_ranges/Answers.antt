@@ -5,7 +5,7 @@ use Rattle.fast_check_packages.specs.declared.package.WorkspaceMember.{Workspace
 use Rattle.fast_check_packages.specs.MembersIn.{members_in}
 use Rattle.fast_check_cache.specs.CachedPackages.{used_item}
 use Rattle.fast_check_range_finder.specs.Lent.{used_of}
-use Rattle.fast_check_range_finder.specs.demands.sources.Sources.{Known, with_used}
+use Rattle.fast_check_range_finder.specs.demands.facts.GraphFacts.{Known, with_used}
 use Rattle.fast_check_range_finder.specs.Refusals.{IsRefusal}
 use Rattle.fast_check_build.specs.Found.{known_of, IsFound}
 use Rattle.fast_check_build.proofs.Said.{with_lent}

@@ -5,7 +5,7 @@ use Rattle.fast_check_packages.specs.declared.package.PackageNv.{PackageNv}
 use Rattle.fast_check_packages.specs.MembersIn.{members_in}
 use Rattle.fast_check_cache.specs.CachedPackages.{used_item}
 use Rattle.fast_check_range_finder.specs.Lent.{used_of}
-use Rattle.fast_check_range_finder.specs.demands.sources.Sources.{with_used}
+use Rattle.fast_check_range_finder.specs.demands.facts.GraphFacts.{with_used}
 use Rattle.fast_check_range_finder.specs.Refusals.{IsRefusal}
 use Rattle.fast_check_build.specs.Found.{known_of, IsFound}
 use Rattle.fast_check_build.proofs.Said.{found_public}
@@ -15,9 +15,9 @@ pub returns-clause-found : goal.returns-clause-found
 returns-clause-found g c =
     let m = goal.JsrUrlProvider-dyn g c.args.jsr_url_provider.now in
     let used = used_of c.args.cache (λ x. let n = goal.FastCheckCache-dyn g x.now in
-    used_item (n.hash_of x.now.1 c.args.input.seed.now) (n.stored x.now.1) c.args.input.sources.graph.now) in
+    used_item (n.hash_of x.now.1 c.args.input.seed.now) (n.stored x.now.1) c.args.input.facts.graph.now) in
     let k = with_used used
-    (known_of c.args.input.sources.graph.now c.args.input.sources.root_symbol.now (members_in c.args.input.sources.workspace_members.now)
+    (known_of c.args.input.facts.graph.now c.args.input.facts.root_symbol.now (members_in c.args.input.facts.workspace_members.now)
     (m.url_of c.args.jsr_url_provider.now.1)
     (m.nv_at c.args.jsr_url_provider.now.1)) in
     subst (λ (ps : List PackageNv). IsFound k (map nv_of ps) c.in_ok-answers.answers)
@@ -30,9 +30,9 @@ pub returns-in_err-found-clause-refused : goal.returns-in_err-found-clause-refus
 returns-in_err-found-clause-refused g c =
     let m = goal.JsrUrlProvider-dyn g c.args.jsr_url_provider.now in
     let used = used_of c.args.cache (λ x. let n = goal.FastCheckCache-dyn g x.now in
-    used_item (n.hash_of x.now.1 c.args.input.seed.now) (n.stored x.now.1) c.args.input.sources.graph.now) in
+    used_item (n.hash_of x.now.1 c.args.input.seed.now) (n.stored x.now.1) c.args.input.facts.graph.now) in
     let k = with_used used
-    (known_of c.args.input.sources.graph.now c.args.input.sources.root_symbol.now (members_in c.args.input.sources.workspace_members.now)
+    (known_of c.args.input.facts.graph.now c.args.input.facts.root_symbol.now (members_in c.args.input.facts.workspace_members.now)
     (m.url_of c.args.jsr_url_provider.now.1)
     (m.nv_at c.args.jsr_url_provider.now.1)) in
     let e = err_from_is_err_and c.from_residual.result c.from_residual.ensures.1 in

@@ -23,7 +23,7 @@ turns-init g c =
     record {
       done = [];
       on = on_begun k (map nv_of c.args.roots.now) c.in_ok-finder.finder (c.in_ok-finder.ensures k.graph k.root_symbol);
-      members = c.new-members.ensures (members_in c.args.input.sources.workspace_members.now);
+      members = c.new-members.ensures (members_in c.args.input.facts.workspace_members.now);
     }
 
 pub follow_symbol-requires : goal.follow_symbol-requires
@@ -35,7 +35,7 @@ turns-smaller-in_ok-follow_symbol-in-Some g c =
     let i = c.turns.invariant in
     let mid : Finder = record c.turns.finder { symbols = c.pop.new.self } in
     let has = has_lent c.args.cache (λ x. (goal.FastCheckCache-dyn g x.now).hash_of x.now.1 c.args.input.seed.now)
-    (λ x. (goal.FastCheckCache-dyn g x.now).stored x.now.1) c.args.input.sources.graph.now in
+    (λ x. (goal.FastCheckCache-dyn g x.now).stored x.now.1) c.args.input.facts.graph.now in
     less_left i.on (after_symbol i.on mid c.follow_symbol.new.self refl c.in-Some.at c.in-Some.ensures.items c.in_ok-follow_symbol-in-Some.ensures)
     _ has
 
@@ -52,7 +52,7 @@ turns-smaller-in_ok-follow_names-in-Some-pop g c =
     let one : Finder = record c.turns.finder { symbols = c.pop.new.self } in
     let two : Finder = record one { names = c.pop-in-None.new.self } in
     let has = has_lent c.args.cache (λ x. (goal.FastCheckCache-dyn g x.now).hash_of x.now.1 c.args.input.seed.now)
-    (λ x. (goal.FastCheckCache-dyn g x.now).stored x.now.1) c.args.input.sources.graph.now in
+    (λ x. (goal.FastCheckCache-dyn g x.now).stored x.now.1) c.args.input.facts.graph.now in
     less_left i.on (after_names i.on one two c.follow_names.new.self refl c.in-None.ensures.items refl c.in-Some-pop.at c.in-Some-pop.ensures.items
     c.in_ok-follow_names-in-Some-pop.ensures) _ has
 
@@ -71,7 +71,7 @@ turns-smaller g c =
     let one : Finder = record c.turns.finder { symbols = c.pop.new.self } in
     let two : Finder = record one { names = c.pop-in-None.new.self } in
     let has = has_lent c.args.cache (λ x. (goal.FastCheckCache-dyn g x.now).hash_of x.now.1 c.args.input.seed.now)
-    (λ x. (goal.FastCheckCache-dyn g x.now).stored x.now.1) c.args.input.sources.graph.now in
+    (λ x. (goal.FastCheckCache-dyn g x.now).stored x.now.1) c.args.input.facts.graph.now in
     less_left i.on (after_package i.on one two c.enter_next.new.self refl c.in-None.ensures.items refl c.in-None-pop.ensures.items true
     (rw c.if-not-branch.false at (c.in_ok-enter_next-in-None-pop.ensures.turned i.members).0)) _ has
 

@@ -5,7 +5,7 @@ use Rattle.fast_check_packages.specs.Package.{nv_of}
 use Rattle.fast_check_package_ranges.specs.findings.Yields.{dependency}
 use Rattle.fast_check_demands.specs.name_demands.Files.{names_of}
 use Rattle.fast_check_demands.specs.worklists.Demands.{asked_by, to_package, to_module}
-use Rattle.fast_check_demands.specs.sources.Sources.{known}
+use Rattle.fast_check_demands.specs.facts.GraphFacts.{known}
 use Rattle.fast_check_range_finder.proofs.Owners.{behind_none, behind_other}
 use Rattle.fast_check_range_finder.proofs.Steps.{goes_then}
 use Rattle.fast_check_range_finder.proofs.finder.Finder.ask_behind.Goals as goal
@@ -18,7 +18,7 @@ returns-in-None g c sound =
 pub returns-else-is_same_package : goal.returns-else-is_same_package
 returns-else-is_same_package g c =
     let m = goal.JsrUrlProvider-dyn g c.args.lent.provider.now in
-    let k = known c.args.lent.input.sources (m.url_of c.args.lent.provider.now.1) (m.nv_at c.args.lent.provider.now.1) in
+    let k = known c.args.lent.input.facts (m.url_of c.args.lent.provider.now.1) (m.nv_at c.args.lent.provider.now.1) in
     let t = serialize c.args.url.now in
     let w = asked_by (names_of c.args.names) in
     let nv = nv_of c.args.nv.now in

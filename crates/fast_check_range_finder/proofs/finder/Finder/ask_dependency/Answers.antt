@@ -5,15 +5,15 @@ use Rattle.fast_check_packages.specs.Package.{nv_of}
 use Rattle.fast_check_graph.specs.Graph.{resolved_to}
 use Rattle.fast_check_demands.specs.name_demands.Files.{names_of}
 use Rattle.fast_check_demands.specs.worklists.Demands.{asked_by}
-use Rattle.fast_check_demands.specs.sources.Sources.{known, traced_as}
-use Rattle.fast_check_demands.specs.sources.Followers.{file_at, resolved}
+use Rattle.fast_check_demands.specs.facts.GraphFacts.{known, traced_as}
+use Rattle.fast_check_demands.specs.facts.Followers.{file_at, resolved}
 use Rattle.fast_check_range_finder.proofs.Owners.{asks_none}
 use Rattle.fast_check_range_finder.proofs.finder.Finder.ask_dependency.Goals as goal
 
 pub returns-in-None : goal.returns-in-None
 returns-in-None g c sound =
     let m = goal.JsrUrlProvider-dyn g c.args.lent.provider.now in
-    let k = known c.args.lent.input.sources (m.url_of c.args.lent.provider.now.1) (m.nv_at c.args.lent.provider.now.1) in
+    let k = known c.args.lent.input.facts (m.url_of c.args.lent.provider.now.1) (m.nv_at c.args.lent.provider.now.1) in
     let nv = nv_of c.args.nv.now in
     let w = c.args.dependency in
     asks_none k.graph k.root_symbol nv (λ (url : Parts). file_at nv (serialize url) (asked_by (names_of w.names)) (k.owner (serialize url)))

@@ -17,10 +17,10 @@ use Rattle.fast_check_range_finder.proofs.finder.Finder.enter_known.Goals as goa
 pub returns-in-None : goal.returns-in-None
 returns-in-None g c =
     let nv = nv_of c.args.nv.now in
-    let graph = c.args.lent.input.sources.graph.now in
+    let graph = c.args.lent.input.facts.graph.now in
     let keys : c.deref.result.now ≡ c.args.entry_points.value = search rules in
     let used = used_of c.args.lent.cache (λ x. let n = goal.FastCheckCache-dyn g x.now in
-    used_item (n.hash_of x.now.1 c.args.lent.input.seed.now) (n.stored x.now.1) c.args.lent.input.sources.graph.now) in
+    used_item (n.hash_of x.now.1 c.args.lent.input.seed.now) (n.stored x.now.1) c.args.lent.input.facts.graph.now) in
     let urls = c.args.entry_points.value.keys in
     let is = ap (option_map item_of) (sym c.in-None.is) ∙ (looked_up c.args.lent.cache (λ x. let n = goal.FastCheckCache-dyn g x.now in
     used_item (n.hash_of x.now.1 c.args.lent.input.seed.now) (n.stored x.now.1) graph) nv c.deref.result.now.keys (option_map item_of c.in_ok-look_up.field-0)
@@ -32,10 +32,10 @@ returns-in-None g c =
 pub returns-in-Some : goal.returns-in-Some
 returns-in-Some g c =
     let nv = nv_of c.args.nv.now in
-    let graph = c.args.lent.input.sources.graph.now in
+    let graph = c.args.lent.input.facts.graph.now in
     let keys : c.deref.result.now ≡ c.args.entry_points.value = search rules in
     let used = used_of c.args.lent.cache (λ x. let n = goal.FastCheckCache-dyn g x.now in
-    used_item (n.hash_of x.now.1 c.args.lent.input.seed.now) (n.stored x.now.1) c.args.lent.input.sources.graph.now) in
+    used_item (n.hash_of x.now.1 c.args.lent.input.seed.now) (n.stored x.now.1) c.args.lent.input.facts.graph.now) in
     let urls = c.args.entry_points.value.keys in
     let is = ap (option_map item_of) (sym c.in-Some.is) ∙ (looked_up c.args.lent.cache (λ x. let n = goal.FastCheckCache-dyn g x.now in
     used_item (n.hash_of x.now.1 c.args.lent.input.seed.now) (n.stored x.now.1) graph) nv c.deref.result.now.keys (option_map item_of c.in_ok-look_up.field-0)

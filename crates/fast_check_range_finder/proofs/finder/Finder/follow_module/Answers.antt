@@ -9,8 +9,8 @@ use Rattle.fast_check_demands.specs.name_demands.Files.{names_of}
 use Rattle.fast_check_package_ranges.specs.findings.Yields.{recorded}
 use Rattle.fast_check_demands.specs.traces.ReExports.{ModuleDemand, module_demand_of}
 use Rattle.fast_check_demands.specs.declared.traces.list.ReExportDemand.{ReExportDemand}
-use Rattle.fast_check_demands.specs.sources.Sources.{known, traced_as}
-use Rattle.fast_check_demands.specs.sources.Followers.{re_export_followers}
+use Rattle.fast_check_demands.specs.facts.GraphFacts.{known, traced_as}
+use Rattle.fast_check_demands.specs.facts.Followers.{re_export_followers}
 use Rattle.fast_check_range_finder.specs.declared.finder.Finder.{Finder}
 use Rattle.fast_check_range_finder.specs.Finder.{Goes}
 use Rattle.fast_check_range_finder.proofs.Owners.{AsksFor}
@@ -27,7 +27,7 @@ pub follow_names_at-requires-clause-sound : goal.follow_names_at-requires-clause
 follow_names_at-requires-clause-sound g c =
     let f = c.args.self.now in
     let b : Finder = record f { modules = c.place_of.new.modules } in
-    (placed_goes c.args.lent.input.sources.graph.now c.args.lent.input.sources.root_symbol.now f b c.requires.sound (nv_of c.in_ok-copy_of.field-0) c.args.info.now c.requires.own
+    (placed_goes c.args.lent.input.facts.graph.now c.args.lent.input.facts.root_symbol.now f b c.requires.sound (nv_of c.in_ok-copy_of.field-0) c.args.info.now c.requires.own
     c.in_ok-place.place c.in_ok-place.ensures
     (record { packages = refl; entered = refl; handled = refl; names = refl; symbols = refl; entrances = refl; dependencies = refl; untyped = refl })).sound
 
@@ -37,7 +37,7 @@ loop-demand-init g c sound = goes_nowhere _ _ c.follow_names_at.new.self sound
 pub loop-demand-preserved : goal.loop-demand-preserved
 loop-demand-preserved g c sound =
     let m = goal.JsrUrlProvider-dyn g c.args.lent.provider.now in
-    let k = known c.args.lent.input.sources (m.url_of c.args.lent.provider.now.1) (m.nv_at c.args.lent.provider.now.1) in
+    let k = known c.args.lent.input.facts (m.url_of c.args.lent.provider.now.1) (m.nv_at c.args.lent.provider.now.1) in
     let nv = nv_of c.args.nv in
     let h = re_export_followers k nv (traced_as k c.args.info.now) in
     let xs = c.as_slice-demand-items.result.now in
@@ -54,7 +54,7 @@ loop-demand-preserved g c sound =
 pub returns : goal.returns
 returns g c =
     let m = goal.JsrUrlProvider-dyn g c.args.lent.provider.now in
-    let k = known c.args.lent.input.sources (m.url_of c.args.lent.provider.now.1) (m.nv_at c.args.lent.provider.now.1) in
+    let k = known c.args.lent.input.facts (m.url_of c.args.lent.provider.now.1) (m.nv_at c.args.lent.provider.now.1) in
     let f = c.args.self.now in
     let b : Finder = record f { modules = c.place_of.new.modules } in
     let nv = nv_of c.args.nv in

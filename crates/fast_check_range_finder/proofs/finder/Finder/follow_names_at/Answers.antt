@@ -30,8 +30,8 @@ returns c = with_ok c.follow_names_in.result c.follow_names_in.ensures.demands c
     c.follow_names_in.ensures.index_of c.follow_names_in.ensures.aliases
     (λ out is asks shows index aliases e here.
     let f = c.args.self.now in
-    let g = c.args.sources.graph.now in
-    let r = c.args.sources.root_symbol.now in
+    let g = c.args.facts.graph.now in
+    let r = c.args.facts.root_symbol.now in
     let d = names_of c.args.names in
     let x = c.in-Some.followed.now in
     let m = c.follow_names_in.new.followed in

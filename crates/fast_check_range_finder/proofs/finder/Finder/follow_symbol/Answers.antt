@@ -7,8 +7,8 @@ use Rattle.fast_check_packages.specs.Package.{nv_of}
 use Rattle.fast_check_demands.specs.symbol_demands.Demands.{demand_of}
 use Rattle.fast_check_demands.specs.name_demands.Files.{FileDemand, file_demand_of}
 use Rattle.fast_check_demands.specs.declared.name_demands.name_demand.FileDependency.{FileDependency}
-use Rattle.fast_check_demands.specs.sources.Sources.{known, traced_as}
-use Rattle.fast_check_demands.specs.sources.Followers.{file_followers}
+use Rattle.fast_check_demands.specs.facts.GraphFacts.{known, traced_as}
+use Rattle.fast_check_demands.specs.facts.Followers.{file_followers}
 use Rattle.fast_check_demands.proofs.worklists.Maps.{some_is}
 use Rattle.fast_check_range_finder.specs.Finder.{Followed, place_nv}
 use Rattle.fast_check_range_finder.proofs.Gained.{get_in}
@@ -23,7 +23,7 @@ loop-dependency-init g c sound = goes_nowhere _ _ c.follow_at.new.self sound
 pub loop-dependency-preserved : goal.loop-dependency-preserved
 loop-dependency-preserved g c sound =
     let m = goal.JsrUrlProvider-dyn g c.args.lent.provider.now in
-    let k = known c.args.lent.input.sources (m.url_of c.args.lent.provider.now.1) (m.nv_at c.args.lent.provider.now.1) in
+    let k = known c.args.lent.input.facts (m.url_of c.args.lent.provider.now.1) (m.nv_at c.args.lent.provider.now.1) in
     let nv = nv_of c.in_ok-nv.nv in
     let h = file_followers k nv (traced_as k c.in-Some.followed.now.found.info.now) in
     let xs = c.as_slice-dependency-items.result.now in
@@ -40,7 +40,7 @@ loop-dependency-preserved g c sound =
 pub returns : goal.returns
 returns g c e here sound =
     let m = goal.JsrUrlProvider-dyn g c.args.lent.provider.now in
-    let k = known c.args.lent.input.sources (m.url_of c.args.lent.provider.now.1) (m.nv_at c.args.lent.provider.now.1) in
+    let k = known c.args.lent.input.facts (m.url_of c.args.lent.provider.now.1) (m.nv_at c.args.lent.provider.now.1) in
     let x : Followed = (c.in-Some.place.now, c.in-Some.followed.now) in
     let same : e ≡ x = some_is e x (sym here ∙ (sym c.get_index.ensures.entry ∙ ap (option_map deref_pair) c.in-Some.is)) in
     let nv = nv_of c.in_ok-nv.nv in

@@ -1,4 +1,4 @@
--- What is known of modules and packages.
+-- The facts of a graph: what the finder may ask beside the tables of a module.
 use Rattle.std.specs.Prelude.{Bool, false, cond, not, ◌||◌, List, Option, Some, None, option_map, codes, nat_eq}
 use Rattle.std.specs.List.{starts_with}
 use Rattle.std.specs.Map.{lookup}
@@ -19,7 +19,7 @@ use Rattle.fast_check_graph.specs.Modules.{is_typed_module, is_external}
 use Rattle.fast_check_graph.specs.Root.{module_named}
 use Rattle.fast_check_demands.specs.declared.traces.modules.TracedModule.{TracedModule}
 use Rattle.fast_check_demands.specs.worklists.Demands.{Text}
-use Rattle.fast_check_demands.specs.declared.sources.sources.Sources.{Sources}
+use Rattle.fast_check_demands.specs.declared.facts.graph_facts.GraphFacts.{GraphFacts}
 
 -- the item of a package with these entry points (in order, each once) that is used in place of what would be found
 abbrev pub Used : Type 0
@@ -44,7 +44,7 @@ abbrev pub owner_by : List WorkspaceMember → (Text → Option Nv) → Text →
 owner_by members nv_at t = cond (starts_with nat_eq t (codes "file:")) (option_map member_nv (member_of members t))
     (nv_at t)
 
-abbrev pub known : Sources → (Nv → Parts) → (Text → Option Nv) → Known
+abbrev pub known : GraphFacts → (Nv → Parts) → (Text → Option Nv) → Known
 known s url_of nv_at = record {
   graph = s.graph.now;
   root_symbol = s.root_symbol.now;

@@ -1,8 +1,8 @@
 use Rattle.std.proofs.Common.{◌∙◌, ap, None, Some}
 use Rattle.fast_check_packages.specs.Package.{nv_of}
 use Rattle.fast_check_packages.specs.MembersIn.{members_in}
-use Rattle.fast_check_demands.proofs.sources.Placed.{member_placed}
-use Rattle.fast_check_demands.proofs.sources.owner.member_owner.Goals as goal
+use Rattle.fast_check_demands.proofs.facts.Placed.{member_placed}
+use Rattle.fast_check_demands.proofs.facts.owner.member_owner.Goals as goal
 
 pub returns-in_default : goal.returns-in_default
 returns-in_default c = member_placed (members_in c.args.members.now) c.args.text.now None c.in_default.ensures

@@ -4,9 +4,9 @@ ghost use Rattle.url.specs.Parts.{serialize};
 ghost use Rattle.fast_check_packages.specs.Package.{nv_of};
 ghost use Rattle.fast_check_packages.specs.Members.{member_nv, member_of};
 ghost use Rattle.fast_check_packages.specs.MembersIn.{members_in};
-ghost use Rattle.fast_check_demands.specs.sources.Sources.{owner_by};
+ghost use Rattle.fast_check_demands.specs.facts.GraphFacts.{owner_by};
 
-use crate::sources::sources::Sources;
+use crate::facts::graph_facts::GraphFacts;
 use crate::worklists::copy_of;
 use fast_check_packages::{IndexedMembers, JsrUrlProvider, PackageNv};
 use std::alloc::AllocError;
@@ -27,16 +27,16 @@ fn member_owner(members: &IndexedMembers<'_>, text: &str) -> Result<Option<Packa
 
 /// The package that a URL belongs to: that of a member of the workspace for a file, and else what the provider says.
 pub fn owner_of(
-    sources: Sources<'_>,
+    facts: GraphFacts<'_>,
     provider: &dyn JsrUrlProvider,
     url: &Url,
 ) -> Result<Option<PackageNv>, AllocError>
-    ensures { let members = members_in sources.entry.workspace_members.now in
+    ensures { let members = members_in facts.entry.workspace_members.now in
         IfOk result (λ owner. option_map nv_of owner ≡ owner_by members (nv_at provider.now) (serialize url.now)) }
 {
     let text = url.as_str();
     if text.as_bytes().starts_with(b"file:") {
-        return member_owner(sources.workspace_members, text);
+        return member_owner(facts.workspace_members, text);
     }
     provider.package_url_to_nv(url)
 }

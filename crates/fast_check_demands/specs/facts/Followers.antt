@@ -10,7 +10,7 @@ use Rattle.fast_check_demands.specs.name_demands.Files.{FileDemand}
 use Rattle.fast_check_demands.specs.declared.traces.modules.TracedModule.{TracedModule}
 use Rattle.fast_check_demands.specs.traces.ReExports.{ModuleDemand, re_exported, answered}
 use Rattle.fast_check_demands.specs.worklists.Demands.{Text, NameDemands, same_nv, asked_by, DemandSet, to_package, to_module}
-use Rattle.fast_check_demands.specs.sources.Sources.{Known}
+use Rattle.fast_check_demands.specs.facts.GraphFacts.{Known}
 
 -- a file of the same package is demanded. Of another package only the package is
 abbrev pub file_at : Nv → Text → NameDemands → Option Nv → List DemandSet

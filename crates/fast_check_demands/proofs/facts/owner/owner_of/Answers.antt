@@ -4,12 +4,12 @@ use Rattle.std.proofs.lemmas.Result.{IfOk-weaker}
 use Rattle.url.specs.Parts.{serialize}
 use Rattle.fast_check_packages.specs.Members.{member_nv, member_of}
 use Rattle.fast_check_packages.specs.MembersIn.{members_in}
-use Rattle.fast_check_demands.proofs.sources.owner.owner_of.Goals as goal
+use Rattle.fast_check_demands.proofs.facts.owner.owner_of.Goals as goal
 
 pub returns-then-starts_with : goal.returns-then-starts_with
 returns-then-starts_with g c =
     let m = goal.JsrUrlProvider-dyn g c.args.provider.now in
-    let members = members_in c.args.sources.workspace_members.now in
+    let members = members_in c.args.facts.workspace_members.now in
     let nv_at = m.nv_at c.args.provider.now.1 in
     let text = serialize c.args.url.now in
     let test = ap (λ (t : List ℕ). starts_with nat_eq t (codes "file:")) (c.as_bytes.ensures.value ∙ c.as_str-text.ensures.value) in
@@ -22,7 +22,7 @@ returns-then-starts_with g c =
 pub returns : goal.returns
 returns g c =
     let m = goal.JsrUrlProvider-dyn g c.args.provider.now in
-    let members = members_in c.args.sources.workspace_members.now in
+    let members = members_in c.args.facts.workspace_members.now in
     let nv_at = m.nv_at c.args.provider.now.1 in
     let text = serialize c.args.url.now in
     let test = ap (λ (t : List ℕ). starts_with nat_eq t (codes "file:")) (c.as_bytes.ensures.value ∙ c.as_str-text.ensures.value) in

@@ -1,16 +1,16 @@
-//! What is known of modules and packages beside the tables of a module.
+//! The facts of a graph: what the finder may ask beside the tables of a module.
 ghost use Rattle.std.specs.Prelude.{◌≡◌};
 ghost use Rattle.std.specs.Option.{option_copied};
 ghost use Rattle.url.specs.Parts.{serialize};
-ghost use Rattle.fast_check_demands.specs.sources.Sources.{info_at, untyped_at};
+ghost use Rattle.fast_check_demands.specs.facts.GraphFacts.{info_at, untyped_at};
 
 use fast_check_graph::{AnyModuleInfo, ModuleGraph, RootSymbol};
 use fast_check_packages::IndexedMembers;
 use url::Url;
 
-/// What is known of modules and packages.
+/// The facts of a graph: its modules, their tables by specifier, and the members of the workspace.
 #[derive(Clone, Copy)]
-pub struct Sources<'a> {
+pub struct GraphFacts<'a> {
     pub graph: &'a ModuleGraph,
     pub root_symbol: &'a RootSymbol,
     pub workspace_members: &'a IndexedMembers<'a>,

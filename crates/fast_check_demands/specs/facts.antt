@@ -1,0 +1,2 @@
+pub mod GraphFacts
+pub mod Followers
