@@ -1,15 +1,17 @@
 -- The symbol that a JSON value stands for.
-use Rattle.std.specs.Prelude.{ℕ, List, [], ◌∷◌, codes, if◌then◌else◌, Option, Some, None, option_map}
+use Rattle.std.specs.Prelude.{ℕ, List, [], codes, if◌then◌else◌, Option, Some, None, option_map}
 use Rattle.std.specs.Str.{bytes_eq}
 use Rattle.serde_json.specs.Data.{Data}
 use Rattle.serde_json.specs.Find.{as_object, as_str}
+use Rattle.fast_check_syntax.specs.Shape.{none_range}
 use Rattle.fast_check_symbols.specs.declared.symbol_id.SymbolId.{SymbolId}
 use Rattle.fast_check_symbols.specs.declared.node.ReferenceNamespace.{ReferenceNamespace}
 use Rattle.fast_check_symbols.specs.declared.node.ReferenceNamespace.TheVariants.{Value, Type_, Both}
 use Rattle.fast_check_symbols.specs.Exports.{put_export}
-use Rattle.fast_check_read_tables.specs.graph.Reads.{given, list_of, both_of, or_null, or_default, needed, listed, optional}
-use Rattle.fast_check_read_tables.specs.graph.Reads.{flagged, ranged, variant_of, id_of, symbol_id_of}
-use Rattle.serde_json.specs.Find.{get}
+use Rattle.fast_check_read.specs.Pieces.{range_of_data}
+use Rattle.fast_check_read_tables.specs.graph.Reads.{given, list_of, both_of, or_null, member_or, needed, listed, optional}
+use Rattle.fast_check_read_tables.specs.graph.Reads.{flagged, variant_of, id_of, symbol_id_of}
+use Rattle.fast_check_read_tables.specs.graph.Gathered.{all_gathered}
 use Rattle.fast_check_read_tables.specs.Seen as seen
 use Rattle.fast_check_read_tables.specs.Seen.{FileName, Dep, Node, DeclKind, Decl, SeenSymbol}
 
@@ -104,7 +106,7 @@ decl_kind_of value = given (variant_of value) (λ v. decl_kind_named v.0 v.1)
 
 abbrev pub decl_of : Data → Option Decl
 decl_of value =
-    given (ranged (codes "range") value) (λ range.
+    given (member_or none_range range_of_data (codes "range") value) (λ range.
     given (flagged (codes "value") value) (λ is_value.
     given (flagged (codes "type_") value) (λ type_.
     given (flagged (codes "has_overloads") value) (λ has_overloads.
@@ -123,13 +125,9 @@ decl_of value =
 abbrev pub export_of : Data → Option (List ℕ × SymbolId)
 export_of = both_of as_str symbol_id_of
 
--- entries put over exports, one after another
-abbrev pub all_put : List (List ℕ × SymbolId) → List (List ℕ × SymbolId) → List (List ℕ × SymbolId)
-all_put exports [] = exports
-all_put exports (e ∷ es) = all_put (put_export e.0 e.1 exports) es
-
+-- entries put over one another
 abbrev pub exports_of : Data → Option (List (List ℕ × SymbolId))
-exports_of value = option_map (all_put []) (list_of export_of value)
+exports_of value = option_map (all_gathered (λ exports e. put_export e.0 e.1 exports) []) (list_of export_of value)
 
 abbrev pub symbol_of : Data → Option SeenSymbol
 symbol_of value =
@@ -138,7 +136,7 @@ symbol_of value =
     given (flagged (codes "is_private_member") value) (λ is_private_member.
     given (optional as_str (codes "maybe_name") value) (λ maybe_name.
     given (optional as_str (codes "qualified_name") value) (λ qualified_name.
-    given (or_default [] exports_of (get (codes "exports") value)) (λ exports.
+    given (member_or [] exports_of (codes "exports") value) (λ exports.
     given (listed symbol_id_of (codes "members") value) (λ members.
     option_map (λ decls. record {
       id = id;

@@ -131,10 +131,3 @@ given_five (Some x) (Some y) None d e f = refl
 given_five (Some x) (Some y) (Some z) None e f = refl
 given_five (Some x) (Some y) (Some z) (Some u) None f = refl
 given_five (Some x) (Some y) (Some z) (Some u) (Some v) f = refl
-
--- ---- what is gathered, by its own definitions
-
-pub gathered_as : {S X : Type 0} (with : S → X → S) (all : S → List X → S) (none s : S) (o : Option (List X))
-    → ((t : S) (xs : List X) → all t xs ≡ all_gathered with t xs) → s ≡ none → option_map (all none) o ≡ option_map (all_gathered with s) o
-gathered_as with all none s None same e = refl
-gathered_as with all none s (Some xs) same e = ap Some (same none xs ∙ ap (λ t. all_gathered with t xs) (sym e))

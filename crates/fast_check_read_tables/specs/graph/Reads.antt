@@ -1,6 +1,7 @@
 -- What a JSON value is read as, and what is left out.
 use Rattle.std.specs.Prelude.{◌≡◌, ℕ, List, [], Bool, Option, Some, None, option_map, option_and_then, Result}
 use Rattle.std.specs.Prelude.{MatchResult}
+use Rattle.std.specs.Option.{option_map_or}
 use Rattle.std.specs.Result.{result_ok}
 use Rattle.serde_json.specs.Data.{Data, null, boolean, number, string, array, object, Items, no_items, item, Members}
 use Rattle.serde_json.specs.Data.{no_members, member}
@@ -8,12 +9,11 @@ use Rattle.serde_json.specs.Find.{get, as_array, as_object, as_str}
 use Rattle.url.specs.Parser.{parse_url}
 use Rattle.url.specs.Parts.{Parts}
 use Rattle.fast_check_syntax.specs.declared.atom.Id.{Id}
-use Rattle.fast_check_syntax.specs.declared.source.SourceRange.{SourceRange}
 use Rattle.fast_check_symbols.specs.declared.symbol_id.SymbolId.{SymbolId}
 use Rattle.fast_check_read.specs.declared.error.ReadError.{ReadError}
 use Rattle.fast_check_read.specs.declared.error.ReadError.TheVariants.{BadForm}
 use Rattle.fast_check_read.specs.Each.{each}
-use Rattle.fast_check_read.specs.Pieces.{u32_of, items_list, pair_of, range_of_data, optional_flag_of}
+use Rattle.fast_check_read.specs.Pieces.{u32_of, items_list, pair_of, optional_flag_of}
 
 -- a call makes a value that is seen as what is expected, or answers `BadForm` where nothing is; it may run out of
 -- memory
@@ -62,31 +62,25 @@ or_null read (object ms) = option_map Some (read (object ms))
 
 -- ---- members of an object
 
--- what stands in its place, or a default where nothing does
-abbrev pub or_default : {A : Type 0} → A → (Data → Option A) → Option Data → Option A
-or_default default read None = Some default
-or_default default read (Some value) = read value
-
 -- a member that has to stand
 abbrev pub needed : {A : Type 0} → (Data → Option A) → List ℕ → Data → Option A
 needed read name value = given (get name value) read
 
+-- a member, or a default where it is left out
+abbrev pub member_or : {A : Type 0} → A → (Data → Option A) → List ℕ → Data → Option A
+member_or default read name value = option_map_or read (get name value) (Some default)
+
 -- a list: empty where it is left out
 abbrev pub listed : {A : Type 0} → (Data → Option A) → List ℕ → Data → Option (List A)
-listed read name value = or_default [] (list_of read) (get name value)
+listed read = member_or [] (list_of read)
 
 -- an option: none where it is left out
 abbrev pub optional : {A : Type 0} → (Data → Option A) → List ℕ → Data → Option (Option A)
-optional read name value = or_default None (or_null read) (get name value)
+optional read = member_or None (or_null read)
 
 -- a flag: false where it is left out
 abbrev pub flagged : List ℕ → Data → Option Bool
 flagged name value = optional_flag_of (get name value)
-
--- the range of a node: 0 to 0 where it is left out
-abbrev pub ranged : List ℕ → Data → Option SourceRange
-ranged name value = or_default (record { start = record { 0 = 0 }; end = record { 0 = 0 } }) range_of_data
-    (get name value)
 
 -- the one member of an object: its name and its content
 abbrev pub only_member : Members → Option (List ℕ × Data)
