@@ -1,5 +1,6 @@
 -- The symbol that a JSON value stands for.
 use Rattle.std.specs.Prelude.{ℕ, List, [], codes, if◌then◌else◌, Option, Some, None, option_map}
+use Rattle.std.specs.Option.{option_map_or}
 use Rattle.std.specs.Str.{bytes_eq}
 use Rattle.serde_json.specs.Data.{Data}
 use Rattle.serde_json.specs.Find.{as_object, as_str}
@@ -51,8 +52,9 @@ node_dep_of = both_of dep_of namespace_of
 -- ---- declarations
 
 -- the node of a definition: flags, and what it refers to
-abbrev pub members_of_node : Data → Option Node
-members_of_node value =
+abbrev pub node_of : Data → Option Node
+node_of value =
+    given (as_object value) (λ members.
     given (flagged (codes "is_class") value) (λ is_class.
     given (flagged (codes "is_member") value) (λ is_member.
     given (flagged (codes "is_function") value) (λ is_function.
@@ -70,21 +72,13 @@ members_of_node value =
       is_plain_class_decl = is_plain_class_decl;
       has_export_keyword = has_export_keyword;
       deps = deps;
-    })))))))))
-
-abbrev pub node_of : Data → Option Node
-node_of value = given (as_object value) (λ members. members_of_node value)
+    }))))))))))
 
 -- what is taken of a file: `"Star"`, or a name
-abbrev pub file_name_named : List ℕ → Data → Option FileName
-file_name_named name content = if bytes_eq name (codes "Name") then option_map seen.Name (as_str content) else None
-
-abbrev pub file_name_by : Option (List ℕ) → Data → Option FileName
-file_name_by (Some text) value = if bytes_eq text (codes "Star") then Some seen.Star else None
-file_name_by None value = given (variant_of value) (λ v. file_name_named v.0 v.1)
-
 abbrev pub file_name_of : Data → Option FileName
-file_name_of value = file_name_by (as_str value) value
+file_name_of value =
+    option_map_or (λ text. if bytes_eq text (codes "Star") then Some seen.Star else None) (as_str value)
+    (given (variant_of value) (λ v. if bytes_eq v.0 (codes "Name") then option_map seen.Name (as_str v.1) else None))
 
 abbrev pub file_ref_of : Data → Option DeclKind
 file_ref_of value =

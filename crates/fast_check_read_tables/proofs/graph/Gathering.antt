@@ -13,7 +13,7 @@ use Rattle.fast_check_read.specs.Pieces.{items_list}
 use Rattle.fast_check_read.specs.declared.error.ReadError.{ReadError}
 use Rattle.fast_check_read.specs.declared.error.ReadError.TheVariants.{BadForm, OutOfMemory}
 use Rattle.fast_check_read_tables.specs.graph.Reads.{given, list_of, Reads}
-use Rattle.fast_check_read_tables.specs.graph.Gathered.{all_gathered, both_given, both_read}
+use Rattle.fast_check_read_tables.specs.graph.Gathered.{all_gathered, both_read}
 use Rattle.fast_check_read_tables.proofs.graph.Given.{given_some, given_none, map_some}
 
 -- ---- items one after another
@@ -66,6 +66,10 @@ all_items None = refl
 all_items (Some xs) = ap Some (behind [] xs)
 
 -- ---- two readings
+
+-- both, if both are there
+abbrev pub both_given : {A B : Type 0} → Option A → Option B → Option (A × B)
+both_given first second = given first (λ a. option_map (λ b. (a, b)) second)
 
 -- both values are those of both, and the error is that of one of them
 pub both_reads : {A B C D : Type 0} (f : C → A) (g : D → B) (first : Option A) (second : Option B) (r : Result C ReadError)

@@ -105,16 +105,14 @@ graph_by modules resolutions packages = record {
   packages = λ nv. last_value (λ k. is_eq (nv_cmp k (nv_of nv))) packages;
 }
 
-abbrev pub members_of_graph : Data → Option SeenGraph
-members_of_graph value =
+-- an object of the members modules, resolutions and packages
+abbrev pub graph_of : Data → Option SeenGraph
+graph_of value =
+    given (as_object value) (λ members.
     given (listed (both_of url_of module_of) (codes "modules") value) (λ modules.
     given (member_or no_resolutions resolutions_of (codes "resolutions") value) (λ resolutions.
     option_map (λ packages. graph_by modules resolutions packages)
-    (listed (both_of package_of package_exports_of) (codes "packages") value)))
-
--- an object of the members modules, resolutions and packages
-abbrev pub graph_of : Data → Option SeenGraph
-graph_of value = given (as_object value) (λ members. members_of_graph value)
+    (listed (both_of package_of package_exports_of) (codes "packages") value))))
 
 -- the member graph, which has to stand
 abbrev pub graph_member_of : Data → Option SeenGraph

@@ -3,7 +3,7 @@ use Rattle.std.specs.Prelude.{◌≡◌, ℕ, List, [], Bool, Option, Some, None
 use Rattle.std.specs.Prelude.{MatchResult}
 use Rattle.std.specs.Option.{option_map_or}
 use Rattle.std.specs.Result.{result_ok}
-use Rattle.serde_json.specs.Data.{Data, null, boolean, number, string, array, object, Items, no_items, item, Members}
+use Rattle.serde_json.specs.Data.{Data, null, Items, no_items, item, Members}
 use Rattle.serde_json.specs.Data.{no_members, member}
 use Rattle.serde_json.specs.Find.{get, as_array, as_object, as_str}
 use Rattle.url.specs.Parser.{parse_url}
@@ -37,11 +37,8 @@ both_of first second value = given (pair_of value) (λ p. given (first p.0) (λ 
 
 -- an array of three
 abbrev pub only_three : Items → Option (Data × Data × Data)
-only_three no_items = None
-only_three (item a no_items) = None
-only_three (item a (item b no_items)) = None
 only_three (item a (item b (item c no_items))) = Some (a, b, c)
-only_three (item a (item b (item c (item d ds)))) = None
+only_three _ = None
 
 abbrev pub three_of : {A B C : Type 0} → (Data → Option A) → (Data → Option B) → (Data → Option C) → Data →
     Option (A × B × C)
@@ -54,11 +51,7 @@ three_of first second third value =
 -- null, or a value
 abbrev pub or_null : {A : Type 0} → (Data → Option A) → Data → Option (Option A)
 or_null read null = Some None
-or_null read (boolean b) = option_map Some (read (boolean b))
-or_null read (number n) = option_map Some (read (number n))
-or_null read (string s) = option_map Some (read (string s))
-or_null read (array ds) = option_map Some (read (array ds))
-or_null read (object ms) = option_map Some (read (object ms))
+or_null read value = option_map Some (read value)
 
 -- ---- members of an object
 
@@ -84,9 +77,8 @@ flagged name value = optional_flag_of (get name value)
 
 -- the one member of an object: its name and its content
 abbrev pub only_member : Members → Option (List ℕ × Data)
-only_member no_members = None
 only_member (member name content no_members) = Some (name, content)
-only_member (member name content (member other more rest)) = None
+only_member _ = None
 
 abbrev pub variant_of : Data → Option (List ℕ × Data)
 variant_of value = given (as_object value) only_member
