@@ -9,7 +9,6 @@ use Rattle.fast_check_syntax.specs.declared.kind.Kind.TheVariants as kinds
 use Rattle.fast_check_syntax.specs.declared.tree.Tree.{Tree}
 use Rattle.fast_check_syntax.specs.declared.tree.Tree.TheOpen.{Tree-F}
 use Rattle.fast_check_syntax.specs.declared.tree.Tree.TheFolds.{fold-Tree}
-use Rattle.fast_check_read.specs.declared.schema.form.Choice.{Choice}
 use Rattle.fast_check_read.specs.declared.schema.form.Form.{Form}
 use Rattle.fast_check_read.specs.declared.schema.form.Form.TheVariants as forms
 use Rattle.fast_check_read.specs.schema.Rows.{FieldRow, VariantRow}
@@ -46,14 +45,11 @@ fields_data fields parts = object (members_of_fields fields parts (length fields
 abbrev pub list_data : List ByForm → Form → Data
 list_data items form = array (items_of (map (λ p. p form) items))
 
--- the first part, where the choice stands
-abbrev pub first_data : List ByForm → Choice → Data
-first_data [] choice = null
-first_data (p ∷ ps) choice = p (forms.Choice choice)
-
--- a node without the names of its variants: the object of its fields, or what a mark stands round
+-- a node without the names of its variants: the object of its fields, or what a mark stands round, its first part
 abbrev pub content_data : Kind → List ByForm → Data
-content_data kind parts = option_map_or (first_data parts) (marked_choice kind) (fields_data (fields_of kind) parts)
+content_data kind parts =
+    option_map_or (λ choice. part_data (slice_get parts 0) (forms.Choice choice)) (marked_choice kind)
+    (fields_data (fields_of kind) parts)
 
 abbrev pub names_from : Option VariantRow → (Form → List (List ℕ)) → List (List ℕ)
 names_from None inner = []

@@ -97,13 +97,10 @@ impl FromJson for IndexMap<String, String> {
 
     ghost read_of = { graph.package_exports_of };
 
-    fn from_json(alloc: Global, value: &Value) -> Result<IndexMap<String, String>, ReadError> {
+    fn from_json(alloc: Global, value: &Value) -> Result<Self, ReadError> {
         gather_all(alloc, value, IndexMap::new(alloc))
     }
 }
-
-/// What the texts in each module resolve to.
-type Resolutions = BTreeMap<Url, BTreeMap<String, Url>>;
 
 /// What a text in a module resolves to, by module and text.
 impl Gather for BTreeMap<Url, BTreeMap<String, Url>> {
@@ -139,7 +136,7 @@ impl FromJson for BTreeMap<Url, BTreeMap<String, Url>> {
 
     ghost read_of = { graph.resolutions_of };
 
-    fn from_json(alloc: Global, value: &Value) -> Result<Resolutions, ReadError> {
+    fn from_json(alloc: Global, value: &Value) -> Result<Self, ReadError> {
         gather_all(alloc, value, BTreeMap::new(alloc))
     }
 }
