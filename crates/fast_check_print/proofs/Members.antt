@@ -4,15 +4,16 @@ use Rattle.std.proofs.Common.{Less, Equal, Greater, nat_cmp, arith, refl, sym, a
 use Rattle.std.proofs.Math.Seq.{drop-cons}
 use Rattle.std.proofs.lemmas.Map.Text.{is_eq-slice_cmp}
 use Rattle.std.specs.Cmp.Lexicographic.{slice_cmp, same_text}
+use Rattle.std.specs.Option.{option_map_or}
 use Rattle.std.specs.Ordering.{is_eq, match_ordering}
 use Rattle.json.specs.Token.{Token, key}
 use Rattle.json.specs.Tree.{members_tokens}
 use Rattle.json.specs.Written.{Written}
-use Rattle.serde_json.specs.Data.{Members, no_members, member, put}
+use Rattle.serde_json.specs.Data.{null, Members, no_members, member, put}
 use Rattle.serde_json.specs.Written.{members_outline}
-use Rattle.fast_check_read.specs.schema.Order.{name_at, name_or_none, insert_place, places_by_name}
+use Rattle.fast_check_read.specs.schema.Order.{name_at, insert_place, places_by_name}
 use Rattle.fast_check_read.specs.schema.Rows.{FieldRow}
-use Rattle.fast_check_print.specs.Trees.{ByForm, part_data, field_data, data_at, members_of_fields}
+use Rattle.fast_check_print.specs.Trees.{ByForm, part_data, data_at, members_of_fields}
 use Rattle.fast_check_print.specs.Writing.{Adds, tokens_of}
 use Rattle.fast_check_print.proofs.Adding.{Remains, remains-next}
 
@@ -86,11 +87,11 @@ within-by_name fields (suc place) is = within-insert fields place (places_by_nam
 
 pub name_at-some : (fields : List FieldRow) (place : ℕ) (field : FieldRow) → slice_get fields place ≡ Some field →
     name_at fields place ≡ field.name
-name_at-some fields place field is = ap name_or_none is
+name_at-some fields place field is = ap (λ f. option_map_or (λ field. field.name) f []) is
 
 pub data_at-some : (fields : List FieldRow) (parts : List ByForm) (place : ℕ) (field : FieldRow) → slice_get fields place ≡ Some field
     → data_at fields parts place ≡ part_data (slice_get parts place) field.form
-data_at-some fields parts place field is = ap (λ f. field_data f (slice_get parts place)) is
+data_at-some fields parts place field is = ap (λ f. option_map_or (λ field. part_data (slice_get parts place) field.form) f null) is
 
 -- where the places go on
 pub next-place : (places : List ℕ) (i : ℕ) → i < length places → drop i places ≡ get_or places i 0 ∷ drop (i + 1) places

@@ -1,5 +1,6 @@
 -- Diagnostics, as JSON.
-use Rattle.std.specs.Prelude.{ℕ, List, ◌∷◌, ◌++◌, map, codes, Option, Some, None}
+use Rattle.std.specs.Prelude.{ℕ, List, ◌∷◌, ◌++◌, map, codes, Option}
+use Rattle.std.specs.Option.{option_map_or}
 use Rattle.json.specs.Token.{Token, key}
 use Rattle.serde_json.specs.Data.{Data, null, string, array, object, no_members, member}
 use Rattle.serde_json.specs.View.{items_of}
@@ -14,12 +15,10 @@ use Rattle.fast_check_diagnostics.specs.Diagnostic.{range_of, specifier_of, view
 use Rattle.fast_check_diagnostics.specs.DiagnosticView.{DiagnosticView}
 
 abbrev pub text_or_null : Option (List ℕ) → Data
-text_or_null None = null
-text_or_null (Some text) = string text
+text_or_null text = option_map_or string text null
 
 abbrev pub place_or_null : Option FastCheckDiagnosticRange → Data
-place_or_null None = null
-place_or_null (Some place) = range_data place.range
+place_or_null place = option_map_or (λ place. range_data place.range) place null
 
 abbrev pub level_text : DiagnosticLevel → List ℕ
 level_text levels.Error = codes "Error"

@@ -1,5 +1,6 @@
 -- The JSON value of a tree that stands at a place of a form.
 use Rattle.std.specs.Prelude.{ℕ, zero, suc, List, [], ◌∷◌, map, length, if◌then◌else◌, slice_get, Option, Some, None}
+use Rattle.std.specs.Option.{option_map_or}
 use Rattle.serde_json.specs.Data.{Data, null, boolean, string, array, object, Members, no_members, put}
 use Rattle.serde_json.specs.View.{items_of}
 use Rattle.fast_check_syntax.specs.Shape.{◌is◌}
@@ -8,7 +9,6 @@ use Rattle.fast_check_syntax.specs.declared.kind.Kind.TheVariants as kinds
 use Rattle.fast_check_syntax.specs.declared.tree.Tree.{Tree}
 use Rattle.fast_check_syntax.specs.declared.tree.Tree.TheOpen.{Tree-F}
 use Rattle.fast_check_syntax.specs.declared.tree.Tree.TheFolds.{fold-Tree}
-use Rattle.fast_check_read.specs.declared.schema.form.Choice.{Choice}
 use Rattle.fast_check_read.specs.declared.schema.form.Form.{Form}
 use Rattle.fast_check_read.specs.declared.schema.form.Form.TheVariants as forms
 use Rattle.fast_check_read.specs.schema.Rows.{FieldRow, VariantRow}
@@ -26,13 +26,10 @@ abbrev pub part_data : Option ByForm → Form → Data
 part_data None form = null
 part_data (Some part) form = part form
 
-abbrev pub field_data : Option FieldRow → Option ByForm → Data
-field_data None part = null
-field_data (Some field) part = part_data part field.form
-
 -- the part of the field at a place
 abbrev pub data_at : List FieldRow → List ByForm → ℕ → Data
-data_at fields parts place = field_data (slice_get fields place) (slice_get parts place)
+data_at fields parts place =
+    option_map_or (λ field. part_data (slice_get parts place) field.form) (slice_get fields place) null
 
 -- the members of so many first fields, each with its part
 abbrev pub members_of_fields : List FieldRow → List ByForm → ℕ → Members
@@ -48,18 +45,11 @@ fields_data fields parts = object (members_of_fields fields parts (length fields
 abbrev pub list_data : List ByForm → Form → Data
 list_data items form = array (items_of (map (λ p. p form) items))
 
--- the first part, where the choice stands
-abbrev pub first_data : List ByForm → Choice → Data
-first_data [] choice = null
-first_data (p ∷ ps) choice = p (forms.Choice choice)
-
--- a node without the names of its variants: the object of its fields, or what a mark stands round
-abbrev pub content_of : Option Choice → Kind → List ByForm → Data
-content_of None kind parts = fields_data (fields_of kind) parts
-content_of (Some choice) kind parts = first_data parts choice
-
+-- a node without the names of its variants: the object of its fields, or what a mark stands round, its first part
 abbrev pub content_data : Kind → List ByForm → Data
-content_data kind parts = content_of (marked_choice kind) kind parts
+content_data kind parts =
+    option_map_or (λ choice. part_data (slice_get parts 0) (forms.Choice choice)) (marked_choice kind)
+    (fields_data (fields_of kind) parts)
 
 abbrev pub names_from : Option VariantRow → (Form → List (List ℕ)) → List (List ℕ)
 names_from None inner = []

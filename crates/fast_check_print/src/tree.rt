@@ -3,12 +3,12 @@ ghost use Rattle.std.specs.Prelude.{◌≡◌, ◌∷◌, OnOk, map, slice_get};
 ghost use Rattle.json.specs.Token.{key};
 ghost use Rattle.fast_check_read.specs.schema.Schema.{fields_of};
 ghost use Rattle.fast_check_print.specs.Pieces.{text_of_word};
-ghost use Rattle.fast_check_print.specs.Trees.{json_of, node_data, list_data, content_data, first_data, fields_data, part_data};
+ghost use Rattle.fast_check_print.specs.Trees.{json_of, node_data, list_data, content_data, fields_data, part_data};
 ghost use Rattle.fast_check_print.specs.Writing.{Adds, WritesData, tokens_of};
 
 use crate::pieces::print_range;
 use crate::variants::{close_variants, open_variants};
-use fast_check_read::schema::{Choice, Field, Form, fields, marked, word_text, written_order};
+use fast_check_read::schema::{Field, Form, fields, marked, word_text, written_order};
 use fast_check_syntax::{Kind, Tree, Word};
 use json::Writer;
 use std::alloc::AllocError;
@@ -59,19 +59,11 @@ fn print_content(out: &mut Writer, kind: Kind, parts: &[Tree]) -> Result<(), All
     ensures { OnOk result (WritesData (content_data kind (map json_of parts.now)) out.old out.new) }
 {
     match marked(kind) {
-        Some(choice) => print_first(out, parts, choice),
+        Some(choice) => match parts {
+            [part, ..] => print_tree(out, part, Form::Choice(choice)),
+            [] => out.null(),
+        },
         None => print_fields(out, kind, parts),
-    }
-}
-
-/// The first part, where the choice stands.
-#[cycle(print)]
-fn print_first(out: &mut Writer, parts: &[Tree], choice: Choice) -> Result<(), AllocError>
-    ensures { OnOk result (WritesData (first_data (map json_of parts.now) choice) out.old out.new) }
-{
-    match parts {
-        [part, ..] => print_tree(out, part, Form::Choice(choice)),
-        [] => out.null(),
     }
 }
 

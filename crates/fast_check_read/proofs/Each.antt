@@ -3,7 +3,8 @@ use Rattle.std.proofs.Common.{◌≡◌, ◌∙◌, ℕ, ◌+◌, ◌<◌, ◌�
 use Rattle.std.proofs.Common.{option_map, option_and_then, Result, Ok, Err, Bor, Vec, Global, refl, sym, ap, append_assoc, append-nil}
 use Rattle.std.proofs.Math.ListN.{drop_of_length-le}
 use Rattle.std.proofs.lemmas.List.{at_drop_more}
-use Rattle.std.specs.Option.{ok_or}
+use Rattle.std.specs.Prelude.{MatchOption}
+use Rattle.std.specs.Option.{ok_or, option_map_or}
 use Rattle.std.specs.Result.{IsErr, IsErrAnd, IfErr, result_ok}
 use Rattle.serde_json.specs.Data.{Data}
 use Rattle.serde_json.specs.Find.{as_array}
@@ -77,6 +78,14 @@ found f asked member value e is = then_some f (sym e ∙ ap (option_map (λ v. v
 pub missing : {A : Type 0} (f : Data → Option A) (asked : Option (Bor Value)) (member : Option Data)
     → option_map (λ v. view v.now) asked ≡ member → asked ≡ None → option_and_then f member ≡ None
 missing f asked member e none = then_none f (sym e ∙ ap (option_map (λ v. view v.now)) none)
+
+-- what is read of a member, or stands for it where it is left out
+pub read_or : {A : Type 0} (f : Data → Option A) (default : A) (asked : Option (Bor Value)) (member : Option Data) (result : Result A ReadError)
+    → option_map (λ v. view v.now) asked ≡ member
+    → MatchOption asked (result ≡ Ok default) (λ v. result ≡ ok_or (f (view v.now)) BadForm)
+    → result ≡ ok_or (option_map_or f member (Some default)) BadForm
+read_or f default None member result e is = is ∙ ap (λ m. ok_or (option_map_or f m (Some default)) BadForm) e
+read_or f default (Some v) member result e is = is ∙ ap (λ m. ok_or (option_map_or f m (Some default)) BadForm) e
 
 -- ---- loops
 

@@ -1,11 +1,11 @@
 -- What the JSON of comments stands for.
 use Rattle.std.specs.Prelude.{List, [], ◌∷◌, codes, if◌then◌else◌, Option, Some, None, option_map, option_and_then}
+use Rattle.std.specs.Option.{option_map_or}
 use Rattle.std.specs.Str.{bytes_eq}
 use Rattle.serde_json.specs.Data.{Data}
 use Rattle.serde_json.specs.Find.{as_str, as_array, as_object, get}
 use Rattle.fast_check_syntax.specs.Shape.{none_range}
 use Rattle.fast_check_syntax.specs.declared.source.SourcePos.{SourcePos}
-use Rattle.fast_check_syntax.specs.declared.source.SourceRange.{SourceRange}
 use Rattle.fast_check_comments.specs.declared.comment.Comment.{Comment}
 use Rattle.fast_check_comments.specs.declared.comment.CommentKind.{CommentKind}
 use Rattle.fast_check_comments.specs.declared.comment.CommentKind.TheVariants.{Line, Block}
@@ -19,18 +19,13 @@ abbrev pub comment_kind_of : Data → Option CommentKind
 comment_kind_of value = option_and_then (λ text. if bytes_eq text (codes "Line") then Some Line else
     (if bytes_eq text (codes "Block") then Some Block else None)) (as_str value)
 
--- a range that may be left out
-abbrev pub optional_range_of : Option Data → Option SourceRange
-optional_range_of None = Some none_range
-optional_range_of (Some value) = range_of_data value
-
--- an object of the members kind, span and text
+-- an object of the members kind, span and text: the span may be left out
 abbrev pub comment_of : Data → Option Comment
 comment_of value =
     option_and_then
     (λ kind. option_and_then (λ span. option_map (λ text. record { kind = kind; span = span; text = text })
     (option_and_then as_str (get (codes "text") value)))
-    (optional_range_of (get (codes "span") value)))
+    (option_map_or range_of_data (get (codes "span") value) (Some none_range)))
     (option_and_then comment_kind_of (get (codes "kind") value))
 
 -- an array of comments
@@ -53,17 +48,12 @@ laid places (e ∷ es) = laid (with_comments e.0 e.1 places) es
 abbrev pub places_of : Data → Option Places
 places_of value = option_and_then (λ items. option_map (laid []) (each entry_of (items_list items))) (as_array value)
 
--- places that may be left out
-abbrev pub optional_places_of : Option Data → Option Places
-optional_places_of None = Some []
-optional_places_of (Some value) = places_of value
-
--- an object of the members leading and trailing
+-- an object of the members leading and trailing, which may be left out
 abbrev pub comments_of : Data → Option Comments
 comments_of value =
     option_and_then
     (λ members. option_and_then
     (λ leading. option_map (λ trailing. record { leading = leading; trailing = trailing })
-    (optional_places_of (get (codes "trailing") value)))
-    (optional_places_of (get (codes "leading") value)))
+    (option_map_or places_of (get (codes "trailing") value) (Some [])))
+    (option_map_or places_of (get (codes "leading") value) (Some [])))
     (as_object value)

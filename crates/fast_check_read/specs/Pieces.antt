@@ -1,6 +1,7 @@
 -- What the JSON of flags, numbers, texts and ranges stands for.
 use Rattle.std.specs.Prelude.{ℕ, ◌^◌, List, [], ◌∷◌, Bool, false, nat_lt, if◌then◌else◌, Option, Some, None, option_map}
 use Rattle.std.specs.Prelude.{option_and_then}
+use Rattle.std.specs.Option.{option_map_or}
 use Rattle.serde_json.specs.Data.{Data, Items, no_items, item}
 use Rattle.serde_json.specs.Find.{as_array, as_bool, as_number, as_str, as_u64 as number_as_u64}
 use Rattle.fast_check_syntax.specs.declared.source.SourceRange.{SourceRange}
@@ -47,8 +48,7 @@ word_of value words = option_and_then (λ text. option_map (λ row. row.word) (w
 
 -- a flag that may be left out
 abbrev pub optional_flag_of : Option Data → Option Bool
-optional_flag_of None = Some false
-optional_flag_of (Some value) = as_bool value
+optional_flag_of value = option_map_or as_bool value (Some false)
 
 -- an array of ranges
 abbrev pub ranges_of : Data → Option (List SourceRange)

@@ -1,6 +1,7 @@
 -- The tree that a JSON value stands for at a place of a form.
 use Rattle.std.specs.Prelude.{ℕ, List, [], ◌∷◌, Bool, true, false, if◌then◌else◌, Option, Some, None, option_map}
 use Rattle.std.specs.Prelude.{option_and_then}
+use Rattle.std.specs.Option.{option_map_or}
 use Rattle.std.specs.Ordering.{nat_cmp, match_ordering}
 use Rattle.std.specs.Cmp.Lexicographic.{slice_cmp}
 use Rattle.serde_json.specs.Data.{Data, null, boolean, number, string, array, object, Items, no_items, item, Members}
@@ -88,8 +89,8 @@ reading_named name (m ∷ ms) = match_ordering (slice_cmp nat_cmp name m.0) (rea
     (reading_named name ms)
 
 abbrev pub field_or_default : Option Reading → FieldRow → Option Tree
-field_or_default None field = default_tree field.form field.count
-field_or_default (Some r) field = counted r field.form field.count
+field_or_default reading field =
+    option_map_or (λ r. counted r field.form field.count) reading (default_tree field.form field.count)
 
 -- a field of an object: other members are passed over
 abbrev pub field_tree : List (List ℕ × Reading) → FieldRow → Option Tree

@@ -1,15 +1,14 @@
 //! Comments, read of JSON.
-ghost use Rattle.std.specs.Prelude.{◌≡◌, option_map};
-ghost use Rattle.std.specs.Option.{ok_or};
+ghost use Rattle.std.specs.Prelude.{◌≡◌, [], Some, option_map};
+ghost use Rattle.std.specs.Option.{ok_or, option_map_or};
 ghost use Rattle.serde_json.specs.View.{view, items_view, members_view};
 ghost use Rattle.fast_check_read.specs.Each.{Answers};
-ghost use Rattle.fast_check_read.specs.Comments.{comments_of, optional_places_of, places_of, entry_of, comment_list_of, comment_of, comment_kind_of};
-ghost use Rattle.fast_check_read.specs.Comments.{optional_range_of};
+ghost use Rattle.fast_check_read.specs.Comments.{comments_of, places_of, entry_of, comment_list_of, comment_of, comment_kind_of};
 
 use crate::error::ReadError;
 use crate::pieces::{read_array, read_members, read_pair, read_range, read_text, read_u32};
 use fast_check_comments::{Comment, CommentKind, CommentList, CommentMap, Comments};
-use fast_check_syntax::{Atom, DUMMY_SP, SourcePos, SourceRange};
+use fast_check_syntax::{Atom, DUMMY_SP, SourcePos};
 use serde_json::Value;
 use std::alloc::Global;
 
@@ -26,8 +25,9 @@ pub fn read_comments(alloc: Global, value: &Value) -> Result<Comments, ReadError
     })
 }
 
+/// None where they are left out.
 fn read_optional_places(alloc: Global, value: Option<&Value>) -> Result<CommentMap, ReadError>
-    ensures { Answers (optional_places_of (option_map (λ v. view v.now) value.entry)) result }
+    ensures { Answers (option_map_or places_of (option_map (λ v. view v.now) value.entry) (Some [])) result }
 {
     match value {
         Some(value) => read_places(alloc, value),
@@ -66,11 +66,12 @@ fn read_comment_list(alloc: Global, value: &Value) -> Result<CommentList, ReadEr
     Ok(CommentList::from_vec(comments))
 }
 
+/// An object of the members `kind`, `span` and `text`. Without a span it is that of a node that no text stands for.
 fn read_comment(alloc: Global, value: &Value) -> Result<Comment, ReadError>
     ensures { Answers (comment_of (view value.now)) result }
 {
     let kind = read_comment_kind(value.get("kind").ok_or(ReadError::BadForm)?)?;
-    let span = read_optional_range(value.get("span"))?;
+    let span = value.get("span").map_or(Ok(DUMMY_SP), read_range)?;
     let text = read_text(value.get("text").ok_or(ReadError::BadForm)?)?;
     let text = Atom::from_str(alloc, text)?;
     Ok(Comment { kind, span, text })
@@ -83,15 +84,5 @@ fn read_comment_kind(value: &Value) -> Result<CommentKind, ReadError>
         "Line" => Ok(CommentKind::Line),
         "Block" => Ok(CommentKind::Block),
         _ => Err(ReadError::BadForm),
-    }
-}
-
-/// A range that may be left out, and is then that of a node that no text stands for.
-fn read_optional_range(value: Option<&Value>) -> Result<SourceRange, ReadError>
-    ensures { Answers (optional_range_of (option_map (λ v. view v.now) value.entry)) result }
-{
-    match value {
-        Some(value) => read_range(value),
-        None => Ok(DUMMY_SP),
     }
 }

@@ -71,10 +71,7 @@ pub fn read_pair(value: &Value) -> Result<(&Value, &Value), ReadError>
 pub fn read_optional_flag(value: Option<&Value>) -> Result<bool, ReadError>
     ensures { result ≡ ok_or (optional_flag_of (option_map (λ v. view v.now) value.entry)) ReadError.BadForm }
 {
-    match value {
-        Some(value) => read_bool(value),
-        None => Ok(false),
-    }
+    value.map_or(Ok(false), read_bool)
 }
 
 /// An array of ranges.

@@ -1,15 +1,18 @@
 -- The symbol that a JSON value stands for.
-use Rattle.std.specs.Prelude.{ℕ, List, [], ◌∷◌, codes, if◌then◌else◌, Option, Some, None, option_map}
+use Rattle.std.specs.Prelude.{ℕ, List, [], codes, if◌then◌else◌, Option, Some, None, option_map}
+use Rattle.std.specs.Option.{option_map_or}
 use Rattle.std.specs.Str.{bytes_eq}
 use Rattle.serde_json.specs.Data.{Data}
 use Rattle.serde_json.specs.Find.{as_object, as_str}
+use Rattle.fast_check_syntax.specs.Shape.{none_range}
 use Rattle.fast_check_symbols.specs.declared.symbol_id.SymbolId.{SymbolId}
 use Rattle.fast_check_symbols.specs.declared.node.ReferenceNamespace.{ReferenceNamespace}
 use Rattle.fast_check_symbols.specs.declared.node.ReferenceNamespace.TheVariants.{Value, Type_, Both}
 use Rattle.fast_check_symbols.specs.Exports.{put_export}
-use Rattle.fast_check_read_tables.specs.graph.Reads.{given, list_of, both_of, or_null, or_default, needed, listed, optional}
-use Rattle.fast_check_read_tables.specs.graph.Reads.{flagged, ranged, variant_of, id_of, symbol_id_of}
-use Rattle.serde_json.specs.Find.{get}
+use Rattle.fast_check_read.specs.Pieces.{range_of_data}
+use Rattle.fast_check_read_tables.specs.graph.Reads.{given, list_of, both_of, or_null, member_or, needed, listed, optional}
+use Rattle.fast_check_read_tables.specs.graph.Reads.{flagged, variant_of, id_of, symbol_id_of}
+use Rattle.fast_check_read_tables.specs.graph.Gathered.{all_gathered}
 use Rattle.fast_check_read_tables.specs.Seen as seen
 use Rattle.fast_check_read_tables.specs.Seen.{FileName, Dep, Node, DeclKind, Decl, SeenSymbol}
 
@@ -49,8 +52,9 @@ node_dep_of = both_of dep_of namespace_of
 -- ---- declarations
 
 -- the node of a definition: flags, and what it refers to
-abbrev pub members_of_node : Data → Option Node
-members_of_node value =
+abbrev pub node_of : Data → Option Node
+node_of value =
+    given (as_object value) (λ members.
     given (flagged (codes "is_class") value) (λ is_class.
     given (flagged (codes "is_member") value) (λ is_member.
     given (flagged (codes "is_function") value) (λ is_function.
@@ -68,21 +72,13 @@ members_of_node value =
       is_plain_class_decl = is_plain_class_decl;
       has_export_keyword = has_export_keyword;
       deps = deps;
-    })))))))))
-
-abbrev pub node_of : Data → Option Node
-node_of value = given (as_object value) (λ members. members_of_node value)
+    }))))))))))
 
 -- what is taken of a file: `"Star"`, or a name
-abbrev pub file_name_named : List ℕ → Data → Option FileName
-file_name_named name content = if bytes_eq name (codes "Name") then option_map seen.Name (as_str content) else None
-
-abbrev pub file_name_by : Option (List ℕ) → Data → Option FileName
-file_name_by (Some text) value = if bytes_eq text (codes "Star") then Some seen.Star else None
-file_name_by None value = given (variant_of value) (λ v. file_name_named v.0 v.1)
-
 abbrev pub file_name_of : Data → Option FileName
-file_name_of value = file_name_by (as_str value) value
+file_name_of value =
+    option_map_or (λ text. if bytes_eq text (codes "Star") then Some seen.Star else None) (as_str value)
+    (given (variant_of value) (λ v. if bytes_eq v.0 (codes "Name") then option_map seen.Name (as_str v.1) else None))
 
 abbrev pub file_ref_of : Data → Option DeclKind
 file_ref_of value =
@@ -104,7 +100,7 @@ decl_kind_of value = given (variant_of value) (λ v. decl_kind_named v.0 v.1)
 
 abbrev pub decl_of : Data → Option Decl
 decl_of value =
-    given (ranged (codes "range") value) (λ range.
+    given (member_or none_range range_of_data (codes "range") value) (λ range.
     given (flagged (codes "value") value) (λ is_value.
     given (flagged (codes "type_") value) (λ type_.
     given (flagged (codes "has_overloads") value) (λ has_overloads.
@@ -123,13 +119,9 @@ decl_of value =
 abbrev pub export_of : Data → Option (List ℕ × SymbolId)
 export_of = both_of as_str symbol_id_of
 
--- entries put over exports, one after another
-abbrev pub all_put : List (List ℕ × SymbolId) → List (List ℕ × SymbolId) → List (List ℕ × SymbolId)
-all_put exports [] = exports
-all_put exports (e ∷ es) = all_put (put_export e.0 e.1 exports) es
-
+-- entries put over one another
 abbrev pub exports_of : Data → Option (List (List ℕ × SymbolId))
-exports_of value = option_map (all_put []) (list_of export_of value)
+exports_of value = option_map (all_gathered (λ exports e. put_export e.0 e.1 exports) []) (list_of export_of value)
 
 abbrev pub symbol_of : Data → Option SeenSymbol
 symbol_of value =
@@ -138,7 +130,7 @@ symbol_of value =
     given (flagged (codes "is_private_member") value) (λ is_private_member.
     given (optional as_str (codes "maybe_name") value) (λ maybe_name.
     given (optional as_str (codes "qualified_name") value) (λ qualified_name.
-    given (or_default [] exports_of (get (codes "exports") value)) (λ exports.
+    given (member_or [] exports_of (codes "exports") value) (λ exports.
     given (listed symbol_id_of (codes "members") value) (λ members.
     option_map (λ decls. record {
       id = id;

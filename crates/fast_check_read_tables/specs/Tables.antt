@@ -3,7 +3,6 @@ use Rattle.std.specs.Prelude.{ℕ, List, codes, Option, option_map}
 use Rattle.serde_json.specs.Data.{Data}
 use Rattle.serde_json.specs.Find.{as_str}
 use Rattle.fast_check_syntax.specs.declared.source.SourceRange.{SourceRange}
-use Rattle.fast_check_symbols.specs.declared.symbol_id.SymbolId.{SymbolId}
 use Rattle.fast_check_read.specs.Pieces.{range_of_data}
 use Rattle.fast_check_read_tables.specs.graph.Reads.{given, both_of, needed, listed, id_of, symbol_id_of, url_of}
 use Rattle.fast_check_read_tables.specs.Seen.{SeenTables}

@@ -1,6 +1,5 @@
 //! Reading JSON by the type that it stands for. Packages, members of a workspace, modules and their graph, read of JSON.
 
-mod by;
 mod from_json;
 mod gather;
 mod graph;
@@ -9,11 +8,9 @@ mod modules;
 mod names;
 mod workspace;
 
-pub use crate::graph::by::{ByType, FromJsonBy};
 pub use crate::graph::from_json::FromJson;
 pub use crate::graph::gather::{Gather, both, gather_all};
 pub use crate::graph::graph::read_graph;
 pub use crate::graph::members::{
-    read_flag, read_list, read_list_by, read_member, read_member_by, read_option, read_span,
-    read_variant,
+    read_flag, read_list, read_member, read_member_or, read_option, read_variant,
 };

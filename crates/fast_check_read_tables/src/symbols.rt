@@ -1,25 +1,22 @@
 //! Symbols, with their declarations and what these refer to.
 
-ghost use Rattle.std.specs.Prelude.{[], option_map};
 ghost use Rattle.serde_json.specs.View.{view};
-ghost use Rattle.fast_check_read_tables.specs.graph.Reads.{Reads, or_default, or_null};
+ghost use Rattle.fast_check_read_tables.specs.graph.Reads.{Reads};
 ghost use Rattle.fast_check_read_tables.specs.Seen as seen;
 ghost use Rattle.fast_check_read_tables.specs.Symbols as symbols;
 
 use crate::graph::{
-    FromJson, FromJsonBy, Gather, both, gather_all, read_flag, read_list, read_list_by,
-    read_member, read_member_by, read_option, read_span, read_variant,
+    FromJson, Gather, both, gather_all, read_flag, read_list, read_member, read_member_or,
+    read_option, read_variant,
 };
 use fast_check_read::{ReadError, read_members, read_pair, read_text};
 use fast_check_symbols::{
     FileDepName, ReferenceNamespace, Symbol, SymbolDecl, SymbolDeclKind, SymbolDecls, SymbolDep,
     SymbolExports, SymbolId, SymbolNode, SymbolNodeDep,
 };
+use fast_check_syntax::DUMMY_SP;
 use serde_json::Value;
 use std::alloc::Global;
-
-/// Whose way of reading symbols it is: that of this crate.
-pub struct OfTables;
 
 /// An object of one member: `Id`, `QualifiedId` or `ImportType`.
 fn read_dep(alloc: Global, value: &Value) -> Result<SymbolDep, ReadError>
@@ -53,7 +50,7 @@ fn read_namespace(value: &Value) -> Result<ReferenceNamespace, ReadError>
 }
 
 /// An array of what is referred to and its namespaces.
-impl FromJsonBy<OfTables> for SymbolNodeDep {
+impl FromJson for SymbolNodeDep {
     ghost use Rattle.fast_check_symbols.specs.declared.node.ReferenceNamespace.{ReferenceNamespace};
 
     ghost Seen = { seen.Dep × ReferenceNamespace };
@@ -62,7 +59,7 @@ impl FromJsonBy<OfTables> for SymbolNodeDep {
 
     ghost read_of = { symbols.node_dep_of };
 
-    fn from_json_by(alloc: Global, value: &Value) -> Result<SymbolNodeDep, ReadError> {
+    fn from_json(alloc: Global, value: &Value) -> Result<SymbolNodeDep, ReadError> {
         let (dep, namespace) = read_pair(value)?;
         let (dep, namespace) = both(read_dep(alloc, dep), read_namespace(namespace))?;
         Ok(SymbolNodeDep { dep, namespace })
@@ -70,41 +67,37 @@ impl FromJsonBy<OfTables> for SymbolNodeDep {
 }
 
 /// An object of flags and `deps`.
-fn read_node(alloc: Global, value: &Value) -> Result<SymbolNode, ReadError>
-    ensures { Reads seen.node (symbols.node_of (view value.now)) result }
-{
-    read_members(value)?;
-    Ok(SymbolNode {
-        is_class: read_flag(value, "is_class")?,
-        is_member: read_flag(value, "is_member")?,
-        is_function: read_flag(value, "is_function")?,
-        is_ts_namespace: read_flag(value, "is_ts_namespace")?,
-        is_default_class_expr: read_flag(value, "is_default_class_expr")?,
-        is_plain_class_decl: read_flag(value, "is_plain_class_decl")?,
-        has_export_keyword: read_flag(value, "has_export_keyword")?,
-        deps: read_list_by::<OfTables, SymbolNodeDep>(alloc, value, "deps")?,
-    })
-}
+impl FromJson for SymbolNode {
+    ghost Seen = { seen.Node };
 
-/// The node of a definition, or null.
-fn read_definition(alloc: Global, value: &Value) -> Result<Option<SymbolNode>, ReadError>
-    ensures { Reads (option_map seen.node) (or_null symbols.node_of (view value.now)) result }
-{
-    match value {
-        Value::Null => Ok(None),
-        _ => Ok(Some(read_node(alloc, value)?)),
+    ghost seen = { seen.node };
+
+    ghost read_of = { symbols.node_of };
+
+    fn from_json(alloc: Global, value: &Value) -> Result<SymbolNode, ReadError> {
+        read_members(value)?;
+        Ok(SymbolNode {
+            is_class: read_flag(value, "is_class")?,
+            is_member: read_flag(value, "is_member")?,
+            is_function: read_flag(value, "is_function")?,
+            is_ts_namespace: read_flag(value, "is_ts_namespace")?,
+            is_default_class_expr: read_flag(value, "is_default_class_expr")?,
+            is_plain_class_decl: read_flag(value, "is_plain_class_decl")?,
+            has_export_keyword: read_flag(value, "has_export_keyword")?,
+            deps: read_list(alloc, value, "deps")?,
+        })
     }
 }
 
 /// `"Star"`, or an object of one member `Name`.
-impl FromJsonBy<OfTables> for FileDepName {
+impl FromJson for FileDepName {
     ghost Seen = { seen.FileName };
 
     ghost seen = { seen.file_name };
 
     ghost read_of = { symbols.file_name_of };
 
-    fn from_json_by(alloc: Global, value: &Value) -> Result<FileDepName, ReadError> {
+    fn from_json(alloc: Global, value: &Value) -> Result<FileDepName, ReadError> {
         if let Ok(text) = read_text(value) {
             return match text {
                 "Star" => Ok(FileDepName::Star),
@@ -120,14 +113,14 @@ impl FromJsonBy<OfTables> for FileDepName {
 }
 
 /// An object of one member: `Target`, `QualifiedTarget`, `FileRef` or `Definition`.
-impl FromJsonBy<OfTables> for SymbolDeclKind {
+impl FromJson for SymbolDeclKind {
     ghost Seen = { seen.DeclKind };
 
     ghost seen = { seen.decl_kind };
 
     ghost read_of = { symbols.decl_kind_of };
 
-    fn from_json_by(alloc: Global, value: &Value) -> Result<SymbolDeclKind, ReadError> {
+    fn from_json(alloc: Global, value: &Value) -> Result<SymbolDeclKind, ReadError> {
         let (name, content) = read_variant(value)?;
         match name {
             "Target" => Ok(SymbolDeclKind::Target(FromJson::from_json(alloc, content)?)),
@@ -136,7 +129,7 @@ impl FromJsonBy<OfTables> for SymbolDeclKind {
                 Ok(SymbolDeclKind::QualifiedTarget(id, parts))
             }
             "FileRef" => read_file_ref(alloc, content),
-            "Definition" => Ok(SymbolDeclKind::Definition(read_definition(alloc, content)?)),
+            "Definition" => Ok(SymbolDeclKind::Definition(FromJson::from_json(alloc, content)?)),
             _ => Err(ReadError::BadForm),
         }
     }
@@ -148,31 +141,31 @@ fn read_file_ref(alloc: Global, value: &Value) -> Result<SymbolDeclKind, ReadErr
 {
     Ok(SymbolDeclKind::FileRef {
         specifier: read_member(alloc, value, "specifier")?,
-        name: read_member_by::<OfTables, FileDepName>(alloc, value, "name")?,
+        name: read_member(alloc, value, "name")?,
     })
 }
 
 /// An object of a declaration's range, its flags and its kind.
-impl FromJsonBy<OfTables> for SymbolDecl {
+impl FromJson for SymbolDecl {
     ghost Seen = { seen.Decl };
 
     ghost seen = { seen.decl };
 
     ghost read_of = { symbols.decl_of };
 
-    fn from_json_by(alloc: Global, value: &Value) -> Result<SymbolDecl, ReadError> {
+    fn from_json(alloc: Global, value: &Value) -> Result<SymbolDecl, ReadError> {
         Ok(SymbolDecl {
-            range: read_span(value, "range")?,
+            range: read_member_or(alloc, value, "range", DUMMY_SP)?,
             value: read_flag(value, "value")?,
             type_: read_flag(value, "type_")?,
             has_overloads: read_flag(value, "has_overloads")?,
             has_body: read_flag(value, "has_body")?,
-            kind: read_member_by::<OfTables, SymbolDeclKind>(alloc, value, "kind")?,
+            kind: read_member(alloc, value, "kind")?,
         })
     }
 }
 
-impl Gather<OfTables> for SymbolExports {
+impl Gather for SymbolExports {
     ghost use Rattle.std.specs.Prelude.{List, ℕ};
     ghost use Rattle.fast_check_symbols.specs.declared.symbol_id.SymbolId.{SymbolId};
     ghost use Rattle.fast_check_symbols.specs.Exports.{put_export};
@@ -195,31 +188,30 @@ impl Gather<OfTables> for SymbolExports {
 }
 
 /// An array of names with the symbols that they stand for. Of entries with one name the last counts.
-fn read_export_list(alloc: Global, value: &Value) -> Result<SymbolExports, ReadError>
-    ensures { Reads (λ exports. exports) (symbols.exports_of (view value.now)) result }
-{
-    gather_all::<OfTables, SymbolExports>(alloc, value, SymbolExports::new(alloc))
-}
+impl FromJson for SymbolExports {
+    ghost use Rattle.std.specs.Prelude.{List, ℕ};
+    ghost use Rattle.fast_check_symbols.specs.declared.symbol_id.SymbolId.{SymbolId};
 
-/// The exports of a symbol, which are none where they are left out.
-fn read_exports(alloc: Global, value: Option<&Value>) -> Result<SymbolExports, ReadError>
-    ensures { Reads (λ exports. exports) (or_default [] symbols.exports_of (option_map (λ v. view v.now) value.entry)) result }
-{
-    match value {
-        Some(value) => read_export_list(alloc, value),
-        None => Ok(SymbolExports::new(alloc)),
+    ghost Seen = { List (List ℕ × SymbolId) };
+
+    ghost seen = { λ exports. exports };
+
+    ghost read_of = { symbols.exports_of };
+
+    fn from_json(alloc: Global, value: &Value) -> Result<SymbolExports, ReadError> {
+        gather_all(alloc, value, SymbolExports::new(alloc))
     }
 }
 
 /// An object of what is known of a symbol.
-impl FromJsonBy<OfTables> for Symbol {
+impl FromJson for Symbol {
     ghost Seen = { seen.SeenSymbol };
 
     ghost seen = { seen.symbol };
 
     ghost read_of = { symbols.symbol_of };
 
-    fn from_json_by(alloc: Global, value: &Value) -> Result<Symbol, ReadError> {
+    fn from_json(alloc: Global, value: &Value) -> Result<Symbol, ReadError> {
         let id = read_member(alloc, value, "id")?;
         let parent_id = read_option(alloc, value, "parent_id")?;
         let is_private_member = read_flag(value, "is_private_member")?;
@@ -227,10 +219,10 @@ impl FromJsonBy<OfTables> for Symbol {
             read_option(alloc, value, "maybe_name"),
             read_option(alloc, value, "qualified_name"),
         );
-        let exports = read_exports(alloc, value.get("exports"));
+        let exports = read_member_or(alloc, value, "exports", SymbolExports::new(alloc));
         let lists = both(
             read_list(alloc, value, "members"),
-            read_list_by::<OfTables, SymbolDecl>(alloc, value, "decls"),
+            read_list(alloc, value, "decls"),
         );
         let (names, (exports, (members, decls))) = both(names, both(exports, lists))?;
         let (maybe_name, qualified_name) = names;

@@ -5,16 +5,14 @@ ghost use Rattle.fast_check_read_tables.specs.graph.Reads.{Reads};
 ghost use Rattle.fast_check_read_tables.specs.Seen as seen;
 ghost use Rattle.fast_check_read_tables.specs.Tables as tables;
 
-use crate::graph::{FromJson, FromJsonBy, both, read_list, read_list_by, read_member};
-use crate::symbols::OfTables;
+use crate::graph::{FromJson, both, read_list, read_member};
 use fast_check_modules::{ModuleTables, ReExportAllNode};
 use fast_check_read::ReadError;
-use fast_check_symbols::Symbol;
 use serde_json::Value;
 use std::alloc::Global;
 
 /// An array of a range and a source text.
-impl FromJsonBy<OfTables> for ReExportAllNode {
+impl FromJson for ReExportAllNode {
     ghost use Rattle.std.specs.Prelude.{List, ℕ};
     ghost use Rattle.fast_check_syntax.specs.declared.source.SourceRange.{SourceRange};
 
@@ -24,7 +22,7 @@ impl FromJsonBy<OfTables> for ReExportAllNode {
 
     ghost read_of = { tables.re_export_of };
 
-    fn from_json_by(alloc: Global, value: &Value) -> Result<ReExportAllNode, ReadError> {
+    fn from_json(alloc: Global, value: &Value) -> Result<ReExportAllNode, ReadError> {
         let (range, specifier) = FromJson::from_json(alloc, value)?;
         Ok(ReExportAllNode { range, specifier })
     }
@@ -37,11 +35,11 @@ pub fn read_module_tables(alloc: Global, value: &Value) -> Result<ModuleTables, 
 {
     let module_symbol = read_member(alloc, value, "module_symbol")?;
     let names = both(
-        read_list_by::<OfTables, Symbol>(alloc, value, "symbols"),
+        read_list(alloc, value, "symbols"),
         read_list(alloc, value, "swc_ids"),
     );
     let exports = both(
-        read_list_by::<OfTables, ReExportAllNode>(alloc, value, "re_export_all_nodes"),
+        read_list(alloc, value, "re_export_all_nodes"),
         read_list(alloc, value, "resolved_exports"),
     );
     let ((symbols, swc_ids), (re_export_all_nodes, resolved_exports)) = both(names, exports)?;

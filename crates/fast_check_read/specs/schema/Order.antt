@@ -1,18 +1,15 @@
 -- The order in which the fields of a form are written: that of their names.
-use Rattle.std.specs.Prelude.{ℕ, zero, suc, List, [], ◌∷◌, length, slice_get, Option, Some, None}
+use Rattle.std.specs.Prelude.{ℕ, zero, suc, List, [], ◌∷◌, length, slice_get}
 use Rattle.std.specs.Cmp.Lexicographic.{slice_cmp}
+use Rattle.std.specs.Option.{option_map_or}
 use Rattle.std.specs.Ordering.{nat_cmp, match_ordering}
 use Rattle.fast_check_syntax.specs.declared.kind.Kind.{Kind}
 use Rattle.fast_check_read.specs.schema.Rows.{FieldRow}
 use Rattle.fast_check_read.specs.schema.Schema.{fields_of}
 
-abbrev pub name_or_none : Option FieldRow → List ℕ
-name_or_none None = []
-name_or_none (Some field) = field.name
-
 -- the name of the field at a place
 abbrev pub name_at : List FieldRow → ℕ → List ℕ
-name_at fields place = name_or_none (slice_get fields place)
+name_at fields place = option_map_or (λ field. field.name) (slice_get fields place) []
 
 -- a place among others that stand in the order of their names; of two of one name the new one stays
 abbrev pub insert_place : List FieldRow → ℕ → List ℕ → List ℕ

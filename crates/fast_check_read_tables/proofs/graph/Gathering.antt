@@ -13,7 +13,7 @@ use Rattle.fast_check_read.specs.Pieces.{items_list}
 use Rattle.fast_check_read.specs.declared.error.ReadError.{ReadError}
 use Rattle.fast_check_read.specs.declared.error.ReadError.TheVariants.{BadForm, OutOfMemory}
 use Rattle.fast_check_read_tables.specs.graph.Reads.{given, list_of, Reads}
-use Rattle.fast_check_read_tables.specs.graph.Gathered.{all_gathered, both_given, both_read}
+use Rattle.fast_check_read_tables.specs.graph.Gathered.{all_gathered, both_read}
 use Rattle.fast_check_read_tables.proofs.graph.Given.{given_some, given_none, map_some}
 
 -- ---- items one after another
@@ -66,6 +66,10 @@ all_items None = refl
 all_items (Some xs) = ap Some (behind [] xs)
 
 -- ---- two readings
+
+-- both, if both are there
+abbrev pub both_given : {A B : Type 0} → Option A → Option B → Option (A × B)
+both_given first second = given first (λ a. option_map (λ b. (a, b)) second)
 
 -- both values are those of both, and the error is that of one of them
 pub both_reads : {A B C D : Type 0} (f : C → A) (g : D → B) (first : Option A) (second : Option B) (r : Result C ReadError)
@@ -131,10 +135,3 @@ given_five (Some x) (Some y) None d e f = refl
 given_five (Some x) (Some y) (Some z) None e f = refl
 given_five (Some x) (Some y) (Some z) (Some u) None f = refl
 given_five (Some x) (Some y) (Some z) (Some u) (Some v) f = refl
-
--- ---- what is gathered, by its own definitions
-
-pub gathered_as : {S X : Type 0} (with : S → X → S) (all : S → List X → S) (none s : S) (o : Option (List X))
-    → ((t : S) (xs : List X) → all t xs ≡ all_gathered with t xs) → s ≡ none → option_map (all none) o ≡ option_map (all_gathered with s) o
-gathered_as with all none s None same e = refl
-gathered_as with all none s (Some xs) same e = ap Some (same none xs ∙ ap (λ t. all_gathered with t xs) (sym e))

@@ -24,9 +24,7 @@ use Rattle.fast_check_graph.specs.Graph.{is_specifier, is_package, IsGraphOf}
 use Rattle.fast_check_graph.specs.Resolutions.{text_resolved}
 use Rattle.fast_check_graph.proofs.Tied.{at_specifier, at_text}
 use Rattle.fast_check_read_tables.specs.graph.Graph as seen
-use Rattle.fast_check_read_tables.specs.graph.Gathered.{all_gathered}
-use Rattle.fast_check_read_tables.specs.graph.Graph.{Exports, Resolutions, seen_exports, seen_resolutions, all_exported, all_resolved}
-use Rattle.fast_check_read_tables.specs.graph.Graph.{resolved_also}
+use Rattle.fast_check_read_tables.specs.graph.Graph.{Resolutions, seen_exports, seen_resolutions, resolved_also}
 
 abbrev pub Texts : Type 0
 Texts = String Global × String Global
@@ -115,25 +113,13 @@ module _ (referrer url : Parts) (text : String Global) (m n : BTreeMap Parts Tex
       ∙ ap (λ (o : Option Texts_of). option_and_then (text_resolved bs) o) (at_specifier referrer m.entries ∙ same_referrer u e)))
   resolved bs u false e = refl
 
-  pub put_resolved : seen_resolutions n ≡ resolved_also (referrer, string_bytes text, url) (seen_resolutions m)
+  pub put_resolved : seen_resolutions n ≡ resolved_also (seen_resolutions m) (referrer, string_bytes text, url)
   put_resolved = λ i bs u.
       (ap (λ (o : Option Texts_of). option_and_then (text_resolved bs) o) (found u) ∙ resolved bs u (is_specifier u referrer) refl) i
 
 -- no texts
 pub no_texts : (m : BTreeMap Parts Texts_of) → m.entries ≡ [] → seen_resolutions m ≡ seen.no_resolutions
 no_texts m e = λ i text referrer. option_and_then (text_resolved text) (lookup (is_specifier referrer) (e i))
-
--- ---- what is gathered
-
-pub texts_gathered : (exports es : Exports) → all_exported exports es ≡ all_gathered
-    (λ so_far e. insert_entry bytes_eq so_far e.0 e.1) exports es
-texts_gathered exports [] = refl
-texts_gathered exports (e ∷ es) = texts_gathered (insert_entry bytes_eq exports e.0 e.1) es
-
-pub resolutions_gathered : (others : Resolutions) (es : List (Parts × List ℕ × Parts))
-    → all_resolved others es ≡ all_gathered (λ so_far e. resolved_also e so_far) others es
-resolutions_gathered others [] = refl
-resolutions_gathered others (e ∷ es) = resolutions_gathered (resolved_also e others) es
 
 -- ---- graphs
 

@@ -1,17 +1,12 @@
 -- What is put together of what is read.
-use Rattle.std.specs.Prelude.{List, [], ◌∷◌, Option, option_map, Result, Ok, Err}
+use Rattle.std.specs.Prelude.{List, [], ◌∷◌, Result, Ok, Err}
 use Rattle.fast_check_read.specs.declared.error.ReadError.{ReadError}
 use Rattle.fast_check_read.specs.declared.error.ReadError.TheVariants.{OutOfMemory}
-use Rattle.fast_check_read_tables.specs.graph.Reads.{given}
 
 -- items put one after another
 abbrev pub all_gathered : {S X : Type 0} → (S → X → S) → S → List X → S
 all_gathered with gathered [] = gathered
 all_gathered with gathered (x ∷ xs) = all_gathered with (with gathered x) xs
-
--- both, if both are there
-abbrev pub both_given : {A B : Type 0} → Option A → Option B → Option (A × B)
-both_given first second = given first (λ a. option_map (λ b. (a, b)) second)
 
 -- an error beside what else is read: out of memory goes before
 abbrev pub error_beside : {B : Type 0} → ReadError → Result B ReadError → ReadError

@@ -11,7 +11,7 @@ use Rattle.std.specs.declared.alloc.Global.{Global}
 use Rattle.indexmap.specs.IndexMap.{insert_entry}
 use Rattle.semver.specs.Parse.{version_parts}
 use Rattle.serde_json.specs.Data.{Data}
-use Rattle.serde_json.specs.Find.{as_object, as_str, get}
+use Rattle.serde_json.specs.Find.{as_object, as_str}
 use Rattle.url.specs.Parts.{Parts}
 use Rattle.fast_check_packages.specs.declared.package.PackageNv.{PackageNv}
 use Rattle.fast_check_packages.specs.Package.{Nv, VersionParts, nv_of, nv_cmp}
@@ -20,7 +20,8 @@ use Rattle.fast_check_graph.specs.declared.graph.ModuleGraph.{ModuleGraph}
 use Rattle.fast_check_graph.specs.declared.module.Module.{Module}
 use Rattle.fast_check_graph.specs.Graph.{is_specifier, module_at, resolved_to, exports_of}
 use Rattle.fast_check_graph.specs.Resolutions.{text_resolved}
-use Rattle.fast_check_read_tables.specs.graph.Reads.{given, list_of, both_of, three_of, or_default, needed, listed, url_of}
+use Rattle.fast_check_read_tables.specs.graph.Reads.{given, list_of, both_of, three_of, member_or, needed, listed, url_of}
+use Rattle.fast_check_read_tables.specs.graph.Gathered.{all_gathered}
 use Rattle.fast_check_read_tables.specs.graph.Modules.{module_of}
 
 -- ---- what contracts see of a graph: what its look-ups find
@@ -75,30 +76,24 @@ package_of value = given (as_str value) package_named
 
 -- names with texts, put one after another: a new name goes last, and one that is there keeps its place and takes the
 -- text
-abbrev pub all_exported : Exports → Exports → Exports
-all_exported exports [] = exports
-all_exported exports (e ∷ es) = all_exported (insert_entry bytes_eq exports e.0 e.1) es
-
 abbrev pub package_exports_of : Data → Option Exports
-package_exports_of value = option_map (all_exported []) (list_of (both_of as_str as_str) value)
+package_exports_of value = option_map (all_gathered (λ exports e. insert_entry bytes_eq exports e.0 e.1) [])
+    (list_of (both_of as_str as_str) value)
 
 -- ---- resolutions: a referrer, a text, and what it resolves to
 
 -- over others
-abbrev pub resolved_also : Parts × List ℕ × Parts → Resolutions → Resolutions
-resolved_also e others = λ text referrer. if is_specifier referrer e.0 &&
+abbrev pub resolved_also : Resolutions → Parts × List ℕ × Parts → Resolutions
+resolved_also others e = λ text referrer. if is_specifier referrer e.0 &&
     bytes_eq text e.1 then Some e.2 else others text referrer
 
 abbrev pub no_resolutions : Resolutions
 no_resolutions = λ text referrer. None
 
 -- one after another: of entries with one referrer and one text the last counts
-abbrev pub all_resolved : Resolutions → List (Parts × List ℕ × Parts) → Resolutions
-all_resolved others [] = others
-all_resolved others (e ∷ es) = all_resolved (resolved_also e others) es
-
 abbrev pub resolutions_of : Data → Option Resolutions
-resolutions_of value = option_map (all_resolved no_resolutions) (list_of (three_of url_of as_str url_of) value)
+resolutions_of value =
+    option_map (all_gathered resolved_also no_resolutions) (list_of (three_of url_of as_str url_of) value)
 
 -- ---- graphs
 
@@ -110,16 +105,14 @@ graph_by modules resolutions packages = record {
   packages = λ nv. last_value (λ k. is_eq (nv_cmp k (nv_of nv))) packages;
 }
 
-abbrev pub members_of_graph : Data → Option SeenGraph
-members_of_graph value =
-    given (listed (both_of url_of module_of) (codes "modules") value) (λ modules.
-    given (or_default no_resolutions resolutions_of (get (codes "resolutions") value)) (λ resolutions.
-    option_map (λ packages. graph_by modules resolutions packages)
-    (listed (both_of package_of package_exports_of) (codes "packages") value)))
-
 -- an object of the members modules, resolutions and packages
 abbrev pub graph_of : Data → Option SeenGraph
-graph_of value = given (as_object value) (λ members. members_of_graph value)
+graph_of value =
+    given (as_object value) (λ members.
+    given (listed (both_of url_of module_of) (codes "modules") value) (λ modules.
+    given (member_or no_resolutions resolutions_of (codes "resolutions") value) (λ resolutions.
+    option_map (λ packages. graph_by modules resolutions packages)
+    (listed (both_of package_of package_exports_of) (codes "packages") value))))
 
 -- the member graph, which has to stand
 abbrev pub graph_member_of : Data → Option SeenGraph

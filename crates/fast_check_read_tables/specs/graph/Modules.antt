@@ -1,5 +1,6 @@
 -- The module of the graph that a JSON value stands for.
 use Rattle.std.specs.Prelude.{ℕ, List, [], ◌∷◌, codes, if◌then◌else◌, Option, Some, None, option_map}
+use Rattle.std.specs.Option.{option_map_or}
 use Rattle.std.specs.Str.{bytes_eq}
 use Rattle.serde_json.specs.Data.{Data}
 use Rattle.serde_json.specs.Find.{as_object, as_str}
@@ -56,9 +57,5 @@ source_module_named name content =
 abbrev pub source_module_of : Data → Option Module
 source_module_of value = given (variant_of value) (λ v. source_module_named v.0 v.1)
 
-abbrev pub module_by : Option (List ℕ) → Data → Option Module
-module_by (Some name) value = plain_named name
-module_by None value = source_module_of value
-
 abbrev pub module_of : Data → Option Module
-module_of value = module_by (as_str value) value
+module_of value = option_map_or plain_named (as_str value) (source_module_of value)

@@ -1,19 +1,19 @@
 -- What a JSON value is read as, and what is left out.
 use Rattle.std.specs.Prelude.{◌≡◌, ℕ, List, [], Bool, Option, Some, None, option_map, option_and_then, Result}
 use Rattle.std.specs.Prelude.{MatchResult}
+use Rattle.std.specs.Option.{option_map_or}
 use Rattle.std.specs.Result.{result_ok}
-use Rattle.serde_json.specs.Data.{Data, null, boolean, number, string, array, object, Items, no_items, item, Members}
+use Rattle.serde_json.specs.Data.{Data, null, Items, no_items, item, Members}
 use Rattle.serde_json.specs.Data.{no_members, member}
 use Rattle.serde_json.specs.Find.{get, as_array, as_object, as_str}
 use Rattle.url.specs.Parser.{parse_url}
 use Rattle.url.specs.Parts.{Parts}
 use Rattle.fast_check_syntax.specs.declared.atom.Id.{Id}
-use Rattle.fast_check_syntax.specs.declared.source.SourceRange.{SourceRange}
 use Rattle.fast_check_symbols.specs.declared.symbol_id.SymbolId.{SymbolId}
 use Rattle.fast_check_read.specs.declared.error.ReadError.{ReadError}
 use Rattle.fast_check_read.specs.declared.error.ReadError.TheVariants.{BadForm}
 use Rattle.fast_check_read.specs.Each.{each}
-use Rattle.fast_check_read.specs.Pieces.{u32_of, items_list, pair_of, range_of_data, optional_flag_of}
+use Rattle.fast_check_read.specs.Pieces.{u32_of, items_list, pair_of, optional_flag_of}
 
 -- a call makes a value that is seen as what is expected, or answers `BadForm` where nothing is; it may run out of
 -- memory
@@ -37,11 +37,8 @@ both_of first second value = given (pair_of value) (λ p. given (first p.0) (λ 
 
 -- an array of three
 abbrev pub only_three : Items → Option (Data × Data × Data)
-only_three no_items = None
-only_three (item a no_items) = None
-only_three (item a (item b no_items)) = None
 only_three (item a (item b (item c no_items))) = Some (a, b, c)
-only_three (item a (item b (item c (item d ds)))) = None
+only_three _ = None
 
 abbrev pub three_of : {A B C : Type 0} → (Data → Option A) → (Data → Option B) → (Data → Option C) → Data →
     Option (A × B × C)
@@ -54,45 +51,34 @@ three_of first second third value =
 -- null, or a value
 abbrev pub or_null : {A : Type 0} → (Data → Option A) → Data → Option (Option A)
 or_null read null = Some None
-or_null read (boolean b) = option_map Some (read (boolean b))
-or_null read (number n) = option_map Some (read (number n))
-or_null read (string s) = option_map Some (read (string s))
-or_null read (array ds) = option_map Some (read (array ds))
-or_null read (object ms) = option_map Some (read (object ms))
+or_null read value = option_map Some (read value)
 
 -- ---- members of an object
-
--- what stands in its place, or a default where nothing does
-abbrev pub or_default : {A : Type 0} → A → (Data → Option A) → Option Data → Option A
-or_default default read None = Some default
-or_default default read (Some value) = read value
 
 -- a member that has to stand
 abbrev pub needed : {A : Type 0} → (Data → Option A) → List ℕ → Data → Option A
 needed read name value = given (get name value) read
 
+-- a member, or a default where it is left out
+abbrev pub member_or : {A : Type 0} → A → (Data → Option A) → List ℕ → Data → Option A
+member_or default read name value = option_map_or read (get name value) (Some default)
+
 -- a list: empty where it is left out
 abbrev pub listed : {A : Type 0} → (Data → Option A) → List ℕ → Data → Option (List A)
-listed read name value = or_default [] (list_of read) (get name value)
+listed read = member_or [] (list_of read)
 
 -- an option: none where it is left out
 abbrev pub optional : {A : Type 0} → (Data → Option A) → List ℕ → Data → Option (Option A)
-optional read name value = or_default None (or_null read) (get name value)
+optional read = member_or None (or_null read)
 
 -- a flag: false where it is left out
 abbrev pub flagged : List ℕ → Data → Option Bool
 flagged name value = optional_flag_of (get name value)
 
--- the range of a node: 0 to 0 where it is left out
-abbrev pub ranged : List ℕ → Data → Option SourceRange
-ranged name value = or_default (record { start = record { 0 = 0 }; end = record { 0 = 0 } }) range_of_data
-    (get name value)
-
 -- the one member of an object: its name and its content
 abbrev pub only_member : Members → Option (List ℕ × Data)
-only_member no_members = None
 only_member (member name content no_members) = Some (name, content)
-only_member (member name content (member other more rest)) = None
+only_member _ = None
 
 abbrev pub variant_of : Data → Option (List ℕ × Data)
 variant_of value = given (as_object value) only_member

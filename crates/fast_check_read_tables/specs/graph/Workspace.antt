@@ -2,11 +2,11 @@
 use Rattle.std.specs.Prelude.{ℕ, List, [], codes, Option, option_map, string_bytes}
 use Rattle.semver.specs.Identifiers.{parts_of}
 use Rattle.serde_json.specs.Data.{Data}
-use Rattle.serde_json.specs.Find.{as_str, get}
+use Rattle.serde_json.specs.Find.{as_str}
 use Rattle.url.specs.Parts.{Parts}
 use Rattle.fast_check_packages.specs.declared.package.WorkspaceMember.{WorkspaceMember}
 use Rattle.fast_check_packages.specs.Package.{VersionParts}
-use Rattle.fast_check_read_tables.specs.graph.Reads.{given, needed, optional, or_default, url_of}
+use Rattle.fast_check_read_tables.specs.graph.Reads.{given, needed, optional, member_or, url_of}
 use Rattle.fast_check_read_tables.specs.graph.Graph.{Exports, seen_exports, version_text_of, package_exports_of}
 
 -- what contracts see of a member: where its export texts are joined to, its name, its version if it has one, and its
@@ -36,4 +36,4 @@ workspace_member_of value =
       name = name;
       version = version;
       exports = exports;
-    }) (or_default [] package_exports_of (get (codes "exports") value)))))
+    }) (member_or [] package_exports_of (codes "exports") value))))

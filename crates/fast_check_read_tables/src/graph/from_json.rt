@@ -6,8 +6,7 @@ ghost use Rattle.serde_json.specs.Find.{as_array, as_str};
 ghost use Rattle.serde_json.specs.View.{view};
 ghost use Rattle.fast_check_read_tables.specs.graph.Reads.{Reads, given, list_of, both_of, only_three, three_of, or_null};
 
-use crate::graph::by::ByType;
-use crate::graph::gather::{both, read_items_by};
+use crate::graph::gather::{both, gather_all};
 use fast_check_read::{ReadError, read_array, read_pair, read_text};
 use serde_json::Value;
 use std::alloc::Global;
@@ -27,6 +26,9 @@ pub trait FromJson: Drop {
         ensures { Reads seen (read_of (view value.now)) result };
 }
 
+/// The most items for which an array has room before they are read. A longer one takes more as they come, so what is refused holds little.
+const FIRST_ROOM: usize = 16_384;
+
 /// An array.
 impl<T: FromJson> FromJson for Vec<T> {
     ghost Seen = { List T.Seen };
@@ -36,7 +38,8 @@ impl<T: FromJson> FromJson for Vec<T> {
     ghost read_of = { list_of T.read_of };
 
     fn from_json(alloc: Global, value: &Value) -> Result<Vec<T>, ReadError> {
-        read_items_by::<ByType, T>(alloc, value)
+        let room = read_array(value)?.len().min(FIRST_ROOM);
+        gather_all(alloc, value, Vec::with_capacity(alloc, room)?)
     }
 }
 

@@ -6,13 +6,13 @@ ghost use Rattle.serde_json.specs.View.{view};
 ghost use Rattle.fast_check_read_tables.specs.graph.Reads.{Reads, list_of};
 ghost use Rattle.fast_check_read_tables.specs.graph.Gathered.{all_gathered, error_beside, both_read};
 
-use crate::graph::by::FromJsonBy;
+use crate::graph::from_json::FromJson;
 use fast_check_read::{ReadError, read_array};
 use serde_json::Value;
 use std::alloc::Global;
 
-/// A collection that takes items one after another, as the crate that has `W` reads them.
-pub trait Gather<W>: Drop {
+/// A collection that takes items one after another.
+pub trait Gather: Drop {
     // What contracts see of a collection, and of an item.
     ghost Gathered: { Type 0 };
 
@@ -31,7 +31,7 @@ pub trait Gather<W>: Drop {
         ensures { Reads (λ _. gathered self.new) (option_map (with (gathered self.old)) (item_of (view value.now))) result };
 }
 
-impl<W, T: FromJsonBy<W>> Gather<W> for Vec<T> {
+impl<T: FromJson> Gather for Vec<T> {
     ghost Gathered = { List T.Seen };
 
     ghost Item = { T.Seen };
@@ -43,13 +43,13 @@ impl<W, T: FromJsonBy<W>> Gather<W> for Vec<T> {
     ghost item_of = { T.read_of };
 
     fn gather(&mut self, alloc: Global, value: &Value) -> Result<(), ReadError> {
-        self.push(T::from_json_by(alloc, value)?)?;
+        self.push(T::from_json(alloc, value)?)?;
         Ok(())
     }
 }
 
 /// Gathers the items of an array.
-pub fn gather_all<W, G: Gather<W>>(alloc: Global, value: &Value, empty: G) -> Result<G, ReadError>
+pub fn gather_all<G: Gather>(alloc: Global, value: &Value, empty: G) -> Result<G, ReadError>
     ensures { Reads G.gathered (option_map (all_gathered G.with (G.gathered empty)) (list_of G.item_of (view value.now))) result }
 {
     let mut gathered = empty;
@@ -57,17 +57,6 @@ pub fn gather_all<W, G: Gather<W>>(alloc: Global, value: &Value, empty: G) -> Re
         gathered.gather(alloc, item)?;
     }
     Ok(gathered)
-}
-
-/// The most items for which an array has room before they are read. A longer one takes more as they come, so what is refused holds little.
-const FIRST_ROOM: usize = 16_384;
-
-/// An array, of items as the crate that has `W` reads them.
-pub fn read_items_by<W, T: FromJsonBy<W>>(alloc: Global, value: &Value) -> Result<Vec<T>, ReadError>
-    ensures { Reads (λ v. map T.seen v.items) (list_of T.read_of (view value.now)) result }
-{
-    let room = read_array(value)?.len().min(FIRST_ROOM);
-    gather_all::<W, Vec<T>>(alloc, value, Vec::with_capacity(alloc, room)?)
 }
 
 /// An error beside what else is read: out of memory goes before.

@@ -1,19 +1,16 @@
 //! The graph of modules.
 
-ghost use Rattle.std.specs.Prelude.{[], option_map};
 ghost use Rattle.std.specs.Str.{bytes_eq};
 ghost use Rattle.indexmap.specs.IndexMap.{insert_entry};
 ghost use Rattle.semver.specs.Identifiers.{parts_of};
-ghost use Rattle.serde_json.specs.Find.{get};
 ghost use Rattle.serde_json.specs.View.{view};
 ghost use Rattle.fast_check_packages.specs.Package.{Nv, nv_of};
-ghost use Rattle.fast_check_read_tables.specs.graph.Reads.{Reads, or_default};
+ghost use Rattle.fast_check_read_tables.specs.graph.Reads.{Reads};
 ghost use Rattle.fast_check_read_tables.specs.graph.Graph as graph;
 
-use crate::graph::by::ByType;
 use crate::graph::from_json::FromJson;
 use crate::graph::gather::{Gather, gather_all};
-use crate::graph::members::{read_list, read_member};
+use crate::graph::members::{read_list, read_member, read_member_or};
 use fast_check_graph::ModuleGraph;
 use fast_check_packages::PackageNv;
 use fast_check_read::{ReadError, read_members, read_text};
@@ -70,7 +67,7 @@ impl FromJson for PackageNv {
 }
 
 /// Export texts by their names: a new name goes last, and one that is there keeps its place.
-impl Gather<ByType> for IndexMap<String, String> {
+impl Gather for IndexMap<String, String> {
     ghost use Rattle.std.specs.Prelude.{List, ℕ};
     ghost use Rattle.serde_json.specs.Find.{as_str};
     ghost use Rattle.fast_check_read_tables.specs.graph.Reads.{both_of};
@@ -100,30 +97,13 @@ impl FromJson for IndexMap<String, String> {
 
     ghost read_of = { graph.package_exports_of };
 
-    fn from_json(alloc: Global, value: &Value) -> Result<IndexMap<String, String>, ReadError> {
-        gather_all::<ByType, IndexMap<String, String>>(alloc, value, IndexMap::new(alloc))
+    fn from_json(alloc: Global, value: &Value) -> Result<Self, ReadError> {
+        gather_all(alloc, value, IndexMap::new(alloc))
     }
 }
-
-/// Export texts by their export names, which are none where they are left out.
-pub fn read_package_exports(
-    alloc: Global,
-    value: Option<&Value>,
-) -> Result<IndexMap<String, String>, ReadError>
-    ensures { Reads (λ exports. graph.seen_exports exports.entries)
-        (or_default [] graph.package_exports_of (option_map (λ v. view v.now) value.entry)) result }
-{
-    match value {
-        Some(value) => FromJson::from_json(alloc, value),
-        None => Ok(IndexMap::new(alloc)),
-    }
-}
-
-/// What the texts in each module resolve to.
-type Resolutions = BTreeMap<Url, BTreeMap<String, Url>>;
 
 /// What a text in a module resolves to, by module and text.
-impl Gather<ByType> for BTreeMap<Url, BTreeMap<String, Url>> {
+impl Gather for BTreeMap<Url, BTreeMap<String, Url>> {
     ghost use Rattle.std.specs.Prelude.{List, ℕ};
     ghost use Rattle.serde_json.specs.Find.{as_str};
     ghost use Rattle.url.specs.Parts.{Parts};
@@ -135,7 +115,7 @@ impl Gather<ByType> for BTreeMap<Url, BTreeMap<String, Url>> {
 
     ghost gathered = { graph.seen_resolutions };
 
-    ghost with = { λ resolutions item. graph.resolved_also item resolutions };
+    ghost with = { graph.resolved_also };
 
     ghost item_of = { three_of url_of as_str url_of };
 
@@ -156,19 +136,8 @@ impl FromJson for BTreeMap<Url, BTreeMap<String, Url>> {
 
     ghost read_of = { graph.resolutions_of };
 
-    fn from_json(alloc: Global, value: &Value) -> Result<Resolutions, ReadError> {
-        gather_all::<ByType, Resolutions>(alloc, value, BTreeMap::new(alloc))
-    }
-}
-
-/// Resolutions, which are none where they are left out.
-fn read_resolutions(alloc: Global, value: Option<&Value>) -> Result<Resolutions, ReadError>
-    ensures { Reads graph.seen_resolutions
-        (or_default graph.no_resolutions graph.resolutions_of (option_map (λ v. view v.now) value.entry)) result }
-{
-    match value {
-        Some(value) => FromJson::from_json(alloc, value),
-        None => Ok(BTreeMap::new(alloc)),
+    fn from_json(alloc: Global, value: &Value) -> Result<Self, ReadError> {
+        gather_all(alloc, value, BTreeMap::new(alloc))
     }
 }
 
@@ -183,7 +152,7 @@ impl FromJson for ModuleGraph {
     fn from_json(alloc: Global, value: &Value) -> Result<ModuleGraph, ReadError> {
         read_members(value)?;
         let modules = map_of(alloc, read_list(alloc, value, "modules")?)?;
-        let resolutions = read_resolutions(alloc, value.get("resolutions"))?;
+        let resolutions = read_member_or(alloc, value, "resolutions", BTreeMap::new(alloc))?;
         let packages = map_of(alloc, read_list(alloc, value, "packages")?)?;
         Ok(ModuleGraph::from_parts(alloc, modules, resolutions, packages)?)
     }

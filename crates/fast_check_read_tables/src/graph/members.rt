@@ -4,13 +4,10 @@ ghost use Rattle.std.specs.Prelude.{◌≡◌, [], option_map, IfErr, map};
 ghost use Rattle.std.specs.Option.{ok_or};
 ghost use Rattle.std.specs.Result.{result_ok};
 ghost use Rattle.serde_json.specs.View.{view};
-ghost use Rattle.fast_check_read_tables.specs.graph.Reads.{Reads, needed, listed, optional, flagged, ranged, variant_of};
+ghost use Rattle.fast_check_read_tables.specs.graph.Reads.{Reads, needed, member_or, listed, optional, flagged, variant_of};
 
-use crate::graph::by::{ByType, FromJsonBy};
 use crate::graph::from_json::FromJson;
-use crate::graph::gather::read_items_by;
-use fast_check_read::{ReadError, read_members, read_optional_flag, read_range};
-use fast_check_syntax::{DUMMY_SP, SourceRange};
+use fast_check_read::{ReadError, read_members, read_optional_flag};
 use serde_json::Value;
 use std::alloc::Global;
 
@@ -18,20 +15,24 @@ use std::alloc::Global;
 pub fn read_member<T: FromJson>(alloc: Global, value: &Value, name: &str) -> Result<T, ReadError>
     ensures { Reads T.seen (needed T.read_of name.now (view value.now)) result }
 {
-    read_member_by::<ByType, T>(alloc, value, name)
+    match value.get(name) {
+        Some(member) => T::from_json(alloc, member),
+        None => Err(ReadError::BadForm),
+    }
 }
 
-/// A member that has to stand, as the crate that has `W` reads it.
-pub fn read_member_by<W, T: FromJsonBy<W>>(
+/// A member, or the default where it is left out.
+pub fn read_member_or<T: FromJson>(
     alloc: Global,
     value: &Value,
     name: &str,
+    default: T,
 ) -> Result<T, ReadError>
-    ensures { Reads T.seen (needed T.read_of name.now (view value.now)) result }
+    ensures { Reads T.seen (member_or (T.seen default) T.read_of name.now (view value.now)) result }
 {
     match value.get(name) {
-        Some(member) => T::from_json_by(alloc, member),
-        None => Err(ReadError::BadForm),
+        Some(member) => T::from_json(alloc, member),
+        None => Ok(default),
     }
 }
 
@@ -39,21 +40,7 @@ pub fn read_member_by<W, T: FromJsonBy<W>>(
 pub fn read_list<T: FromJson>(alloc: Global, value: &Value, name: &str) -> Result<Vec<T>, ReadError>
     ensures { Reads (λ v. map T.seen v.items) (listed T.read_of name.now (view value.now)) result }
 {
-    read_list_by::<ByType, T>(alloc, value, name)
-}
-
-/// A list, which is empty where it is left out, of items as the crate that has `W` reads them.
-pub fn read_list_by<W, T: FromJsonBy<W>>(
-    alloc: Global,
-    value: &Value,
-    name: &str,
-) -> Result<Vec<T>, ReadError>
-    ensures { Reads (λ v. map T.seen v.items) (listed T.read_of name.now (view value.now)) result }
-{
-    match value.get(name) {
-        Some(member) => read_items_by::<W, T>(alloc, member),
-        None => Ok(Vec::new(alloc)),
-    }
+    read_member_or(alloc, value, name, Vec::new(alloc))
 }
 
 /// An option, which is none where it is left out.
@@ -64,10 +51,7 @@ pub fn read_option<T: FromJson>(
 ) -> Result<Option<T>, ReadError>
     ensures { Reads (option_map T.seen) (optional T.read_of name.now (view value.now)) result }
 {
-    match value.get(name) {
-        Some(member) => Option::from_json(alloc, member),
-        None => Ok(None),
-    }
+    read_member_or(alloc, value, name, None)
 }
 
 /// A flag, which is false where it is left out.
@@ -75,16 +59,6 @@ pub fn read_flag(value: &Value, name: &str) -> Result<bool, ReadError>
     ensures { result ≡ ok_or (flagged name.now (view value.now)) ReadError.BadForm }
 {
     read_optional_flag(value.get(name))
-}
-
-/// The range of a node, which is that of no text where it is left out.
-pub fn read_span(value: &Value, name: &str) -> Result<SourceRange, ReadError>
-    ensures { result ≡ ok_or (ranged name.now (view value.now)) ReadError.BadForm }
-{
-    match value.get(name) {
-        Some(member) => read_range(member),
-        None => Ok(DUMMY_SP),
-    }
 }
 
 /// The one member of an object: its name and its content.

@@ -4,10 +4,10 @@ ghost use Rattle.fast_check_read_tables.specs.graph.Workspace as workspace;
 
 use crate::graph::from_json::FromJson;
 use crate::graph::gather::both;
-use crate::graph::graph::read_package_exports;
-use crate::graph::members::{read_member, read_option};
+use crate::graph::members::{read_member, read_member_or, read_option};
 use fast_check_packages::WorkspaceMember;
 use fast_check_read::ReadError;
+use indexmap::IndexMap;
 use serde_json::Value;
 use std::alloc::Global;
 
@@ -26,7 +26,7 @@ impl FromJson for WorkspaceMember {
         );
         let rest = both(
             read_option(alloc, value, "version"),
-            read_package_exports(alloc, value.get("exports")),
+            read_member_or(alloc, value, "exports", IndexMap::new(alloc)),
         );
         let ((base, name), (version, exports)) = both(names, rest)?;
         Ok(WorkspaceMember {

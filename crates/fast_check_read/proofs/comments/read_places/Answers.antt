@@ -1,4 +1,4 @@
-use Rattle.std.proofs.Common.{◌∙◌, List, [], Option, option_map, sym, ap, refl}
+use Rattle.std.proofs.Common.{◌∙◌, List, Option, option_map, sym, ap, refl}
 use Rattle.serde_json.specs.View.{view, items_view}
 use Rattle.serde_json.specs.declared.value.Value.{Value}
 use Rattle.fast_check_syntax.specs.declared.source.SourcePos.{SourcePos}

@@ -1,8 +1,6 @@
-use Rattle.std.proofs.Common.{rules}
+use Rattle.std.proofs.Common.{refl}
+use Rattle.fast_check_read.proofs.Each.{read_or}
 use Rattle.fast_check_read.proofs.pieces.read_optional_flag.Goals as goal
 
-pub returns-in-Some : goal.returns-in-Some
-returns-in-Some c = search rules
-
-pub returns-in-None : goal.returns-in-None
-returns-in-None c = search rules
+pub returns : goal.returns
+returns c = read_or _ _ _ _ _ refl c.map_or.ensures

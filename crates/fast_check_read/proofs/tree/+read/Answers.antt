@@ -1,12 +1,11 @@
 use borrow.Author.Count.{falls}
-use Rattle.std.proofs.Common.{ℕ, List, [], ◌∷◌, Bor, String, Global, Option, Some, None, sym, ap, ◌∙◌, subst, option_map, option_and_then}
+use Rattle.std.proofs.Common.{ℕ, List, [], ◌∷◌, Bor, String, Global, Option, Some, sym, ap, ◌∙◌, subst, option_map, option_and_then}
 use Rattle.std.proofs.Common.{map, refl}
 use Rattle.serde_json.specs.View.{view, items_view, members_view}
 use Rattle.serde_json.specs.declared.value.Value.{Value}
 use Rattle.fast_check_syntax.specs.Shape.{list, node}
 use Rattle.fast_check_syntax.specs.declared.tree.Tree.{Tree, Flag, Context, Text, Range, Word}
 use Rattle.fast_check_read.specs.schema.Rows.{VariantRow, field_row}
-use Rattle.fast_check_read.specs.schema.Schema.{fields_of}
 use Rattle.fast_check_read.specs.declared.schema.form.Count.{Count}
 use Rattle.fast_check_read.specs.declared.schema.form.Form.{Form}
 use Rattle.fast_check_read.specs.Each.{each, Answers}

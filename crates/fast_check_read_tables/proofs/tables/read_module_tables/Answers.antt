@@ -26,9 +26,9 @@ pub returns-in_err-symbols : goal.returns-in_err-symbols
 returns-in_err-symbols c =
     let value = view c.args.value.now in
     let swc_ids = reads_seen _ (λ (v : Vec (Id × SymbolId) Global). v.items) _ _
-    (λ v. map_same _ v.items (λ _. refl)) c.read_list.ensures in
-    let names = both_reads _ _ _ _ _ _ _ c.both-names.ensures c.read_list_by.ensures swc_ids in
-    let exports = both_reads _ _ _ _ _ _ _ c.both-exports.ensures c.read_list_by-2.ensures c.read_list-2.ensures in
+    (λ v. map_same _ v.items (λ _. refl)) c.read_list-2.ensures in
+    let names = both_reads _ _ _ _ _ _ _ c.both-names.ensures c.read_list.ensures swc_ids in
+    let exports = both_reads _ _ _ _ _ _ _ c.both-exports.ensures c.read_list-3.ensures c.read_list-4.ensures in
     let none = both_reads _ _ _ _ _ _ _ c.in_err-symbols.ensures names exports in
     reads_passed _ _ _ c.in_err-symbols.field-0.0 c.from_residual-in_err-symbols.ensures.1 (λ bad.
     given_some _ c.in_ok-module_symbol.ensures
@@ -41,9 +41,9 @@ pub returns : goal.returns
 returns c =
     let value = view c.args.value.now in
     let swc_ids = reads_seen _ (λ (v : Vec (Id × SymbolId) Global). v.items) _ _
-    (λ v. map_same _ v.items (λ _. refl)) c.read_list.ensures in
-    let names = both_reads _ _ _ _ _ _ _ c.both-names.ensures c.read_list_by.ensures swc_ids in
-    let exports = both_reads _ _ _ _ _ _ _ c.both-exports.ensures c.read_list_by-2.ensures c.read_list-2.ensures in
+    (λ v. map_same _ v.items (λ _. refl)) c.read_list-2.ensures in
+    let names = both_reads _ _ _ _ _ _ _ c.both-names.ensures c.read_list.ensures swc_ids in
+    let exports = both_reads _ _ _ _ _ _ _ c.both-exports.ensures c.read_list-3.ensures c.read_list-4.ensures in
     given_some _ c.in_ok-module_symbol.ensures
     ∙ (given_four (listed symbol_of (codes "symbols") value) (listed (both_of id_of symbol_id_of) (codes "swc_ids") value)
     (listed re_export_of (codes "re_export_all_nodes") value) (listed (both_of as_str url_of) (codes "resolved_exports") value)

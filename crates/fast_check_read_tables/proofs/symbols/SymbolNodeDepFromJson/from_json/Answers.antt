@@ -1,7 +1,7 @@
 use Rattle.std.proofs.Common.{◌∙◌, sym}
 use Rattle.fast_check_read_tables.proofs.graph.Gathering.{both_reads, reads_passed}
 use Rattle.fast_check_read_tables.proofs.graph.Given.{given_none, given_some, reads_none}
-use Rattle.fast_check_read_tables.proofs.symbols.SymbolNodeDepFromJsonByOfTables.from_json_by.Goals as goal
+use Rattle.fast_check_read_tables.proofs.symbols.SymbolNodeDepFromJson.from_json.Goals as goal
 
 pub returns-in_err-dep : goal.returns-in_err-dep
 returns-in_err-dep c = reads_none _ _ _ (given_none _ (sym c.in_err-dep.ensures.pair)) c.from_residual.ensures.0

@@ -4,7 +4,7 @@ use Rattle.fast_check_read_tables.specs.Symbols.{node_of}
 use Rattle.fast_check_read_tables.proofs.graph.Gathering.{reads_passed}
 use Rattle.fast_check_read.proofs.Each.{some_of_ok, none_of_err}
 use Rattle.fast_check_read_tables.proofs.graph.Given.{members_there, given_some, given_none, reads_none}
-use Rattle.fast_check_read_tables.proofs.symbols.read_node.Goals as goal
+use Rattle.fast_check_read_tables.proofs.symbols.SymbolNodeFromJson.from_json.Goals as goal
 
 pub returns-in_err-read_members : goal.returns-in_err-read_members
 returns-in_err-read_members c =
@@ -81,9 +81,9 @@ returns-in_err-read_flag-7 c =
     ∙ given_none _ (none_of_err _ _ _ c.in_err-read_flag-7.ensures))))))) in
     reads_none _ _ _ none c.from_residual-in_err-read_flag-7.ensures.0
 
-pub returns-in_err-read_list_by : goal.returns-in_err-read_list_by
-returns-in_err-read_list_by c =
-    reads_passed _ _ _ c.in_err-read_list_by.field-0.0 c.from_residual-in_err-read_list_by.ensures.1 (λ bad.
+pub returns-in_err-read_list : goal.returns-in_err-read_list
+returns-in_err-read_list c =
+    reads_passed _ _ _ c.in_err-read_list.field-0.0 c.from_residual-in_err-read_list.ensures.1 (λ bad.
     given_some _ (members_there _ _ c.in_ok-read_members.ensures.ok)
     ∙ (given_some _ (some_of_ok _ _ _ c.in_ok-read_flag.ensures)
     ∙ (given_some _ (some_of_ok _ _ _ c.in_ok-read_flag-2.ensures)
@@ -92,7 +92,7 @@ returns-in_err-read_list_by c =
     ∙ (given_some _ (some_of_ok _ _ _ c.in_ok-read_flag-5.ensures)
     ∙ (given_some _ (some_of_ok _ _ _ c.in_ok-read_flag-6.ensures)
     ∙ (given_some _ (some_of_ok _ _ _ c.in_ok-read_flag-7.ensures)
-    ∙ given_none _ (c.in_err-read_list_by.ensures bad)))))))))
+    ∙ given_none _ (c.in_err-read_list.ensures bad)))))))))
 
 pub returns : goal.returns
 returns c =
@@ -104,4 +104,4 @@ returns c =
     ∙ (given_some _ (some_of_ok _ _ _ c.in_ok-read_flag-5.ensures)
     ∙ (given_some _ (some_of_ok _ _ _ c.in_ok-read_flag-6.ensures)
     ∙ (given_some _ (some_of_ok _ _ _ c.in_ok-read_flag-7.ensures)
-    ∙ given_some _ c.in_ok-read_list_by.ensures)))))))
+    ∙ given_some _ c.in_ok-read_list.ensures)))))))

@@ -3,7 +3,7 @@ use Rattle.std.specs.Prelude.{unwrap_or}
 use Rattle.std.specs.BTreeMap.Entry.{map_with_value}
 use Rattle.fast_check_read_tables.proofs.graph.Given.{map_some}
 use Rattle.fast_check_read_tables.proofs.graph.Graphs.{put_resolved, resolved_in}
-use Rattle.fast_check_read_tables.proofs.graph.graph.BTreeMapUrlBTreeMapStringUrlGatherByType.gather.Goals as goal
+use Rattle.fast_check_read_tables.proofs.graph.graph.BTreeMapUrlBTreeMapStringUrlGather.gather.Goals as goal
 
 pub returns : goal.returns
 returns c =

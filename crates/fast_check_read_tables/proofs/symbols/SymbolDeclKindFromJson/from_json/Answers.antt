@@ -3,7 +3,7 @@ use Rattle.fast_check_read_tables.specs.Seen as seen
 use Rattle.fast_check_read_tables.specs.Symbols.{decl_kind_named}
 use Rattle.fast_check_read_tables.proofs.graph.Gathering.{reads_as, reads_passed}
 use Rattle.fast_check_read_tables.proofs.graph.Given.{chosen, given_none, map_some, reads_none}
-use Rattle.fast_check_read_tables.proofs.symbols.SymbolDeclKindFromJsonByOfTables.from_json_by.Goals as goal
+use Rattle.fast_check_read_tables.proofs.symbols.SymbolDeclKindFromJson.from_json.Goals as goal
 
 pub returns-in_err-name : goal.returns-in_err-name
 returns-in_err-name c = reads_none _ _ _ (given_none _ (sym c.in_err-name.ensures.variant)) c.from_residual.ensures.0
@@ -33,14 +33,14 @@ pub returns-in-FileRef : goal.returns-in-FileRef
 returns-in-FileRef c =
     reads_as _ _ _ _ (chosen decl_kind_named _ _ _ _ c.in_ok-name.ensures.variant c.in-FileRef.is) c.read_file_ref.ensures
 
-pub returns-in_err-read_definition-in-Definition : goal.returns-in_err-read_definition-in-Definition
-returns-in_err-read_definition-in-Definition c =
-    reads_passed _ _ _ c.in_err-read_definition-in-Definition.field-0.0 c.from_residual-in_err-read_definition-in-Definition.ensures.1
+pub returns-in_err-from_json-in-Definition : goal.returns-in_err-from_json-in-Definition
+returns-in_err-from_json-in-Definition c =
+    reads_passed _ _ _ c.in_err-from_json-in-Definition.field-0.0 c.from_residual-in_err-from_json-in-Definition.ensures.1
     (λ bad.
     chosen decl_kind_named _ _ _ _ c.in_ok-name.ensures.variant c.in-Definition.is
-    ∙ ap (option_map seen.Definition) (c.in_err-read_definition-in-Definition.ensures bad))
+    ∙ ap (option_map seen.Definition) (c.in_err-from_json-in-Definition.ensures bad))
 
-pub returns-in_ok-read_definition-in-Definition : goal.returns-in_ok-read_definition-in-Definition
-returns-in_ok-read_definition-in-Definition c =
+pub returns-in_ok-from_json-in-Definition : goal.returns-in_ok-from_json-in-Definition
+returns-in_ok-from_json-in-Definition c =
     chosen decl_kind_named _ _ _ _ c.in_ok-name.ensures.variant c.in-Definition.is ∙
-    map_some seen.Definition c.in_ok-read_definition-in-Definition.ensures
+    map_some seen.Definition c.in_ok-from_json-in-Definition.ensures

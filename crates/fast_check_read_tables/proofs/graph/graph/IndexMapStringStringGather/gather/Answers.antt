@@ -2,7 +2,7 @@ use Rattle.std.proofs.Common.{◌∙◌, sym, ap, Some}
 use Rattle.fast_check_read_tables.specs.graph.Graph.{seen_exports}
 use Rattle.fast_check_read_tables.proofs.graph.Given.{map_some}
 use Rattle.fast_check_read_tables.proofs.graph.Graphs.{inserted_seen}
-use Rattle.fast_check_read_tables.proofs.graph.graph.IndexMapStringStringGatherByType.gather.Goals as goal
+use Rattle.fast_check_read_tables.proofs.graph.graph.IndexMapStringStringGather.gather.Goals as goal
 
 pub returns : goal.returns
 returns c =
