@@ -12,7 +12,7 @@ const COMMANDS = {
   },
   fix: {
     words: 'DIR', least: 1, most: 1, text: "writes the types that messages ask for, as TypeScript's compiler infers them",
-    more: ['It goes on until nothing more is gained, and then tells what is left.'], example: 'fast-check-ts fix --dry .',
+    more: ['It runs until it can write no further type, and then reports the messages that are left.'], example: 'fast-check-ts fix --dry .',
   },
   skeleton: {
     words: 'DIR [OUT]', least: 1, most: 2, text: 'the skeletons of its public modules as TypeScript, in the folder OUT or on standard output',
@@ -23,7 +23,8 @@ const COMMANDS = {
     more: [], example: 'fast-check-ts input . > input.json',
   },
   diff: {
-    words: 'OLD NEW', least: 2, most: 2, text: 'which public names are gone, new or declared otherwise in NEW, and what a version number wants',
+    words: 'OLD NEW', least: 2, most: 2,
+    text: 'which public names are gone, new or declared otherwise in NEW, and which part of the version number has to change',
     more: ['OLD or NEW may be a revision of the repository that the other lies in.'], example: 'fast-check-ts diff HEAD~1 .',
   },
   report: {
@@ -58,11 +59,11 @@ const OPTIONS = [
     word: '--baseline', value: 'FILE', key: 'baseline', commands: ['check'],
     text: 'check: leave out what is in FILE, which an earlier `check --json` has written',
   },
-  { word: '--watch', key: 'watch', commands: ['check'], text: 'check: go on, and check again what changes' },
+  { word: '--watch', key: 'watch', commands: ['check'], text: 'check: check again whenever a file changes' },
   { word: '--list-externals', key: 'externals', commands: ['check'], text: 'check: say which imports lead out of the folder, and are not followed' },
   {
     word: '--verify', key: 'verify', commands: ['check'],
-    text: "check: have TypeScript's compiler check the skeletons, and tell what it finds there and not in the source",
+    text: "check: have TypeScript's compiler check the skeletons, and report errors and types that the source has not",
   },
   { word: '--no-cache', key: 'noCache', commands: ALL, text: 'keep nothing between runs, and use nothing that was kept' },
   { word: '--dry', key: 'dry', commands: ['fix'], text: 'fix: show the changes, and write nothing' },
@@ -72,7 +73,7 @@ const OPTIONS = [
   { word: '--unproved', key: 'unproved', commands: READING, text: 'run the program without any proof' },
   { word: '--no-own-compiler', key: 'noOwnCompiler', commands: ALL, text: "pass over the compiler in the folder's node_modules, whose code would be run" },
   { word: '--no-color', key: 'plain', commands: ALL, text: 'no colours on a terminal' },
-  { word: '--help', key: 'help', commands: ALL, text: 'these lines; behind a command, what it takes' },
+  { word: '--help', key: 'help', commands: ALL, text: 'these lines; behind a command, its options' },
 ];
 
 const WIDTH = 23;
@@ -80,7 +81,7 @@ const entry = (words, text) => `  ${words.padEnd(WIDTH - 1)} ${text}`;
 const shown = ({ word, value }) => (value ? `${word} ${value}` : word);
 
 const ENDS = `It ends with 0 where there is nothing to report but warnings, 1 where there are errors or differences, 2 where something cannot be read,
-3 where memory ran out, 5 where the program is not there, and 70 where this tool itself is at fault.
+3 where memory ran out, 5 where the program is not there, and 70 after an internal error of this tool.
 `;
 
 const USAGE = `usage: fast-check-ts COMMAND ..
