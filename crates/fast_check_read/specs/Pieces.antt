@@ -49,7 +49,3 @@ word_of value words = option_and_then (λ text. option_map (λ row. row.word) (w
 -- a flag that may be left out
 abbrev pub optional_flag_of : Option Data → Option Bool
 optional_flag_of value = option_map_or as_bool value (Some false)
-
--- an array of ranges
-abbrev pub ranges_of : Data → Option (List SourceRange)
-ranges_of value = option_and_then (λ items. each range_of_data (items_list items)) (as_array value)

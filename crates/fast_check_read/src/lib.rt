@@ -14,7 +14,7 @@ pub use error::ReadError;
 pub use float::{had_float, has_float};
 pub use input::{InputFault, read_input};
 pub use pieces::{
-    read_array, read_bool, read_members, read_optional_flag, read_pair, read_range, read_ranges,
-    read_text, read_u32, read_u64,
+    read_array, read_bool, read_members, read_optional_flag, read_pair, read_range, read_text,
+    read_u32, read_u64,
 };
 pub use tree::read_tree;

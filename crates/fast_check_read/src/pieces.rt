@@ -5,13 +5,11 @@ ghost use Rattle.std.specs.Result.{result_ok};
 ghost use Rattle.serde_json.specs.Find.{as_array, as_bool, as_object, as_str};
 ghost use Rattle.serde_json.specs.declared.value.Value.{Array, Object};
 ghost use Rattle.serde_json.specs.View.{view};
-ghost use Rattle.fast_check_read.specs.Each.{Answers};
-ghost use Rattle.fast_check_read.specs.Pieces.{u32_of, u64_of, optional_flag_of, pair_of, range_of_data, ranges_of};
+ghost use Rattle.fast_check_read.specs.Pieces.{u32_of, u64_of, optional_flag_of, pair_of, range_of_data};
 
 use crate::error::ReadError;
-use fast_check_syntax::{Items, SourcePos, SourceRange};
+use fast_check_syntax::{SourcePos, SourceRange};
 use serde_json::{Map, Value};
-use std::alloc::Global;
 
 /// A flag.
 pub fn read_bool(value: &Value) -> Result<bool, ReadError>
@@ -72,17 +70,6 @@ pub fn read_optional_flag(value: Option<&Value>) -> Result<bool, ReadError>
     ensures { result ≡ ok_or (optional_flag_of (option_map (λ v. view v.now) value.entry)) ReadError.BadForm }
 {
     value.map_or(Ok(false), read_bool)
-}
-
-/// An array of ranges.
-pub fn read_ranges(alloc: Global, value: &Value) -> Result<Items<SourceRange>, ReadError>
-    ensures { Answers (ranges_of (view value.now)) result }
-{
-    let mut ranges = Items::new(alloc);
-    for item in read_array(value)? {
-        ranges.push(read_range(item)?)?;
-    }
-    Ok(ranges)
 }
 
 /// The members of an object.

@@ -1,10 +1,10 @@
 -- What `transform` is asked, as JSON.
-use Rattle.std.specs.Prelude.{◌≡◌, ℕ, List, [], Bool, if◌then◌else◌, codes, Option, Some, None, option_map, Result}
+use Rattle.std.specs.Prelude.{◌≡◌, ℕ, List, Bool, if◌then◌else◌, codes, Option, Some, None, Result}
 use Rattle.std.specs.Prelude.{MatchResult}
 use Rattle.std.specs.List.{list_any}
 use Rattle.std.specs.Rc.{rc_str_bytes}
 use Rattle.serde_json.specs.Data.{Data}
-use Rattle.serde_json.specs.Find.{as_str, get}
+use Rattle.serde_json.specs.Find.{as_str}
 use Rattle.serde_json.specs.Written.{has_float}
 use Rattle.url.specs.Parts.{Parts}
 use Rattle.fast_check_syntax.specs.declared.source.SourceRange.{SourceRange}
@@ -16,12 +16,12 @@ use Rattle.fast_check_read.specs.declared.schema.form.Form.TheVariants.{Choice}
 use Rattle.fast_check_read.specs.declared.error.ReadError.{ReadError}
 use Rattle.fast_check_read.specs.declared.error.ReadError.TheVariants.{BadForm}
 use Rattle.fast_check_read.specs.Comments.{comments_of}
-use Rattle.fast_check_read.specs.Pieces.{u32_of, optional_flag_of, ranges_of}
+use Rattle.fast_check_read.specs.Pieces.{range_of_data}
 use Rattle.fast_check_read.specs.Reading.{tree_of}
 use Rattle.fast_check_diagnostics.specs.declared.parsed_source.tables.parsed_source.ParsedSource.{ParsedSource}
 use Rattle.fast_check_diagnostics.specs.declared.parsed_source.tables.media_type.MediaType.{MediaType}
 use Rattle.fast_check_modules.specs.diagnostics.PublicRanges.{PublicRanges, is_public, is_implementation, same_range}
-use Rattle.fast_check_read_tables.specs.graph.Reads.{given, needed, url_of}
+use Rattle.fast_check_read_tables.specs.graph.Reads.{given, needed, member_or, listed, flagged, context_of, url_of}
 use Rattle.fast_check_read_tables.specs.graph.Modules.{media_type_of}
 use Rattle.fast_check_read_tables.specs.Seen as seen
 use Rattle.fast_check_read_tables.specs.Seen.{SeenTables}
@@ -67,19 +67,7 @@ source s = record {
 abbrev pub es_module : EsModuleParts → Module
 es_module m = record { specifier = m.specifier; source = source m.source; tables = seen.tables m.tables }
 
--- ---- what may be left out
-
--- ranges: none
-abbrev pub ranges_or_none : Option Data → Option (List SourceRange)
-ranges_or_none None = Some []
-ranges_or_none (Some value) = ranges_of value
-
--- a scope number: 0
-abbrev pub context_or_zero : Option Data → Option SyntaxContext
-context_or_zero None = Some (record { 0 = 0 })
-context_or_zero (Some value) = option_map (λ n. record { 0 = n }) (u32_of value)
-
--- ---- what has to stand
+-- ---- what is read of JSON
 
 -- a module or a script
 abbrev pub program_of : Data → Option Tree
@@ -89,10 +77,10 @@ program_of value = tree_of value (Choice Program)
 abbrev pub source_of : Data → Option Source
 source_of value =
     given (needed media_type_of (codes "media_type") value) (λ media_type.
-    given (given (get (codes "text") value) as_str) (λ text.
-    given (given (get (codes "program") value) program_of) (λ program.
-    given (given (get (codes "comments") value) comments_of) (λ comments.
-    given (context_or_zero (get (codes "unresolved_context") value)) (λ unresolved_context.
+    given (needed as_str (codes "text") value) (λ text.
+    given (needed program_of (codes "program") value) (λ program.
+    given (needed comments_of (codes "comments") value) (λ comments.
+    given (member_or (record { 0 = 0 }) context_of (codes "unresolved_context") value) (λ unresolved_context.
     Some (record {
       media_type = media_type;
       text = text;
@@ -106,18 +94,18 @@ source_of value =
 abbrev pub module_of : Data → Option Module
 module_of value =
     given (needed url_of (codes "specifier") value) (λ specifier.
-    given (given (get (codes "source") value) source_of) (λ source.
+    given (needed source_of (codes "source") value) (λ source.
     given (tables_of value) (λ tables.
     Some (record { specifier = specifier; source = source; tables = tables }))))
 
 -- an object of the members graph, module, ranges, impls and first
 abbrev pub members_of_request : Data → Option Request
 members_of_request value =
-    given (ranges_or_none (get (codes "ranges") value)) (λ ranges.
-    given (ranges_or_none (get (codes "impls") value)) (λ implementations.
-    given (optional_flag_of (get (codes "first") value)) (λ first.
+    given (listed range_of_data (codes "ranges") value) (λ ranges.
+    given (listed range_of_data (codes "impls") value) (λ implementations.
+    given (flagged (codes "first") value) (λ first.
     given (graph_member_of value) (λ graph.
-    given (given (get (codes "module") value) module_of) (λ es_module.
+    given (needed module_of (codes "module") value) (λ es_module.
     Some (record {
       graph = graph;
       es_module = es_module;

@@ -19,7 +19,6 @@ pub use lines::{LineWriter, Lines};
 pub use program::run_commands;
 pub use refusal::Refusal;
 pub use request::{
-    EsModuleParts, TransformRequest, member, read_es_module, read_optional_ranges,
-    read_transform_request,
+    EsModuleParts, TransformRequest, member, read_es_module, read_transform_request,
 };
 pub use words::read_call;

@@ -1,13 +1,13 @@
 //! What the commands are asked, read from JSON.
 
-ghost use Rattle.std.specs.Prelude.{◌≡◌, option_map, codes, IfErr, MatchResult, None, Some};
+ghost use Rattle.std.specs.Prelude.{◌≡◌, option_map, codes, IfErr};
 ghost use Rattle.std.specs.Result.{result_ok};
 ghost use Rattle.serde_json.specs.Find.{get};
 ghost use Rattle.serde_json.specs.View.{view};
 ghost use Rattle.fast_check_read.specs.Comments.{comments_of};
 ghost use Rattle.fast_check_read.specs.Each.{Answers};
-ghost use Rattle.fast_check_read_tables.specs.graph.Reads.{Reads, given};
-ghost use Rattle.fast_check_requests.specs.Request.{request_of, members_of_request, ranges_or_none, context_or_zero};
+ghost use Rattle.fast_check_read_tables.specs.graph.Reads.{Reads, needed};
+ghost use Rattle.fast_check_requests.specs.Request.{request_of, members_of_request};
 ghost use Rattle.fast_check_requests.specs.Request.{program_of, source_of, module_of, source, es_module, Makes, IsRequest};
 
 use fast_check_comments::Comments;
@@ -16,12 +16,11 @@ use fast_check_graph::ModuleGraph;
 use fast_check_modules::ModuleTables;
 use fast_check_modules::diagnostics::ModulePublicRanges;
 use fast_check_read::schema::{Choice, Form};
-use fast_check_read::{
-    ReadError, has_float, read_comments, read_optional_flag, read_ranges, read_text, read_tree,
-    read_u32,
+use fast_check_read::{ReadError, has_float, read_comments, read_text, read_tree};
+use fast_check_read_tables::{
+    read_flag, read_graph, read_list, read_member, read_member_or, read_module_tables,
 };
-use fast_check_read_tables::{read_graph, read_member, read_module_tables};
-use fast_check_syntax::{SourceRange, SyntaxContext, Tree};
+use fast_check_syntax::{SyntaxContext, Tree};
 use serde_json::Value;
 use std::alloc::Global;
 use std::rc::RcStr;
@@ -57,9 +56,9 @@ pub fn read_transform_request(alloc: Global, value: &Value) -> Result<TransformR
 fn read_members(alloc: Global, value: &Value) -> Result<TransformRequest, ReadError>
     ensures { Makes IsRequest (members_of_request (view value.now)) result }
 {
-    let ranges = read_optional_ranges(alloc, value, "ranges")?;
-    let implementations = read_optional_ranges(alloc, value, "impls")?;
-    let should_error_on_first_diagnostic = read_optional_flag(value.get("first"))?;
+    let ranges = read_list(alloc, value, "ranges")?;
+    let implementations = read_list(alloc, value, "impls")?;
+    let should_error_on_first_diagnostic = read_flag(value, "first")?;
     let graph = read_graph(alloc, value)?;
     let es_module = read_es_module(alloc, member(value, "module")?)?;
     let public_ranges = ModulePublicRanges::from_parts(
@@ -84,22 +83,6 @@ pub fn member<'a>(value: &'a Value, name: &str) -> Result<&'a Value, ReadError>
     value.get(name).ok_or(ReadError::BadForm)
 }
 
-/// The ranges of a member, which may be left out, and are then none.
-pub fn read_optional_ranges(
-    alloc: Global,
-    value: &Value,
-    name: &str,
-) -> Result<Vec<SourceRange>, ReadError>
-    ensures { let expected = ranges_or_none (get name.now (view value.now)) in
-        MatchResult result (λ ranges. expected ≡ Some ranges.items) (λ error. error ≡ ReadError.BadForm → expected ≡ None) }
-{
-    let mut ranges = Vec::new(alloc);
-    if let Some(value) = value.get(name) {
-        ranges.extend_from_slice(read_ranges(alloc, value)?.as_slice())?;
-    }
-    Ok(ranges)
-}
-
 /// Reads an object of the members `specifier` and `source`, and of those of tables.
 pub fn read_es_module(alloc: Global, value: &Value) -> Result<EsModuleParts, ReadError>
     ensures { Reads es_module (module_of (view value.now)) result }
@@ -118,7 +101,7 @@ fn read_source(alloc: Global, value: &Value) -> Result<ParsedSource, ReadError>
     let text = read_text(member(value, "text")?)?;
     let program = read_program(alloc, value)?;
     let comments = read_source_comments(alloc, value)?;
-    let unresolved_context = read_optional_context(value)?;
+    let unresolved_context = read_member_or(alloc, value, "unresolved_context", SyntaxContext(0))?;
     Ok(ParsedSource {
         media_type,
         text: RcStr::from_str(alloc, text)?,
@@ -130,7 +113,7 @@ fn read_source(alloc: Global, value: &Value) -> Result<ParsedSource, ReadError>
 
 /// The tree of a source.
 fn read_program(alloc: Global, value: &Value) -> Result<Tree, ReadError>
-    ensures { Answers (given (get (codes "program") (view value.now)) program_of) result }
+    ensures { Answers (needed program_of (codes "program") (view value.now)) result }
 {
     read_tree(
         alloc,
@@ -141,17 +124,7 @@ fn read_program(alloc: Global, value: &Value) -> Result<Tree, ReadError>
 
 /// The comments of a source.
 fn read_source_comments(alloc: Global, value: &Value) -> Result<Comments, ReadError>
-    ensures { Answers (given (get (codes "comments") (view value.now)) comments_of) result }
+    ensures { Answers (needed comments_of (codes "comments") (view value.now)) result }
 {
     read_comments(alloc, member(value, "comments")?)
-}
-
-/// The scope number of a source's unbound names, which may be left out, and is then 0.
-fn read_optional_context(value: &Value) -> Result<SyntaxContext, ReadError>
-    ensures { Answers (context_or_zero (get (codes "unresolved_context") (view value.now))) result }
-{
-    match value.get("unresolved_context") {
-        Some(context) => Ok(SyntaxContext(read_u32(context)?)),
-        None => Ok(SyntaxContext(0)),
-    }
 }

@@ -1,14 +1,13 @@
 -- What `pair` is asked, as JSON.
 use Rattle.std.specs.Prelude.{◌≡◌, ℕ, List, Bool, if◌then◌else◌, codes, Option, Some, None}
 use Rattle.serde_json.specs.Data.{Data}
-use Rattle.serde_json.specs.Find.{get}
 use Rattle.serde_json.specs.Written.{has_float}
 use Rattle.fast_check_syntax.specs.declared.source.SourceRange.{SourceRange}
-use Rattle.fast_check_read.specs.Pieces.{optional_flag_of}
-use Rattle.fast_check_read_tables.specs.graph.Reads.{given}
+use Rattle.fast_check_read.specs.Pieces.{range_of_data}
+use Rattle.fast_check_read_tables.specs.graph.Reads.{given, needed, listed, flagged}
 use Rattle.fast_check_read_tables.specs.graph.Graph as graphs
 use Rattle.fast_check_read_tables.specs.graph.Graph.{SeenGraph, graph_member_of}
-use Rattle.fast_check_requests.specs.Request.{Module, es_module, ranges_or_none, module_of, IsPublic}
+use Rattle.fast_check_requests.specs.Request.{Module, es_module, module_of, IsPublic}
 use Rattle.fast_check_commands.specs.declared.pair_command.request.PairRequest.{PairRequest}
 use Rattle.fast_check_commands.specs.declared.pair_command.request.Side as made
 
@@ -29,15 +28,15 @@ pub record Pair : Type 0 where
 -- are then none
 abbrev pub side_of : List ℕ → List ℕ → List ℕ → Data → Option Side
 side_of name ranges_name implementations_name value =
-    given (ranges_or_none (get ranges_name value)) (λ ranges.
-    given (ranges_or_none (get implementations_name value)) (λ implementations.
-    given (given (get name value) module_of) (λ es_module.
+    given (listed range_of_data ranges_name value) (λ ranges.
+    given (listed range_of_data implementations_name value) (λ implementations.
+    given (needed module_of name value) (λ es_module.
     Some (record { es_module = es_module; ranges = ranges; implementations = implementations }))))
 
 -- an object of the members graph, a, ranges_a, impls_a, b, ranges_b, impls_b and first
 abbrev pub members_of_pair : Data → Option Pair
 members_of_pair value =
-    given (optional_flag_of (get (codes "first") value)) (λ first.
+    given (flagged (codes "first") value) (λ first.
     given (graph_member_of value) (λ graph.
     given (side_of (codes "a") (codes "ranges_a") (codes "impls_a") value) (λ a.
     given (side_of (codes "b") (codes "ranges_b") (codes "impls_b") value) (λ b.

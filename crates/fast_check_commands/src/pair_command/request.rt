@@ -6,9 +6,9 @@ ghost use Rattle.fast_check_commands.specs.pair_command.Request.{side_of, pair_o
 
 use fast_check_graph::ModuleGraph;
 use fast_check_modules::diagnostics::ModulePublicRanges;
-use fast_check_read::{ReadError, has_float, read_optional_flag};
-use fast_check_read_tables::read_graph;
-use fast_check_requests::{EsModuleParts, member, read_es_module, read_optional_ranges};
+use fast_check_read::{ReadError, has_float};
+use fast_check_read_tables::{read_flag, read_graph, read_list};
+use fast_check_requests::{EsModuleParts, member, read_es_module};
 use serde_json::Value;
 use std::alloc::Global;
 
@@ -42,7 +42,7 @@ pub fn read_pair_request(alloc: Global, value: &Value) -> Result<PairRequest, Re
 fn read_pair_members(alloc: Global, value: &Value) -> Result<PairRequest, ReadError>
     ensures { Makes IsPair (members_of_pair (view value.now)) result }
 {
-    let should_error_on_first_diagnostic = read_optional_flag(value.get("first"))?;
+    let should_error_on_first_diagnostic = read_flag(value, "first")?;
     let graph = read_graph(alloc, value)?;
     let a = read_side(alloc, value, "a", "ranges_a", "impls_a")?;
     let b = read_side(alloc, value, "b", "ranges_b", "impls_b")?;
@@ -64,8 +64,8 @@ fn read_side(
 ) -> Result<Side, ReadError>
     ensures { Makes IsSide (side_of name.now ranges_name.now implementations_name.now (view value.now)) result }
 {
-    let ranges = read_optional_ranges(alloc, value, ranges_name)?;
-    let implementations = read_optional_ranges(alloc, value, implementations_name)?;
+    let ranges = read_list(alloc, value, ranges_name)?;
+    let implementations = read_list(alloc, value, implementations_name)?;
     let es_module = read_es_module(alloc, member(value, name)?)?;
     let public_ranges = ModulePublicRanges::from_parts(
         alloc,

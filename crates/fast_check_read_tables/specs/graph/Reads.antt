@@ -9,6 +9,7 @@ use Rattle.serde_json.specs.Find.{get, as_array, as_object, as_str}
 use Rattle.url.specs.Parser.{parse_url}
 use Rattle.url.specs.Parts.{Parts}
 use Rattle.fast_check_syntax.specs.declared.atom.Id.{Id}
+use Rattle.fast_check_syntax.specs.declared.source.SyntaxContext.{SyntaxContext}
 use Rattle.fast_check_symbols.specs.declared.symbol_id.SymbolId.{SymbolId}
 use Rattle.fast_check_read.specs.declared.error.ReadError.{ReadError}
 use Rattle.fast_check_read.specs.declared.error.ReadError.TheVariants.{BadForm}
@@ -88,6 +89,10 @@ variant_of value = given (as_object value) only_member
 -- a number
 abbrev pub symbol_id_of : Data → Option SymbolId
 symbol_id_of value = option_map (λ n. record { 0 = n }) (u32_of value)
+
+-- a scope number
+abbrev pub context_of : Data → Option SyntaxContext
+context_of value = option_map (λ n. record { 0 = n }) (u32_of value)
 
 -- a text and a scope number
 abbrev pub id_of : Data → Option Id

@@ -1,6 +1,6 @@
 //! Numbers and names of symbols, ranges and modules.
 
-ghost use Rattle.fast_check_read_tables.specs.graph.Reads.{symbol_id_of, id_of, url_of};
+ghost use Rattle.fast_check_read_tables.specs.graph.Reads.{symbol_id_of, context_of, id_of, url_of};
 ghost use Rattle.fast_check_read.specs.Pieces.{range_of_data};
 
 use crate::graph::from_json::FromJson;
@@ -40,6 +40,20 @@ impl FromJson for Id {
         let sym = read_text(sym)?;
         let context = SyntaxContext(read_u32(context)?);
         Ok(Id(Atom::from_str(alloc, sym)?, context))
+    }
+}
+
+impl FromJson for SyntaxContext {
+    ghost use Rattle.fast_check_syntax.specs.declared.source.SyntaxContext.{SyntaxContext};
+
+    ghost Seen = { SyntaxContext };
+
+    ghost seen = { λ context. context };
+
+    ghost read_of = { context_of };
+
+    fn from_json(_alloc: Global, value: &Value) -> Result<SyntaxContext, ReadError> {
+        Ok(SyntaxContext(read_u32(value)?))
     }
 }
 

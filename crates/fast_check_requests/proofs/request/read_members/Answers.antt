@@ -1,5 +1,5 @@
-use Rattle.std.proofs.Common.{refl, sym, ap, ◌∙◌}
-use Rattle.fast_check_read.specs.Pieces.{optional_flag_of}
+use Rattle.std.proofs.Common.{Some, refl, sym, ap, ◌∙◌}
+use Rattle.std.proofs.lemmas.List.{map-id}
 use Rattle.fast_check_read_tables.specs.graph.Graph as graphs
 use Rattle.fast_check_read.proofs.Each.{some_of_ok}
 use Rattle.fast_check_read_tables.proofs.graph.Given.{given_some}
@@ -15,9 +15,9 @@ returns c = (
     implementations = c.in_ok-implementations.implementations.items;
     first = c.in_ok-should_error_on_first_diagnostic.should_error_on_first_diagnostic;
   },
-  given_some _ c.in_ok-ranges.ensures
-      ∙ (given_some _ c.in_ok-implementations.ensures
-      ∙ (given_some _ (ap optional_flag_of (sym c.get.ensures) ∙ some_of_ok _ _ _ c.in_ok-should_error_on_first_diagnostic.ensures)
+  given_some _ (c.in_ok-ranges.ensures ∙ ap Some (map-id _))
+      ∙ (given_some _ (c.in_ok-implementations.ensures ∙ ap Some (map-id _))
+      ∙ (given_some _ (some_of_ok _ _ _ c.in_ok-should_error_on_first_diagnostic.ensures)
       ∙ (given_some _ c.in_ok-graph.ensures
       ∙ given_some _ (given_some _ (sym c.in_ok-member.ensures.member) ∙ c.in_ok-es_module.ensures)))),
   record {

@@ -1,5 +1,4 @@
 use Rattle.std.proofs.Common.{refl, sym, ap, ◌∙◌}
-use Rattle.fast_check_read.specs.Pieces.{optional_flag_of}
 use Rattle.fast_check_read_tables.specs.graph.Graph as graphs
 use Rattle.fast_check_read.proofs.Each.{some_of_ok}
 use Rattle.fast_check_read_tables.proofs.graph.Given.{given_some}
@@ -13,7 +12,7 @@ returns c = (
     b = c.in_ok-b.ensures.0;
     first = c.in_ok-should_error_on_first_diagnostic.should_error_on_first_diagnostic;
   },
-  given_some _ (ap optional_flag_of (sym c.get.ensures) ∙ some_of_ok _ _ _ c.in_ok-should_error_on_first_diagnostic.ensures)
+  given_some _ (some_of_ok _ _ _ c.in_ok-should_error_on_first_diagnostic.ensures)
       ∙ (given_some _ c.in_ok-graph.ensures ∙ (given_some _ c.in_ok-a.ensures.1 ∙ given_some _ c.in_ok-b.ensures.1)),
   record { graph = refl; a = c.in_ok-a.ensures.2; b = c.in_ok-b.ensures.2; first = refl },
 )

@@ -1,4 +1,5 @@
-use Rattle.std.proofs.Common.{◌∙◌, refl, sym}
+use Rattle.std.proofs.Common.{Some, ◌∙◌, ap, refl, sym}
+use Rattle.std.proofs.lemmas.List.{map-id}
 use Rattle.fast_check_read_tables.proofs.graph.Given.{given_some}
 use Rattle.fast_check_requests.specs.Request.{es_module}
 use Rattle.fast_check_commands.proofs.pair_command.request.read_side.Goals as goal
@@ -10,8 +11,8 @@ returns c = (
     ranges = c.in_ok-ranges.ranges.items;
     implementations = c.in_ok-implementations.implementations.items;
   },
-  given_some _ c.in_ok-ranges.ensures
-      ∙ (given_some _ c.in_ok-implementations.ensures
+  given_some _ (c.in_ok-ranges.ensures ∙ ap Some (map-id _))
+      ∙ (given_some _ (c.in_ok-implementations.ensures ∙ ap Some (map-id _))
       ∙ given_some _ (given_some _ (sym c.in_ok-member.ensures.member) ∙ c.in_ok-es_module.ensures)),
   record {
     es_module = refl;
