@@ -119,7 +119,7 @@ decl_of value =
 abbrev pub export_of : Data → Option (List ℕ × SymbolId)
 export_of = both_of as_str symbol_id_of
 
--- entries put over one another
+-- names with their symbols, put one after another: of entries with one name the last counts
 abbrev pub exports_of : Data → Option (List (List ℕ × SymbolId))
 exports_of value = option_map (all_gathered (λ exports e. put_export e.0 e.1 exports) []) (list_of export_of value)
 
