@@ -76,11 +76,11 @@ pub trait FastCheckCache {
     fn key_hash(&self, seed: &str, package_nv: &PackageNv, entrypoints: &BTreeSet<Url>) -> u64
         ensures { result ≡ hash_of self.now seed.now (nv_of package_nv.now) (map serialize entrypoints.now.keys) };
 
-    /// The item under a key, None where there is none. `AllocError` where memory is wanting.
+    /// The item under a key, None where there is none. `AllocError` if memory runs out.
     fn get(&self, key: FastCheckCacheKey) -> Result<Option<FastCheckCacheItem>, AllocError>
         ensures { IfOk result (λ found. option_map item_of found ≡ stored self.now key) };
 
-    /// Keeps an item under a key. Where memory is wanting, nothing changes and the item is dropped.
+    /// Keeps an item under a key. If memory runs out, nothing changes and the item is dropped.
     fn set(&mut self, key: FastCheckCacheKey, item: FastCheckCacheItem) -> Result<(), AllocError>
         ensures kept { OnOk result (stored self.new ≡ with_item key (item_of item) (stored self.old)) }
         ensures err { OnErr result (stored self.new ≡ stored self.old) }

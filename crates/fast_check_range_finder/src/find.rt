@@ -68,7 +68,7 @@ impl<'a> Finder<'a> {
 /// A package whose item in the cache is used is followed to the dependencies of the item alone. The search ends on every cache.
 ///
 /// A package whose exports neither the graph nor a member of the workspace has is passed over. An export text that does not join refuses the
-/// build: `InvalidExport` has the first one of its package. `OutOfMemory` where memory is wanting, or a URL comes to 4 GB.
+/// build: `InvalidExport` has the first one of its package. `OutOfMemory` if memory runs out, or a URL comes to 4 GB.
 pub fn find_all<'a>(
     alloc: Global,
     input: FinderInput<'a>,

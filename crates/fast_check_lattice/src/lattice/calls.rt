@@ -62,7 +62,7 @@ impl NamedSubset {
         self.contains_name(name) && !self.demands_path(name, &[], true)
     }
 
-    /// The first names, each once, with what is demanded below it, in no promised order. Where memory is wanting the set is dropped.
+    /// The first names, each once, with what is demanded below it, in no promised order. If memory runs out, the set is dropped.
     pub fn into_names(self, alloc: Global) -> Result<Vec<(String, Exports)>, AllocError>
         ensures { IfOk result (λ names. IsListed (paths self) names.items) }
     {
@@ -127,8 +127,8 @@ impl NamedSubset {
     }
 
     /// Adds the names of `new_subset`, and answers those that were lacking: the least set that brings all of it to what was here. The answer is
-    /// empty where nothing is new. It is made first, and costs what the new set is long. Where it is one path, that is written in place, once
-    /// there is room for it; else this set is joined in a copy. So it stays as it was where memory is wanting.
+    /// empty where nothing is new. The rest is made first, in time by the length of the new set. A rest of one path is written in place, once
+    /// there is room for the path; else this set is joined in a copy. So this set stays as it was if memory runs out.
     pub fn extend(
         &mut self,
         alloc: Global,

@@ -150,7 +150,7 @@ pub(crate) fn put_name(
     Ok(())
 }
 
-/// Puts a tree under a name that a node lacks. It is moved in, and dropped where memory is wanting: the nodes are then as they were.
+/// Puts a tree under a name that a node lacks. The tree is moved in. If memory runs out, it is dropped, and the nodes are as they were.
 pub(crate) fn graft(
     nodes: &mut Vec<Node>,
     alloc: Global,
