@@ -1,7 +1,8 @@
 use Rattle.std.proofs.Common.{refl, sym, ap, ◌∙◌}
+use Rattle.std.proofs.lemmas.Result.{err_from_is_err_and}
 use Rattle.fast_check_read_tables.specs.graph.Graph as graphs
 use Rattle.fast_check_read.proofs.Each.{some_of_ok}
-use Rattle.fast_check_read_tables.proofs.graph.Given.{given_some}
+use Rattle.fast_check_read_tables.proofs.graph.Given.{given_some, given_none}
 use Rattle.fast_check_commands.proofs.pair_command.request.read_pair_members.Goals as goal
 
 pub returns : goal.returns
@@ -16,3 +17,10 @@ returns c = (
       ∙ (given_some _ c.in_ok-graph.ensures ∙ (given_some _ c.in_ok-a.ensures.1 ∙ given_some _ c.in_ok-b.ensures.1)),
   record { graph = refl; a = c.in_ok-a.ensures.2; b = c.in_ok-b.ensures.2; first = refl },
 )
+
+pub returns-in_err-b : goal.returns-in_err-b
+returns-in_err-b c =
+    let p = err_from_is_err_and c.from_residual-in_err-b.result c.from_residual-in_err-b.ensures.1 in
+    rw (p.1, p.2)
+    (λ bad. given_some _ (some_of_ok _ _ _ c.in_ok-should_error_on_first_diagnostic.ensures)
+    ∙ (given_some _ c.in_ok-graph.ensures ∙ (given_some _ c.in_ok-a.ensures.1 ∙ given_none _ (c.in_err-b.ensures bad))))
