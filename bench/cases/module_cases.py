@@ -1,7 +1,7 @@
 """Modules of imports, exports, default exports and `using`, each with its skeleton as TypeScript or with its faults, stated by hand.
 
 Faults are stated as `function_cases` says. `hidden` has the specifiers that are not public, by the places of their items and their own; `by` has another
-range by which an item is public; `resolved` has what the texts of sources resolve to; `sources` are those that the answer tells of.
+range by which an item is public; `resolved` has what the texts of sources resolve to; `sources` are those that the answer has.
 """
 from class_cases import COMPUTED, public
 from function_cases import Case, F, ONE, T, THROW, const, func, promise, unknown

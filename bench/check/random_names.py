@@ -143,7 +143,7 @@ def calls_of(random_, tree, other):
 
 
 def run(program, calls):
-    """What the program tells of each call."""
+    """What the program prints of each call."""
     with tempfile.TemporaryDirectory() as room:
         with open(os.path.join(room, "names"), "w") as file:
             file.writelines(f"{line}\n" for line, _ in calls)

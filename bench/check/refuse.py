@@ -1,5 +1,5 @@
 #!/usr/bin/env python3
-"""Runs a program with each of its requests for memory refused in turn, and tells which runs do not end as out of memory has to.
+"""Runs a program with each of its requests for memory refused in turn, and reports which runs do not end as out of memory has to.
 
     bench/check/refuse.py PROGRAM COMMAND FILE..
     bench/check/refuse.py --where NUMBER PROGRAM COMMAND FILE
@@ -14,7 +14,7 @@ where any run differs, and where no request was counted: then the program has an
 
 `--stored COUNT` takes so many of the stored runs of a command on less than 20 KB, evenly spread. A line for all files stands below.
 
-`--where NUMBER` refuses this request alone, and tells which calls it came from, by the names that the program has kept (`nm`).
+`--where NUMBER` refuses this request alone, and reports which calls it came from, by the names that the program has kept (`nm`).
 
 The requests are those that the program makes of the C library: malloc, calloc, realloc, aligned_alloc and posix_memalign (`fork_server.py`).
 """

@@ -1,5 +1,5 @@
 #!/usr/bin/env python3
-"""Refuses each request for memory of builds with a cache in turn, and tells where the answer is another one than out of memory.
+"""Refuses each request for memory of builds with a cache in turn, and reports where the answer is another one than out of memory.
 
 The program of all cases (`fast_check_vectors`) makes two of the runs of its part `cached_builds`, each by itself: one whose first build fills the cache
 that the second uses, and one whose cache has an item from the start. Each request of a run is refused alone, and once with all from there on, until a run

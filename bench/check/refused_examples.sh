@@ -1,6 +1,6 @@
 #!/usr/bin/env bash
 # Refuses each request for memory of the program in turn, on eight examples of the three commands, and on stored runs of what no example has: a namespace of
-# expando properties, two versions of a class, a fault that the finder tells, and an export text that refuses the build (refuse.py says what has to come).
+# expando properties, two versions of a class, an error that the finder reports, and an export text that refuses the build (refuse.py says what has to come).
 # About a minute.
 # usage: bench/check/refused_examples.sh [PROGRAM]      (what the gate or ./fast-check has built, else ./fast-check proves and builds it)
 set -eu

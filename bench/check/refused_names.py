@@ -1,5 +1,5 @@
 #!/usr/bin/env python3
-"""Refuses each request for memory of calls that change a name set, or a map of modules with one, and tells where the value is not what it was before.
+"""Refuses each request for memory of calls that change a name set, or a map of modules with one, and reports where the value is not what it was before.
 
 For each call the driver (`bench/time/driver.sh refused DRIVER`) makes a value, calls, and, where that runs out of memory, compares the value with what it
 was: the same paths and the same count of nodes. Each request is refused alone, and once with all from there on, until a run ends before. A line for each call

@@ -1,5 +1,5 @@
 'use strict';
-// Checks folders, one after another, and tells what is wrong with them in the format that is asked for.
+// Checks folders, one after another, and reports their errors and warnings in the format that is asked for.
 const { analyse, statusOf } = require('./analysis.js');
 const { Baseline, withoutAllowed } = require('./allowed.js');
 const { refusalOf } = require('./faults.js');

@@ -248,7 +248,7 @@ async function wrongWritten(dir, texts, context) {
   return { count, found: again.count ? `a second fix writes ${again.count} types` : null };
 }
 
-/** Drops types in a package of each of so many seeds, tells what fails, and answers how many types were written, and how many seeds failed. */
+/** Drops types in a package of each of so many seeds, reports what fails, and answers how many types were written, and how many seeds failed. */
 async function fuzzTypes(amount, first, folders, tell = console.log) {
   const { packagesBelow } = require('./sweep.js');
   const below = (dir) => (fs.existsSync(path.join(dir, 'deno.json')) ? [dir] : packagesBelow(dir));
@@ -272,7 +272,7 @@ async function fuzzTypes(amount, first, folders, tell = console.log) {
   return counts;
 }
 
-/** Tries so many seeds, tells what fails, and answers how many do. */
+/** Tries so many seeds, reports what fails, and answers how many do. */
 async function fuzz(count, first, folders, tell = console.log) {
   const sources = folders.flatMap((it) => sourcesBelow(it)).sort();
   const work = fs.mkdtempSync(path.join(os.tmpdir(), 'fast-check-fuzz-'));

@@ -85,7 +85,7 @@ function editAll(kind, folder, names) {
   return edited;
 }
 
-/** Edits a copy of the package in one way, and tells whether all stays. */
+/** Edits a copy of the package in one way, and reports whether all stays. */
 async function judgeKind(kind, { folder, words, names, before }, copy) {
   fs.cpSync(folder, copy, { recursive: true });
   const edited = editAll(kind, copy, names);

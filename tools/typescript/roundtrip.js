@@ -32,7 +32,7 @@ function roundTrip(name, text) {
   return ['different', `\n  ${before.slice(...around)}\n  ${after.slice(...around)}`];
 }
 
-/** Tries the files, and tells those that do not come back. */
+/** Tries the files, and reports those that do not come back. */
 function main(files) {
   const counts = {};
   for (const file of files) {

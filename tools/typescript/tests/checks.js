@@ -152,7 +152,7 @@ function leftOut({ run, withFolder, same, holds }) {
       same(status, 1, 'the status');
       same(objects(out).map(({ code, line }) => `${code} ${line}`).join(), 'missing-explicit-return-type 11,missing-explicit-type 12');
       holds(/, 2 messages, 3 allowed, /.test((await told('check', '.')).out), 'the last line counts those that are allowed');
-      holds(/, 5 messages, 0\.00 s/.test((await told('check', '--no-ignore', '.')).out), 'with --no-ignore all are told');
+      holds(/, 5 messages, 0\.00 s/.test((await told('check', '--no-ignore', '.')).out), 'with --no-ignore all are reported');
     })],
     ['what keeps a package from being read is not allowed', inside({ 'mod.ts': '// fast-check-ignore syntax-error\nexport const a = ;\n' }, async (told) => {
       same((await told('check', '.')).status, 2, 'the status');

@@ -205,7 +205,7 @@ async function edits() {
       edited(folder, name, file, old, now);
       const { status, out } = await run(['diff', path.join(PACKAGES, name), folder]);
       same(status, 1, 'the status');
-      for (const each of wanted) holds(out.includes(each), `'${each}' is told, and this was: ${out}`);
+      for (const each of wanted) holds(out.includes(each), `'${each}' is reported, and this was: ${out}`);
     }));
   }
 }
@@ -289,7 +289,7 @@ async function commandLine() {
     same(status, 1, 'the status');
     holds(lines.every((each) => each.code && each.file.endsWith('mod.ts') && each.line > 0 && each.column > 0), out);
   });
-  await test('--json tells errors of reading too', async () => {
+  await test('--json reports errors of reading too', async () => {
     const { status, out } = await run(['check', '--json', 'syntax-error']);
     same(status, 2, 'the status');
     same(JSON.parse(out.split('\n')[0]).code, 'syntax-error');
@@ -512,7 +512,7 @@ async function compilers() {
     const own = path.join(folder, 'node_modules/typescript');
     fs.mkdirSync(own, { recursive: true });
     fs.writeFileSync(path.join(own, 'index.js'), `module.exports = { ...require(${JSON.stringify(COMPILER)}), version: "5.1.99-own" };`);
-    holds(from(folder, []).stderr.includes('by TypeScript 5.1.99-own'), 'its version is told');
+    holds(from(folder, []).stderr.includes('by TypeScript 5.1.99-own'), 'its version is reported');
     same(from(folder, []).stderr.split('newest.sh').length, 2, 'how often a newer compiler is named');
     holds(!from(folder, ['--no-own-compiler']).stderr.includes('5.1.99-own'), '--no-own-compiler is obeyed');
     fs.writeFileSync(path.join(own, 'index.js'), 'module.exports = { version: "4.7.4" };');
