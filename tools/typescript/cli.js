@@ -3,6 +3,7 @@
 // The command line of fast-check-ts: from a folder of TypeScript to messages, skeletons, differences and a page.
 const fs = require('fs');
 const path = require('path');
+const { COLOURS, folderOf, messagesOf, statusOf, writeMessages } = require('./commands.js');
 const { lookIn } = require('./compiler.js');
 const { refusalOf } = require('./faults.js');
 const { keptFor } = require('./kept.js');
@@ -20,37 +21,6 @@ function contextOf(io, options) {
   const paintErrors = painter(Boolean(io.err.isTTY) && !noColor);
   const again = () => ({ ...io, kept: options.kept, paint, paintErrors, progress: new Progress(io.err, Boolean(io.err.isTTY)), begun: process.hrtime.bigint() });
   return { ...again(), again };
-}
-
-/** The folder of a word, which has to be there. */
-function folderOf(word, context) {
-  const folder = path.resolve(context.cwd, word);
-  let found = null;
-  try {
-    found = fs.statSync(folder);
-  } catch {
-    throw new UsageError(`there is no folder ${word}`);
-  }
-  if (!found.isDirectory()) throw new UsageError(`${word} is no folder: give the folder of the package`);
-  return folder;
-}
-
-function writeMessages(messages, options, { out, paint }) {
-  const { format, plain } = require('./messages.js');
-  for (const message of messages) {
-    out.write(options.json ? `${JSON.stringify(plain(message))}\n` : `${format(message, paint).join('\n')}\n`);
-  }
-}
-
-/** All that is reported of a folder before its skeletons are looked at. */
-function messagesOf(world) {
-  return [...world.warnings, ...world.broken, ...world.messages];
-}
-
-/** The status of a folder that was analysed, by what is reported of it: warnings alone are none. */
-function statusOf(world, told) {
-  const { statusOf: statusOfBroken } = require('./analysis.js');
-  return statusOfBroken(world.broken) || (told.some(({ level }) => level !== 'Warning') ? 1 : 0);
 }
 
 /** Some skeletons of a folder and its declaration files. Why others have none is added to the folder's messages. */
@@ -121,86 +91,6 @@ async function input([word], options, context) {
   return statusOf({ broken }, []);
 }
 
-/** Calls back with the folder of a word: one that is there, or a revision of the repository that the other folder lies in, in a folder of its own. */
-async function withFolder(word, beside, context, call) {
-  const { unpacked } = require('./revision.js');
-  if (fs.existsSync(path.resolve(context.cwd, word))) return call(folderOf(word, context));
-  const folder = unpacked(word, folderOf(beside, context));
-  if (!folder) throw new UsageError(`there is no folder and no revision ${word}`);
-  try {
-    return await call(folder);
-  } finally {
-    fs.rmSync(folder, { recursive: true, force: true });
-  }
-}
-
-/** The public names of a folder, which are `unknown` since something is wrong with them, and its messages, which go to standard error. Null where no name is known. */
-async function namesOf(folder, options, context) {
-  const { analyse } = require('./analysis.js');
-  const { withPartial } = require('./preview.js');
-  const { publicNames } = require('./public_names.js');
-  const world = await analyse(folder, { ...options, preview: true }, context);
-  context.progress.end();
-  writeMessages(messagesOf(world), {}, { out: context.err, paint: context.paintErrors });
-  if (world.broken.length || (world.messages.length && !world.preview)) return null;
-  return { names: publicNames(withPartial(world)), isPreview: world.messages.length > 0, unknown: world.preview ? world.preview.unknown : new Set() };
-}
-
-const REASONS = {
-  major: 'a public name is gone, or is declared otherwise',
-  minor: 'there is a new public name, and the others are declared as they were',
-  patch: 'each public name is declared as it was: an edit of what is hidden changes no skeleton, by the theorem in docs/PROVED.md',
-};
-
-/** One change as lines. */
-function writeChange({ name, module, change, parts }, { out, paint }) {
-  out.write(`${paint('bold', `${change} ${name}`)} (${module})\n`);
-  for (const part of parts) {
-    if (part.name !== null) out.write(`  by ${part.name} (${part.module})${part.lines.length ? '' : ', as above'}\n`);
-    for (const line of part.lines) out.write(line === null ? '    ..\n' : `${paint(COLOURS[line[0]], `  ${line[0]} ${line[1]}`.trimEnd())}\n`);
-  }
-}
-
-/** Why there is no advice: which names are left out, since something is wrong with them. */
-function previewReason(unknown) {
-  const names = [...unknown].map((it) => it.split('\n')).map(([specifier, name]) => `${name} (${specifier.replace(/^file:\/\/\//, '')})`).sort();
-  return `a package has messages, and no advice comes${names.length ? `; not compared: ${names.join(', ')}, and what leads to them` : ''}`;
-}
-
-/** All changes as a text for a pull request. */
-function writeMarkdown(changes, advice, reason, { out }) {
-  out.write(`**${advice}**: ${reason}\n`);
-  for (const { name, module, change, parts } of changes) {
-    const by = parts.filter((part) => part.name !== null).map((part) => `\`${part.name}\` (${part.module})`);
-    out.write(`\n- ${change} \`${name}\` (${module})${by.length ? ` by ${by.join(', ')}` : ''}\n`);
-    const lines = parts.flatMap((part) => part.lines).map((line) => (line === null ? ' ..' : `${line[0]} ${line[1]}`));
-    if (lines.length) out.write(`\n  \`\`\`diff\n${lines.map((it) => `  ${it}`).join('\n')}\n  \`\`\`\n`);
-  }
-}
-
-async function diff([old, now], options, context) {
-  const { adviceFor, nameChanges } = require('./difference.js');
-  const before = await withFolder(old, now, context, (folder) => namesOf(folder, options, context));
-  const after = await withFolder(now, old, context, (folder) => namesOf(folder, options, context));
-  if (!before || !after) {
-    context.err.write('fast-check-ts: a package with messages has no skeletons to compare\n');
-    return 2;
-  }
-  const unknown = new Set([...before.unknown, ...after.unknown]);
-  const isPreview = before.isPreview || after.isPreview;
-  const changes = nameChanges(before.names, after.names, unknown);
-  const [advice, reason] = isPreview ? ['preview', previewReason(unknown)] : [adviceFor(changes), REASONS[adviceFor(changes)]];
-  if (options.markdown) writeMarkdown(changes, advice, reason, context);
-  else if (options.json) for (const each of [...changes, { advice, reason }]) context.out.write(`${JSON.stringify(each)}\n`);
-  else {
-    for (const each of changes) writeChange(each, context);
-    context.out.write(`${context.paint('bold', advice)}: ${reason}\n`);
-  }
-  return isPreview ? 2 : changes.length ? 1 : 0;
-}
-
-const COLOURS = { ' ': 'gray', '-': 'red', '+': 'green' };
-
 async function report([word, file], options, context) {
   const { analyse } = require('./analysis.js');
   const { page } = require('./report.js');
@@ -224,7 +114,7 @@ async function check(words, options, context) {
   return checkAll(targetsOf(words, options, context.cwd), options, context);
 }
 
-const RUN = { check, fix, skeleton, input, diff, report };
+const RUN = { check, fix, skeleton, input, diff: (...all) => require('./diff.js').diff(...all), report };
 
 /** Tells why a command could not be done, and answers its status. */
 function refuse(thrown, options, context) {

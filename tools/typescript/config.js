@@ -233,6 +233,13 @@ function mappedOut(config) {
   return Object.entries(importsOf('/', config)).filter(([, target]) => target === null).map(([name]) => name.replace(/\/$/, ''));
 }
 
+/** The range of versions that a configuration names for each package outside, by the name that sources import. */
+function rangesOf(config) {
+  const isOut = ([, entry]) => isText(entry) && !/^\.{0,2}\//.test(entry);
+  const mapped = Object.entries(config.imports || {}).filter(isOut).map(([name, entry]) => [name.replace(/\/$/, ''), entry]);
+  return Object.fromEntries([...DEPENDENCIES.flatMap((it) => (isMap(config[it]) ? Object.entries(config[it]).filter(([, range]) => isText(range)) : [])), ...mapped]);
+}
+
 const VERSION = /^\d+\.\d+\.\d+(-[0-9A-Za-z.-]+)?(\+[0-9A-Za-z.-]+)?$/;
 
 /** The folders of a folder's packages: itself where it has entry points, and the members of its workspace, which have to lie within it. */
@@ -278,6 +285,8 @@ function packagesOf(dir, options, context) {
     return {
       name: given.name || own.name || path.basename(folder),
       version: VERSION.test(version) ? version : '0.0.0',
+      isVersioned: VERSION.test(version),
+      ranges: { ...rangesOf(config), ...rangesOf(own) },
       dir: folder,
       imports: { ...importsOf(dir, config), ...importsOf(folder, own) },
       dependencies: new Set([...dependenciesOf(config), ...dependenciesOf(own)]),

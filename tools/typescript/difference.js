@@ -107,7 +107,7 @@ function withoutUnknown(names, unknown) {
 }
 
 /**
- * The public names that differ, each `{name, module, change, parts}`: names that are gone first, then those that changed, then those that are new. Names that lead to a
+ * The public names that differ, each `{name, owner, module, change, parts}`: names that are gone first, then those that changed, then those that are new. Names that lead to a
  * declaration of which something is wrong in either are left out of both.
  */
 function nameChanges(old, now, unknown = new Set()) {
@@ -118,18 +118,12 @@ function nameChanges(old, now, unknown = new Set()) {
 
 function changesOf(before, after) {
   const told = new Set();
-  const only = (some, others, change) => [...some].filter(([name]) => !others.has(name)).map(([name, { module }]) => ({ name, module, change, parts: [] }));
+  const only = (some, others, change) => [...some].filter(([name]) => !others.has(name)).map(([name, { owner, module }]) => ({ name, owner, module, change, parts: [] }));
   const differing = [...after].filter(([name, now]) => before.has(name) && textsIn(before.get(name).closure) !== textsIn(now.closure));
   const isOwn = ([name, { target, closure }]) => before.get(name).closure.get(target.join('\n')) !== closure.get(target.join('\n'));
   const both = [...differing.filter(isOwn), ...differing.filter((it) => !isOwn(it))];
-  const changed = both.map(([name, now]) => ({ name, module: now.module, change: 'changed', parts: changedParts(before.get(name), now, told) }));
+  const changed = both.map(([name, now]) => ({ name, owner: now.owner, module: now.module, change: 'changed', parts: changedParts(before.get(name), now, told) }));
   return [...only(before, after, 'removed'), ...changed, ...only(after, before, 'added')];
 }
 
-/** The part of a version number that some changes raise. */
-function adviceFor(changes) {
-  if (changes.some(({ change }) => change !== 'added')) return 'major';
-  return changes.length ? 'minor' : 'patch';
-}
-
-module.exports = { adviceFor, nameChanges, unified };
+module.exports = { nameChanges, unified };

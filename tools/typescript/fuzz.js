@@ -159,7 +159,7 @@ async function wrong(seed, modules, folder) {
   for (const words of [...COMMANDS, ...(seed % VERIFIED ? [] : [['check', '--verify', '.']])]) {
     const { status, out, err } = await run(words, folder);
     if (status === 2 && (out + err).includes('[nested-too-deep]')) return null;
-    const isStatus = status === 0 || status === 1 || (words[0] === 'diff' && (out + err).match(/has no skeletons to compare|^preview: /m));
+    const isStatus = status === 0 || status === 1 || (words[0] === 'diff' && (out + err).match(/has no skeletons to compare|^(?:preview|unknown): /m));
     if (!isStatus) return `${words.join(' ')} ends with status ${status}: ${out.slice(-400)}${err.slice(-400)}`;
   }
   return await wrongSkeleton(folder) || (seed % VERIFIED === 1 ? wrongTypes(folder) : null);

@@ -246,6 +246,8 @@ function readPackage(dir, options = {}) {
   const packages = reader.packages.map((it) => ({
     name: it.name,
     version: it.version,
+    isVersioned: it.isVersioned,
+    ranges: it.ranges,
     dir: it.dir,
     needed: it.needed,
     exports: reader.entriesOf(it).map(([key, file]) => [key, `./${urlPath(it.dir, file)}`]),
@@ -275,4 +277,4 @@ function resolverOf(dir, members) {
   return (from, text) => reader.resolve(from, text);
 }
 
-module.exports = { readPackage, resolverOf };
+module.exports = { packageName, readPackage, resolverOf };

@@ -81,7 +81,7 @@ class PublicNames {
     }
     found.set(key, this.text(specifier, name));
     for (const { node } of this.names.get(specifier).declared.get(name)) {
-      const { names, imports } = mentioned(node);
+      const { names, imports } = mentioned(node, this.names.get(specifier).scope);
       for (const each of names) this.follow(this.local(specifier, each, new Set()), found);
       for (const [text, first] of imports) this.follow(this.other(specifier, text, first, new Set()), found);
     }
@@ -108,7 +108,8 @@ class PublicNames {
           const target = this.target(specifier, name) || [null, name];
           const entry = key === '.' ? '' : ` of ${key}`;
           const shown = this.world.info.packages.length > 1 ? `${owner}: ${name}${entry}` : `${name}${entry}`;
-          found.set(shown, { module: target[0] === null ? this.file(specifier) : this.file(target[0]), target, closure: this.closure(target) });
+          const module = this.file(target[0] === null ? specifier : target[0]);
+          found.set(shown, { owner, at: { specifier, name }, module, target, closure: this.closure(target) });
         }
       }
     }

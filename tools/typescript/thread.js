@@ -1,5 +1,5 @@
 'use strict';
-// Runs `verify.js` and `fix.js` in a thread of its own, whose memory runs out without the end of the command. The thread stays for further folders.
+// Runs `verify.js`, `fix.js` and `compatibility.js` in a thread of its own, whose memory runs out without the end of the command. The thread stays for further folders.
 const v8 = require('v8');
 const { Worker, isMainThread, parentPort, workerData } = require('worker_threads');
 const { candidateFiles, chosen } = require('./compiler.js');
@@ -71,6 +71,11 @@ async function verified(world, { cwd, progress }) {
   return withLines(await ask({ task: 'verify', world: handed(world), cwd }, progress));
 }
 
+/** What `compatibility` says of public names of two versions of a package. */
+async function compared(before, after, names, { progress }) {
+  return ask({ task: 'compare', before: handed(before), after: handed(after), names }, progress);
+}
+
 /** What `fix` makes of a folder: its messages, the texts that changed, and how many types were written. */
 async function fixed(dir, options, { cwd, environment, progress }) {
   const { kept, ...others } = options;
@@ -100,6 +105,11 @@ const TASKS = {
     return withTexts(verify(world, { cwd }));
   },
 
+  async compare({ before, after, names }) {
+    const { compatibility } = require('./compatibility.js');
+    return compatibility(before, after, names);
+  },
+
   async fix({ dir, options, cwd, environment }) {
     const { fix } = require('./fix.js');
     const { keptFor } = require('./kept.js');
@@ -124,4 +134,4 @@ if (!isMainThread && workerData && parentPort) {
   parentPort.on('message', async (asked) => parentPort.postMessage(await answerTo(asked)));
 }
 
-module.exports = { fixed, verified };
+module.exports = { compared, fixed, verified };

@@ -17,13 +17,13 @@ function resolver(world) {
   };
 }
 
-/** The identifiers and import types that a node mentions. */
-function mentioned(node) {
+/** The identifiers and import types that a node mentions; of identifiers those of a scope, where one is given: keys, parameters and members of enums have others. */
+function mentioned(node, scope) {
   const names = new Set();
   const imports = [];
   const walk = (at) => {
     if (at === null || typeof at !== 'object') return;
-    if (typeof at.sym === 'string' && at.ctxt !== undefined) names.add(at.sym);
+    if (typeof at.sym === 'string' && at.ctxt !== undefined && (scope === undefined || at.ctxt === scope)) names.add(at.sym);
     if (at.TsImportType) imports.push([at.TsImportType.arg.value, firstName(at.TsImportType.qualifier)]);
     Object.values(at).forEach(walk);
   };
@@ -61,12 +61,19 @@ class Names {
     this.exported = new Map();
     this.reexported = [];
     this.all = [];
+    // The number of the module's own scope, which its declarations and imports have.
+    this.scope = undefined;
     for (const item of program.body) this.add(item);
   }
 
   declare(name, node, span) {
+    this.within(node.ident || node.id || (node.name && node.name.Ident && node.name.Ident.id));
     if (!this.declared.has(name)) this.declared.set(name, []);
     this.declared.get(name).push({ name, node, span });
+  }
+
+  within(identifier) {
+    if (this.scope === undefined && identifier && identifier.ctxt) this.scope = identifier.ctxt;
   }
 
   add(item) {
@@ -86,6 +93,7 @@ class Names {
     for (const specifier of node.specifiers) {
       const [form, each] = only(specifier);
       const name = form === 'Named' ? (each.imported ? nameOf(each.imported) : each.local.sym) : form === 'Default' ? 'default' : null;
+      this.within(each.local);
       this.imported.set(each.local.sym, [node.src.value, name]);
     }
   }
@@ -139,16 +147,18 @@ class Search {
     return this.found;
   }
 
-  /** All that a module exports. */
-  exports(specifier, step) {
+  /** All that a module exports; behind `export *` all but `default`. */
+  exports(specifier, step, isBehindStar = false) {
     const names = this.names.get(specifier);
-    if (!names || this.asked.has(`${specifier}\n`)) return;
-    this.asked.add(`${specifier}\n`);
+    const key = `${specifier}\n${isBehindStar ? '*' : ''}`;
+    if (!names || this.asked.has(key)) return;
+    this.asked.add(key);
+    const isAsked = (name) => !isBehindStar || name !== 'default';
     // Of a module that stands behind a name, as of `export * as names`, the names below it are shown.
     const as = (name) => ({ ...step, as: step.as ? `${step.as}.${name}` : name });
-    for (const [name, local] of names.exported) this.local(specifier, local, as(name));
-    for (const [name, text, orig] of names.reexported) this.other(specifier, text, orig, as(name));
-    for (const text of names.all) this.exports(this.resolve(specifier, text), step);
+    for (const [name, local] of names.exported) if (isAsked(name)) this.local(specifier, local, as(name));
+    for (const [name, text, orig] of names.reexported) if (isAsked(name)) this.other(specifier, text, orig, as(name));
+    for (const text of names.all) this.exports(this.resolve(specifier, text), step, true);
   }
 
   /** One export of a module. */
@@ -158,7 +168,7 @@ class Search {
     this.asked.add(`${specifier}\n${name}`);
     if (names.exported.has(name)) this.local(specifier, names.exported.get(name), step);
     for (const [as, text, orig] of names.reexported) if (as === name) this.other(specifier, text, orig, step);
-    if (!names.exported.has(name)) for (const text of names.all) this.export(this.resolve(specifier, text), name, step);
+    if (name !== 'default' && !names.exported.has(name)) for (const text of names.all) this.export(this.resolve(specifier, text), name, step);
   }
 
   other(specifier, text, name, step) {
@@ -183,7 +193,7 @@ class Search {
     const { specifier, name } = this.found.get(key);
     const step = { from: key };
     for (const { node } of this.names.get(specifier).declared.get(name)) {
-      const { names, imports } = mentioned(node);
+      const { names, imports } = mentioned(node, this.names.get(specifier).scope);
       for (const each of names) this.local(specifier, each, step);
       for (const [text, first] of imports) this.other(specifier, text, first, step);
     }

@@ -166,8 +166,8 @@ const EDITS = [
   ['overloads', 'mod.ts', 'return strict ? null : {};', 'return null;'],
 ];
 const SHOWN = [
-  ['variables', 'mod.ts', 'text = "a"', 'text = "b"', ['changed text (mod.ts)\n', 'major: ']],
-  ['re-exports', 'shapes.ts', 'x: number;', 'x: string;', ['changed Point (shapes.ts)\n', 'changed areaOf (shapes.ts)\n  by Point (shapes.ts), as above\n', 'major: ']],
+  ['variables', 'mod.ts', 'text = "a"', 'text = "b"', ['changed text (mod.ts)\n', '\npatch: ']],
+  ['re-exports', 'shapes.ts', 'x: number;', 'x: string;', ['changed Point (shapes.ts)\n', 'changed areaOf (shapes.ts)\n  by Point (shapes.ts), as above\n', '\nmajor: ']],
   ['re-export-all', 'mod.ts', 'export * from "./b.ts";\n', '', ['removed b (b.ts)\n', 'major: ']],
   ['variables', 'mod.ts', 'const hidden', 'export const added = 1;\nconst hidden', ['added added (mod.ts)\nminor: ']],
 ];
@@ -208,6 +208,11 @@ async function edits() {
       for (const each of wanted) holds(out.includes(each), `'${each}' is reported, and this was: ${out}`);
     }));
   }
+}
+
+/** Pairs of versions. */
+async function differences() {
+  for (const [name, body] of require('./diffs.js').tests({ run, withFolder, same, holds })) await test(name, body);
 }
 
 async function revisions() {
@@ -639,7 +644,7 @@ async function all(words) {
     return;
   }
   await storedPackages(names);
-  if (!asked.length) for (const part of [trees, () => everyDiagnostic(names), edits, revisions, commandLine, checks, oddFolders, faults, compilers, fixes, fixesAround, declarationFiles, fuzzed, programs, memory, others, pages, verified]) await part();
+  if (!asked.length) for (const part of [trees, () => everyDiagnostic(names), edits, differences, revisions, commandLine, checks, oddFolders, faults, compilers, fixes, fixesAround, declarationFiles, fuzzed, programs, memory, others, pages, verified]) await part();
   const not = names.filter((name) => !isCompared(name));
   if (not.length) console.log(`not compared under TypeScript ${ts.version}: ${not.join(', ')}`);
   console.log(`${passed} passed, ${failed.length} failed`);

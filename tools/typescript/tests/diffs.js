@@ -1,0 +1,189 @@
+'use strict';
+// Pairs of versions, with the advice that a maintainer gives.
+const childProcess = require('child_process');
+const fs = require('fs');
+const path = require('path');
+
+const FUNCTION = 'export function area(width: number): number { return width; }\n';
+const SHAPE = 'export interface Shape { width: number }\n';
+const CLASS = 'export class Box { width: number = 1; area(): number { return this.width; } }\n';
+const ZOD = 'import * as z from "zod";\n';
+const load = 'declare function load(): any;\n';
+
+/** What is edited in one module: a title, the text before and after, and the advice. */
+const EDITS = [
+  // No public declaration differs for its users.
+  ['a literal of a constant', 'export const version = "1.0.0";', 'export const version = "1.0.1";', 'patch'],
+  ['a number of a constant', 'export const most = 10, least = -1;', 'export const most = 20, least = -2;', 'patch'],
+  ['a renamed parameter', FUNCTION, 'export function area(size: number): number { return size; }\n', 'patch'],
+  ['a union turned round', 'export type Mode = "a" | "b";', 'export type Mode = "b" | "a";', 'patch'],
+  ['an array written otherwise', 'export const names: string[] = [];', 'export const names: Array<string> = [];', 'patch'],
+  ['a type that is spelt out', 'export type Id = string; export const id: Id = "";', 'export type Id = string; export const id: string = "";', 'patch'],
+  ['a type that has a name now', 'export function f(it: { a: 1 }): void {}', 'interface It { a: 1 }\nexport function f(it: It): void {}', 'patch'],
+  ['a private member', CLASS, 'export class Box { private hidden: number = 1; width: number = 1; area(): number { return this.width; } }', 'patch'],
+  ['a private member of another type', 'export class A { private a: number = 1; #b: number = 2; }', 'export class A { private a: string = ""; }', 'patch'],
+  ['members in another order', 'export interface A { a: 1; b: 2 }', 'export interface A { b: 2; a: 1 }', 'patch'],
+  ['a body', FUNCTION, FUNCTION.replace('return width', 'return width * 2'), 'patch'],
+  ['a function as a constant', 'export function f(a: string): void {}', 'export const f: (a: string) => void = load();', 'patch', load],
+  ['an overload that says the same', 'export function f(a: string): void {}', 'export function f(a: string): void;\nexport function f(a: any): void {}', 'patch'],
+
+  // What users have goes on.
+  ['an optional parameter', FUNCTION, 'export function area(width: number, height?: number): number { return width; }\n', 'minor'],
+  ['a parameter with a default', FUNCTION, 'export function area(width: number, height = 1): number { return width; }\n', 'minor'],
+  ['a wider parameter', FUNCTION, 'export function area(width: number | string): number { return 1; }\n', 'minor'],
+  ['a narrower result', 'export function f(): string | number { return 1; }', 'export function f(): number { return 1; }', 'minor'],
+  ['an optional property', SHAPE, 'export interface Shape { width: number; name?: string }\n', 'minor'],
+  ['a method of a class', CLASS, CLASS.replace('area()', 'more(): void {} area()'), 'minor'],
+  ['a property of a class', CLASS, CLASS.replace('width: number = 1;', 'width: number = 1; height: number = 2;'), 'minor'],
+  ['a static member', CLASS, CLASS.replace('area()', 'static of(): Box { return new Box(); } area()'), 'minor'],
+  ['an optional parameter of a method', CLASS, CLASS.replace('area()', 'area(scale?: number)'), 'minor'],
+  ['an overload', 'export function f(a: string): void {}', 'export function f(a: string): void;\nexport function f(a: number): void;\nexport function f(a: any): void {}', 'minor'],
+  ['a type parameter with a default', 'export interface Box<T> { it: T }', 'export interface Box<T, U = string> { it: T; more?: U }', 'minor'],
+  ['a wider constraint', 'export type Of<T extends string> = { it: T };', 'export type Of<T extends string | number> = { it: T };', 'minor'],
+  ['a member of a value', 'export const it: { a: 1 } = load();', 'export const it: { a: 1; b: 2 } = load();', 'minor', load],
+  ['a new name', FUNCTION, `${FUNCTION}export const more: number = 1;\n`, 'minor'],
+  ['a type that is a value too', 'export interface A { a: 1 }', 'export class A { a: 1 = 1; }', 'minor'],
+  ['a member of a namespace', 'export namespace N { export const a: number = 1; }', 'export namespace N { export const a: number = 1; export interface B { b: 1 } }', 'minor'],
+  ['a function behind a type of this module', `${SHAPE}export function f(it: Shape): void {}`, 'export interface Shape { width: number; name?: string }\nexport function f(it: Shape): void {}', 'minor'],
+
+  // Users may have to change their code.
+  ['a name that is gone', `${FUNCTION}export const more: number = 1;\n`, FUNCTION, 'major'],
+  ['a needed parameter', FUNCTION, 'export function area(width: number, height: number): number { return width; }\n', 'major'],
+  ['a parameter that is gone', 'export function f(a: string, b?: number): void {}', 'export function f(a: string): void {}', 'major'],
+  ['a parameter of a method that is gone', 'export class A { m(a: string, b?: number): void {} }', 'export class A { m(a: string): void {} }', 'major'],
+  ['a narrower parameter', 'export function f(a: string | number): void {}', 'export function f(a: string): void {}', 'major'],
+  ['a narrower parameter of a method', 'export class A { m(a: string | number): void {} }', 'export class A { m(a: string): void {} }', 'major'],
+  ['a wider result', 'export function f(): number { return 1; }', 'export function f(): string | number { return 1; }', 'major'],
+  ['another type of a property', SHAPE, SHAPE.replace('number', 'string'), 'major'],
+  ['a needed property of an interface', SHAPE, 'export interface Shape { width: number; name: string }\n', 'major'],
+  ['a property that is gone', 'export interface A { a: 1; b?: 2 }', 'export interface A { a: 1 }', 'minor'],
+  ['a property of a class that is gone', 'export class A { a: number = 1; b: number = 2; }', 'export class A { a: number = 1; }', 'major'],
+  ['a readonly property', 'export class A { a: number = 1; }', 'export class A { readonly a: number = 1; }', 'major'],
+  ['a setter that is gone', 'export class A { get a(): number { return 1; } set a(it: number) {} }', 'export class A { get a(): number { return 1; } }', 'major'],
+  ['another written literal', 'export const mode: "a" = "a";', 'export const mode: "b" = "b";', 'major'],
+  ['a member of a union more', 'export type Mode = "a" | "b";', 'export type Mode = "a" | "b" | "c";', 'major'],
+  ['a member of an enum that is gone', 'export enum Level { Low, High }', 'export enum Level { Low }', 'major'],
+  ['a narrower constraint', 'export type Of<T extends string | number> = { it: T };', 'export type Of<T extends string> = { it: T };', 'major'],
+  ['a needed type parameter', 'export interface Box<T> { it: T }', 'export interface Box<T, U> { it: T; more?: U }', 'major'],
+  ['an abstract member', 'export abstract class A { abstract a(): void; }', 'export abstract class A { abstract a(): void; abstract b(): void; }', 'major'],
+  ['a class that cannot be made', 'export class A { constructor() {} }', 'export class A { private constructor() {} }', 'major'],
+  ['a value that is only a type', 'export class A { a: 1 = 1; }', 'export interface A { a: 1 }', 'major'],
+  ['a protected member of another type', 'export class A { protected a: number = 1; }', 'export class A { protected a: string = ""; }', 'major'],
+  ['a promise', 'export function f(): number { return 1; }', 'export async function f(): Promise<number> { return 1; }', 'major'],
+  ['another type of another package', `${ZOD}export type S = z.ZodString;`, `${ZOD}export type S = z.ZodNumber;`, 'major'],
+  ['an optional property beside a type of another package', `${ZOD}export interface A { a: z.ZodType<string> }`, `${ZOD}export interface A { a: z.ZodType<string>; b?: z.ZodString }`, 'minor'],
+  ['a type of Node', 'export function f(): Buffer { return null!; }', 'export function f(): string { return ""; }', 'major'],
+  ['a member of a namespace that is gone', 'export namespace N { export const a: number = 1; export interface B { b: 1 } }', 'export namespace N { export const a: number = 1; }', 'major'],
+  ['a default export of another type', 'const a: number = 1;\nexport default a;', 'const a: string = "";\nexport default a;', 'major'],
+  ['a generic class', 'export class Box<T> { it: T; constructor(it: T) { this.it = it; } }', 'export class Box<T> { it: T[]; constructor(it: T) { this.it = [it]; } }', 'major'],
+];
+
+const MODULES = { exports: '{ "name": "it", "exports": "./mod.ts", "dependencies": { "zod": "^3" } }' };
+const zod = (range) => `{ "name": "it", "exports": "./mod.ts", "dependencies": { "zod": "${range}" } }`;
+const S = `${ZOD}export type S = z.ZodString;\n`;
+const adding = (member) => ({ 'mod.ts': 'import "./more.ts";\nexport interface Opts { a: 1 }\n', 'more.ts': `declare module "./mod.ts" { interface Opts { ${member} } }\nexport {};\n` });
+
+/** Versions of several files: a title, both, the advice, and what is said. */
+const OTHERS = [
+  ['an addition of a module that is imported for its effects', adding('b: 1'), adding('b: 2'), 'unknown', 'more.ts differs'],
+  ['the same addition', adding('b: 1'), adding('b: 1'), 'patch', 'no public declaration differs'],
+  ['another range of a package behind a type', { 'mod.ts': S, 'package.json': zod('^3') }, { 'mod.ts': S, 'package.json': zod('^4') }, 'unknown', 'zod is taken as ^4, and was taken as ^3'],
+  ['another range of a package that no type mentions', { 'mod.ts': FUNCTION, 'package.json': zod('^3') }, { 'mod.ts': FUNCTION, 'package.json': zod('^4') }, 'patch', 'no public declaration differs'],
+  ['another range in the text of an import', { 'mod.ts': S.replace('"zod"', '"npm:zod@3"') }, { 'mod.ts': S.replace('"zod"', '"npm:zod@4"') }, 'unknown', 'zod is taken as 4'],
+  ['a script', { 'mod.ts': 'interface GlobalThing { a: 1 }\n' }, { 'mod.ts': 'interface GlobalThing { a: 2 }\n' }, 'unknown', 'mod.ts differs'],
+  ['a module that is not there', { 'mod.ts': 'export * from "./lib";\n' }, { 'mod.ts': 'export * from "./lib";\n' }, 'unknown', 'mod.ts needs ./lib, which is not there'],
+  ['a reference to types', { 'mod.ts': FUNCTION }, { 'mod.ts': `/// <reference types="node" />\n${FUNCTION}` }, 'unknown', 'refers to types "node" now'],
+  ['public JSON', { 'mod.ts': 'export { default as it } from "./it.json";\n', 'it.json': '{"a": 1}' }, { 'mod.ts': 'export { default as it } from "./it.json";\n', 'it.json': '{"a": ""}' }, 'unknown', 'it.json differs'],
+  ['a major change beside what is not known', { 'mod.ts': S, 'package.json': zod('^3') }, { 'mod.ts': `${ZOD}export type S = z.ZodNumber;\n`, 'package.json': zod('^4') }, 'major', 'zod is taken as ^4'],
+  ['a module that was moved', { 'mod.ts': 'export * from "./a.ts";\n', 'a.ts': SHAPE }, { 'mod.ts': 'export * from "./b.ts";\n', 'b.ts': SHAPE }, 'patch', ''],
+  ['a type of another module', { 'mod.ts': 'export { f } from "./f.ts";\n', 'f.ts': 'import type { A } from "./a.ts";\nexport function f(it: A): void {}\n', 'a.ts': 'export interface A { a: 1 }\n' },
+    { 'mod.ts': 'export { f } from "./f.ts";\n', 'f.ts': 'import type { A } from "./a.ts";\nexport function f(it: A): void {}\n', 'a.ts': 'export interface A { a: 1; b?: 2 }\n' }, 'minor', 'by A (a.ts)'],
+];
+
+const versioned = (version, text) => ({ 'mod.ts': text, 'package.json': `{ "name": "it", "version": "${version}", "exports": "./mod.ts" }` });
+
+/** Versions with their numbers, and what is said of these. */
+const VERSIONS = [
+  ['1.0.4', '1.1.0', 'major', '1.1.0 is too low: 2.0.0'],
+  ['1.0.4', '2.0.0', 'major', '2.0.0 is high enough'],
+  ['1.0.4', '1.0.4', 'major', 'the next version is 2.0.0 or higher'],
+  ['0.3.1', '0.3.2', 'major', '0.3.2 is too low: 0.4.0'],
+  ['0.0.3', '0.0.4', 'major', '0.0.4 is high enough'],
+  ['1.0.4', '1.0.5', 'minor', '1.0.5 is too low: 1.1.0'],
+  ['0.3.1', '0.3.2', 'minor', '0.3.2 is high enough'],
+  ['1.0.0-beta.1', '1.0.0-beta.2', 'major', '1.0.0-beta.2 is high enough'],
+];
+const CHANGED = { major: SHAPE.replace('number', 'string'), minor: 'export interface Shape { width: number; name?: string }\n' };
+
+function write(folder, files) {
+  const all = { 'package.json': MODULES.exports, ...files };
+  for (const [name, text] of Object.entries(all)) {
+    fs.mkdirSync(path.dirname(path.join(folder, name)), { recursive: true });
+    fs.writeFileSync(path.join(folder, name), text);
+  }
+}
+
+/** What leads to a changed declaration, and to a public one. */
+function reasons({ run, withFolder, same, holds, compared }) {
+  const CLASS_A = 'export class A { a: number = 1; }\n';
+  const USERS = 'export enum E { A }\nexport interface I { A: 1; of(A: string): void }\nexport type T<A> = A[];\n';
+  return [
+    ['diff: names of other scopes lead to no declaration', async () => {
+      const { out } = await compared({ 'mod.ts': USERS + CLASS_A }, { 'mod.ts': USERS + CLASS_A.replace('number', 'string | number') });
+      same(out.match(/^changed .*/gm).join(), 'changed A (mod.ts)', 'what changed');
+    }],
+    ['diff names the files of a revision by the revision', () => withFolder(async (folder) => {
+      const git = (...words) => childProcess.execFileSync('git', ['-c', 'user.name=a', '-c', 'user.email=a@host.example', ...words], { cwd: folder, stdio: 'ignore' });
+      write(folder, { 'mod.ts': 'export const a = f();\n' });
+      git('init', '-q');
+      git('add', '-A');
+      git('commit', '-qm', 'first');
+      const { err } = await run(['diff', 'HEAD', '.'], { cwd: folder });
+      holds(err.includes('--> HEAD:mod.ts:1:14\n') && err.includes('--> mod.ts:1:14\n'), err);
+    })],
+    ['report: a default export does not lead through a re-export of all', () => withFolder(async (folder) => {
+      write(folder, {
+        'package.json': '{ "name": "it", "exports": { ".": "./mod.ts", "./a": "./a.ts" } }', 'mod.ts': 'export * from "./a.ts";\n', 'a.ts': 'export default class D { a: 1 = 1; }\n',
+      });
+      const page = path.join(folder, 'page.html');
+      await run(['report', folder, page]);
+      const text = fs.readFileSync(page, 'utf8').replace(/&#39;/g, "'");
+      holds(text.includes("a.ts exports 'default'") && !text.includes("mod.ts exports 'default'"), text.match(/<ul class="ways">.*/g).join('\n'));
+    })],
+  ];
+}
+
+/** The tests, each `[name, body]`. */
+function tests({ run, withFolder, same, holds }) {
+  const compared = (old, now, words = []) => {
+    let found = null;
+    return withFolder(async (folder) => {
+      write(path.join(folder, 'old'), old);
+      write(path.join(folder, 'now'), now);
+      found = await run(['diff', ...words, path.join(folder, 'old'), path.join(folder, 'now')]);
+    }).then(() => found);
+  };
+  const adviceOf = ({ out, err }) => {
+    const [, advice] = /^(major|minor|patch|unknown|preview): /m.exec(out) || [];
+    holds(advice, `there is an advice in\n${out}${err}`);
+    return advice;
+  };
+  const edit = ([title, before, after, wanted, head = '']) => [`diff: ${title}`, async () => {
+    const found = await compared({ 'mod.ts': head + before }, { 'mod.ts': head + after });
+    same(adviceOf({ ...found, out: found.out.replace(/^ .*\n/gm, '') }), wanted, `the advice in\n${found.out}${found.err}\nwhich`);
+    holds(!found.out.includes('theorem'), 'no theorem is cited');
+  }];
+  const other = ([title, before, after, wanted, said]) => [`diff: ${title}`, async () => {
+    const found = await compared(before, after);
+    same(adviceOf({ ...found, out: found.out.replace(/^ .*\n/gm, '') }), wanted, `the advice in\n${found.out}${found.err}\nwhich`);
+    holds(found.out.includes(said), `'${said}' stands in\n${found.out}`);
+    if (wanted === 'unknown') same(found.status, 2, 'the status');
+  }];
+  const version = ([old, now, advice, said]) => [`diff: ${advice} from ${old} to ${now}`, async () => {
+    const { out, err } = await compared(versioned(old, SHAPE), versioned(now, CHANGED[advice]));
+    holds(out.includes(`${said}\n`), `'${said}' stands in\n${out}${err}`);
+  }];
+  return [...EDITS.map(edit), ...OTHERS.map(other), ...VERSIONS.map(version), ...reasons({ run, withFolder, same, holds, compared })];
+}
+
+module.exports = { tests };
