@@ -122,27 +122,42 @@ function unresolvedMessages(info, files, cwd) {
   });
 }
 
-/** Where an older compiler finds an error in a source, the first of them says how a newer one is had. */
-function withNewer(messages) {
-  const first = messages.find((each) => each.code === 'syntax-error');
-  if (!first || typescript.isFrom(5, 2)) return messages;
+// Forms that compilers before 5.2 do not read.
+const NEWER_FORMS = new RegExp([
+  '\\bsatisfies\\b', '\\baccessor\\b', '\\busing\\b', '[<,]\\s*const\\s+[\\w$]', '\\bwith\\s*\\{', '\\bimport\\s+defer\\b', '\\bexport\\s+type\\s*\\*',
+  '\\bas\\s*["\']', '[{,]\\s*(?:"[^"]*"|\'[^\']*\')\\s*(?:as\\b|[,}])',
+].join('|'));
+
+/** Whether a newer compiler may read what an older one does not: the line of an error, or the one above it, has a newer form. */
+function hasNewerForm({ code, lines, start }) {
+  if (code !== 'syntax-error' || !lines) return false;
+  const { line } = lines.place(start);
+  return NEWER_FORMS.test(lines.line(line)) || (line > 0 && NEWER_FORMS.test(lines.line(line - 1)));
+}
+
+/** Where an older compiler finds an error at a newer form, the first of a run says how a newer one is had. */
+function withNewer(messages, context) {
+  if (context.isNewerNamed || !messages.some(hasNewerForm) || typescript.isFrom(5, 2)) return messages;
+  context.isNewerNamed = true;
+  const first = messages.find(hasNewerForm);
   const more = `TypeScript ${typescript.version} reads this; a newer one reads newer forms: \`export TYPESCRIPT=$(tools/typescript/newest.sh FOLDER)\` fetches it`;
   return messages.map((each) => (each === first ? { ...each, info: [...each.info, more] } : each));
 }
 
 /** Reads a folder: its request for the program, what is known of its files, and why packages of it cannot be read, which is an error where none can. */
-function read(dir, options, { cwd, progress }) {
+function read(dir, options, context) {
+  const { cwd, progress } = context;
   progress.begin(`reading ${shownName(dir, cwd)}`);
   const onModule = (name, count) => progress.tell(`reading ${name} (${count})`);
   const { request, info } = inputOf(dir, { ...options, onModule });
   const files = filesOf(info, dir);
   const sources = new Map([...files.values()].map((file) => [file.path, file]));
-  const broken = withNewer(info.errors.map((error) => readMessage(error, cwd, sources)));
+  const broken = withNewer(info.errors.map((error) => readMessage(error, cwd, sources)), context);
+  const faults = info.faults.map((error) => readMessage(error, cwd, sources));
   if (request === null) {
     const reader = broken.some((each) => each.code === 'syntax-error') ? ` by TypeScript ${typescript.version}` : '';
-    throw new ReadError(`${shownName(dir, cwd)} cannot be read${reader}`, broken);
+    throw new ReadError(`${shownName(dir, cwd)} cannot be read${reader}`, [...broken, ...faults]);
   }
-  const faults = info.faults.map((error) => readMessage(error, cwd, sources));
   const warnings = [...missingMessages(info, files, cwd), ...unresolvedMessages(info, files, cwd)];
   return { dir, request, info, files, warnings, broken, faults };
 }

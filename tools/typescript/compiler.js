@@ -32,8 +32,16 @@ function loaded(name) {
   }
 }
 
+/** Refuses a variable TYPESCRIPT that names no compiler. */
+function refuseWrongVariable() {
+  const named = process.env.TYPESCRIPT;
+  if (!named || loaded(path.resolve(named))) return;
+  throw Object.assign(new Error(`there is no TypeScript in ${named}, which the variable TYPESCRIPT names`), { status: 2, code: NO_COMPILER });
+}
+
 /** The compiler, or an error that says how to get one. One of the package that does not serve is passed over. */
 function loadCompiler() {
+  refuseWrongVariable();
   const own = chosen.own && loaded(chosen.own);
   if (own && isUsable(own)) return own;
   const [ts] = [process.env.TYPESCRIPT, 'typescript', DEBIAN].filter(Boolean).map(loaded).filter(Boolean);

@@ -3,7 +3,7 @@
 
 const fs = require('fs');
 const path = require('path');
-const { isInside, mediaTypeOf, readJson, readText } = require('./files');
+const { isDeclarationFile, isInside, isJavaScript, mediaTypeOf, readJson, readText } = require('./files');
 const { placeAt } = require('./lines');
 const { NAMES } = require('./targets');
 const typescript = require('./typescript');
@@ -46,7 +46,22 @@ function readConfig(file, files, errors) {
   return key === undefined ? config : refuse(Math.max(0, text.indexOf(`"${key}"`)), `\`${key}\` has to be ${wanted}`);
 }
 
-/** The configuration files of a folder in one: of each member that of the first file that has it, and of `imports` each name so. `read` are the files. */
+/** The paths that pnpm-workspace.yaml lists, a line for each or in brackets. */
+function listedByPnpm(folder, files) {
+  const file = path.join(folder, 'pnpm-workspace.yaml');
+  if (!files.isFile(file) || files.refusal(file)) return [];
+  const text = `${readText(file).text.replace(/\r\n?/g, '\n')}\n`;
+  const [, list] = /^packages:[^\n[]*\n((?:[ \t]*(?:-[^\n]*|#[^\n]*)?\n)*)/m.exec(text) || [];
+  const [, inLine] = /^packages:\s*\[([^\]]*)\]/m.exec(text) || [];
+  const lines = [...(list || '').matchAll(/^[ \t]*-[ \t]*(["']?)([^"'#\n]+?)\1[ \t]*(?:#.*)?$/gm)].map(([, , path]) => path);
+  const parts = (inLine || '').replace(/#.*$/gm, '').split(',').map((it) => it.trim().replace(/^(["'])(.*)\1$/, '$2')).filter(Boolean);
+  return [...lines, ...parts];
+}
+
+/**
+ * The configuration files of a folder in one: of each member that of the first file that has it, and of `imports` each name so. `read` are the files. The members
+ * of a workspace that pnpm lists are those of npm's.
+ */
 function configOf(dir, files, errors) {
   const merged = {};
   const read = [];
@@ -58,7 +73,8 @@ function configOf(dir, files, errors) {
     if (found.imports) merged.imports = { ...found.imports, ...merged.imports };
     for (const key of Object.keys(found)) if (!(key in merged)) merged[key] = found[key];
   }
-  return { ...merged, read };
+  const listed = merged.workspace || merged.workspaces ? [] : listedByPnpm(dir, files);
+  return { ...merged, ...(listed.length ? { workspaces: listed } : {}), read };
 }
 
 const NAMING_ENTRIES = new Set(['exports', 'types', 'typings']);
@@ -107,20 +123,22 @@ function filesBelow(dir, found = []) {
 }
 
 /** An entry with `*` in its path stands for each file that fits, and where there is none, for each that the compiler would write. */
-function expanded(dir, [key, written], aliases) {
+function expanded(dir, [key, written], projects) {
   if (!written.includes('*')) return [[key, written]];
   const [before, after] = written.replace(/^\.\//, '').split('*');
   const isFitting = (it) => it.startsWith(before) && it.endsWith(after) && it.length > before.length + after.length && mediaTypeOf(it) !== 'Unknown';
   const fitting = (files) => files.map((it) => path.relative(dir, it)).filter(isFitting).sort();
   const files = filesBelow(dir);
   const found = fitting(files);
-  const all = found.length ? found : fitting(files.flatMap((it) => aliases.builtOf(dir, it)));
+  const all = found.length ? found : fitting([...projects.builtFiles(dir).keys()]);
   return all.map((it) => [key.replace('*', () => it.slice(before.length, it.length - after.length)), `./${it}`]);
 }
 
-const ABSENT = { message: 'is not there', more: { hint: 'give the path of a file that is there' } };
+const SOURCES = 'name the sources with `--exports`, as `--exports ./src/index.ts`';
+const ABSENT = { message: 'is not there', more: { hint: `give the path of a file that is there, or ${SOURCES}` } };
 const NO_FILE = { message: 'fits no file', more: { level: 'Warning' } };
 const NO_MODULE = { message: 'is no module, and is passed over', more: { level: 'Warning' } };
+const BUILT = { message: 'is a built file, and nothing of src/ is read', more: { code: 'built-entry-point', level: 'Warning', hint: SOURCES } };
 
 /** What is wrong with an entry point, where its path is written. */
 function faultOf(text, wrong, { dir, config, given, isQuiet }) {
@@ -133,15 +151,49 @@ function faultOf(text, wrong, { dir, config, given, isQuiet }) {
   return fault;
 }
 
+// The folders that builds write to.
+const BUILDS = new Set(['dist', 'build', 'lib', 'out', 'output', 'es', 'esm', 'cjs', 'types', 'typings', 'umd', 'bundle']);
+const BUILT_FILE = /(?:\.d)?\.[cm]?[jt]s$/;
+
+/** The source in `src` that a file of a build has the name of; null where none has. A build may have folders of its own above, as `dist/esm`. */
+function namesake(dir, wanted, files) {
+  const parts = path.relative(dir, wanted).split(path.sep);
+  const stems = parts.slice(1).map((_, at) => path.join(dir, 'src', ...parts.slice(at + 1)).replace(BUILT_FILE, ''));
+  const names = stems.flatMap((it) => ['.ts', '.tsx', '.mts', '.cts'].map((ending) => it + ending));
+  return names.find((it) => files.isFile(it)) || null;
+}
+
+/** Whether a file is one of a build: it lies in a folder for builds, or is not there, and no source stands in its place. */
+function isBuilt(dir, wanted, files) {
+  const [first, ...rest] = path.relative(dir, wanted).split(path.sep);
+  const found = files.find(wanted);
+  const isDeclared = !found || isDeclarationFile(mediaTypeOf(found)) || isJavaScript(mediaTypeOf(found));
+  return rest.length > 0 && BUILDS.has(first) && BUILT_FILE.test(wanted) && isDeclared;
+}
+
+/**
+ * The sources that stand for entry points of which all are files of a build, by their paths: those of the same names in `src`, and for a whole package in one
+ * file `src/index.ts`. Null where they are none, or some have no source.
+ */
+function sourcesOfBuild(dir, entries, files) {
+  const paths = entries.map(([, text]) => path.resolve(dir, text)).filter((it) => BUILT_FILE.test(it));
+  if (!paths.length || !paths.every((it) => isBuilt(dir, it, files))) return null;
+  const whole = ['index.ts', 'index.tsx', 'index.mts'].map((name) => path.join(dir, 'src', name)).find((it) => files.isFile(it));
+  const found = paths.map((it) => [it, namesake(dir, it, files) || (new Set(paths).size === 1 && whole) || null]);
+  return found.every(([, source]) => source) ? new Map(found) : null;
+}
+
 /** The written entry points that are modules, as `[key, path]`, what is wrong with the others, and which are taken in place of those that are written. */
-function modulesOf(dir, written, { config, given, files, aliases, errors, isQuiet }) {
+function modulesOf(dir, written, { config, given, files, projects, errors, isQuiet }) {
   const [found, wrong, taken] = [[], [], []];
   const refuse = (text, how) => wrong.push(faultOf(text, how, { dir, config, given, isQuiet }));
-  const each = written.map((it) => [it, expanded(dir, it, aliases)]);
+  const each = written.map((it) => [it, expanded(dir, it, projects)]);
   for (const [[, text], some] of each) if (!some.length) refuse(text, NO_FILE);
-  for (const [key, text] of each.flatMap(([, some]) => some)) {
+  const entries = each.flatMap(([, some]) => some);
+  const build = given === undefined ? sourcesOfBuild(dir, entries, files) : null;
+  for (const [key, text] of entries) {
     const wanted = path.resolve(dir, text);
-    const source = isInside(dir, wanted) ? aliases.sourceOf(dir, wanted) : null;
+    const source = isInside(dir, wanted) && given === undefined ? projects.builtFiles(dir).get(wanted) || (build && build.get(wanted)) || null : null;
     const file = source || files.find(wanted);
     if (source) taken.push({ written: text, dir, file });
     const isOutside = path.isAbsolute(text) || !isInside(dir, wanted);
@@ -149,8 +201,16 @@ function modulesOf(dir, written, { config, given, files, aliases, errors, isQuie
     else if (!file) refuse(text, ABSENT);
     else if (mediaTypeOf(file) === 'Unknown') refuse(text, NO_MODULE);
     else if (!file.endsWith('.json') || given !== undefined) found.push([key, file]);
+    if (file && !source && isUnread(dir, wanted, { files, given })) refuse(text, BUILT);
   }
   return { found, wrong, taken };
+}
+
+/** Whether an entry point is a declaration file of a build beside sources in `src`. */
+function isUnread(dir, wanted, { files, given }) {
+  if (given !== undefined || !isInside(dir, wanted) || !isBuilt(dir, wanted, files)) return false;
+  const src = path.join(dir, 'src');
+  return files.kind(src) === 'folder' && filesBelow(src).some((it) => ['TypeScript', 'Tsx', 'Mts', 'Cts'].includes(mediaTypeOf(it)));
 }
 
 /** The entry point of a package in whose configuration none is there, or null. */
@@ -183,24 +243,37 @@ function entryPoints(dir, config, given, context) {
   return [];
 }
 
-/** The folders that a path of a workspace stands for: itself, of one with a star those below that have a configuration. */
-function foldersBehind(dir, text) {
-  const [, above, stars] = /^(.*?)\/?(\*\*?(?:\/\*)?)?\/?$/s.exec(text);
-  const folder = path.resolve(dir, above);
-  if (!stars) return [folder];
-  const inside = fs.existsSync(folder) ? fs.readdirSync(folder, { withFileTypes: true }).filter((it) => it.isDirectory() && it.name !== 'node_modules') : [];
-  const below = inside.map((it) => path.join(folder, it.name)).sort();
-  const deep = stars.length > 1 ? below.flatMap((it) => foldersBehind(it, stars)) : [];
-  return [...below.filter((it) => NAMES.some((name) => fs.existsSync(path.join(it, name)))), ...deep];
+/** A pattern for each choice of its braces, as `a/b` and `a/c` of `a/{b,c}`. */
+function withoutBraces(pattern) {
+  const [all, inside] = /\{([^{}]*)\}/.exec(pattern) || [];
+  return all === undefined ? [pattern] : inside.split(',').flatMap((it) => withoutBraces(pattern.replace(all, () => it)));
 }
 
-/** The folders of a workspace's members, of deno's (`workspace`) and of npm's (`workspaces`), in which a path behind `!` is left out. */
-function membersOf(dir, config) {
+/** The folders below another one that have a configuration and fit one of some patterns, as the compiler matches paths. */
+function foldersThatFit(dir, patterns, without) {
+  const { ts } = typescript;
+  const wanted = patterns.flatMap((it) => NAMES.map((name) => `${it}/${name}`));
+  const found = ts.sys.readDirectory(dir, ['.json', '.jsonc'], ['**/node_modules', ...without], wanted);
+  return [...new Set(found.map((file) => path.dirname(path.resolve(file))))].filter((it) => it !== dir).sort();
+}
+
+const isPattern = (text) => /[*?]/.test(text);
+
+/** The folders of a workspace's members, of deno's (`workspace`) and of npm's (`workspaces`), in which a path behind `!` is left out. A pattern that fits nothing is a fault. */
+function membersOf(dir, config, faults = []) {
   const listed = (value, name) => (Array.isArray(value) ? value : (value && value[name]) || []);
   const texts = [...listed(config.workspace, 'members'), ...listed(config.workspaces, 'packages')];
-  const without = new Set(texts.filter((it) => it.startsWith('!')).flatMap((it) => foldersBehind(dir, it.slice(1))));
-  const folders = texts.filter((it) => !it.startsWith('!')).flatMap((it) => foldersBehind(dir, it));
-  return [...new Set(folders)].filter((it) => !without.has(it));
+  const plain = (list) => list.flatMap(withoutBraces).map((it) => it.replace(/^\.\//, '').replace(/\/+$/, ''));
+  const without = plain(texts.filter((it) => it.startsWith('!')).map((it) => it.slice(1)));
+  const left = new Set(without.filter((it) => !isPattern(it)).map((it) => path.resolve(dir, it)));
+  const folders = texts.filter((it) => !it.startsWith('!')).flatMap((text) => {
+    const all = plain([text]);
+    const patterns = all.filter(isPattern);
+    const found = patterns.length ? foldersThatFit(dir, patterns, without) : [];
+    if (patterns.length && !found.length) faults.push({ path: dir, code: 'no-entry-point', level: 'Warning', message: `${text} of the workspace fits no folder with a package` });
+    return [...all.filter((it) => !isPattern(it)).map((it) => path.resolve(dir, it)), ...found];
+  });
+  return [...new Set(folders)].filter((it) => !left.has(it));
 }
 
 /**
@@ -244,7 +317,7 @@ const VERSION = /^\d+\.\d+\.\d+(-[0-9A-Za-z.-]+)?(\+[0-9A-Za-z.-]+)?$/;
 
 /** The folders of a folder's packages: itself where it has entry points, and the members of its workspace, which have to lie within it. */
 function foldersOf(dir, config, options, { errors, faults }) {
-  const members = options.members || (options.exports === undefined ? membersOf(dir, config) : []);
+  const members = options.members || (options.exports === undefined ? membersOf(dir, config, faults) : []);
   const isThere = (folder) => fs.existsSync(folder);
   for (const folder of members) {
     if (!isInside(dir, folder)) errors.push({ path: folder, code: 'no-entry-point', message: 'this member of the workspace lies outside of the folder' });
@@ -270,7 +343,7 @@ function isNoPackage({ dir, exports }, root, config, { errors, faults }) {
 }
 
 /**
- * The packages of a folder. `context` has `files` and `aliases`, and lists that are filled: what keeps a package from being read (`errors`), what is wrong with
+ * The packages of a folder. `context` has `files` and `projects`, and lists that are filled: what keeps a package from being read (`errors`), what is wrong with
  * one that is read (`faults`), and which entry points are taken in place of those that are written (`taken`). Where it `isQuiet`, no places are looked for.
  */
 function packagesOf(dir, options, context) {
@@ -297,4 +370,4 @@ function packagesOf(dir, options, context) {
   return found.filter((it) => !isNoPackage(it, dir, config, context));
 }
 
-module.exports = { membersOf, packagesOf, readConfig };
+module.exports = { configOf, membersOf, packagesOf };

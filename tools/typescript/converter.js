@@ -26,6 +26,7 @@ class Converter {
     this.offsets = new Offsets(this.text);
     this.short = Boolean(options.short);
     this.errors = [];
+    this.faults = [];
     this.sources = [];
     this.lastScope = UNRESOLVED;
     this.blocks = new Map();
@@ -75,6 +76,11 @@ class Converter {
   refuse(node, message) {
     const start = node.pos === undefined ? node.start : this.start(node);
     this.errors.push({ offset: start, position: this.offsets.of(start), message });
+  }
+
+  /** What is wrong at a node with a form that is read all the same. */
+  fault(node, message) {
+    this.faults.push({ offset: this.start(node), length: node.end - this.start(node), message });
   }
 
   /** Refuses a kind of node that is not known here. */

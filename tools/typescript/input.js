@@ -57,7 +57,7 @@ function complete(module, found, kept) {
   module.source = new JsonText(JSON.stringify({ media_type: module.mediaType, text: module.text, program, comments, unresolved_context: unresolvedContext }));
   const span = tooDeep(program);
   if (span) found.errors.push(deepError(module, span));
-  else if (kept) kept.put(module);
+  else if (kept && !module.tree.faults.length) kept.put(module);
 }
 
 /** The tables of all modules that have some. A module whose tables cannot be made, or that the program does not read, is an error. */

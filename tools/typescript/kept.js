@@ -22,7 +22,7 @@ const hashOf = (text) => crypto.createHash('sha256').update(text).digest('hex');
 /** The tree of a module whose parts are kept: read from them where it is asked for. */
 class KeptTree {
   constructor(text, { source, sources }) {
-    Object.assign(this, { text, source, sources, errors: [] });
+    Object.assign(this, { text, source, sources, errors: [], faults: [] });
     this.read = null;
   }
 

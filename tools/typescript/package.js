@@ -4,7 +4,6 @@
 const fs = require('fs');
 const { builtinModules } = require('module');
 const path = require('path');
-const { Aliases, bestKey } = require('./aliases');
 const { Files, isInside, readText, mediaTypeOf, isDeclarationFile, isJavaScript, namedTypes, selfTypes } = require('./files');
 const { packagesOf } = require('./config');
 const { internalText, isKnown, isTooDeep } = require('./faults');
@@ -13,6 +12,7 @@ const { hasEffects } = require('./apart');
 const { NO_COMPILER } = require('./compiler');
 const { Kept } = require('./kept');
 const { placeAt } = require('./lines');
+const { Projects, bestKey } = require('./tsconfig');
 
 const RELATIVE = /^\.{1,2}(\/|$)/;
 const SCHEME = /^[a-z][a-z0-9+.-]*:/i;
@@ -42,7 +42,7 @@ class Reader {
     this.options = options;
     this.isQuiet = Boolean(options.isQuiet);
     this.files = new Files(this.root);
-    this.aliases = new Aliases(this.root, this.files);
+    this.projects = new Projects(this.root, this.files);
     this.errors = [];
     this.faults = [];
     this.taken = [];
@@ -94,7 +94,7 @@ class Reader {
     const folder = Object.keys(imports).filter((it) => it.endsWith('/') && text.startsWith(it)).sort((a, b) => b.length - a.length)[0];
     if (folder !== undefined) return imports[folder] === null ? [] : [path.join(imports[folder], text.slice(folder.length))];
     const own = this.ofPackage(text.replace(/^(jsr|npm):\/?/, ''));
-    return [...this.aliases.paths(from, text), ...(own ? [own] : [])];
+    return [...this.projects.paths(from, text), ...(own ? [own] : [])];
   }
 
   ofPackage(text) {
@@ -107,6 +107,12 @@ class Reader {
     return null;
   }
 
+  /** The paths that a relative text may stand for. */
+  relative(from, text) {
+    const resolved = this.projects.resolved(from, text);
+    return [...(resolved ? [resolved] : []), path.resolve(path.dirname(from), text)];
+  }
+
   /** The file that a source text leads to, or null where it leads out of the folder. */
   resolve(from, text, comment) {
     const named = comment && namedTypes(comment);
@@ -114,7 +120,7 @@ class Reader {
       const found = this.files.find(path.resolve(path.dirname(from), named));
       if (found) return found;
     }
-    const wanted = RELATIVE.test(text) ? [path.resolve(path.dirname(from), text)] : this.mapped(from, text);
+    const wanted = RELATIVE.test(text) ? this.relative(from, text) : this.mapped(from, text);
     for (const each of wanted) {
       const found = this.files.find(each);
       if (found && isInside(this.root, found)) return this.typed(this.behindLinks(found));
@@ -177,6 +183,7 @@ class Reader {
     this.times.parse += Number(parsed - began) / 1e6;
     this.times.tree += Number(process.hrtime.bigint() - parsed) / 1e6;
     for (const it of tree.errors) this.errorAt(file, text, it);
+    for (const { offset, length, message } of tree.faults) this.faults.push({ path: file, ...placeAt(text, offset), length, message, code: 'syntax-error' });
     if (tree.program) writeExports(tree.program, isDeclarationFile(mediaType));
     const made = { tree, hasEffects: Boolean(tree.program) && hasEffects(text, tree.program) };
     return this.options.keepSourceFiles ? { ...made, sourceFile } : made;

@@ -74,8 +74,9 @@ function parameter(c, node) {
       }),
     };
   }
-  if (optional && node.initializer) c.refuse(node, 'no form for `?` with a default');
-  return withDefault(c, node, pattern(c, node.name, optional, node.type));
+  // A parser takes both, and a checker does not: the parameter is read by its default.
+  if (optional && node.initializer) c.fault(node, 'a parameter cannot have question mark and initializer');
+  return withDefault(c, node, pattern(c, node.name, optional && !node.initializer, node.type));
 }
 
 /** The parameter of an index signature: an identifier whose range takes in its type. */

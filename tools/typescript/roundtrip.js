@@ -17,7 +17,8 @@ function shape(tree) {
 /** What went wrong with a file: null, or a word and a text. */
 function roundTrip(name, text) {
   const first = toTree(parse(name, text));
-  if (first.errors.length) return ['refused', first.errors[0].message];
+  const [wrong] = [...first.errors, ...first.faults];
+  if (wrong) return ['refused', wrong.message];
   const printed = print(first.program, first.comments, { asWritten: true });
   const second = toTree(parse(name, printed));
   if (second.errors.length) {

@@ -3,8 +3,8 @@
 const fs = require('fs');
 const { builtinModules } = require('module');
 const path = require('path');
-const { membersOf, readConfig } = require('./config.js');
-const { Files, isInside, isJavaScript, mediaTypeOf, readText } = require('./files.js');
+const { configOf, membersOf } = require('./config.js');
+const { Files, isInside, isJavaScript, mediaTypeOf } = require('./files.js');
 const { resolverOf } = require('./package.js');
 const { ts } = require('./typescript.js');
 
@@ -12,19 +12,9 @@ const RELATIVE = /^\.{1,2}(\/|$)/;
 // Where Debian's Node finds packages beside those of the variable NODE_PATH.
 const SYSTEM = ['/usr/share/nodejs', '/usr/lib/nodejs'];
 
-/** The members that pnpm-workspace.yaml lists, a line for each. */
-function listedByPnpm(folder, files) {
-  const file = path.join(folder, 'pnpm-workspace.yaml');
-  if (!files.isFile(file) || files.refusal(file)) return [];
-  const [, list] = /^packages:[^\n]*\n((?:[ \t]*(?:-[^\n]*|#[^\n]*)?\n)*)/m.exec(`${readText(file).text}\n`) || [];
-  return [...(list || '').matchAll(/^[ \t]*-[ \t]*["']?([^"'#\n]+?)["']?[ \t]*(?:#.*)?$/gm)].map(([, text]) => text);
-}
-
-/** The folders of the members of a workspace, by each file that may list them. */
+/** The folders of the members of a workspace. */
 function allMembers(folder) {
-  const files = new Files(folder);
-  const configs = ['deno.json', 'deno.jsonc', 'package.json'].map((name) => readConfig(path.join(folder, name), files, [])).filter(Boolean);
-  return [...configs, { workspaces: listedByPnpm(folder, files) }].flatMap((it) => membersOf(folder, it));
+  return membersOf(folder, configOf(folder, new Files(folder), []));
 }
 
 /** The innermost workspace that a folder, or one around it, is a member of: its folder, null where there is none, and those of its members. */

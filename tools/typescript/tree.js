@@ -48,12 +48,12 @@ function programOf(c, sourceFile) {
  * `short` cuts away what no rule looks at: the bodies of functions but for how they return and what names the type, values behind written types, and
  * statements that declare and assign nothing. Without it the tree holds the whole text.
  *
- * `errors` are the parser's, and the forms that the program's tree does not have, each with its place.
+ * `errors` are the parser's, and the forms that the program's tree does not have, each with its place; `faults` what is wrong with forms that are read.
  */
 function toTree(sourceFile, options = {}) {
   const c = new Converter(sourceFile, options);
   const errors = syntaxErrors(sourceFile, c.offsets);
-  const nothing = { program: null, comments: { leading: [], trailing: [] }, offsets: c.offsets };
+  const nothing = { program: null, comments: { leading: [], trailing: [] }, offsets: c.offsets, faults: [] };
   if (errors.length) return { ...nothing, errors };
   let program;
   try {
@@ -70,6 +70,7 @@ function toTree(sourceFile, options = {}) {
     offsets: c.offsets,
     sources: c.sources,
     errors: c.errors,
+    faults: c.faults,
   };
 }
 

@@ -7,6 +7,11 @@ const path = require('path');
 const CONFIG = '{ "name": "@test/odd", "version": "1.0.0", "exports": "./mod.ts" }';
 const UNTYPED = 'export function f() { return Math.max(1); }\n';
 
+const BUNDLED = '{ "exports": { ".": { "types": "./dist/index.d.ts" }, "./cli": { "import": { "types": "./dist/cli/index.d.mts" } } } }';
+const NO_EMIT = '{ "compilerOptions": { "noEmit": true, "module": "esnext" } }';
+const WORKSPACE = (list) => ({ 'deno.json': null, 'package.json': `{ "name": "root", "private": true, "workspaces": [${list}] }` });
+const MEMBER = '{ "name": "member", "exports": "./mod.ts" }';
+
 /** Each has a name, the files of a folder, the status of `check`, and what has to be reported, or may not be reported where a `!` stands before it. */
 const FOLDERS = [
   ['a mark of byte order', { 'deno.json': `\ufeff${CONFIG}`, 'mod.ts': `\ufeff${UNTYPED}` }, 1, ['mod.ts:1:17', '|                 ^ this']],
@@ -68,6 +73,59 @@ const FOLDERS = [
   ['a main module alone', { 'deno.json': null, 'package.json': '{ "main": "./lib/a.js" }', 'lib/a.js': '', 'lib/a.d.ts': 'export declare const a: 1;' }, 0, ['1 file, 1 public']],
   ['types that JavaScript names in a block', { 'mod.ts': 'export * from "./a.js";', 'a.js': '/* @ts-self-types="./b.d.ts" */\n', 'b.d.ts': 'export declare const a: 1;' }, 0, ['2 files, 2 public']],
   ['types of an import', { 'mod.ts': '// @ts-types="./b.d.ts"\nexport * from "./a.js";', 'a.js': '', 'b.d.ts': 'export declare const a: 1;' }, 0, ['2 files, 2 public']],
+  // Entry points that a build writes.
+  ['a compiler that writes from the common folder', {
+    'deno.json': null, 'package.json': '{ "types": "./out/index.d.ts" }', 'tsconfig.json': '{ "compilerOptions": { "outDir": "out" }, "include": ["lib"] }', 'lib/index.ts': UNTYPED, 'lib/a/b.ts': '',
+  }, 1, ['lib/index.ts is taken for the entry point ./out/index.d.ts', 'lib/index.ts:1:17']],
+  ['a folder of declarations', {
+    'deno.json': null, 'package.json': '{ "types": "./types/index.d.ts" }', 'src/index.ts': UNTYPED,
+    'tsconfig.json': '{ "compilerOptions": { "rootDir": "src", "outDir": "dist", "declarationDir": "types" } }',
+  }, 1, ['src/index.ts is taken for the entry point ./types/index.d.ts']],
+  ['a tsconfig.json beside the sources', {
+    'deno.json': null, 'package.json': '{ "types": "./made/index.d.ts" }', 'src/tsconfig.json': '{ "compilerOptions": { "outDir": "../made" } }', 'src/index.ts': UNTYPED,
+  }, 1, ['src/index.ts is taken for the entry point ./made/index.d.ts']],
+  ['a tsconfig.json for the build', {
+    'deno.json': null, 'package.json': '{ "types": "./made/index.d.ts" }', 'tsconfig.json': '{ "compilerOptions": { "noEmit": true } }', 'code/index.ts': UNTYPED,
+    'tsconfig.build.json': '{ "extends": "./tsconfig.json", "compilerOptions": { "noEmit": false, "rootDir": "code", "outDir": "made" } }',
+  }, 1, ['code/index.ts is taken for the entry point ./made/index.d.ts']],
+  ['a tsconfig.json that extends two', {
+    'deno.json': null, 'package.json': '{ "types": "./made/index.d.ts" }', 'tsconfig.json': '{ "extends": ["./a.json", "./b.json"] }', 'code/index.ts': UNTYPED,
+    'a.json': '{ "compilerOptions": { "rootDir": "code", "outDir": "other" } }', 'b.json': '{ "compilerOptions": { "outDir": "made" } }',
+  }, 1, ['code/index.ts is taken for the entry point ./made/index.d.ts']],
+  ['what a bundler has not built yet', { 'deno.json': null, 'package.json': BUNDLED, 'tsconfig.json': NO_EMIT, 'src/index.ts': UNTYPED, 'src/cli/index.ts': 'export {};' }, 1,
+    ['src/index.ts is taken for the entry point ./dist/index.d.ts', 'src/cli/index.ts is taken for the entry point ./dist/cli/index.d.mts', 'src/index.ts:1:17']],
+  ['what a bundler has built', {
+    'deno.json': null, 'package.json': BUNDLED, 'tsconfig.json': NO_EMIT, 'src/index.ts': UNTYPED, 'src/cli/index.ts': 'export {};', 'dist/index.d.ts': 'export {};', 'dist/cli/index.d.mts': 'export {};',
+  }, 1, ['src/index.ts is taken for the entry point ./dist/index.d.ts', 'src/index.ts:1:17']],
+  ['one built file of another name', { 'deno.json': null, 'package.json': '{ "types": "./dist/whole.d.ts" }', 'dist/whole.d.ts': 'export {};', 'src/index.ts': UNTYPED }, 1,
+    ['src/index.ts is taken for the entry point ./dist/whole.d.ts']],
+  ['built files without their sources', { 'deno.json': null, 'package.json': '{ "types": "./dist/whole.d.ts" }', 'dist/whole.d.ts': 'export {};', 'src/other.ts': UNTYPED }, 0,
+    ['warning[built-entry-point]: the entry point ./dist/whole.d.ts is a built file, and nothing of src/ is read', '--exports', '1 file, 1 public']],
+  ['built files of which one has a source', {
+    'deno.json': null, 'package.json': '{ "exports": { ".": "./dist/index.d.ts", "./b": "./dist/b.d.ts" } }', 'dist/index.d.ts': 'export {};', 'dist/b.d.ts': 'export {};', 'src/index.ts': UNTYPED,
+  }, 0, ['the entry point ./dist/index.d.ts is a built file', 'the entry point ./dist/b.d.ts is a built file', '2 files, 2 public']],
+  ['declarations that are written by hand', { 'deno.json': null, 'package.json': '{ "types": "./types/index.d.ts" }', 'types/index.d.ts': 'export {};', 'lib/index.js': '' }, 0, ['1 file, 1 public', '!built-entry-point']],
+  ['nothing that is built', { 'deno.json': null, 'package.json': '{ "types": "./dist/index.d.ts" }' }, 2, ['the entry point ./dist/index.d.ts is not there', '--exports']],
+  // Workspaces.
+  ['members one level deeper', { ...WORKSPACE('"packages/*/lib"'), 'packages/a/lib/package.json': MEMBER, 'packages/a/lib/mod.ts': UNTYPED }, 1, ['packages/a/lib/mod.ts:1:17']],
+  ['members by braces', { ...WORKSPACE('"packages/{a,b}/lib"'), 'packages/b/lib/package.json': MEMBER, 'packages/b/lib/mod.ts': UNTYPED }, 1, ['packages/b/lib/mod.ts:1:17']],
+  ['members at any depth within', { ...WORKSPACE('"packages/**/lib"'), 'packages/a/b/lib/package.json': MEMBER, 'packages/a/b/lib/mod.ts': UNTYPED }, 1, ['packages/a/b/lib/mod.ts:1:17']],
+  ['members at any depth', { ...WORKSPACE('"packages/**"'), 'packages/a/b/package.json': MEMBER, 'packages/a/b/mod.ts': UNTYPED, 'packages/a/node_modules/c/package.json': MEMBER }, 1, ['packages/a/b/mod.ts:1:17', '1 file']],
+  ['members that begin alike', { ...WORKSPACE('"packages/pkg-*"'), 'packages/pkg-a/package.json': MEMBER, 'packages/pkg-a/mod.ts': UNTYPED, 'packages/other/package.json': '{}' }, 1, ['packages/pkg-a/mod.ts:1:17', '!other']],
+  ['members that are left out', {
+    ...WORKSPACE('"packages/a/*", "!packages/a/l*"'), 'packages/a/lib/package.json': MEMBER, 'packages/a/lib/mod.ts': UNTYPED, 'packages/a/b/package.json': MEMBER, 'packages/a/b/mod.ts': 'export {};',
+  }, 0, ['1 file, 1 public', '!lib']],
+  ['members that pnpm lists', { 'deno.json': null, 'package.json': '{ "private": true }', 'pnpm-workspace.yaml': 'packages:\n  - "packages/*"\n', 'packages/a/package.json': MEMBER, 'packages/a/mod.ts': UNTYPED }, 1, ['packages/a/mod.ts:1:17']],
+  ['members that pnpm lists in a line', { 'deno.json': null, 'package.json': '{}', 'pnpm-workspace.yaml': "packages: ['packages/*', other] # all\n", 'packages/a/package.json': MEMBER, 'packages/a/mod.ts': UNTYPED }, 1, ['packages/a/mod.ts:1:17']],
+  ['a workspace of which no member has a module', { ...WORKSPACE('"packages/*"'), 'packages/a/package.json': '{ "name": "a" }' }, 2, ['no entry point: neither', 'packages/a', 'this member of the workspace is passed over']],
+  ['a workspace without members', WORKSPACE('"packages/*/lib"'), 2, ['no entry point', 'fits no folder']],
+  // What the compiler resolves by its options.
+  ['several roots', {
+    'tsconfig.json': '{ "compilerOptions": { "rootDirs": ["./src", "./gen"] } }', 'deno.json': CONFIG.replace('mod.ts', 'src/mod.ts'), 'src/mod.ts': 'export * from "./t";', 'gen/t.ts': 'export const a: 1 = 1;',
+  }, 0, ['2 files, 2 public', '!missing-module']],
+  ['endings before the ending', { 'tsconfig.json': '{ "compilerOptions": { "moduleSuffixes": [".ios", ""] } }', 'mod.ts': 'export * from "./t";', 't.ios.ts': 'export const a: 1 = 1;', 't.ts': UNTYPED }, 0, ['2 files, 2 public', '!missing']],
+  ['a parameter with `?` and a default', { 'mod.ts': 'export function f(a?: number = 1): void {}\nexport function g() { return Math.max(1); }\n' }, 1, ['mod.ts:1:19', 'cannot have question mark and initializer', 'mod.ts:2:17']],
+  ['such a parameter in hidden code', { 'mod.ts': 'export function f(): void { function h(a?: number = 1) {} }\n' }, 0, ['1 public']],
   ['a character that no line has', { 'mod.ts': 'export const a: 1 = 1;\x00\n' }, 2, ['Invalid character', '\u2400']],
 ];
 

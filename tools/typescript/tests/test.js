@@ -514,15 +514,23 @@ async function compilers() {
   };
   await test('the compiler of the package comes first', () => withFolder(async (folder) => {
     fs.cpSync(path.join(PACKAGES, 'syntax-error'), folder, { recursive: true });
+    fs.writeFileSync(path.join(folder, 'mod.ts'), 'export const a = ;\nexport const c = 1 satisfies;\n');
     const own = path.join(folder, 'node_modules/typescript');
     fs.mkdirSync(own, { recursive: true });
     fs.writeFileSync(path.join(own, 'index.js'), `module.exports = { ...require(${JSON.stringify(COMPILER)}), version: "5.1.99-own" };`);
     holds(from(folder, []).stderr.includes('by TypeScript 5.1.99-own'), 'its version is reported');
     same(from(folder, []).stderr.split('newest.sh').length, 2, 'how often a newer compiler is named');
     holds(!from(folder, ['--no-own-compiler']).stderr.includes('5.1.99-own'), '--no-own-compiler is obeyed');
+    fs.writeFileSync(path.join(folder, 'mod.ts'), 'export const a = ;\n');
+    holds(!from(folder, []).stderr.includes('newest.sh'), 'no newer compiler is named where none would read it');
     fs.writeFileSync(path.join(own, 'index.js'), 'module.exports = { version: "4.7.4" };');
     holds(from(folder, []).stderr.includes(`by TypeScript ${ts.version}`), 'one that does not serve is passed over');
   }));
+  await test('a variable TYPESCRIPT that names nothing', () => {
+    const { status, stderr } = from(path.join(PACKAGES, 'aliases'), [], { TYPESCRIPT: '/nowhere' });
+    same(status, 2, 'the status');
+    holds(stderr.includes('there is no TypeScript in /nowhere, which the variable TYPESCRIPT names'), stderr);
+  });
   await test('a compiler that does not serve', () => withFolder(async (folder) => {
     fs.writeFileSync(path.join(folder, 'index.js'), 'module.exports = { version: "4.7.4" };');
     const { status, stderr } = from(path.join(PACKAGES, 'variables'), [], { TYPESCRIPT: folder });
