@@ -132,6 +132,16 @@ DIFFERENCES = [
       let is_nested = |it: &FastCheckDiagnostic| matches!(it, FastCheckDiagnostic::UnsupportedNestedJavaScript { .. });
       if !ranges.diagnostics.iter().all(is_nested) { ranges.diagnostics.retain(|it| !is_nested(it)); }
     }""")),
+    Patch("first_referrer", "a private member that several others refer to is reported once in its module", Change(
+        "range_finder.rs", "self.public_ranges", behind="pub fn find(mut self) -> HashMap<PackageNv, PackagePublicRanges> {", before="""
+    let modules = self.public_ranges.values_mut().flat_map(|package| package.module_ranges.values_mut());
+    for ranges in modules.filter(|_| crate::explain::on("first_referrer")) {
+      let mut told = HashSet::new();
+      ranges.diagnostics.retain(|it| match it {
+        FastCheckDiagnostic::UnsupportedPrivateMemberReference { range, .. } => told.insert(range.range),
+        _ => true,
+      });
+    }""")),
     Patch("other_package", "a name that another package answers behind a re-export of all makes that package a dependency, which is entered too", Change(
         "range_finder.rs", "let mut new_named_exports = NamedSubset::default();",
         before='if crate::explain::on("other_package") { self.add_pending_nv(&nv, pkg_nv); }')),
