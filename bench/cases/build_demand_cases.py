@@ -191,6 +191,17 @@ def many_packages():
     yield Build("build_two_hundred_packages", world, [shown_of_many(number) for number in range(COUNT)])
 
 
+def parts_behind_an_import():
+    """Two members of a class behind an import are found in whatever order they are asked for."""
+    items = [import_("./b.ts", "C"), let("a", "number"), let("b", "string")]
+    deps = {name: [[{"QualifiedId": [["C", 2], ["prototype", member]]}, "Type_"]] for name, member in (("a", "n"), ("b", "m"))}
+    mod = Module("p/mod.ts", *items, deps=deps, resolved=near("b"))
+    world = World({"p": ["./mod.ts"]}, mod, Module("p/b.ts", exported(class_stmt("C", prop("m", "string"), prop("n", "number")))))
+    yield Build("build_two_members_behind_an_import", world, [
+        ("p/b.ts", "export class C { declare m: string; declare n: number; }"),
+        ("p/mod.ts", 'import { C } from "./b.ts"; export let a: number = {} as never; export let b: string = {} as never;')])
+
+
 GROUPS = [
     ("a name that no module has: each re-export of all is public, and nothing behind it is asked for", names_that_are_nowhere),
     ("a part of the default beside all other names: all of the default", default_and_all_others),
@@ -199,5 +210,6 @@ GROUPS = [
     ("names that stand for each other, or for parts of each other", rings_of_aliases),
     ("symbols that list each other, or stand for each other", rings_of_symbols),
     ("a member of the workspace without version, handed in under another one", members),
+    ("two members of a class behind an import", parts_behind_an_import),
     ("two hundred packages in a chain", many_packages),
 ]

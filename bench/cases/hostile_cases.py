@@ -173,6 +173,7 @@ CASES = [
     # told apart by what they are, though they have one hash
     ("hostile_modules_of_one_hash", hostile_shapes.modules_of_one_hash(300), ONE),
     ("hostile_packages_of_one_hash", hostile_shapes.packages_of_one_hash(300), []),
+    ("hostile_exports_of_one_hash", hostile_shapes.exports_of_one_hash(300), ONE),
     ("hostile_urls_beside_bases", hostile_shapes.urls_beside_bases(50), ONE),
     ("hostile_entry_points_of_a_long_package", hostile_shapes.entry_points_of_a_long_package(50), ONE),
     ("hostile_long_name", *a_long_name(100_000)),

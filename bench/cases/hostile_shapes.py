@@ -320,8 +320,18 @@ def path_through_files(n):
 
 
 def packages_of_one_hash(n):
-    """Packages that are asked for, times those that were asked for before, if they were told apart by their hash, which is one."""
-    return request(module(url(0), [], []), pending=[each + "@1.0.0" for each in colliding(n, NAME_LETTERS)])
+    """Packages that the graph knows, times those that were found before: these are told apart by their hash, which is one."""
+    pending = [each + "@1.0.0" for each in colliding(n, NAME_LETTERS)]
+    made = request(module(url(0), [], []), pending=pending)
+    made["graph"]["packages"] += [[nv, []] for nv in pending]
+    return made
+
+
+def exports_of_one_hash(n):
+    """Names that a package exports, for which nobody asks, times those that it exports before."""
+    made = request(module(url(0), [], []))
+    made["graph"]["packages"].append(["@p/q@1.0.0", [[each, "./0.ts"] for each in colliding(n, NAME_LETTERS)]])
+    return made
 
 
 # ---- a module that is followed again and again, each time for one name more
@@ -527,7 +537,7 @@ SHAPES = (
     parts_through_aliases, askers_through_aliases, members_asked_for, parts_of_many_declarations, properties_of_overloads, properties_of_one_symbol,
     one_property_of_many_functions, every_table_fault, duplicate_keys, versions_of_a_member, names_that_no_re_export_has, names_of_many_re_exports,
     names_covered_before_others, paths_covered_of_many_lengths, urls_beside_bases, entry_points_of_a_long_package, two_packages_of_each_other,
-    aliases_of_a_module, names_of_aliases, aliases_of_re_exports, levels_of_qualified_aliases, path_through_files, packages_of_one_hash,
+    aliases_of_a_module, names_of_aliases, aliases_of_re_exports, levels_of_qualified_aliases, path_through_files, packages_of_one_hash, exports_of_one_hash,
     names_asked_in_turns, declarations_asked_in_turns, one_property_in_turns, names_of_two_modules_in_turns, chain_asked_from_its_end, files_asked_in_turns,
     re_exports_in_turns, no_re_export_in_turns, qualified_alias_in_turns, parts_through_aliases_in_turns, path_that_leaves_at_each_name,
     path_that_leaves_below_a_name, askers_of_many_references, askers_of_one_part_by_many_names, askers_of_a_long_import, files_of_two_long_packages,

@@ -74,8 +74,8 @@ def named_types():
         yield Case(f"a_body_that_returns_{what}", in_all_forms(returned(value)), shown_in_all_forms(type_))
         yield Case(f"an_asynchronous_body_that_returns_{what}", in_all_forms(returned(value), is_async=True),
                    shown_in_all_forms(f"Promise<{type_}>", True))
-    yield Case("a_body_of_a_type_that_it_asserts", [func("f", [], returned(as_(ref("x"), "string")), is_async=True)],
-               f"export function f(): Promise<string> {BODY}", source="export async function f() { return x as string; }")
+    yield Case("a_body_of_a_type_that_it_asserts", [func("g", [], returned(as_(lit('"a"'), "string")), is_async=True)],
+               f"export function g(): Promise<string> {BODY}", source='export async function g() { return "a" as string; }')
     yield Case("a_body_that_returns_one", [func("f", [], returned(ONE))], f"export function f(): number {BODY}",
                source="export function f() { return 1; }")
     yield Case("a_body_that_returns_two", [func("f", [], returned(lit("2")))], f"export function f(): number {BODY}",

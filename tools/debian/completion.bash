@@ -14,6 +14,7 @@ _fast_check_help() {
 _fast_check_values() {
   case ${COMP_WORDS[COMP_CWORD - 1]} in
     --format) _fast_check_offer "$("$1" check --help 2> /dev/null | sed -n '/^  --format FORMAT/{s/^.*FORMAT *//; s/,\| or / /g; p}')" ;;
+    --rules) _fast_check_offer deno ;;
     --allow) _fast_check_offer "$("$1" check --help 2> /dev/null | sed -n '/^codes /,/^$/s/^  //p')" ;;
     --baseline | --exports) mapfile -t COMPREPLY < <(compgen -f -- "${COMP_WORDS[COMP_CWORD]}") ;;
     --name | --version | --max-warnings) ;;

@@ -4,6 +4,7 @@ const { analyse, statusOf } = require('./analysis.js');
 const { Baseline, withoutAllowed } = require('./allowed.js');
 const { refusalOf } = require('./faults.js');
 const { FORMATS } = require('./formats.js');
+const { mayNameReturns } = require('./returns.js');
 
 /** What is reported of a folder that was analysed: its messages without those that are allowed or known, and how many these are. */
 function toldOf(world, messages, options, baseline) {
@@ -26,18 +27,28 @@ async function messagesOf(world, options, context) {
   return [...world.messages, ...await verified(world, context)];
 }
 
+/** How many return types of a folder single returns name: for so many more deno asks. */
+async function singleReturnsOf(world, options, context) {
+  if (options.rules === 'deno' || !mayNameReturns(world.request)) return 0;
+  const asked = ({ messages }) => messages.filter(({ code }) => code === 'missing-explicit-return-type').map(({ file, start }) => `${file} ${start}`);
+  const known = new Set(asked(world));
+  const other = await analyse(world.dir, { ...options, rules: 'deno', kept: null }, context);
+  return asked(other).filter((each) => !known.has(each)).length;
+}
+
 /**
  * The result of a folder: `world`, null where it cannot be read, `thrown`, which says why, the messages that are reported, how many others are allowed and
- * known, and the status.
+ * known, how many return types single returns name, and the status.
  */
 async function resultOf({ dir, exports }, options, { context, baseline }) {
   try {
     const world = await analyse(dir, { ...options, exports }, context);
     const told = toldOf(world, await messagesOf(world, options, context), options, baseline);
-    return { dir, world, thrown: null, status: statusOf(world.broken), ...told };
+    const singleReturns = await singleReturnsOf(world, { ...options, exports }, context);
+    return { dir, world, thrown: null, status: statusOf(world.broken), singleReturns, ...told };
   } catch (error) {
     const thrown = refusalOf(error);
-    return { dir, world: null, thrown, status: thrown.status, messages: thrown.messages, allowed: 0, known: 0 };
+    return { dir, world: null, thrown, status: thrown.status, messages: thrown.messages, singleReturns: 0, allowed: 0, known: 0 };
   } finally {
     context.progress.end();
   }

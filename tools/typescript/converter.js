@@ -25,6 +25,7 @@ class Converter {
     this.text = sourceFile.text;
     this.offsets = new Offsets(this.text);
     this.short = Boolean(options.short);
+    this.namesReturns = options.rules !== 'deno';
     this.errors = [];
     this.faults = [];
     this.sources = [];

@@ -83,6 +83,13 @@ function closing(results) {
   return fixable ? [...why, '`fast-check-ts fix` writes those that the compiler infers; `fix --dry` shows them first.'] : why;
 }
 
+/** How many return types single returns name, for which deno would ask, where there are some. */
+function singleReturnsLine(results) {
+  const number = sum(results.map(({ singleReturns }) => singleReturns));
+  const [were, them] = number === 1 ? ['was read off a single return', 'it'] : ['were read off single returns', 'them'];
+  return number ? [`${count(number, 'return type')} ${were}; deno 0.111.1 would ask for ${them}`] : [];
+}
+
 const OF_SKELETON = / \(skeleton\)$/;
 
 /** A message for other tools: of one in a skeleton the source, without a place, since that of the skeleton is another. */
@@ -110,6 +117,7 @@ const text = {
     const { mayTellMore } = require('./apart.js');
     const more = !options.verify && results.some(({ world }) => world && mayTellMore(world)) ? '; --verify may tell more' : '';
     context.out.write(`${why.length ? '\n' : ''}${summary(results, context)}${more}\n`);
+    for (const line of singleReturnsLine(results)) context.out.write(`${line}\n`);
   },
 };
 

@@ -212,13 +212,13 @@ function compilerFor(folder) {
   return compiler;
 }
 
-/** What is kept of sources for a command. */
-function keptFor({ noCache }, environment) {
+/** What is kept of sources for a command. Under other rules other trees are made. */
+function keptFor({ noCache, rules = '' }, environment) {
   const folder = noCache ? null : folderFor(environment);
   let maker = null;
   const kept = new Kept(folder, () => {
     if (!kept.folder) return '';
-    maker = maker || `${hashOfTool()} ${compilerFor(kept.folder)}`;
+    maker = maker || `${hashOfTool()} ${compilerFor(kept.folder)} ${rules}`;
     return maker;
   });
   return kept;

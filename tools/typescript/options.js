@@ -59,6 +59,7 @@ const OPTIONS = [
     word: '--baseline', value: 'FILE', key: 'baseline', commands: ['check'],
     text: 'check: leave out what is in FILE, which an earlier `check --json` has written',
   },
+  { word: '--rules', value: 'RULES', key: 'rules', commands: ['check'], text: 'check: deno reports what deno_graph 0.111.1 does, for which a single return names no return type' },
   { word: '--watch', key: 'watch', commands: ['check'], text: 'check: check again whenever a file changes' },
   { word: '--list-externals', key: 'externals', commands: ['check'], text: 'check: say which imports lead out of the folder, and are not followed' },
   {

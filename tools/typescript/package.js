@@ -179,7 +179,7 @@ class Reader {
     const began = process.hrtime.bigint();
     const sourceFile = parse(file, text);
     const parsed = process.hrtime.bigint();
-    const tree = toTree(sourceFile, { short: this.options.short !== false });
+    const tree = toTree(sourceFile, { short: this.options.short !== false, rules: this.options.rules });
     this.times.parse += Number(parsed - began) / 1e6;
     this.times.tree += Number(process.hrtime.bigint() - parsed) / 1e6;
     for (const it of tree.errors) this.errorAt(file, text, it);

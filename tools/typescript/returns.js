@@ -84,4 +84,13 @@ function typeNamedBy(node) {
   return assertedType(last.Return.arg);
 }
 
-module.exports = { assertedType, returnsOf, namingArgument, typeNamedBy };
+// ---- and whether any does, in the JSON of trees that are cut short: no other returned value is kept in one
+
+const NAMING_RETURN = /"Return":\{"span":\[\d+,\d+\],"arg":\{"(?!This")/;
+
+/** Whether a body of a request's modules may name its return type by its only return. */
+function mayNameReturns({ modules }) {
+  return modules.some(([, { Esm }]) => Esm && NAMING_RETURN.test(Esm.source.text));
+}
+
+module.exports = { assertedType, mayNameReturns, returnsOf, namingArgument, typeNamedBy };

@@ -46,7 +46,7 @@ function shortBody(c, node) {
   if (node.type || body.statements.length === 0 || !returnsCount(node)) return [];
   const returns = returnsOf(body);
   if (returns.length === 0) return [{ Empty: { span: c.span(body.statements[0]) } }];
-  const naming = namingArgument(node);
+  const naming = c.namesReturns ? namingArgument(node) : undefined;
   const argument = (value) => (value === naming && namedBy(c, body, naming)) || noType(c, value);
   return returns.map((it) => ({
     Return: form({ span: c.span(it), arg: it.expression && argument(it.expression) }),

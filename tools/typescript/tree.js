@@ -46,7 +46,7 @@ function programOf(c, sourceFile) {
  * The program's tree of a parsed file.
  *
  * `short` cuts away what no rule looks at: the bodies of functions but for how they return and what names the type, values behind written types, and
- * statements that declare and assign nothing. Without it the tree holds the whole text.
+ * statements that declare and assign nothing. Without it the tree holds the whole text. Under the `rules` of deno nothing names the type of a body.
  *
  * `errors` are the parser's, and the forms that the program's tree does not have, each with its place; `faults` what is wrong with forms that are read.
  */

@@ -5,6 +5,7 @@ const { COMMANDS, OPTIONS } = require('./options.js');
 
 const BY_WORD = new Map(OPTIONS.map((it) => [it.word, it]));
 const FORMATS = ['text', 'json', 'github', 'sarif', 'junit'];
+const RULES = ['deno'];
 // Those that are one document, which a run that goes on has no end of.
 const DOCUMENTS = ['sarif', 'junit'];
 
@@ -30,6 +31,11 @@ function formatOf(name) {
   return name;
 }
 
+function rulesOf(name) {
+  if (!RULES.includes(name)) throw new UsageError(`there are no rules ${name}: ${RULES.join(', ')}`);
+  return name;
+}
+
 /** A code that may be allowed: of what keeps a folder from being read, there is nothing to go on with. */
 function allowed(code) {
   if (!isCode(code)) throw new UsageError(`there is no code ${code}: ${Object.keys(CODES).join(', ')}`);
@@ -38,7 +44,7 @@ function allowed(code) {
 }
 
 // How the values of options are read, those of a list each.
-const READ = { exports: exportsOf, maxWarnings: countOf, format: formatOf, allow: allowed };
+const READ = { exports: exportsOf, maxWarnings: countOf, format: formatOf, rules: rulesOf, allow: allowed };
 
 /** Puts the value of an option among the others. */
 function put(options, { key, isList }, value) {

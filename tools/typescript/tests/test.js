@@ -81,6 +81,7 @@ const MORE = {
   baseline: [['check', '--baseline', 'known.jsonl']],
   'workspace-large': [['check', '--verify']],
   'javascript-entry': [['check', '--max-warnings', '0']],
+  'single-returns': [['check', '--rules', 'deno']],
   'several-messages': [['check', '--allow', 'missing-explicit-type'], ...['github', 'sarif', 'junit'].map((format) => ['check', '--format', format])],
 };
 
@@ -263,6 +264,7 @@ const WRONG = [
   [['check', '--fast', 'variables'], 'there is no option --fast'],
   [['check', 'variables', '--name'], '--name wants a value'],
   [['skeleton', '--verify', 'variables'], '--verify is not for skeleton'],
+  [['check', '--rules', 'jsr', 'variables'], 'there are no rules jsr: deno'],
   [['skeleton', '--list-externals', 'variables'], '--list-externals is not for skeleton'],
   [['check', '--exports', '{', 'variables'], '--exports is no JSON'],
   [['skeleton', 'variables', 'variables'], 'variables is the package itself'],

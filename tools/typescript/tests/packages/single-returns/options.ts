@@ -1,0 +1,4 @@
+/** Where a return names it, it is public. */
+export interface Options {
+  deep: boolean;
+}
