@@ -1,0 +1,3 @@
+pub mod Gaps
+pub mod Jsx
+pub mod Next
