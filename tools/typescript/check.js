@@ -4,7 +4,7 @@ const { analyse, statusOf } = require('./analysis.js');
 const { Baseline, withoutAllowed } = require('./allowed.js');
 const { refusalOf } = require('./faults.js');
 const { FORMATS } = require('./formats.js');
-const { mayNameReturns } = require('./returns.js');
+const { mayNameReturns } = require('./asserted_types.js');
 
 /** What is reported of a folder that was analysed: its messages without those that are allowed or known, and how many these are. */
 function toldOf(world, messages, options, baseline) {

@@ -1,9 +1,14 @@
 'use strict';
 // Which compiler is taken: that of the package, that of the variable TYPESCRIPT, or that of the system.
+const fs = require('fs');
 const path = require('path');
+const { requireCompiled } = require('./code_cache.js');
 
 const DEBIAN = '/usr/share/nodejs/typescript';
-const chosen = { own: null };
+// The folder whose own compiler comes first, and the one where compiled code is kept; null where none is.
+const chosen = { own: null, cache: null };
+// From how many bytes on a file is loaded with compiled code.
+const LARGE = 1 << 20;
 // The code of the error that there is no compiler which serves.
 const NO_COMPILER = 'NO_COMPILER';
 
@@ -23,9 +28,24 @@ function isUsable(ts) {
   return typeof ts.version === 'string' && typeof ts.createSourceFile === 'function' && isVersionFrom(ts.version, 4, 8);
 }
 
+/** Has compiled code of the compiler kept in a folder. */
+function keepIn(folder) {
+  chosen.cache = folder;
+}
+
+/** Whether a compiler can be found by a name. */
+function isThere(name) {
+  try {
+    return Boolean(require.resolve(name));
+  } catch {
+    return false;
+  }
+}
+
 function loaded(name) {
   try {
-    return require(name);
+    const file = require.resolve(name);
+    return chosen.cache && fs.statSync(file).size > LARGE ? requireCompiled(file, chosen.cache) : require(file);
   } catch (error) {
     if (error.code !== 'MODULE_NOT_FOUND') throw error;
     return null;
@@ -35,7 +55,7 @@ function loaded(name) {
 /** Refuses a variable TYPESCRIPT that names no compiler. */
 function refuseWrongVariable() {
   const named = process.env.TYPESCRIPT;
-  if (!named || loaded(path.resolve(named))) return;
+  if (!named || isThere(named)) return;
   throw Object.assign(new Error(`there is no TypeScript in ${named}, which the variable TYPESCRIPT names`), { status: 2, code: NO_COMPILER });
 }
 
@@ -44,7 +64,8 @@ function loadCompiler() {
   refuseWrongVariable();
   const own = chosen.own && loaded(chosen.own);
   if (own && isUsable(own)) return own;
-  const [ts] = [process.env.TYPESCRIPT, 'typescript', DEBIAN].filter(Boolean).map(loaded).filter(Boolean);
+  const found = [process.env.TYPESCRIPT, 'typescript', DEBIAN].filter(Boolean).find(isThere);
+  const ts = found === undefined ? null : loaded(found);
   const lacks = !ts ? 'TypeScript is missing' : !isUsable(ts) ? `TypeScript ${ts.version} does not serve: 4.8 or newer is needed` : null;
   if (lacks) throw Object.assign(new Error(`${lacks}; on Debian: apt-get install -y node-typescript`), { status: 2, code: NO_COMPILER });
   return ts;
@@ -52,14 +73,7 @@ function loadCompiler() {
 
 /** The files of the compilers that are there, in the order in which they are looked at. */
 function candidateFiles() {
-  const files = [chosen.own, process.env.TYPESCRIPT, 'typescript', DEBIAN].filter(Boolean).map((name) => {
-    try {
-      return require.resolve(name);
-    } catch {
-      return null;
-    }
-  });
-  return files.filter(Boolean);
+  return [chosen.own, process.env.TYPESCRIPT, 'typescript', DEBIAN].filter(Boolean).filter(isThere).map((name) => require.resolve(name));
 }
 
-module.exports = { NO_COMPILER, candidateFiles, chosen, isVersionFrom, loadCompiler, lookIn };
+module.exports = { NO_COMPILER, candidateFiles, chosen, isVersionFrom, keepIn, loadCompiler, lookIn };

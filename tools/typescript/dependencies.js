@@ -4,7 +4,7 @@
 //
 // A dependency is `[dep, namespace]`, as docs/FORMATS.md has it.
 
-const { typeNamedBy } = require('./returns');
+const { typeNamedBy } = require('./asserted_types');
 
 const VALUE = 'Value';
 const TYPE = 'Type_';

@@ -3,7 +3,7 @@
 const crypto = require('crypto');
 const fs = require('fs');
 const path = require('path');
-const { candidateFiles } = require('./compiler.js');
+const { candidateFiles, keepIn } = require('./compiler.js');
 const { makeFolder } = require('./files.js');
 const { Offsets } = require('./offsets.js');
 const { JsonText } = require('./request.js');
@@ -215,6 +215,7 @@ function compilerFor(folder) {
 /** What is kept of sources for a command. Under other rules other trees are made. */
 function keptFor({ noCache, rules = '' }, environment) {
   const folder = noCache ? null : folderFor(environment);
+  keepIn(folder);
   let maker = null;
   const kept = new Kept(folder, () => {
     if (!kept.folder) return '';

@@ -8,7 +8,8 @@ const names = require('./names');
 const patterns = require('./patterns');
 const types = require('./types');
 const { expression } = require('./expressions');
-const { assertedType, returnsOf, namingArgument } = require('./returns');
+const { assertedType } = require('./asserted_types');
+const { namingArgument, returnsOf } = require('./returns');
 
 const { SyntaxKind: K } = ts;
 

@@ -32,7 +32,7 @@ function memoryError(limit) {
 function threadFor(limit) {
   const [key] = candidateFiles();
   if (!threads.has(key)) {
-    const made = new Worker(__filename, { workerData: { own: chosen.own }, resourceLimits: { maxOldGenerationSizeMb: limit } });
+    const made = new Worker(__filename, { workerData: { own: chosen.own, cache: chosen.cache }, resourceLimits: { maxOldGenerationSizeMb: limit } });
     made.on('exit', () => threads.delete(key));
     made.unref();
     threads.set(key, made);
@@ -130,7 +130,7 @@ async function answerTo(asked) {
 }
 
 if (!isMainThread && workerData && parentPort) {
-  chosen.own = workerData.own;
+  Object.assign(chosen, workerData);
   parentPort.on('message', async (asked) => parentPort.postMessage(await answerTo(asked)));
 }
 

@@ -528,6 +528,17 @@ async function compilers() {
     fs.writeFileSync(path.join(own, 'index.js'), 'module.exports = { version: "4.7.4" };');
     holds(from(folder, []).stderr.includes(`by TypeScript ${ts.version}`), 'one that does not serve is passed over');
   }));
+  await test('a run over unchanged sources loads no compiler', () => withFolder(async (folder) => {
+    const [log, own] = [path.join(folder, 'log'), path.join(folder, 'compiler')];
+    fs.mkdirSync(own);
+    fs.writeFileSync(path.join(own, 'index.js'), `require('fs').appendFileSync(${JSON.stringify(log)}, 'loaded\\n'); module.exports = require(${JSON.stringify(COMPILER)});`);
+    const environment = { TYPESCRIPT: own, XDG_CACHE_HOME: path.join(folder, 'cache') };
+    const asked = () => from(path.join(PACKAGES, 'classes'), [], environment);
+    const first = asked();
+    same(readOr(log, ''), 'loaded\n', `what is loaded at first by\n${first.stdout}${first.stderr}\nwhich`);
+    same(asked().stdout.replace(/\d\.\d\d s/, ''), first.stdout.replace(/\d\.\d\d s/, ''), 'the answer');
+    same(readOr(log, ''), 'loaded\n', 'what is loaded behind it');
+  }));
   await test('a variable TYPESCRIPT that names nothing', () => {
     const { status, stderr } = from(path.join(PACKAGES, 'aliases'), [], { TYPESCRIPT: '/nowhere' });
     same(status, 2, 'the status');
