@@ -18,7 +18,7 @@ function shape(tree) {
 function roundTrip(name, text) {
   const first = toTree(parse(name, text));
   if (first.errors.length) return ['refused', first.errors[0].message];
-  const printed = print(first.program, first.comments, { asWritten: true });
+  const printed = print(first.program, first.comments, { asWritten: true, name });
   const second = toTree(parse(name, printed));
   if (second.errors.length) {
     const { message, offset } = second.errors[0];
