@@ -8,6 +8,7 @@ const { isInside, readText } = require('./files.js');
 const { inputOf } = require('./input.js');
 const { Lines } = require('./lines.js');
 const { previewOf } = require('./preview.js');
+const { skeletonMessages } = require('./skeleton_messages.js');
 const typescript = require('./typescript.js');
 
 /** A folder that cannot be read; `messages` say why, and `text` says it where there is no place. */
@@ -168,9 +169,9 @@ function packageOf(info, file) {
   return around.sort((a, b) => b.dir.length - a.dir.length)[0];
 }
 
-/** Takes the skeletons of packages of which something is wrong that the program does not know. */
-function withoutFaulty({ info, files, skeletons }) {
-  const faulty = new Set(info.faults.filter((each) => each.level !== 'Warning').map((each) => packageOf(info, each.path)).filter(Boolean));
+/** Takes the skeletons of the packages of some files, of which something is wrong that the program does not know. */
+function withoutFaulty({ info, files, skeletons }, paths) {
+  const faulty = new Set(paths.map((each) => packageOf(info, each)).filter(Boolean));
   if (!faulty.size) return skeletons;
   return new Map([...skeletons].filter(([specifier]) => !files.has(specifier) || !faulty.has(packageOf(info, files.get(specifier).path))));
 }
@@ -183,7 +184,11 @@ async function analyse(dir, options, context) {
   const ask = (request) => progress.during('the program is at work', build(request, { unproved: options.unproved, environment, tell }));
   const answers = await ask(world.request);
   const { skeletons, messages } = part(answers, world, cwd);
-  const made = { ...world, answers, skeletons: withoutFaulty({ ...world, skeletons }), messages: [...world.faults, ...messages] };
+  const told = skeletonMessages({ ...world, skeletons }, (file) => shownName(file, cwd));
+  const [warnings, errors] = [true, false].map((isWarning) => told.filter(({ level }) => (level === 'Warning') === isWarning));
+  const faulty = [...world.info.faults.filter((it) => it.level !== 'Warning').map((it) => it.path), ...errors.map((it) => world.files.get(it.specifier).path)];
+  const left = withoutFaulty({ ...world, skeletons }, faulty);
+  const made = { ...world, answers, skeletons: left, warnings: [...world.warnings, ...warnings], messages: [...world.faults, ...messages, ...errors] };
   return options.preview ? { ...made, preview: await previewFor(made, ask) } : made;
 }
 
@@ -191,7 +196,8 @@ async function analyse(dir, options, context) {
 async function previewFor({ request, answers, skeletons, messages }, ask) {
   if (!messages.some((it) => it.level !== 'Warning')) return null;
   const found = await previewOf(request, answers, ask);
-  return found && { ...found, skeletons: new Map([...found.skeletons].filter(([specifier]) => !skeletons.has(specifier))) };
+  const wrong = new Set(messages.filter((it) => it.level !== 'Warning').map((it) => it.specifier));
+  return found && { ...found, skeletons: new Map([...found.skeletons].filter(([specifier]) => !skeletons.has(specifier) && !wrong.has(specifier))) };
 }
 
 /** The status of messages that say why something cannot be read. */

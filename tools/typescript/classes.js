@@ -8,6 +8,7 @@ const patterns = require('./patterns');
 const types = require('./types');
 const { expression, propName, heritageName, isAsync } = require('./expressions');
 const { functionBody, constructorBody } = require('./statements');
+const { STATIC } = require('./restored');
 
 const { SyntaxKind: K } = ts;
 const { hasModifier } = types;
@@ -58,6 +59,34 @@ function implemented(c, node) {
   return form({ span: c.span(node), expr: heritageName(c, node.expression), type_args: types.instantiation(c, node) });
 }
 
+/** The private members of a class by whether they are static, with parameter properties. */
+function privateNames(members, isStatic) {
+  const found = new Set();
+  for (const choice of members) {
+    const [node] = Object.values(choice);
+    for (const { TsParamProp: it } of (choice.Constructor && node.params) || []) {
+      if (it && !isStatic && it.accessibility === 'Private') found.add((it.param.Assign ? it.param.Assign.left : it.param).Ident.id.sym);
+    }
+    if (node.accessibility === 'Private' && Boolean(node.is_static) === isStatic && node.key && node.key.Ident) found.add(node.key.Ident.sym);
+  }
+  return found;
+}
+
+/**
+ * Members of which no private static one has the name of a private other one, since the program takes both for one: it has a word behind its name, which
+ * `restored` takes away from the skeleton.
+ */
+function withStaticNames(c, members) {
+  if (!c.short || !members.some((it) => Object.values(it)[0].is_static)) return members;
+  const [names, others] = [privateNames(members, true), privateNames(members, false)];
+  return members.map((choice) => {
+    const [[variant, node]] = Object.entries(choice);
+    const { Ident: key } = node.key || {};
+    const isTwice = node.is_static && node.accessibility === 'Private' && key && names.has(key.sym) && others.has(key.sym);
+    return isTwice ? { [variant]: { ...node, key: { Ident: { ...key, sym: key.sym + STATIC } } } } : choice;
+  });
+}
+
 /** A class within its scope, which is entered. Its range begins at `start`. */
 function classIn(c, node, scope, start) {
   types.bindTypeParams(c, node);
@@ -66,7 +95,7 @@ function classIn(c, node, scope, start) {
     span: c.range(start, node.end),
     ctxt: scope.number,
     decorators: decorators(c, node),
-    body: node.members.map((it) => member(c, it)),
+    body: withStaticNames(c, node.members.map((it) => member(c, it))),
     super_class: superClass && expression(c, superClass.expression),
     is_abstract: hasModifier(node, K.AbstractKeyword),
     type_params: types.typeParams(c, node),

@@ -56,13 +56,23 @@ async function skeleton([word, out], options, context) {
   return statusOf(world, world.messages) || (skeletons.length ? 0 : 1);
 }
 
+/** The folder that the paths of a patch begin at, as git takes them: the repository around a package, else where the command was started, or the package itself. */
+function rootOfPatch(folder, cwd) {
+  const { isInside } = require('./files.js');
+  for (let at = folder; ; at = path.dirname(at)) {
+    if (fs.existsSync(path.join(at, '.git'))) return at;
+    if (at === path.dirname(at)) return folder === cwd || isInside(cwd, folder) ? cwd : folder;
+  }
+}
+
 /** The changes of texts as a unified diff. */
-function writeDiff(texts, { out, paint, cwd }) {
+function writeDiff(texts, folder, { out, paint, cwd }) {
   const { unified } = require('./difference.js');
   const { markOf, readText } = require('./files.js');
+  const root = rootOfPatch(folder, cwd);
   for (const [file, text] of [...texts].sort(([a], [b]) => (a < b ? -1 : 1))) {
     const mark = markOf(file);
-    for (const line of unified(path.relative(cwd, file), mark + readText(file).text, mark + text)) out.write(`${paint(COLOURS[line[0]] || 'bold', line)}\n`);
+    for (const line of unified(path.relative(root, file), mark + readText(file).text, mark + text)) out.write(`${paint(COLOURS[line[0]] || 'bold', line)}\n`);
   }
 }
 
@@ -71,12 +81,13 @@ async function fix([word], options, context) {
   const { fixed } = require('./thread.js');
   const { world, texts, count: types } = await fixed(folderOf(word, context), options, context);
   context.progress.end();
-  if (options.dry) writeDiff(texts, context);
+  if (options.dry) writeDiff(texts, folderOf(word, context), context);
   else rewriteTexts(texts);
   const told = messagesOf(world);
   writeMessages(told, options, options.dry ? { out: context.err, paint: context.paintErrors } : context);
   const { count, seconds } = require('./formats.js');
-  const summary = `${count(types, 'type')} written in ${count(texts.size, 'file')}, ${count(told.length, 'message')} left, ${seconds(context)}\n`;
+  const done = options.dry ? 'to write in' : 'written in';
+  const summary = `${count(types, 'type')} ${done} ${count(texts.size, 'file')}, ${count(told.length, 'message')} left, ${seconds(context)}\n`;
   (options.dry ? context.err : context.out).write(summary);
   return statusOf(world, told);
 }

@@ -1,21 +1,28 @@
 'use strict';
-// Whether users can go on with another version of a package: TypeScript's compiler is asked of each public name that is declared otherwise. It makes declaration
-// files of the sources of both versions, and checks probes, each of which takes what one version declares for what the other does.
+// Whether users can go on with another version of a package: TypeScript's compiler is asked of each declaration that differs. It makes declaration files of the
+// sources of both versions. The new declaration is put beside the old one, into the old module, so that both mean the same by each other name, and probes take the
+// one for the other.
 const path = require('path');
-const { comparable } = require('./comparable.js');
-const { Externals } = require('./externals.js');
+const { STRICT, comparable } = require('./comparable.js');
+const { Externals, importsOf, mentionedIn } = require('./externals.js');
 const { declarationName, emitted, programOf, resolverOf } = require('./judge_surface.js');
 const { Narrowing, abstraction } = require('./narrowing.js');
 const { ts } = require('./typescript.js');
 
 const { SymbolFlags: F, SyntaxKind: K } = ts;
-const HELP = `type IsSame<A, B> = (<G>() => G extends A ? 1 : 2) extends (<G>() => G extends B ? 1 : 2) ? true : false;
-type IsTrue<T extends true> = T;
-type IsUsableAs<A extends B, B> = A;
-export {};
+// What stands behind the name of a new declaration beside the old one.
+const NEW = '$new';
+const HELP = `
+export type IsSame<A, B> = (<G>() => G extends A ? 1 : 2) extends (<G>() => G extends B ? 1 : 2) ? true : false;
+export type IsTrue<T extends true> = T;
+export type IsUsableAs<A extends B, B> = A;
 `;
+const HELPERS = '/help.d.ts';
 
-/** The declaration files of a version below a root of their own, in the form that is compared, and where the texts of their imports lead. */
+const parse = (name, text) => ts.createSourceFile(name, text, ts.ScriptTarget.ESNext, true);
+const isDefault = (node) => (node.modifiers || []).some((it) => it.kind === K.DefaultKeyword);
+
+/** The declaration files of a version below a root of their own, in the form that is compared. */
 class Version {
   constructor(world, root) {
     this.world = world;
@@ -28,6 +35,7 @@ class Version {
     this.resolveMade = resolverOf(world, made);
     this.paths = new Map([...made.keys()].map((name) => [this.at(name), name]));
     this.texts = new Map([...made].map(([name, text]) => [this.at(name), name.endsWith('.json') ? text : comparable(name, text)]));
+    this.parsed = new Map();
   }
 
   at(file) {
@@ -39,43 +47,68 @@ class Version {
     return found ? this.at(found) : undefined;
   }
 
-  /** The declaration file of a module. */
-  file(specifier) {
+  /** The declaration file of a module, parsed; undefined where there is none. */
+  module(specifier) {
     const file = this.world.files.get(specifier);
-    return file && this.at(declarationName(file.path));
+    const name = file && this.at(declarationName(file.path));
+    if (!this.texts.has(name)) return undefined;
+    if (!this.parsed.has(name)) this.parsed.set(name, new Declarations(parse(name, this.texts.get(name))));
+    return this.parsed.get(name);
   }
 }
 
-/** Questions to the compiler, each a text that it finds an error in where the answer is no. */
-class Probes {
-  constructor() {
-    this.texts = new Map();
-    this.asked = [];
+/** A declaration file by the names at its top. */
+class Declarations {
+  constructor(file) {
+    this.file = file;
+    this.declared = new Map();
+    const add = (name, node) => this.declared.set(name, [...(this.declared.get(name) || []), node]);
+    for (const it of file.statements) {
+      if (it.kind === K.VariableStatement) for (const each of it.declarationList.declarations) add(each.name.getText(), each);
+      else if (it.name && it.kind !== K.ExportDeclaration) add(it.name.text, it);
+      if (isDefault(it) || (it.kind === K.ExportAssignment && !it.isExportEquals)) this.default = it;
+    }
+    this.imported = new Map(importsOf(file).filter(([local]) => local !== null).map((it) => [it[0], it]));
   }
 
-  /** Adds a text to a file, and answers the number of the question. */
-  ask(file, text) {
-    const before = this.texts.get(file) || '';
-    this.texts.set(file, `${before}${text}\n`);
-    this.asked.push({ file, start: before.length, end: before.length + text.length });
-    return this.asked.length - 1;
-  }
-
-  /** What the compiler has against each question; null where it has nothing. `lengths` are those of the texts that the files had before. */
-  answers(program, lengths) {
-    const errors = new Map([...this.texts.keys()].map((name) => [name, program.getSemanticDiagnostics(program.getSourceFile(name))]));
-    return this.asked.map(({ file, start, end }) => {
-      const from = lengths.get(file) || 0;
-      const found = errors.get(file).find((it) => it.start >= from + start && it.start < from + end);
-      return found ? reasonText(found.messageText) : null;
-    });
+  /** The name under which something is declared that a skeleton calls `name`. */
+  local(name) {
+    if (name !== 'default' || this.declared.has(name)) return name;
+    const found = this.default;
+    if (!found) return name;
+    return found.kind === K.ExportAssignment ? found.expression.getText() : found.name ? found.name.text : null;
   }
 }
+
+const SPELT = new Map([
+  [K.StringLiteral, 'string'], [K.NoSubstitutionTemplateLiteral, 'string'], [K.NumericLiteral, 'number'], [K.BigIntLiteral, 'bigint'], [K.TrueKeyword, 'boolean'], [K.FalseKeyword, 'boolean'],
+]);
+
+/** The widened type of a constant whose type is that of a literal, or of a member of an enum; undefined of any other. */
+function widenedType([{ kind, initializer }]) {
+  if (kind !== K.VariableDeclaration || !initializer) return undefined;
+  const value = initializer.kind === K.PrefixUnaryExpression ? initializer.operand : initializer;
+  return SPELT.get(value.kind) || (value.expression && value.expression.getText());
+}
+
+/** The text of a declaration under another name, without what exports it. */
+function renamed(node, name) {
+  const statement = node.kind === K.VariableDeclaration ? node.parent.parent : node;
+  const text = node.getText();
+  const from = node.name.getStart() - node.getStart();
+  const made = `${text.slice(0, from)}${name}${text.slice(node.name.end - node.getStart())}`;
+  if (node.kind === K.VariableDeclaration) return `export declare ${statement.declarationList.flags & ts.NodeFlags.Const ? 'const' : 'let'} ${made};`;
+  const plain = made.replace(/^(?:(?:export|default|declare)\s+)+/, '');
+  return `export ${node.kind === K.InterfaceDeclaration || node.kind === K.TypeAliasDeclaration ? '' : 'declare '}${plain}`;
+}
+
+/** The type parameters of some declarations of one name, as they are written. */
+const writtenParameters = (nodes) => nodes.flatMap((it) => [...(it.typeParameters || [])].map((each) => each.getText())).join();
 
 /** Why one type is no other, as the compiler says it: its last two reasons, which are the innermost ones. */
 function reasonText(message) {
-  const lines = ts.flattenDiagnosticMessageText(message, '\n').split('\n').map((it) => it.trim().replace(/import\("[^"]*"\)\./g, '').replace(/[.:]$/, ''));
-  const telling = lines.filter((it) => !/^Type '(.*)' is not assignable to type '\1'/.test(it));
+  const lines = ts.flattenDiagnosticMessageText(message, '\n').split('\n').map((it) => it.trim().replace(/import\("[^"]*"\)\.|\$new\b|\$strict\b/g, '').replace(/[.:]$/, ''));
+  const telling = lines.filter((it) => !/^Type '(.*)' (?:is not assignable to type|does not satisfy the constraint) '\1'/.test(it));
   return (telling.length ? telling : lines).slice(-2).map((it) => it[0].toLowerCase() + it.slice(1)).join(': ');
 }
 
@@ -87,79 +120,10 @@ function typeParametersOf(symbol) {
   return found ? [...found.typeParameters] : [];
 }
 
-/** The names of a symbol from the top of its module on; null where they cannot be written there. */
-function localName(symbol) {
-  const names = [];
-  for (let at = (symbol.declarations || [])[0]; at && at.kind !== K.SourceFile; at = at.parent) {
-    if (at.kind === K.ModuleBlock || at.kind === K.VariableDeclarationList || at.kind === K.VariableStatement) continue;
-    if (!at.name || at.name.kind !== K.Identifier) return null;
-    names.unshift(at.name.text);
-  }
-  return names.length ? names.join('.') : null;
-}
-
-/** Both versions of a package in one program of the compiler. */
-class Comparison {
-  constructor(before, after) {
-    this.versions = [new Version(before, '/old'), new Version(after, '/new')];
-    this.texts = new Map(this.versions.flatMap(({ texts }) => [...texts]));
-    this.externals = new Externals(this.texts, (from, text) => !this.inside(from, text));
-    this.imports = new Map();
-    this.probes = new Probes();
-    this.load();
-  }
-
-  inside(from, text) {
-    return this.versions.find(({ root }) => from.startsWith(`${root}/`)).resolve(from, text);
-  }
-
-  resolve(from, text) {
-    if (this.imports.has(text)) return this.imports.get(text);
-    return /^\/(?:old|new)\//.test(from) ? this.inside(from, text) || this.externals.fileOf(text) : undefined;
-  }
-
-  programOf(texts) {
-    return programOf(texts, (from, text) => this.resolve(from, text));
-  }
-
-  /** Makes the program in which symbols are looked up. A first one tells which names the libraries of the compiler declare. */
-  load() {
-    const [any] = [...this.texts.keys()].filter((it) => !it.endsWith('.json'));
-    const bare = this.programOf(new Map([...this.texts, ...this.externals.texts()]));
-    const scope = bare.getTypeChecker().getSymbolsInScope(bare.getSourceFile(any), F.Type | F.Value | F.Namespace);
-    const known = new Set(scope.map((it) => it.name));
-    this.externals.declareGlobals((name) => known.has(name));
-    this.all = new Map([...this.texts, ...this.externals.texts()]);
-    this.program = this.programOf(this.all);
-    this.checker = this.program.getTypeChecker();
-  }
-
-  /** What an export of a module stands for, behind all aliases; null where it is not there. */
-  symbol(version, { specifier, name }) {
-    const file = this.program.getSourceFile(this.versions[version].file(specifier));
-    const module = file && this.checker.getSymbolAtLocation(file);
-    const found = module && this.checker.getExportsOfModule(module).find((it) => it.name === name);
-    return found ? this.behind(found) : null;
-  }
-
-  behind(symbol) {
-    return symbol.flags & F.Alias ? this.checker.getAliasedSymbol(symbol) : symbol;
-  }
-
-  /** The text by which probes import a module of a version. */
-  module(version, specifier) {
-    const text = `${version === 0 ? 'old' : 'new'}:${specifier}`;
-    this.imports.set(text, this.versions[version].file(specifier));
-    return text;
-  }
-}
-
-/** One public name of both versions: what is asked of it, and the advice that follows from the answers. */
-class PublicName {
-  constructor(comparison, { key, old, now }) {
-    this.comparison = comparison;
-    this.key = key;
-    this.ends = [old, now];
+/** A declaration of both versions: what is asked of it, and the advice that follows from the answers. */
+class Pair {
+  constructor(key, old, now) {
+    Object.assign(this, { key, old, now });
     this.breaks = [];
     this.isAddition = false;
     // Questions of which a no is a break, and those of which it is an addition.
@@ -167,142 +131,230 @@ class PublicName {
     this.sameness = [];
   }
 
-  broken(reason) {
-    this.breaks.push(reason);
-  }
-
-  ask() {
-    const symbols = this.ends.map((end, version) => this.comparison.symbol(version, end));
-    if (symbols.some((it) => !it || !(it.declarations || []).length)) this.broken('TypeScript\'s compiler does not compare this');
-    else this.compare(...symbols, []);
-  }
-
-  /** Asks of two symbols, which stand below the public name by some names. */
-  compare(old, now, below) {
-    const meanings = [['value', F.Value], ['type', F.Type], ['namespace', F.Namespace]];
-    const shown = [this.ends[0].name, ...below].join('.');
-    for (const [word, flag] of meanings) {
-      if (old.flags & flag && !(now.flags & flag)) this.broken(`${shown} is no ${word} any more`);
-      else if (!(old.flags & flag) && now.flags & flag) this.isAddition = true;
-    }
-    const has = (flag) => Boolean(old.flags & now.flags & flag);
-    if (has(F.Value) && !has(F.ConstEnum) && !(has(F.Namespace) && !has(F.Function | F.Class | F.Variable | F.Enum))) this.compareValues(old, now, below, shown);
-    if (has(F.Type)) this.compareTypes(old, now, below, shown);
-    if (has(F.Namespace) && !has(F.Enum)) this.compareNamespaces(old, now, below, shown);
-  }
-
-  /** How a probe writes the name of a version. */
-  access(version, below) {
-    return [this.ends[version].name, ...below].reduce((made, name) => (isPlain(name) ? `${made}.${name}` : `${made}[${JSON.stringify(name)}]`), version === 0 ? 'Old' : 'New');
-  }
-
-  /** Asks in a module of its own, which imports both versions. */
-  inModule(text) {
-    const { comparison, ends } = this;
-    const file = `/probe-${comparison.probes.asked.length}.ts`;
-    const imports = ends.map(({ specifier }, version) => `import * as ${version === 0 ? 'Old' : 'New'} from ${JSON.stringify(comparison.module(version, specifier))};`);
-    return comparison.probes.ask(file, `${imports.join(' ')} ${text} ${HELP.replace(/\n/g, ' ')}`);
-  }
-
-  compareValues(old, now, below, shown) {
-    const { checker } = this.comparison;
-    const [before, after] = [0, 1].map((version) => this.access(version, below));
-    // A variable that takes a constant has the widened type of its literal: another literal is no other type.
-    const isWidened = isConstant(old) && isConstant(now);
-    const variables = isWidened ? `let a = ${before}; let b = ${after};` : `let a: typeof ${before} = null as any; let b: typeof ${after} = null as any;`;
-    this.needed.push(this.inModule(`${variables} a = b;`));
-    this.sameness.push(this.inModule(`${variables} type It = IsTrue<IsSame<typeof a, typeof b>>;`));
-    const found = [old, now].map((it) => checker.getTypeOfSymbolAtLocation(it, it.declarations[0]));
-    const narrower = this.narrowing().of(...found, shown);
-    if (narrower) this.broken(narrower);
-  }
-
-  compareTypes(old, now, below, shown) {
-    const isClass = Boolean(old.flags & now.flags & F.Class);
-    const parameters = typeParametersOf(old);
-    const ask = parameters.length || typeParametersOf(now).length ? this.genericQuestions(old, parameters, below) : this.plainQuestions(below);
-    if (!ask) {
-      this.broken('TypeScript\'s compiler does not compare this');
-      return;
-    }
-    const [forward, backward, same] = ask;
-    this.needed.push(forward, ...(isClass ? [] : [backward]));
-    this.sameness.push(same);
-    const texts = [old, now].map((it) => typeParametersOf(it).map((each) => each.getText()).join());
-    if (texts[0] !== texts[1]) this.isAddition = true;
-    const { checker } = this.comparison;
-    const narrower = this.narrowing().of(checker.getDeclaredTypeOfSymbol(old), checker.getDeclaredTypeOfSymbol(now), shown) || (isClass && abstraction(old, now));
-    if (narrower) this.broken(narrower);
-  }
-
-  plainQuestions(below) {
-    const [before, after] = [0, 1].map((version) => this.access(version, below));
-    if (/\[/.test(before + after)) return null;
-    return [`IsUsableAs<${after}, ${before}>`, `IsUsableAs<${before}, ${after}>`, `IsTrue<IsSame<${before}, ${after}>>`].map((it) => this.inModule(`type It = ${it};`));
-  }
-
-  /** Questions with the type parameters of the old declaration, in its own module, where their constraints have their meanings. */
-  genericQuestions(old, parameters, below) {
-    const { comparison } = this;
-    const file = old.declarations[0].getSourceFile().fileName;
-    const name = localName(old);
-    if (!name || !comparison.texts.has(file) || !parameters.length) return null;
-    const list = parameters.map((it) => it.getText().replace(/=[^>].*$/s, '').trim()).join(', ');
-    const given = parameters.map((it) => it.name.text).join(', ');
-    const number = comparison.probes.asked.length;
-    // A name of an import type may be given types that its constraints do not allow.
-    const now = `${[`New${number}`, this.ends[1].name, ...below].join('.')}<${given}>`;
-    const before = `${name}<${given}>`;
-    const texts = [`IsUsableAs${number}<${now}, ${before}>`, `IsUsableAs${number}<${before}, ${now}>`, `IsTrue${number}<IsSame${number}<${before}, ${now}>>`];
-    const help = HELP.replace(/\n/g, ' ').replace('export {};', '').replace(/\b(IsSame|IsTrue|IsUsableAs)\b/g, `$1${number}`);
-    const head = `${help} import * as New${number} from ${JSON.stringify(comparison.module(1, this.ends[1].specifier))};`;
-    return texts.map((it, at) => comparison.probes.ask(file, `type It${number}_${at}<${list}> = ${it};${at === 0 ? ` ${head}` : ''}`));
-  }
-
-  compareNamespaces(old, now, below, shown) {
-    const { comparison } = this;
-    const [before, after] = [old, now].map((it) => new Map(comparison.checker.getExportsOfModule(it).map((each) => [each.name, comparison.behind(each)])));
-    for (const [name, symbol] of before) {
-      if (name === 'prototype') continue;
-      if (!after.has(name)) this.broken(`${shown}.${name} is gone`);
-      else if ((symbol.declarations || []).length) this.compare(symbol, after.get(name), [...below, name]);
-    }
-    if ([...after.keys()].some((name) => !before.has(name))) this.isAddition = true;
-  }
-
-  narrowing() {
-    const { comparison } = this;
-    return new Narrowing(comparison.checker, (node) => comparison.texts.has(node.getSourceFile().fileName));
-  }
-
-  /** The part of a version number that the change raises, and why. */
+  /** The part of a version number that the change raises, and why. `answers` say what the compiler has against each question. */
   advice(answers) {
     const [reason] = [...this.breaks, ...this.needed.map((it) => answers[it]).filter(Boolean)];
     if (reason) return { advice: 'major', reason };
-    const isAddition = this.isAddition || this.sameness.some((it) => answers[it]);
-    return { advice: isAddition ? 'minor' : 'patch', reason: null };
+    return { advice: this.isAddition || this.sameness.some((it) => answers[it]) ? 'minor' : 'patch', reason: null };
   }
 }
 
-/** Whether a symbol is a constant whose type the compiler took off a literal. */
-function isConstant(symbol) {
-  return (symbol.declarations || []).some((it) => it.kind === K.VariableDeclaration && it.initializer);
+/** Both versions of a package in one program of the compiler. */
+class Comparison {
+  constructor(before, after) {
+    this.versions = [new Version(before, '/old'), new Version(after, '/new')];
+    this.texts = new Map([...this.versions.flatMap(({ texts }) => [...texts]), [HELPERS, HELP]]);
+    this.externals = new Externals(this.texts, (from, text) => !this.inside(from, text));
+    this.pairs = [];
+    this.added = new Map();
+    this.asked = [];
+  }
+
+  inside(from, text) {
+    const version = this.versions.find(({ root }) => from.startsWith(`${root}/`));
+    return version && version.resolve(from, text);
+  }
+
+  resolve(from, text) {
+    if (this.texts.has(text)) return text;
+    return this.inside(from, text) || this.externals.fileOf(text);
+  }
+
+  program() {
+    const texts = new Map([...this.texts, ...this.externals.texts()]);
+    for (const [name, parts] of this.added) texts.set(name, [texts.get(name), ...parts].join('\n'));
+    return programOf(texts, (from, text) => this.resolve(from, text));
+  }
+
+  add(file, text) {
+    if (!this.added.has(file)) this.added.set(file, []);
+    if (!this.added.get(file).includes(text)) this.added.get(file).push(text);
+  }
+
+  /** Puts a new declaration beside the old one. */
+  take({ key, old, now }) {
+    const [before, after] = [this.versions[0].module(old.specifier), this.versions[1].module(now.specifier)];
+    const pair = new Pair(key, null, null);
+    this.pairs.push(pair);
+    const names = [before && before.local(old.name), after && after.local(now.name)];
+    const nodes = [before, after].map((it, at) => (it && it.declared.get(names[at])) || []);
+    if (!nodes.every((it) => it.length)) {
+      pair.breaks.push('it is another declaration');
+      return;
+    }
+    Object.assign(pair, { file: before.file.fileName, name: names[0], nodes });
+    const strict = after.declared.get(names[1] + STRICT) || [];
+    // In a declaration with other type parameters its own name has these too.
+    const isOther = writtenParameters(nodes[0]) !== writtenParameters(nodes[1]);
+    const own = (text) => (isOther ? text.replace(new RegExp(`(?<![.$\\w])${names[1].replace(/\$/g, '\\$&')}(?![$\\w])`, 'g'), () => names[0] + NEW) : text);
+    const texts = [...nodes[1].map((it) => own(renamed(it, names[0] + NEW))), ...strict.map((it) => own(renamed(it, names[0] + STRICT + NEW)))];
+    const foreign = this.bind(pair, before, after, [...nodes[1], ...strict]);
+    if (foreign) pair.breaks.push(`${foreign} is another declaration`);
+    for (const text of texts) this.add(pair.file, text);
+  }
+
+  /** Imports what a new declaration mentions and the old module lacks. Answers a name that means something else in both. */
+  bind(pair, before, after, nodes) {
+    const roots = new Set(nodes.flatMap((it) => mentionedIn(it)));
+    const has = (module, name) => module.declared.has(name) || module.imported.has(name);
+    for (const name of roots) {
+      if (has(before, name) && has(after, name)) {
+        if (this.meaning(before, name) !== this.meaning(after, name)) return name;
+      } else if (!has(before, name) && has(after, name)) this.add(pair.file, this.importOf(after, name));
+    }
+    return null;
+  }
+
+  /** What a name stands for, as far as both versions are told apart by it: another package's name, or something of this package. */
+  meaning(module, name) {
+    const [, source, names] = module.imported.get(name) || [];
+    if (source === undefined || this.inside(module.file.fileName, source)) return 'own';
+    return `${this.externals.fileOf(source)} ${names.join('.')}`;
+  }
+
+  /** The import by which another module has a name of a module. */
+  importOf(module, name) {
+    const isMain = module.default && module.default.name && module.default.name.text === name;
+    const [, source, names] = module.imported.get(name) || [null, null, [isMain ? 'default' : name]];
+    const from = JSON.stringify(source === null ? module.file.fileName : this.inside(module.file.fileName, source) || source);
+    return names.length ? `import { ${names[0]} as ${name} } from ${from};` : `import * as ${name} from ${from};`;
+  }
+
+  /** Finds out which names the libraries of the compiler declare, and looks the declarations of both versions up. */
+  load() {
+    const [any] = [...this.texts.keys()].filter((it) => !it.endsWith('.json'));
+    const bare = programOf(new Map([[any, '']]), () => undefined);
+    const scope = bare.getTypeChecker().getSymbolsInScope(bare.getSourceFile(any), F.Type | F.Value | F.Namespace);
+    const known = new Set(scope.map((it) => it.name));
+    this.externals.declareGlobals((name) => known.has(name));
+    const program = this.program();
+    this.checker = program.getTypeChecker();
+    for (const pair of this.pairs.filter(({ name }) => name)) {
+      const { declared } = new Declarations(program.getSourceFile(pair.file));
+      const symbols = [pair.name, pair.name + NEW].map((name) => this.checker.getSymbolAtLocation(declared.get(name)[0].name));
+      this.compare(pair, ...symbols, []);
+    }
+  }
+
+  behind(symbol) {
+    return symbol.flags & F.Alias ? this.checker.getAliasedSymbol(symbol) : symbol;
+  }
+
+  /** Asks of two symbols, which stand below the declarations of a pair by some names. */
+  compare(pair, old, now, below) {
+    const shown = [pair.name, ...below].join('.');
+    for (const [word, flag] of [['value', F.Value], ['type', F.Type], ['namespace', F.Namespace]]) {
+      if (old.flags & flag && !(now.flags & flag)) pair.breaks.push(`${shown} is no ${word} any more`);
+      else if (!(old.flags & flag) && now.flags & flag) pair.isAddition = true;
+    }
+    const has = (flag) => Boolean(old.flags & now.flags & flag);
+    if (has(F.Enum)) this.compareEnums(pair, old, now, shown);
+    else {
+      if (has(F.Function | F.Class | F.Variable)) this.compareValues(pair, old, now, below, shown);
+      if (has(F.Type)) this.compareTypes(pair, old, now, below, shown);
+      if (has(F.Namespace)) this.compareNamespaces(pair, old, now, below, shown);
+    }
+  }
+
+  /** Asks whether a type alias is right in the module of a pair. */
+  ask(pair, text, list = '') {
+    const number = this.asked.length;
+    this.add(pair.file, `import { IsSame, IsTrue, IsUsableAs } from ${JSON.stringify(HELPERS)};`);
+    this.asked.push({ file: pair.file, text: `type It${number}$${list} = ${text};` });
+    return number;
+  }
+
+  compareEnums(pair, old, now, shown) {
+    const [before, after] = [old, now].map((it) => new Map(it.declarations.flatMap(({ members = [] }) => [...members]).map((each) => [each.name.getText(), each.initializer && each.initializer.getText()])));
+    for (const [name, value] of before) {
+      if (!after.has(name)) pair.breaks.push(`${shown}.${name} is gone`);
+      else if (old.flags & F.ConstEnum && after.get(name) !== value) pair.breaks.push(`${shown}.${name} has another value, which users have in their code`);
+    }
+    const [added] = [...after.keys()].filter((name) => !before.has(name));
+    if (added !== undefined) pair.breaks.push(`${shown}.${added} is a value that users do not know`);
+  }
+
+  /** How a probe writes the declarations of both versions. */
+  access(pair, below) {
+    const path = below.map((name) => (isPlain(name) ? `.${name}` : `[${JSON.stringify(name)}]`)).join('');
+    return [pair.name + path, pair.name + NEW + path];
+  }
+
+  compareValues(pair, old, now, below, shown) {
+    const widened = [old, now].map((it) => widenedType(it.declarations));
+    if (widened.every(Boolean)) {
+      if (widened[0] !== widened[1]) pair.breaks.push(`${shown} is of type ${widened[1]}, and was of type ${widened[0]}`);
+      return;
+    }
+    const [before, after] = this.access(pair, below).map((it) => `typeof ${it}`);
+    pair.needed.push(this.ask(pair, `IsUsableAs<${after}, ${before}>`));
+    pair.sameness.push(this.ask(pair, `IsTrue<IsSame<${before}, ${after}>>`));
+    const narrower = this.narrowing().of(...[old, now].map((it) => this.checker.getTypeOfSymbolAtLocation(it, it.declarations[0])), shown);
+    if (narrower) pair.breaks.push(narrower);
+  }
+
+  compareTypes(pair, old, now, below, shown) {
+    const isClass = Boolean(old.flags & now.flags & F.Class);
+    const parameters = typeParametersOf(old);
+    const list = parameters.map((it) => it.getText().replace(/=[^>].*$/s, '').trim()).join(', ');
+    const given = parameters.length ? `<${parameters.map((it) => it.name.text).join(', ')}>` : '';
+    const ask = (text) => this.ask(pair, text, list && `<${list}>`);
+    const [before, after] = this.access(pair, below).map((it) => it + given);
+    pair.needed.push(ask(`IsUsableAs<${after}, ${before}>`));
+    if (!isClass) pair.needed.push(ask(`IsUsableAs<${before}, ${after}>`));
+    pair.sameness.push(ask(`IsTrue<IsSame<${before}, ${after}>>`));
+    if (!below.length && this.hasStrict(pair)) pair.needed.push(ask(`IsUsableAs<${pair.name}${STRICT}${NEW}${given}, ${pair.name}${STRICT}${given}>`));
+    const texts = [old, now].map((it) => typeParametersOf(it).map((each) => each.getText()).join());
+    if (texts[0] !== texts[1]) pair.isAddition = true;
+    const narrower = this.narrowing().of(this.checker.getDeclaredTypeOfSymbol(old), this.checker.getDeclaredTypeOfSymbol(now), shown) || (isClass && abstraction(old, now));
+    if (narrower) pair.breaks.push(narrower);
+  }
+
+  /** Whether both declarations of a pair have methods of their own, or could have. */
+  hasStrict({ nodes }) {
+    const isOne = (it) => [K.ClassDeclaration, K.InterfaceDeclaration].includes(it.kind) || (it.kind === K.TypeAliasDeclaration && it.type.kind === K.TypeLiteral);
+    return nodes.every((all) => all.some(isOne));
+  }
+
+  compareNamespaces(pair, old, now, below, shown) {
+    const [before, after] = [old, now].map((it) => new Map(this.checker.getExportsOfModule(it).map((each) => [each.name, this.behind(each)])));
+    const isOurs = (name) => name !== 'prototype' && !name.endsWith(STRICT);
+    for (const [name, symbol] of before) {
+      if (!isOurs(name)) continue;
+      if (!after.has(name)) pair.breaks.push(`${shown}.${name} is gone`);
+      else if ((symbol.declarations || []).length) this.compare(pair, symbol, after.get(name), [...below, name]);
+    }
+    if ([...after.keys()].some((name) => isOurs(name) && !before.has(name))) pair.isAddition = true;
+  }
+
+  narrowing() {
+    return new Narrowing(this.checker, (node) => this.texts.has(node.getSourceFile().fileName));
+  }
+
+  /** What the compiler has against each question; null where it has nothing. */
+  answers() {
+    for (const { file, text } of this.asked) this.added.get(file).push(text);
+    const program = this.program();
+    const errors = new Map([...new Set(this.asked.map(({ file }) => file))].map((name) => [name, program.getSemanticDiagnostics(program.getSourceFile(name))]));
+    return this.asked.map(({ file, text }) => {
+      const start = program.getSourceFile(file).text.indexOf(`\n${text}`) + 1;
+      const found = errors.get(file).find((it) => it.start >= start && it.start < start + text.length);
+      return found ? reasonText(found.messageText) : null;
+    });
+  }
 }
 
 /**
- * The part of a version number that each of some public names raises, with the reason where users cannot go on: `{advice, reason}` by their keys. A name is
- * `{key, old, now}`, where it is exported in both versions: `{specifier, name}`.
+ * The part of a version number that each of some declarations raises, with the reason where users cannot go on: `{advice, reason}` by their keys. A declaration is
+ * `{key, old, now}`, where it stands in both versions: `{specifier, name}`.
  */
-function compatibility(before, after, names) {
-  if (!names.length) return new Map();
+function compatibility(before, after, declarations) {
+  if (!declarations.length) return new Map();
   const comparison = new Comparison(before, after);
-  const all = names.map((it) => new PublicName(comparison, it));
-  for (const it of all) it.ask();
-  const { probes, all: texts } = comparison;
-  const lengths = new Map([...texts].map(([name, text]) => [name, text.length + 1]));
-  const asked = new Map([...texts, ...[...probes.texts].map(([name, text]) => [name, texts.has(name) ? `${texts.get(name)}\n${text}` : text])]);
-  const answers = probes.answers(comparison.programOf(asked), lengths);
-  return new Map(all.map((it) => [it.key, it.advice(answers)]));
+  for (const it of declarations) comparison.take(it);
+  comparison.load();
+  const answers = comparison.answers();
+  return new Map(comparison.pairs.map((it) => [it.key, it.advice(answers)]));
 }
 
 module.exports = { compatibility };

@@ -31,13 +31,16 @@ class Converter {
     this.sources = [];
     this.lastScope = UNRESOLVED;
     this.blocks = new Map();
+    this.scopes = new Map();
     this.scope = this.newScope(null);
     bindBody(this.scope, sourceFile.statements);
   }
 
   newScope(parent) {
     this.lastScope += 1;
-    return new Scope(this.lastScope, parent);
+    const scope = new Scope(this.lastScope, parent);
+    this.scopes.set(this.lastScope, scope);
+    return scope;
   }
 
   /** Calls back within a fresh scope. */
@@ -71,6 +74,33 @@ class Converter {
   /** Where the text goes on behind an offset, past blanks and comments. */
   after(offset) {
     return ts.skipTrivia(this.text, offset);
+  }
+
+  /** What stands for a value that is cut away. It names no type. */
+  noType(node) {
+    return { This: { span: this.span(node) } };
+  }
+
+  /** A value that no skeleton keeps, and that names no type. */
+  hidden(node) {
+    return { Call: { span: this.span(node), callee: { Expr: this.noType(node) } } };
+  }
+
+  /** A value of which a skeleton may be made, or a hidden one, where the value has a name whose type no skeleton says. */
+  told(value, node) {
+    const isUnsaid = ({ sym, ctxt }, isAsserted) => {
+      const scope = ctxt > TOP && this.scopes.get(ctxt);
+      return Boolean(scope) && scope.unsaid.has(sym) && !(isAsserted && scope.unsaid.get(sym));
+    };
+    const has = (it, isAsserted) => {
+      if (it === null || typeof it !== 'object') return false;
+      const name = it.Ident || it.Shorthand;
+      if (name && name.sym !== undefined && isUnsaid(name, isAsserted)) return true;
+      const asserted = it.TsAs || it.TsTypeAssertion || it.TsNonNull;
+      if (asserted && has(asserted.expr, true)) return true;
+      return Object.values(asserted ? { ...asserted, expr: null } : it).some((each) => has(each, isAsserted));
+    };
+    return this.short && has(value, false) ? this.hidden(node) : value;
   }
 
   /** An error at a node: the tree has no such form, or the text is none of TypeScript's. */

@@ -1,14 +1,20 @@
 'use strict';
 // Declaration files of skeletons: the same declarations without bodies and values. No type is inferred: a value that stays has one where its form says the type.
 
-const { blockOf, scopesOf } = require('./value_scopes');
-const { CONSTANT, WIDE, Untold, ValueTypes, annotated, literalOf } = require('./value_types');
+const { blockOf, isMade, scopesOf } = require('./value_scopes');
+const { CONSTANT, WIDE, Untold, ValueTypes, annotated, literalOf, madeLiteral } = require('./value_types');
+const { placedIn, shadowedMessages } = require('./skeleton_messages');
 const { enumValues } = require('./enum_values');
 const { saysExports } = require('./ambient');
+const { keyName } = require('./symbol_members');
 const { withPartial } = require('./preview');
+const { writable } = require('./reserved');
 const { byName, printedModule, shown } = require('./skeletons');
+const { isFrom } = require('./typescript');
 const { mentioned } = require('./ways');
 
+// Whether the compiler at hand declares a member under a key that may be any text.
+const INDEXED = isFrom(5, 7);
 const RELATIVE = /^\.{1,2}\//;
 const NONE = [0, 0];
 const EMPTY_LIST = { ModuleDecl: { ExportNamed: { span: NONE, specifiers: [] } } };
@@ -33,8 +39,9 @@ function withSources(node) {
 
 /** The name of a member or a function, with what tells it from others of that name. */
 function keyOf({ key, is_static, kind }) {
-  const [variant, node] = only(key);
-  return `${variant} ${node.sym || node.value || JSON.stringify(node)} ${Boolean(is_static)} ${kind}`;
+  const name = keyName(key);
+  const written = name === null ? JSON.stringify(key, (part, it) => (part === 'span' ? undefined : it)) : JSON.stringify(name);
+  return `${written} ${Boolean(is_static)} ${kind}`;
 }
 
 /** A list without the implementations that stand behind overloads. `asked(it)` is a function's name with its node, or null of anything else. */
@@ -69,7 +76,7 @@ class Declarations {
     this.types = new ValueTypes(scope);
   }
 
-  /** The declarations in a namespace, where `declare` is not written again. */
+  /** The declarations in a namespace of these items, in all of its blocks, where `declare` is not written again. */
   inside(items) {
     return new Declarations(this.scope.inside(items), { isInside: true, untold: this.untold });
   }
@@ -86,7 +93,7 @@ class Declarations {
   }
 
   items(list) {
-    return withoutImplementations(list, functionOf).flatMap((it) => this.item(it)).filter(Boolean);
+    return withoutImplementations(writable(list), functionOf).flatMap((it) => this.item(it)).filter(Boolean);
   }
 
   item(item) {
@@ -145,10 +152,18 @@ class Declarations {
 
   /** What holds a value, with the written type or that of the value; a constant keeps a literal, as the compiler's own declarations do. */
   held(value, type_ann, holder, typed, field) {
+    const literal = holder === CONSTANT && this.literal(value, type_ann);
+    if (literal) return { ...typed(null), [field]: { Lit: literal } };
     if (type_ann) return { ...typed(type_ann), [field]: null };
     if (!value) return { ...typed({ span: NONE, type_ann: { TsKeywordType: { span: NONE, kind: 'TsAnyKeyword' } } }), [field]: null };
     if (holder === CONSTANT && this.isConstant(value)) return { ...typed(null), [field]: value };
     return { ...typed(annotated(this.types.of(value, holder))), [field]: null };
+  }
+
+  /** The literal of a constant without a written type, which the compiler keeps; null of another one. */
+  literal(value, type_ann) {
+    if (type_ann) return isMade(type_ann) ? type_ann.type_ann.TsLitType.lit : null;
+    return value && (value.Ident || value.Member) ? madeLiteral(this.scope.find(value)) : null;
   }
 
   isConstant(value) {
@@ -178,9 +193,10 @@ class Declarations {
   }
 
   TsModule(node) {
-    if (node.declare || this.isWritten) return node;
+    if (node.declare || this.isWritten) return { ...node, declare: node.declare && !this.isInside };
     const { body: items = [] } = blockOf(node);
-    const inner = this.inside(items).items(items);
+    const all = node.id.Ident && !node.body.TsNamespaceDecl ? this.scope.blocks(node.id.Ident.sym) : items;
+    const inner = this.inside(all).items(items);
     const isPlain = inner.some((it) => it.Stmt);
     const body = isPlain && !saysExports(inner) ? [...inner, EMPTY_LIST] : inner;
     const rebuilt = ({ TsNamespaceDecl: nested, TsModuleBlock: block }) => {
@@ -192,15 +208,29 @@ class Declarations {
   // ---- classes
 
   classOf(node) {
-    return { ...node, decorators: [], body: withoutImplementations(node.body || [], methodOf).map((it) => this.member(it)).filter(Boolean) };
+    return { ...node, decorators: [], body: withoutImplementations(node.body || [], (it) => (this.isIndexed(it) ? null : methodOf(it))).map((it) => this.member(it)).filter(Boolean) };
+  }
+
+  isIndexed(choice) {
+    const { key } = only(choice)[1];
+    return Boolean(key && this.scope.isAnyKey(key));
   }
 
   member(choice) {
     const [variant, node] = only(choice);
-    if (node.key && this.scope.isAnyKey(node.key)) return null;
+    if (this.isIndexed(choice)) return INDEXED ? this.attempt(() => this.indexed(variant, node)) : null;
     const plain = node.accessibility === 'Public' ? { ...node, accessibility: null } : node;
     const made = this.attempt(() => (this[`member${variant}`] ? this[`member${variant}`](plain) : plain));
     return made && { [variant]: made };
+  }
+
+  /** A member under a key that may be any text, as a property: the compiler takes it for an index signature. */
+  indexed(variant, node) {
+    if (variant === 'ClassProp') return { ClassProp: { ...this.memberClassProp(node), accessibility: null } };
+    const { key, is_static, is_optional, kind, span, function: { params, return_type, type_params } } = node;
+    const typed = kind === 'Setter' ? only(params[0].pat)[1].type_ann : return_type;
+    const type_ann = kind === 'Method' ? annotated(this.types.functionType({ params, type_params }, typed)) : typed;
+    return { ClassProp: { span, key, is_static, is_optional, type_ann } };
   }
 
   memberPrivateProp(node) {
@@ -259,8 +289,9 @@ function declarationFiles(world, shownName) {
     const isWritten = /\.d\.[cm]?ts$/.test(specifier);
     const declarations = new Declarations(scopes(specifier), { isWritten });
     const body = withSources(withoutUnused(declarations.items(skeleton.program.body)));
-    messages.push(...untoldMessages(declarations.untold, file, shownName(file.path)));
-    if (declarations.untold.length) continue;
+    const wrong = [...untoldMessages(declarations.untold, file, shownName(file.path)), ...shadowedMessages(body, placedIn(file, shownName(file.path)))];
+    messages.push(...wrong);
+    if (wrong.length) continue;
     const text = printedModule(file.name, { ...skeleton, program: { ...skeleton.program, body } }, true);
     made.push({ specifier, name: declarationName(file.name), text: mark + text });
   }

@@ -38,17 +38,52 @@ const GONE = { advice: 'major', reason: 'the name is gone' };
 const NEW = { advice: 'minor', reason: 'the name is new' };
 const WORDS = { minor: 'what used it can use it as before', patch: 'the compiler sees no other type' };
 
+/** A place in a closure, `specifier\nname`, as `{specifier, name}`; null of what lies in another package. */
+function placeOf(key) {
+  const [specifier, name] = key.split('\n');
+  return specifier ? { specifier, name } : null;
+}
+
+/** The declarations that a changed name leads to and that differ: those at one place, and those of one name at different places. The name's own comes first. */
+function declarationPairs(old, now) {
+  const own = [old.target, now.target].map((it) => it.join('\n'));
+  const differing = (names, others) => [...names.closure.keys()].filter((key) => !others.closure.has(key) && key !== names.target.join('\n'));
+  const both = [...old.closure.keys()].filter((key) => now.closure.has(key) && now.closure.get(key) !== old.closure.get(key) && key !== own[0]).map((key) => [key, key]);
+  const gone = new Map(differing(old, now).map((key) => [key.split('\n')[1], key]));
+  const moved = differing(now, old).filter((key) => gone.has(key.split('\n')[1])).map((key) => [gone.get(key.split('\n')[1]), key]);
+  const isSame = ([one, other]) => old.closure.get(one) === now.closure.get(other);
+  return [own, ...both, ...moved].filter((it) => !isSame(it));
+}
+
+/** What a re-export of a whole module asks for, whose text lists its names. */
+function ofNames(before, after) {
+  const [old, now] = [before, after].map((text) => new Set(text.split(' ').filter(Boolean)));
+  const [gone] = [...old].filter((name) => !now.has(name));
+  return gone === undefined ? { advice: 'minor', reason: null } : { advice: 'major', reason: `${gone} is gone` };
+}
+
 /** The changes, each with the part of the version number that it raises and the reason. */
 async function advised(before, after, changes, context) {
   const { compared } = require('./thread.js');
-  const changed = changes.filter(({ change }) => change === 'changed');
-  const asked = changed.map(({ name }) => ({ key: name, old: before.names.get(name).at, now: after.names.get(name).at }));
-  if (asked.length) context.progress.begin("TypeScript's compiler compares what is declared otherwise");
-  const found = asked.length ? await compared(before.world, after.world, asked, context) : new Map();
+  const pairsOf = ({ name }) => declarationPairs(before.names.get(name), after.names.get(name));
+  const changed = new Map(changes.filter(({ change }) => change === 'changed').map((it) => [it, pairsOf(it)]));
+  const isDeclared = (pair) => pair.every((key) => key.split('\n')[0] && key.split('\n')[1]);
+  const asked = new Map([...changed.values()].flat().filter(isDeclared).map((pair) => [pair.join('\n'), { key: pair.join('\n'), old: placeOf(pair[0]), now: placeOf(pair[1]) }]));
+  if (asked.size) context.progress.begin("TypeScript's compiler compares what is declared otherwise");
+  const found = asked.size ? await compared(before.world, after.world, [...asked.values()], context) : new Map();
   context.progress.end();
-  const of = ({ name, change }) => ({ removed: GONE, added: NEW }[change] || found.get(name));
+  const ofPair = (name, pair) => {
+    if (isDeclared(pair)) return found.get(pair.join('\n'));
+    const areModules = pair.every((key) => key.split('\n')[0] && key.endsWith('\n'));
+    return areModules ? ofNames(before.names.get(name).closure.get(pair[0]), after.names.get(name).closure.get(pair[1])) : { advice: 'major', reason: 'it is another declaration' };
+  };
+  const adviceFor = (it) => {
+    const all = changed.get(it).map((pair) => ofPair(it.name, pair));
+    const advice = highest(all.map((each) => each.advice));
+    return all.find((each) => each.advice === advice) || { advice: 'patch', reason: null };
+  };
   return changes.map((it) => {
-    const { advice, reason } = of(it);
+    const { advice, reason } = { removed: GONE, added: NEW }[it.change] || adviceFor(it);
     return { ...it, advice, reason: reason || WORDS[advice] };
   });
 }

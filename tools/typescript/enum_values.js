@@ -9,6 +9,8 @@ const OPERATIONS = {
 };
 const SIGNS = { '+': (a) => +a, '-': (a) => -a, '~': (a) => ~a };
 
+const NUMBERS = { NaN, Infinity };
+
 const nameOf = ({ id }) => (id.Str ? id.Str.value : id.Ident.sym);
 
 /** The values of one enum's members: those before the one at hand are known. `scope` finds other enums; those of `sought` are at work already. */
@@ -34,11 +36,24 @@ class EnumValues {
   value(expr) {
     if (expr.Paren) return this.value(expr.Paren.expr);
     if (expr.Lit) return this.literal(expr.Lit);
-    if (expr.Tpl) return expr.Tpl.exprs.length ? undefined : expr.Tpl.quasis[0].cooked;
+    if (expr.Tpl) return this.template(expr.Tpl);
     if (expr.Unary) return this.signed(expr.Unary);
     if (expr.Bin) return this.operation(expr.Bin);
-    if (expr.Ident) return this.known.get(expr.Ident.sym);
+    if (expr.Ident) return this.named(expr.Ident.sym);
     return expr.Member ? this.other(expr.Member) : undefined;
+  }
+
+  template({ quasis, exprs }) {
+    if (exprs.length && !isFrom(5, 0)) return undefined;
+    const parts = exprs.map((it) => this.value(it));
+    return parts.includes(undefined) ? undefined : quasis.map((it, place) => it.cooked + (place < parts.length ? parts[place] : '')).join('');
+  }
+
+  /** A member of the enum, or of another declaration of it; else a number that has a name. */
+  named(name) {
+    if (this.known.has(name)) return this.known.get(name);
+    const value = this.memberOf(this.scope.find({ Ident: this.node.id }), name);
+    return value === undefined ? NUMBERS[name] : value;
   }
 
   literal({ Num, Str }) {
@@ -63,7 +78,10 @@ class EnumValues {
   other({ obj, prop }) {
     const name = prop.Ident ? prop.Ident.sym : prop.Computed && prop.Computed.expr.Lit && prop.Computed.expr.Lit.Str && prop.Computed.expr.Lit.Str.value;
     if (!name || !(obj.Ident || obj.Member)) return undefined;
-    const { nodes, scope } = this.scope.find(obj);
+    return this.memberOf(this.scope.find(obj), name);
+  }
+
+  memberOf({ nodes, scope }, name) {
     const found = (nodes || []).find((it) => it.members && it.members.some((each) => nameOf(each) === name));
     if (found === this.node) return this.known.get(name);
     if (!found || this.sought.has(found)) return undefined;

@@ -73,8 +73,16 @@ function accessor(c, node) {
 
 // ---- members and calls
 
+/** Whether a statement assigns to a member: cut short, one under a text is one behind a dot, since no other one is converted. */
+function isAssigned(node) {
+  const { parent } = node;
+  return parent.kind === K.BinaryExpression && parent.left === node && parent.parent.kind === K.ExpressionStatement;
+}
+
 function memberProp(c, node) {
   if (node.kind === K.ElementAccessExpression) {
+    const { argumentExpression: key } = node;
+    if (c.short && isAssigned(node) && ts.isStringLiteralLike(key)) return { Ident: { span: c.span(key), sym: key.text } };
     const open = c.text.lastIndexOf('[', node.argumentExpression.pos);
     return { Computed: { span: c.range(open, node.end), expr: expression(c, node.argumentExpression) } };
   }
@@ -197,7 +205,7 @@ function arrow(c, node) {
 
 /** The value of an arrow. Behind a written type nothing of it is seen. */
 function arrowValue(c, node) {
-  return c.short && node.type ? { Lit: { Null: { span: c.span(node.body) } } } : expression(c, node.body);
+  return c.short && node.type ? { Lit: { Null: { span: c.span(node.body) } } } : c.told(expression(c, node.body), node.body);
 }
 
 function functionExpression(c, node) {

@@ -5,8 +5,9 @@ const { ts } = require('./typescript.js');
 
 const { SyntaxKind: K } = ts;
 
-/** The name of a package's module without the registry and the version that a text names: `zod/v4` of `npm:zod@4.1/v4`. */
+/** The name of a package's module without the registry and the version that a text names: `zod/v4` of `npm:zod@4.1/v4`, `fs` of `node:fs`. */
 function moduleName(text) {
+  if (text.startsWith('node:')) return text.slice('node:'.length);
   const found = /^(?:npm|jsr):\/?((?:@[^/]+\/)?[^@/]+)(?:@[^/]*)?(.*)$/s.exec(text);
   return found ? found[1] + found[2] : text;
 }
@@ -150,4 +151,9 @@ class Externals {
   }
 }
 
-module.exports = { Externals, moduleName };
+/** The first names of all chains in a node that stand for types, values or namespaces. */
+function mentionedIn(node) {
+  return chainsOf(node).filter(({ source }) => source === undefined).map(({ names }) => names[0]);
+}
+
+module.exports = { Externals, importsOf, mentionedIn };

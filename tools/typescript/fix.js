@@ -18,6 +18,14 @@ const NO_TYPE = new Set([7005, 7006, 7008, 7010, 7011, 7016, 7018, 7019, 7022, 7
 // Of them, what it says of a circle.
 const CIRCLE = new Set([7022, 7023, 7024]);
 
+/** Where the types of elements come from, by the nearest deno.json of a folder or its workspace. */
+function ofDeno(dir, top) {
+  const folders = [dir, top].flatMap((it) => ['deno.json', 'deno.jsonc'].map((name) => path.join(it, name)));
+  const file = folders.find((it) => ts.sys.fileExists(it));
+  const { compilerOptions: found = {} } = (file && ts.readConfigFile(file, ts.sys.readFile).config) || {};
+  return typeof found.jsxImportSource === 'string' ? { jsxImportSource: found.jsxImportSource } : {};
+}
+
 /** The options of the nearest tsconfig.json above a folder, inside of its workspace, as far as types depend on them. */
 function optionsOf(dir, workspace) {
   const file = ts.findConfigFile(dir, ts.sys.fileExists);
@@ -30,7 +38,7 @@ function optionsOf(dir, workspace) {
   const written = Object.fromEntries(Object.entries(options).filter(([, value]) => value !== undefined));
   const defaults = { strict: true, target: ts.ScriptTarget.ESNext, module: ts.ModuleKind.ESNext, moduleResolution: ts.ModuleResolutionKind.NodeJs };
   const own = { noEmit: true, declaration: true, composite: false, incremental: false, skipLibCheck: true, noImplicitAny: true, allowJs: false };
-  return { allowImportingTsExtensions: true, ...defaults, jsx: ts.JsxEmit.Preserve, resolveJsonModule: true, ...written, ...own };
+  return { allowImportingTsExtensions: true, ...defaults, jsx: ts.JsxEmit.ReactJSX, ...ofDeno(dir, top), resolveJsonModule: true, ...written, ...own };
 }
 
 /** The compiler over the modules of a folder, with texts in place of those of the files, and the packages that are found. */
@@ -156,8 +164,8 @@ function fileEdits({ program, file, messages, naming, circles, rejected, notes }
       const found = editsFor(writer, message.code, message.start, message.end);
       if (found.edits.length) made.push({ key, file, ...found });
     } catch (error) {
-      if (!(error instanceof NotFixed)) throw error;
-      notes.set(key, error.message);
+      // An error at one declaration keeps no other one from its type.
+      notes.set(key, error instanceof NotFixed ? error.message : `an error of this tool, please report it: ${String(error.message).split('\n')[0]}`);
     }
   }
   return made;

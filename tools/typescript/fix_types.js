@@ -276,7 +276,7 @@ class TypeWriter {
   }
 
   text(node, place, type) {
-    if (!node) throw new NotFixed('the compiler has no type for it');
+    if (!node) throw new NotFixed('the compiler has no way to write its type, as of `this` in an object');
     if (hasAny(node)) this.refuseGap(type, place);
     if (isLong(node)) throw new NotFixed(`its type has more than ${LONGEST} characters: give it a name`);
     const printer = ts.createPrinter({ removeComments: true });
@@ -323,7 +323,8 @@ class TypeWriter {
   returnText(node) {
     const signature = this.checker.getSignatureFromDeclaration(node);
     const type = this.known(this.checker.getReturnTypeOfSignature(signature), node);
-    return this.written(type, (flags) => this.checker.signatureToSignatureDeclaration(signature, K.FunctionDeclaration, node, flags).type, node);
+    // Of a type of this class the compiler has no declaration where it is a part of another one.
+    return this.written(type, (flags) => (this.checker.signatureToSignatureDeclaration(signature, K.FunctionDeclaration, node, flags) || {}).type, node);
   }
 }
 
@@ -361,11 +362,12 @@ function defaultEdits(writer, start) {
   const { file, checker } = writer;
   const node = file.statements.find((it) => it.kind === K.ExportAssignment && !it.isExportEquals && it.getStart(file) <= start && start < it.end);
   if (!node) return [];
-  if (writer.taken.has(DEFAULT)) throw new NotFixed(`the name ${DEFAULT} is taken`);
+  let name = DEFAULT;
+  for (let count = 1; writer.taken.has(name); count++) name = `${DEFAULT}_${count}`;
   const type = writer.typeText(checker.getWidenedType(checker.getTypeAtLocation(node.expression)), node, nameOf(node.expression, file));
-  const before = { start: node.getStart(file), end: node.expression.getStart(file), text: `const ${DEFAULT}: ${type} = ` };
+  const before = { start: node.getStart(file), end: node.expression.getStart(file), text: `const ${name}: ${type} = ` };
   const isClosed = file.text[node.end - 1] === ';';
-  return [before, insert(node.end, `${isClosed ? '' : ';'}${lineBreakOf(file.text)}export default ${DEFAULT};`)];
+  return [before, insert(node.end, `${isClosed ? '' : ';'}${lineBreakOf(file.text)}export default ${name};`)];
 }
 
 /** The variable whose pattern has a name at a place. */

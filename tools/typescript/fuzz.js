@@ -23,6 +23,7 @@ const { isAlike } = require('./judge_declarations.js');
 const { compared, declarationName, emitted, errorsIn, programOf, resolverOf, surfaceOf } = require('./judge_surface.js');
 const { Progress } = require('./progress.js');
 const { roundTrip } = require('./roundtrip.js');
+const { writable } = require('./reserved.js');
 const { printed } = require('./skeletons.js');
 const { parse, toTree } = require('./tree.js');
 const { ts } = require('./typescript.js');
@@ -108,12 +109,17 @@ const PLACES = new Set(['span', 'dot3_token', 'ctxt']);
 
 const SYMBOL = JSON.stringify({ type_name: { Ident: { sym: 'symbol' } } });
 
+const ANY = { TsKeywordType: { kind: 'TsAnyKeyword' } };
+const NEVER = JSON.stringify({ TsKeywordType: { kind: 'TsNeverKeyword' } });
+
 /** A part of a tree without places, without members that have their defaults, and without how a text is written, in one order. */
 function plain(value) {
   if (value === null || typeof value !== 'object') return value;
   if (Array.isArray(value)) return value.map(plain);
   // The program writes `unique symbol` with a name in place of the word.
   if (value.TsTypeRef && JSON.stringify(plain(value.TsTypeRef)) === SYMBOL) return { TsKeywordType: { kind: 'TsSymbolKeyword' } };
+  // And `{} as never` where `{} as any` is printed.
+  if (value.TsAs && JSON.stringify(plain(value.TsAs.type_ann)) === NEVER) return plain({ TsAs: { ...value.TsAs, type_ann: ANY } });
   const made = {};
   for (const key of Object.keys(value).sort()) {
     const it = value[key];
@@ -127,7 +133,7 @@ function plain(value) {
 /** A module as text that is the same where the trees are, but for a list of exports without names, which only says that it is a module. */
 function shape(program) {
   const isNamed = ({ ModuleDecl: it }) => !it || !it.ExportNamed || it.ExportNamed.src || (it.ExportNamed.specifiers || []).length;
-  return JSON.stringify(plain((program.body || []).filter(isNamed)));
+  return JSON.stringify(plain(writable(program.body || []).filter(isNamed)));
 }
 
 /** What is wrong with the skeletons of a folder: each has to be read back as the tree that the program answered. */

@@ -18,6 +18,7 @@ const { fix } = require('./fix');
 const { inputOf } = require('./input');
 const { print } = require('./print');
 const { Progress } = require('./progress');
+const { restored } = require('./restored');
 const { packagesBelow } = require('./sweep');
 const { parse } = require('./tree');
 const { programOf, resolverOf, declarationName, emitted, surfaceOf, compared, errorsIn, takeLooseTypes } = require('./judge_surface');
@@ -56,7 +57,7 @@ function build(request, work) {
   fs.writeFileSync(file, JSON.stringify(request));
   const [program, ...words] = command(file);
   const ran = childProcess.spawnSync(program, words, { maxBuffer: 1 << 30 });
-  if (ran.status === 0 || ran.status === 1) return JSON.parse(ran.stdout.toString());
+  if (ran.status === 0 || ran.status === 1) return restored(JSON.parse(ran.stdout.toString()), request);
   throw new Error(ran.stderr.toString().trim().split('\n').pop());
 }
 
@@ -112,7 +113,7 @@ function skeletonTexts(asked) {
   for (const [specifier, answer] of asked.answers) {
     const file = paths.get(specifier);
     const isDeclaration = /\.d\.[cm]?ts$/.test(file);
-    texts.set(file, print({ Module: answer.Ok.program }, answer.Ok.comments, { isDeclaration }));
+    texts.set(file, print({ Module: answer.Ok.program }, answer.Ok.comments, { isDeclaration, name: file }));
   }
   return texts;
 }

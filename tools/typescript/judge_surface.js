@@ -277,9 +277,31 @@ class Surface {
     this.seen.add(node);
     const key = this.keyOf(node);
     if (!this.shown.has(key)) this.shown.set(key, new Set());
-    this.shown.get(key).add(normalise(declarationText(node)));
     this.nodes.set(key, [...(this.nodes.get(key) || []), node]);
+    const properties = this.propertiesOf(node);
+    if (properties) {
+      // By what each property is, however the variables behind them are named and the blocks parted.
+      for (const [name, type] of properties) {
+        this.shown.get(key).add(normalise(`var ${name}: ${type ? textOf(type) : 'any'}`));
+        if (type) this.references({ type, forEachChild: (visit) => visit(type) });
+      }
+      return;
+    }
+    this.shown.get(key).add(normalise(declarationText(node)));
     this.references(node);
+  }
+
+  /** The properties of a function that a block of a namespace declares, by their names; null of another declaration. */
+  propertiesOf(node) {
+    const isOfFunction = ts.isModuleDeclaration(node) && node.body && ts.isModuleBlock(node.body) && node.symbol && node.symbol.flags & ts.SymbolFlags.Function;
+    if (!isOfFunction) return null;
+    const { statements } = node.body;
+    if (!statements.every((it) => ts.isVariableStatement(it) || (ts.isExportDeclaration(it) && !it.moduleSpecifier && it.exportClause))) return null;
+    const lists = statements.filter(ts.isExportDeclaration).flatMap((it) => [...it.exportClause.elements]);
+    const isExported = (it) => !lists.length || (ts.getCombinedModifierFlags(it) & ts.ModifierFlags.Export) !== 0;
+    const variables = statements.filter(ts.isVariableStatement).flatMap((it) => [...it.declarationList.declarations]).filter(isExported);
+    const target = (it) => (this.checker.getExportSpecifierLocalTargetSymbol(it) || {}).valueDeclaration || {};
+    return [...variables.map((it) => [it.name.text, it.type]), ...lists.map((it) => [it.name.text, target(it).type])];
   }
 
   references(node) {
@@ -290,7 +312,8 @@ class Surface {
       else if (at.kind === K.ImportType) this.importType(at, visit);
       else ts.forEachChild(at, visit);
     };
-    ts.forEachChild(node, visit);
+    if (node.forEachChild) node.forEachChild(visit);
+    else ts.forEachChild(node, visit);
   }
 
   importType(node, visit) {

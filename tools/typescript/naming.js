@@ -72,11 +72,19 @@ class Naming {
     if (!this.packages.has(own)) {
       const modules = this.world.info.modules.filter((it) => this.packageAt(it.path) === own);
       const asked = modules.flatMap((it) => it.tree.sources || []).map((it) => it.text).filter((text) => !RELATIVE.test(text));
-      const texts = [...new Set([...asked, ...(own ? own.needed : [])])];
+      const known = [...new Set([...asked, ...(own ? own.needed : [])])];
+      // A package whose elements are written may be asked for their types.
+      const texts = [...known, ...known.map((it) => `${it}/jsx-runtime`).filter((it) => this.byRuntime(it, from))];
       const found = texts.map((text) => ({ text, file: this.moduleOf(text, from) })).filter(({ file }) => file);
       this.packages.set(own, { texts: new Set(texts), found });
     }
     return this.packages.get(own);
+  }
+
+  /** Whether the compiler takes the types of elements from a module. */
+  byRuntime(text, from) {
+    const source = this.program.getCompilerOptions().jsxImportSource || 'react';
+    return text === `${source}/jsx-runtime` && Boolean(this.moduleOf(text, from));
   }
 
   moduleOf(text, from) {

@@ -108,9 +108,15 @@ function missingReasons(before, after) {
   return [...new Set([before, after].flatMap(shown))].map((it) => it.split('\n')).map(([name, text]) => `${name} needs ${text}, which is not there`);
 }
 
+/** The entry points of JavaScript without types, of which no name is known in either version. */
+function javascriptReasons(before, after) {
+  const shown = (world) => world.messages.filter(({ code }) => code === 'unsupported-javascript-entrypoint').map(({ specifier }) => fileOf(world, specifier));
+  return [...new Set([before, after].flatMap(shown))].map((name) => `the entry point ${name} is JavaScript without types`);
+}
+
 /** Why two versions with the same skeletons may show other types to their users. */
 function hiddenDifferences(before, after) {
-  return [rangeReasons, additionReasons, referenceReasons, jsonReasons, missingReasons].flatMap((reasons) => reasons(before, after));
+  return [rangeReasons, additionReasons, referenceReasons, jsonReasons, missingReasons, javascriptReasons].flatMap((reasons) => reasons(before, after));
 }
 
 /** The packages whose types the skeletons of a folder mention. */

@@ -3,7 +3,7 @@
 
 const { ts } = require('./typescript');
 const { form } = require('./converter');
-const { VALUE, bindPattern } = require('./scopes');
+const { VALUE, bindPattern, eachName } = require('./scopes');
 const names = require('./names');
 
 const { SyntaxKind: K } = ts;
@@ -14,6 +14,7 @@ const expressions = () => require('./expressions');
 
 function bindParameter(scope, node) {
   bindPattern(scope, node.name);
+  if (node.initializer || node.name.kind !== K.Identifier) eachName(node.name, (it) => scope.unsaid.set(it.text, node.name.kind === K.Identifier));
 }
 
 function identPattern(c, node, optional, type) {
@@ -23,7 +24,7 @@ function identPattern(c, node, optional, type) {
 
 function withDefault(c, node, left) {
   if (!node.initializer) return left;
-  const right = expressions().expression(c, node.initializer);
+  const right = c.told(expressions().expression(c, node.initializer), node.initializer);
   return { Assign: { span: c.range(c.start(node.name), node.initializer.end), left, right } };
 }
 

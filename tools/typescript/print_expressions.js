@@ -215,7 +215,7 @@ function functionOf(w, ident, node) {
 
 function arrow(w, node) {
   if (node.is_async) w.write('async ');
-  t.typeParameters(w, node.type_params);
+  t.typeParameters(w, node.type_params, w.isAngleReserved);
   t.parameters(w, node.params);
   t.annotation(w, node.return_type);
   w.write(' => ');

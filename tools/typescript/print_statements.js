@@ -4,12 +4,13 @@
 const t = require('./print_types');
 const e = require('./print_expressions');
 const { needsList } = require('./ambient');
+const { writable } = require('./reserved');
 const { isFrom } = require('./typescript');
 
 const { at, variantOf } = t;
 const { expression } = e;
 // The word before the attributes of an import, as the compiler at hand reads it.
-const ATTRIBUTES = isFrom(5, 3) ? 'with' : 'assert';
+const attributesWord = () => (isFrom(5, 3) ? 'with' : 'assert');
 
 // ---- statements
 
@@ -82,8 +83,29 @@ function declarator(w, node) {
     }
     if (!node.init) return;
     w.write(' = ');
-    expression(w, node.init);
+    if (!w.asWritten && narrows(node)) w.write('{} as any');
+    else expression(w, node.init);
   });
+}
+
+// Types that are no union, whatever their parts are.
+const SINGLE = new Set(['TsArrayType', 'TsTupleType', 'TsFnOrConstructorType', 'TsTypeLit']);
+
+/** Whether a type may be a union by its form. */
+function mayBeUnion(choice) {
+  const [variant, node] = variantOf(choice);
+  if (variant === 'TsParenthesizedType') return mayBeUnion(node.type_ann);
+  if (variant === 'TsKeywordType') return node.kind === 'TsBooleanKeyword';
+  if (variant === 'TsLitType') return Boolean(node.lit.Tpl);
+  // The program writes names of classes alone.
+  if (variant === 'TsTypeRef' && !node.span[0]) return false;
+  return !SINGLE.has(variant) && !(variant === 'TsTypeOperator' && node.op !== 'KeyOf');
+}
+
+/** Whether a variable has the value `{} as never` of a skeleton, and a type of which a compiler would take that value for a part. */
+function narrows({ name, init: { TsAs: value } }) {
+  const isMade = value && value.expr.Object && value.type_ann.TsKeywordType && value.type_ann.TsKeywordType.kind === 'TsNeverKeyword' && !value.span[0];
+  return Boolean(isMade && name.Ident && name.Ident.type_ann && mayBeUnion(name.Ident.type_ann.type_ann));
 }
 
 function headVariables(w, choice) {
@@ -410,7 +432,8 @@ function namespaceBody(w, choice) {
     return;
   }
   const { body = [], span } = choice.TsModuleBlock;
-  const list = w.isAmbient && !w.asWritten && needsList(body, false) ? [...body, EMPTY_LIST] : body;
+  const all = w.asWritten ? body : writable(body);
+  const list = w.isAmbient && !w.asWritten && needsList(body, false) ? [...all, EMPTY_LIST] : all;
   w.write(' ');
   at(w, choice.TsModuleBlock, () => inBraces(w, list, span, item));
 }
@@ -464,7 +487,7 @@ function fromSource(w, node) {
     t.str(w, node.src);
   }
   if (node.with) {
-    w.write(` ${ATTRIBUTES} `);
+    w.write(` ${attributesWord()} `);
     expression(w, { Object: node.with });
   }
   w.write(';');

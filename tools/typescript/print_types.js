@@ -148,12 +148,13 @@ function typeParameter(w, node) {
   });
 }
 
-function typeParameters(w, node) {
+/** Type parameters. `isReserved` says that one alone needs a comma, without which it would be an element. */
+function typeParameters(w, node, isReserved = false) {
   if (!node) return;
   at(w, node, () => {
     w.write('<');
     separated(w, node.params, ', ', typeParameter);
-    w.write('>');
+    w.write(isReserved && node.params.length === 1 && !node.params[0].constraint ? ',>' : '>');
   });
 }
 

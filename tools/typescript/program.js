@@ -5,6 +5,7 @@ const fs = require('fs');
 const os = require('os');
 const path = require('path');
 const { requestText } = require('./request.js');
+const { restored } = require('./restored.js');
 
 // How the folder of the program's input is named, which is removed again.
 const FOLDER = 'fast-check-ts-';
@@ -74,7 +75,7 @@ async function build(request, { unproved, environment, tell }) {
     fs.writeFileSync(file, textOf(request));
     const words = command({ unproved, environment });
     const { status, out, said, signal } = await run([...words, file], tell);
-    if (status === 0 || status === 1) return JSON.parse(out);
+    if (status === 0 || status === 1) return restored(JSON.parse(out), request);
     const why = said || (signal ? `it was stopped by ${signal}` : `it ended with status ${status}`);
     throw new ProgramError(`the program did not answer: ${why.replace(/^error: /, '')}`, status <= 5 ? status : 5);
   } finally {

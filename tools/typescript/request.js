@@ -37,4 +37,4 @@ function requestText(request) {
   return objectText(request, (value, name) => (name === 'modules' ? `[${value.map(moduleText).join(',')}]` : JSON.stringify(value)));
 }
 
-module.exports = { JsonText, requestText, valueOf };
+module.exports = { JsonText, requestText, textOf, valueOf };

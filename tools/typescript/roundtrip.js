@@ -19,7 +19,7 @@ function roundTrip(name, text) {
   const first = toTree(parse(name, text));
   const [wrong] = [...first.errors, ...first.faults];
   if (wrong) return ['refused', wrong.message];
-  const printed = print(first.program, first.comments, { asWritten: true });
+  const printed = print(first.program, first.comments, { asWritten: true, name });
   const second = toTree(parse(name, printed));
   if (second.errors.length) {
     const { message, offset } = second.errors[0];

@@ -22,6 +22,9 @@ class Scope {
     this.parent = parent;
     this.names = new Map();
     this.joined = null;
+    // Names whose type no skeleton says: of parameters with a default, which may be left out there, and in patterns, of which a skeleton has no names. Whether
+    // an assertion says the type.
+    this.unsaid = new Map();
   }
 
   bind(name, meaning) {
@@ -102,22 +105,18 @@ function bindStatement(scope, statement) {
   }
 }
 
-function bindList(scope, list) {
-  for (const it of list.declarations) bindPattern(scope, it.name);
-}
-
-/** Binds each `var` of a statement, however deep in blocks, but not in functions, classes or namespaces. */
-function bindVars(scope, node) {
+/** Calls back for each list behind `var` of a statement, however deep in blocks, but not in functions, classes or namespaces. */
+function eachVarList(node, call) {
   switch (node.kind) {
     case K.VariableStatement:
-      if (isVar(node.declarationList)) bindList(scope, node.declarationList);
+      if (isVar(node.declarationList)) call(node.declarationList);
       return;
     case K.ForStatement:
     case K.ForInStatement:
     case K.ForOfStatement: {
       const list = node.initializer;
-      if (list && list.kind === K.VariableDeclarationList && isVar(list)) bindList(scope, list);
-      bindVars(scope, node.statement);
+      if (list && list.kind === K.VariableDeclarationList && isVar(list)) call(list);
+      eachVarList(node.statement, call);
       return;
     }
     case K.Block:
@@ -132,10 +131,17 @@ function bindVars(scope, node) {
     case K.LabeledStatement:
     case K.TryStatement:
     case K.CatchClause:
-      ts.forEachChild(node, (child) => bindVars(scope, child));
+      ts.forEachChild(node, (child) => eachVarList(child, call));
       return;
     default:
   }
+}
+
+/** Binds each `var` of a statement. */
+function bindVars(scope, node) {
+  eachVarList(node, (list) => {
+    for (const it of list.declarations) bindPattern(scope, it.name);
+  });
 }
 
 function bindStatements(scope, statements) {
@@ -150,4 +156,4 @@ function bindBody(scope, statements) {
   }
 }
 
-module.exports = { Scope, bindBody, bindPattern, bindStatements, eachName, isVar, VALUE, TYPE, NAMESPACE, ANY, UNRESOLVED, TOP };
+module.exports = { Scope, bindBody, bindPattern, bindStatements, eachName, eachVarList, isVar, VALUE, TYPE, NAMESPACE, ANY, UNRESOLVED, TOP };

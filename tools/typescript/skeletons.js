@@ -8,7 +8,7 @@ const { print } = require('./print.js');
 /** The text of a skeleton. An exception has the name of the module. */
 function printedModule(name, { program, comments }, isDeclaration) {
   try {
-    return print({ Module: program }, comments, { isDeclaration });
+    return print({ Module: program }, comments, { isDeclaration, name });
   } catch (error) {
     throw Object.assign(error, { module: name });
   }

@@ -3,7 +3,7 @@
 
 const { ts } = require('./typescript');
 const { form } = require('./converter');
-const { VALUE, bindPattern, bindBody, bindStatements, isVar } = require('./scopes');
+const { VALUE, bindPattern, bindBody, bindStatements, eachVarList, isVar } = require('./scopes');
 const names = require('./names');
 const patterns = require('./patterns');
 const types = require('./types');
@@ -21,11 +21,6 @@ function noValue(c, node) {
   return { Lit: { Null: { span: c.span(node) } } };
 }
 
-/** What stands for a returned value that is cut away. It names no type. */
-function noType(c, node) {
-  return { This: { span: c.span(node) } };
-}
-
 /** Whether a tree has a name of a scope. */
 function hasNameOf(scope, tree) {
   if (tree === null || typeof tree !== 'object') return false;
@@ -41,14 +36,31 @@ function namedBy(c, body, value) {
   });
 }
 
+const WORD_OF = new Map([
+  [K.StringLiteral, K.StringKeyword], [K.NoSubstitutionTemplateLiteral, K.StringKeyword], [K.TemplateExpression, K.StringKeyword],
+  [K.NumericLiteral, K.NumberKeyword], [K.BigIntLiteral, K.BigIntKeyword], [K.TrueKeyword, K.BooleanKeyword], [K.FalseKeyword, K.BooleanKeyword],
+]);
+
+/** Whether the type of a getter is that of its setter, and another one than the value says by which its body names a type. */
+function isOfSetter(c, node, naming) {
+  if (node.kind !== K.GetAccessor || !naming) return false;
+  const isStatic = (it) => types.hasModifier(it, K.StaticKeyword);
+  const keyOf = (it) => c.written(it.name);
+  const beside = node.parent.members || node.parent.properties;
+  const setter = beside.find((it) => it.kind === K.SetAccessor && keyOf(it) === keyOf(node) && isStatic(it) === isStatic(node));
+  const type = setter && setter.parameters.length === 1 && setter.parameters[0].type;
+  return Boolean(type) && type.kind !== WORD_OF.get(naming.kind) && !(naming.type && c.written(naming.type) === c.written(type));
+}
+
 /** What a body that is cut short keeps, where no return type is written: how it returns, and the value by which it names the type. */
 function shortBody(c, node) {
   const { body } = node;
   if (node.type || body.statements.length === 0 || !returnsCount(node)) return [];
   const returns = returnsOf(body);
   if (returns.length === 0) return [{ Empty: { span: c.span(body.statements[0]) } }];
-  const naming = c.namesReturns ? namingArgument(node) : undefined;
-  const argument = (value) => (value === naming && namedBy(c, body, naming)) || noType(c, value);
+  const found = c.namesReturns ? namingArgument(node) : undefined;
+  const naming = isOfSetter(c, node, found) ? undefined : found;
+  const argument = (value) => (value === naming && namedBy(c, body, naming)) || c.noType(value);
   return returns.map((it) => ({
     Return: form({ span: c.span(it), arg: it.expression && argument(it.expression) }),
   }));
@@ -242,7 +254,24 @@ function isExpando(node) {
   const { expression: value } = node;
   if (value.kind !== K.BinaryExpression || value.operatorToken.kind !== K.EqualsToken) return false;
   const { left } = value;
+  if (left.kind === K.ElementAccessExpression) return left.expression.kind === K.Identifier && isNameText(left.argumentExpression);
   return left.kind === K.PropertyAccessExpression && left.expression.kind === K.Identifier && left.name.kind === K.Identifier;
+}
+
+/** Whether a value is a text that may stand behind a dot. */
+function isNameText(node) {
+  return ts.isStringLiteralLike(node) && ts.isIdentifierText(node.text, ts.ScriptTarget.ESNext);
+}
+
+/** Each `var` in the blocks of a statement, which the body around it declares; what a loop gives has no value here. */
+function hoisted(c, node) {
+  const decls = [];
+  eachVarList(node, (list) => {
+    const isGiven = list.parent.kind === K.ForInStatement || list.parent.kind === K.ForOfStatement;
+    const made = list.declarations.map((it) => declarator(c, it));
+    decls.push(...made.map((it) => (isGiven ? { ...it, init: c.hidden(list) } : it)));
+  });
+  return decls.length ? { Decl: { Var: { span: c.span(node), kind: 'Var', decls } } } : { Empty: { span: c.span(node) } };
 }
 
 /** A statement. Cut short, one that declares and assigns nothing is an empty one. */
@@ -254,7 +283,7 @@ function statement(c, node) {
     c.unknown(node, 'a statement');
     return { Empty: { span: c.span(node) } };
   }
-  return c.short && !isExpando(node) ? { Empty: { span: c.span(node) } } : convert(c, node);
+  return c.short && !isExpando(node) ? hoisted(c, node) : convert(c, node);
 }
 
 module.exports = { functionBody, constructorBody, statement, declarator, isExpando, KINDS, VALUE };

@@ -2,12 +2,13 @@
 // The symbols of members: static ones are exports of their class, others members.
 
 const deps = require('./dependencies');
+const { withoutMark } = require('./restored');
 
 const BOTH = { value: true, type_: true };
 
 function keyName(key) {
   const inner = key.Public || key;
-  if (inner.Ident) return inner.Ident.sym;
+  if (inner.Ident) return withoutMark(inner.Ident.sym);
   if (inner.Str) return inner.Str.value;
   if (inner.Num) return inner.Num.raw;
   if (inner.BigInt) return inner.BigInt.raw;
@@ -116,4 +117,4 @@ function fillInterface(t, symbol, node) {
   }
 }
 
-module.exports = { fillClass, fillInterface };
+module.exports = { fillClass, fillInterface, keyName };

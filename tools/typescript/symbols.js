@@ -19,6 +19,7 @@ class Tables {
     this.unresolved = unresolved;
     this.symbols = [{ id: 0, exports: new Map(), members: [], decls: [] }];
     this.byIdent = new Map();
+    this.idents = new Map();
     this.reExportsOfAll = [];
     this.functions = new Set();
   }
@@ -30,16 +31,27 @@ class Tables {
     return symbol;
   }
 
+  bind(ident, symbol) {
+    const key = `${ident.ctxt} ${ident.sym}`;
+    this.byIdent.set(key, symbol);
+    this.idents.set(key, [ident.sym, ident.ctxt]);
+  }
+
   /** The symbol that an identifier binds, made at its first declaration. */
   symbolOf(ident, parent) {
-    const key = `${ident.ctxt} ${ident.sym}`;
-    let symbol = this.byIdent.get(key);
+    let symbol = this.byIdent.get(`${ident.ctxt} ${ident.sym}`);
     if (!symbol) {
       symbol = this.newSymbol(parent, ident.sym, qualify(parent, ident.sym));
       symbol.ident = [ident.sym, ident.ctxt];
-      this.byIdent.set(key, symbol);
+      this.bind(ident, symbol);
     }
     return symbol;
+  }
+
+  /** An identifier that a namespace exports: one of that name which another block of the namespace exports has the same symbol. */
+  join(ident, namespace) {
+    const before = namespace.exports.get(ident.sym);
+    if (before !== undefined) this.bind(ident, this.symbols[before]);
   }
 
   /** The symbol of what is exported as default without a name, as overloads of a function. */
@@ -101,6 +113,14 @@ function boundBy(choice) {
     default:
       return [];
   }
+}
+
+/** The identifiers that a declaration declares. */
+function declaredBy(choice) {
+  const [node] = Object.values(choice);
+  if (node.decls) return node.decls.flatMap((it) => boundBy(it.name));
+  const ident = node.ident || (node.id && (node.id.Ident || node.id));
+  return ident && ident.ctxt ? [ident] : [];
 }
 
 // ---- declarations; each answers the symbols that it declares
@@ -196,6 +216,7 @@ function namespaceBody(t, symbol, body, isAmbient) {
     return;
   }
   const node = body.TsNamespaceDecl;
+  t.join(node.id, symbol);
   const inner = t.symbolOf(node.id, symbol);
   t.define(inner, node.span, BOTH, { is_ts_namespace: true, has_export_keyword: true }, () => {});
   symbol.exports.set(node.id.sym, inner.id);
@@ -311,6 +332,7 @@ function items(t, list, parent, isAmbient) {
     const exported = it.ModuleDecl && it.ModuleDecl.ExportDecl;
     const decl = exported ? exported.decl : it.Stmt && it.Stmt.Decl;
     if (decl) {
+      if ((exported || isAllExported) && parent.id) for (const ident of declaredBy(decl)) t.join(ident, parent);
       const made = declaration(t, decl, parent, isAmbient, exported && exported.span);
       if (exported || isAllExported) for (const symbol of made) parent.exports.set(symbol.maybe_name, symbol.id);
     } else if (it.ModuleDecl) {
@@ -410,7 +432,7 @@ function ownTables(module, unresolved = 1) {
   return {
     module_symbol: 0,
     symbols,
-    swc_ids: [...t.byIdent.values()].map((it) => [it.ident, it.id]),
+    swc_ids: [...t.byIdent].map(([key, it]) => [t.idents.get(key), it.id]),
     re_export_all_nodes: t.reExportsOfAll,
     unbound: t.symbols.filter((it) => withoutTargets(t, it)).map((it) => it.maybe_name),
   };

@@ -14,9 +14,20 @@ function blockOf(node) {
   return body && body.TsModuleBlock;
 }
 
-/** Whether a static property of a class keeps a value. */
-function keepsValue(node, name) {
-  return node.class.body.some(({ ClassProp: it }) => it && it.is_static && it.value && it.key.Ident && it.key.Ident.sym === name);
+/** The items of all blocks of a namespace. */
+function itemsOfAll(nodes) {
+  return nodes.map((it) => it.id && blockOf(it)).filter(Boolean).flatMap((it) => it.body || []);
+}
+
+/** A static property of a class, or undefined. */
+function staticProperty(node, name) {
+  const found = (node.class.body || []).find(({ ClassProp: it }) => it && it.is_static && it.key.Ident && it.key.Ident.sym === name);
+  return found && found.ClassProp;
+}
+
+/** Whether a type is that of a literal, which the program wrote in place of the literal. */
+function isMade({ span, type_ann }) {
+  return Boolean(type_ann.TsLitType && !span[0]);
 }
 
 /** The names of one module, of the namespaces around a place, and of the parameters there. */
@@ -25,6 +36,11 @@ class Scope {
     this.modules = modules;
     this.specifier = specifier;
     this.bodies = bodies;
+  }
+
+  /** The items of all blocks of a namespace that the module, or the namespace around this place, declares. */
+  blocks(name) {
+    return itemsOfAll(this.name(name).nodes || []);
   }
 
   /** The scope in a namespace. */
@@ -84,7 +100,7 @@ class Scope {
     const isDeclaration = node.id || node.class || node.function || node.ident !== undefined;
     if (!node.name) return { form: isDeclaration ? 'other' : 'value', value: node, scope: this, nodes: declared.map((it) => it.node) };
     const { type_ann } = node.name.Ident;
-    if (type_ann) return { form: 'typed', type: type_ann.type_ann, isSaid: Boolean(node.isParameter && !node.name.Ident.id.optional) };
+    if (type_ann) return { form: 'typed', type: type_ann.type_ann, isMade: isMade(type_ann), isSaid: Boolean(node.isParameter && !node.name.Ident.id.optional) };
     return node.init ? { form: 'value', value: node.init, scope: this } : { form: node.isParameter ? 'unknown' : 'other' };
   }
 
@@ -93,11 +109,14 @@ class Scope {
     if (base.form === 'module') return this.target(this.modules.target(base.specifier, name));
     for (const node of base.nodes || []) {
       if (node.members) return { form: 'member', name, nodes: base.nodes, scope: base.scope };
-      if (node.class && keepsValue(node, name)) return UNKNOWN;
-      const block = node.id && blockOf(node);
-      const declared = block && new Names(block).declared.get(name);
-      if (declared) return base.scope.inside(block.body).classify(declared);
+      const property = node.class && staticProperty(node, name);
+      if (property && property.value) return UNKNOWN;
+      if (property && property.type_ann && isMade(property.type_ann)) return { form: 'typed', type: property.type_ann.type_ann, isMade: true };
     }
+    // What any block of a namespace declares, beside what the others do.
+    const items = itemsOfAll(base.nodes || []);
+    const declared = new Names({ body: items }).declared.get(name);
+    if (declared) return base.scope.inside(items).classify(declared);
     return OTHER;
   }
 }
@@ -108,4 +127,4 @@ function scopesOf(world) {
   return (specifier) => new Scope(modules, specifier);
 }
 
-module.exports = { blockOf, scopesOf };
+module.exports = { blockOf, isMade, scopesOf };

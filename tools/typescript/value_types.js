@@ -13,9 +13,12 @@ class Untold extends Error {
   }
 }
 
-// What holds a value: a constant itself, which keeps a literal; whatever may be written again, as a variable or a member; or something behind `as const`.
-const [CONSTANT, WIDE, FROZEN] = ['constant', 'wide', 'frozen'];
+// What holds a value: a constant itself, which keeps a literal; whatever may be written again, as a variable or a member; something behind `as const`; a property of
+// a frozen object, which keeps the literals of a condition too; or what a function returns, which keeps several of them.
+const [CONSTANT, WIDE, FROZEN, KEPT, RETURNED] = ['constant', 'wide', 'frozen', 'kept', 'returned'];
 const NONE = [0, 0];
+// What the holders that ask of conditions alone are to other values.
+const OTHERWISE = { [KEPT]: CONSTANT, [RETURNED]: WIDE };
 
 // ---- types
 
@@ -31,10 +34,20 @@ const annotated = (type_ann) => ({ span: NONE, type_ann });
 function textOf(type) {
   const w = new Writer(null);
   print.type(w, type);
-  return w.text();
+  return w.text().trimEnd();
 }
 
 const isPrimitive = (type) => Boolean(type.TsKeywordType || type.TsLitType);
+
+/** The members of a union, or the type alone. */
+const membersOf = (type) => (type.TsUnionOrIntersectionType && type.TsUnionOrIntersectionType.TsUnionType ? type.TsUnionOrIntersectionType.TsUnionType.types : [type]);
+
+/** Types without the literals that another of them takes in, each once. */
+function reduced(types) {
+  const byText = new Map(types.flatMap(membersOf).map((it) => [textOf(it), it]));
+  if (byText.has('true') && byText.has('false')) byText.set('boolean', keyword('Boolean'));
+  return [...byText.values()].filter(({ TsLitType: it }) => !(it && LITERALS[print.variantOf(it.lit)[0]] && byText.has(LITERALS[print.variantOf(it.lit)[0]].toLowerCase())));
+}
 
 /** The types of the elements of an array type or a tuple; null of another type. */
 function elementTypes(type) {
@@ -45,14 +58,13 @@ function elementTypes(type) {
 
 /** The union of types of which none may take in another: of one type that type, of primitive ones each once. */
 function joined(types, span, why) {
-  const byText = new Map(types.map((it) => [textOf(it), it]));
-  const made = [...byText.values()];
+  const made = reduced(types);
   if (made.length === 1) return made[0];
   if (!made.length || !made.every(isPrimitive)) throw new Untold(span, why);
   return unionOf(made);
 }
 
-const LITERALS = { Str: 'String', Num: 'Number', Bool: 'Boolean', BigInt: 'BigInt' };
+const LITERALS = { Str: 'String', Num: 'Number', Number: 'Number', Bool: 'Boolean', BigInt: 'BigInt' };
 
 function literal(lit, holder) {
   const [variant] = print.variantOf(lit);
@@ -81,6 +93,13 @@ function literalOf(value) {
   const { Unary: unary } = value;
   const isNumber = unary && unary.op === '-' && unary.arg.Lit && (unary.arg.Lit.Num || unary.arg.Lit.BigInt);
   return isNumber ? { lit: unary.arg.Lit, isNegative: true } : null;
+}
+
+/** The literal in whose place the program wrote its type, of what a name stands for; null of another value. */
+function madeLiteral(found) {
+  if (found.form === 'typed') return found.isMade ? found.type.TsLitType.lit : null;
+  const isName = found.form === 'value' && !found.nodes && (found.value.Ident || found.value.Member);
+  return isName ? madeLiteral(found.scope.find(found.value)) : null;
 }
 
 /** A type of a literal behind a minus. */
@@ -122,7 +141,7 @@ function operation({ op, left, right }) {
 
 /**
  * Types of values in one scope. `scope.find(name)` says what a value that is a name stands for: `{form, ..}`, with the forms `typed` (with its `type`, which `isSaid`
- * says may stand in its place), `value` (a constant without a written type: its `value` and its own `scope`), `member` of an enum, `other` (a class, a function, a
+ * says may stand in its place, and of which `isMade` says that it is that of a literal, which the program wrote), `value` (a constant without a written type: its `value` and its own `scope`), `member` of an enum, `other` (a class, a function, a
  * namespace, a variable that is global), or `unknown`, as what another package declares.
  */
 class ValueTypes {
@@ -133,8 +152,9 @@ class ValueTypes {
   /** The type of a value that something holds. */
   of(value, holder) {
     const [variant, node] = print.variantOf(value);
-    if (this[variant]) return this[variant](node, holder, value);
-    throw new Untold(node.span, 'the form of the value does not say its type');
+    const inner = value.Cond || value.Paren ? holder : OTHERWISE[holder] || holder;
+    if (this[variant]) return this[variant](node, inner, value);
+    throw new Untold(print.spanOf(value), 'the form of the value does not say its type');
   }
 
   Lit(node, holder) {
@@ -174,7 +194,7 @@ class ValueTypes {
       if (holder === FROZEN) throw new Untold(node.span, 'a constant template with parts has the type of its parts');
       return keyword('String');
     }
-    return literalType({ Tpl: { ...node, types: [] } });
+    return literalType({ Str: { span: NONE, value: node.quasis[0].cooked, raw: null } });
   }
 
   Bin(node) {
@@ -183,9 +203,19 @@ class ValueTypes {
     return keyword(found);
   }
 
-  Cond({ cons, alt, span }, holder) {
-    const types = [cons, alt].map((it) => this.of(it, holder === FROZEN ? FROZEN : WIDE));
-    return joined(types, span, 'the branches of the condition have several types');
+  Cond({ span }, holder, value) {
+    const told = (inner) => joined(this.branches(value, inner), span, 'the branches of the condition have several types');
+    if (holder === FROZEN || holder === WIDE) return told(holder);
+    if (holder === KEPT) return told(CONSTANT);
+    // Of one literal a constant keeps it, and what a function returns is wider; of several ones it is the other way round.
+    const isOne = reduced(this.branches(value, CONSTANT)).length === 1;
+    return told(isOne === (holder === CONSTANT) ? CONSTANT : WIDE);
+  }
+
+  /** The types of the branches of a condition, and of those within. */
+  branches(value, holder) {
+    if (value.Paren) return this.branches(value.Paren.expr, holder);
+    return value.Cond ? [value.Cond.cons, value.Cond.alt].flatMap((it) => this.branches(it, holder)) : [this.of(value, holder)];
   }
 
   New({ callee }) {
@@ -213,12 +243,13 @@ class ValueTypes {
   /** The type of what a name stands for. A literal and a member of an enum that may be written again have a wider type than their own. */
   named(value, holder) {
     const name = entityOf(value);
-    const span = print.variantOf(value)[1].span;
+    const span = print.spanOf(value);
     if (!name) throw new Untold(span, 'the type of a member of a value that has no name');
     const found = this.scope.find(value);
     if (found.isSaid) return found.type;
     if (found.form === 'member' && holder !== WIDE) return reference(name);
     if (holder !== WIDE || found.form === 'other') return query(name);
+    if (found.isMade) return literal(madeLiteral(found), WIDE);
     if (found.form === 'typed') return isUnique(found.type) ? keyword('Symbol') : query(name);
     if (found.form === 'value') return new ValueTypes(found.scope).again(found.value, name, span);
     if (found.form === 'member' && value.Member && value.Member.obj.Ident) return reference({ Ident: value.Member.obj.Ident });
@@ -231,6 +262,8 @@ class ValueTypes {
     if (found) return literal(found.lit, WIDE);
     if (!value.Ident && !value.Member) return query(name);
     const behind = this.scope.find(value);
+    const made = madeLiteral(behind);
+    if (made) return literal(made, WIDE);
     if (behind.form === 'other' || (behind.form === 'typed' && !isUnique(behind.type))) return query(name);
     throw new Untold(span, 'the name stands for a constant that has no written type');
   }
@@ -245,7 +278,7 @@ class ValueTypes {
     if (node.return_type) return this.functionType(node, node.return_type);
     if (node.is_async || !node.body.Expr) throw new Untold(node.span, 'the function has no written return type');
     const inner = new ValueTypes(this.scope.within(node.params));
-    return this.functionType(node, annotated(inner.of(node.body.Expr, WIDE)));
+    return this.functionType(node, annotated(inner.of(node.body.Expr, RETURNED)));
   }
 
   functionType({ params, type_params }, type_ann) {
@@ -284,12 +317,13 @@ class ValueTypes {
 
   /** The types of the elements that an array takes over from another one, where these are no names, which may stand for something else here. */
   elementsOf(value, holder) {
+    if (holder !== FROZEN && operand(value) === 'String') return [keyword('String')];
     const found = entityOf(value) ? this.scope.find(value) : { form: 'value', value, scope: this.scope };
     const written = found.form === 'typed' ? found.type : null;
     const type = found.form === 'value' && !found.nodes ? new ValueTypes(found.scope).of(found.value, CONSTANT) : written;
     const elements = type && elementTypes(type);
     if (holder === FROZEN || !elements || !elements.every(isPrimitive)) {
-      throw new Untold(print.variantOf(value)[1].span, 'the array has elements of another one, whose types its form does not say');
+      throw new Untold(print.spanOf(value), 'the array has elements of another one, whose types its form does not say');
     }
     return elements;
   }
@@ -327,9 +361,9 @@ class ValueTypes {
   Call({ args: [{ expr }], span }) {
     if (expr.Array) return readonlyOf(this.of(expr, WIDE));
     if (!expr.Object) throw new Untold(span, 'the type of a frozen value is told of an array and an object alone');
-    const params = [this.Object(expr.Object, WIDE, expr, CONSTANT)];
+    const params = [this.Object(expr.Object, WIDE, expr, KEPT)];
     return { TsTypeRef: { span: NONE, type_name: { Ident: { span: NONE, sym: 'Readonly' } }, type_params: { span: NONE, params } } };
   }
 }
 
-module.exports = { CONSTANT, WIDE, Untold, ValueTypes, annotated, entityOf, literalOf };
+module.exports = { CONSTANT, WIDE, Untold, ValueTypes, annotated, entityOf, literalOf, madeLiteral, textOf };

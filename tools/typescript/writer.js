@@ -14,6 +14,11 @@ function moved(text, indent) {
   return lines.map((it, place) => (place === 0 ? it : `${indent} ${it.trim()}`)).join('\n');
 }
 
+/** Whether a comment has the compiler expect an error in the next line. */
+function expectsError({ kind, text }) {
+  return kind === 'Line' ? /^\/?\s*@ts-expect-error/.test(text) : /^\s*[/*]*\s*@ts-expect-error/.test(text.split(/\r\n?|\n/).pop());
+}
+
 class Writer {
   constructor(comments) {
     this.pieces = [];
@@ -23,6 +28,7 @@ class Writer {
     this.held = 0;
     this.isAmbient = false;
     this.asWritten = false;
+    this.isAngleReserved = false;
     this.leadingAt = byPosition(comments && comments.leading);
     this.trailingAt = byPosition(comments && comments.trailing);
   }
@@ -62,7 +68,10 @@ class Writer {
     this.indent = outer;
   }
 
-  comment(comment) {
+  /** Writes a comment. One that expects an error only allows it in a skeleton, since the error may lie in what the skeleton leaves out. */
+  comment(written) {
+    const isExpected = !this.asWritten && expectsError(written);
+    const comment = isExpected ? { ...written, text: written.text.replace('@ts-expect-error', '@ts-ignore') } : written;
     if (/@ts-(ignore|expect-error)/.test(comment.text)) this.held = 2;
     if (comment.kind === 'Line') this.write(`//${comment.text}`);
     else this.write(`/*${moved(comment.text, this.indent)}*/`);

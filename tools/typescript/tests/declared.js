@@ -8,9 +8,15 @@ const { judged } = require('../judge_declarations.js');
 const { emitted, programOf, resolverOf } = require('../judge_surface.js');
 const { Progress } = require('../progress.js');
 const { printed } = require('../skeletons.js');
+const { isFrom } = require('../typescript.js');
 
 // Packages in which a value has no type by its form, with a source that leads nowhere, and of which an older compiler reads other forms.
-const PASSED_OVER = /^(dts-untold|missing-import|newer-.*|quoted-names|apart-.*|instead-.*)$/;
+const PASSED_OVER = isFrom(5, 9)
+  ? /^(dts-untold|missing-import|newer-.*|quoted-names|apart-.*|instead-.*)$/
+  : /^(dts-untold|dts-newer|missing-import|newer-.*|quoted-names|apart-.*|instead-.*)$/;
+
+// Packages whose declaration files are compared with what the compiler declares for the sources, since literals are wider there than in the skeletons.
+const AS_SOURCES = /^(dts-.*|widened-literals)$/;
 
 /** The package of a folder: its world, its skeletons and its declaration files by their paths, and its entry points. Null where it has no skeletons. */
 async function packageOf(dir) {
@@ -21,7 +27,8 @@ async function packageOf(dir) {
   if (messages.length) throw new Error(`${dir}: ${messages[0].message}`);
   const paths = new Map([...world.files.values()].map((it) => [it.specifier, it.path]));
   const data = world.info.jsonModules.map((it) => [it.path, it.text]);
-  const skeletons = new Map([...printed(world).map((it) => [paths.get(it.specifier), it.text]), ...data]);
+  const isOfSource = AS_SOURCES.test(path.basename(dir));
+  const skeletons = new Map([...printed(world).map((it) => [paths.get(it.specifier), isOfSource ? world.files.get(it.specifier).text : it.text]), ...data]);
   const made = new Map([...files.map((it) => [declarationName(paths.get(it.specifier)), it.text]), ...data]);
   const entries = world.info.entryPoints.filter((it) => world.skeletons.has(it)).map((it) => paths.get(it));
   return { dir, world, skeletons, made, entries };

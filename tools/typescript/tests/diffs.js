@@ -7,7 +7,9 @@ const path = require('path');
 const FUNCTION = 'export function area(width: number): number { return width; }\n';
 const SHAPE = 'export interface Shape { width: number }\n';
 const CLASS = 'export class Box { width: number = 1; area(): number { return this.width; } }\n';
+const USERS_OF_BOX = 'export interface Holder { box: Box; take(box: Box): void }\nexport function open(box: Box): Box { return box; }\nexport type Boxes = Box[];\n';
 const ZOD = 'import * as z from "zod";\n';
+const KEYS = 'export const one: unique symbol = Symbol(), two: unique symbol = Symbol();\n';
 const load = 'declare function load(): any;\n';
 
 /** What is edited in one module: a title, the text before and after, and the advice. */
@@ -27,6 +29,8 @@ const EDITS = [
   ['a function as a constant', 'export function f(a: string): void {}', 'export const f: (a: string) => void = load();', 'patch', load],
   ['an overload that says the same', 'export function f(a: string): void {}', 'export function f(a: string): void;\nexport function f(a: any): void {}', 'patch'],
 
+  ['a member under a symbol', `${KEYS}export class A { [one]: number = 1; [Symbol.iterator](): any {} }`, `${KEYS}export class A { [Symbol.iterator](): any {} [one]: number = 1; }`, 'patch'],
+
   // What users have goes on.
   ['an optional parameter', FUNCTION, 'export function area(width: number, height?: number): number { return width; }\n', 'minor'],
   ['a parameter with a default', FUNCTION, 'export function area(width: number, height = 1): number { return width; }\n', 'minor'],
@@ -44,6 +48,7 @@ const EDITS = [
   ['a new name', FUNCTION, `${FUNCTION}export const more: number = 1;\n`, 'minor'],
   ['a type that is a value too', 'export interface A { a: 1 }', 'export class A { a: 1 = 1; }', 'minor'],
   ['a member of a namespace', 'export namespace N { export const a: number = 1; }', 'export namespace N { export const a: number = 1; export interface B { b: 1 } }', 'minor'],
+  ['a method of a class that others mention', `${CLASS}${USERS_OF_BOX}`, `${CLASS.replace('area()', 'more(): void {} area()')}${USERS_OF_BOX}`, 'minor'],
   ['a function behind a type of this module', `${SHAPE}export function f(it: Shape): void {}`, 'export interface Shape { width: number; name?: string }\nexport function f(it: Shape): void {}', 'minor'],
 
   // Users may have to change their code.
@@ -66,14 +71,18 @@ const EDITS = [
   ['a narrower constraint', 'export type Of<T extends string | number> = { it: T };', 'export type Of<T extends string> = { it: T };', 'major'],
   ['a needed type parameter', 'export interface Box<T> { it: T }', 'export interface Box<T, U> { it: T; more?: U }', 'major'],
   ['an abstract member', 'export abstract class A { abstract a(): void; }', 'export abstract class A { abstract a(): void; abstract b(): void; }', 'major'],
+  ['a member under another symbol', `${KEYS}export class A { [one]: number = 1; }`, `${KEYS}export class A { [two]: number = 1; }`, 'major'],
   ['a class that cannot be made', 'export class A { constructor() {} }', 'export class A { private constructor() {} }', 'major'],
   ['a value that is only a type', 'export class A { a: 1 = 1; }', 'export interface A { a: 1 }', 'major'],
   ['a protected member of another type', 'export class A { protected a: number = 1; }', 'export class A { protected a: string = ""; }', 'major'],
   ['a promise', 'export function f(): number { return 1; }', 'export async function f(): Promise<number> { return 1; }', 'major'],
   ['another type of another package', `${ZOD}export type S = z.ZodString;`, `${ZOD}export type S = z.ZodNumber;`, 'major'],
   ['an optional property beside a type of another package', `${ZOD}export interface A { a: z.ZodType<string> }`, `${ZOD}export interface A { a: z.ZodType<string>; b?: z.ZodString }`, 'minor'],
+  ['a module of Node by its other name', 'import { Stats } from "fs";\nexport type A = Stats;', 'import { Stats } from "node:fs";\nexport type A = Stats;', 'patch'],
   ['a type of Node', 'export function f(): Buffer { return null!; }', 'export function f(): string { return ""; }', 'major'],
   ['a member of a namespace that is gone', 'export namespace N { export const a: number = 1; export interface B { b: 1 } }', 'export namespace N { export const a: number = 1; }', 'major'],
+  ['a default class with a method more', `export default ${CLASS.slice('export '.length)}`, `export default ${CLASS.slice('export '.length).replace('area()', 'more(): void {} area()')}`, 'minor'],
+  ['a default class without a method', `export default ${CLASS.slice('export '.length).replace('area()', 'more(): void {} area()')}`, `export default ${CLASS.slice('export '.length)}`, 'major'],
   ['a default export of another type', 'const a: number = 1;\nexport default a;', 'const a: string = "";\nexport default a;', 'major'],
   ['a generic class', 'export class Box<T> { it: T; constructor(it: T) { this.it = it; } }', 'export class Box<T> { it: T[]; constructor(it: T) { this.it = [it]; } }', 'major'],
 ];
@@ -94,6 +103,7 @@ const OTHERS = [
   ['a module that is not there', { 'mod.ts': 'export * from "./lib";\n' }, { 'mod.ts': 'export * from "./lib";\n' }, 'unknown', 'mod.ts needs ./lib, which is not there'],
   ['a reference to types', { 'mod.ts': FUNCTION }, { 'mod.ts': `/// <reference types="node" />\n${FUNCTION}` }, 'unknown', 'refers to types "node" now'],
   ['public JSON', { 'mod.ts': 'export { default as it } from "./it.json";\n', 'it.json': '{"a": 1}' }, { 'mod.ts': 'export { default as it } from "./it.json";\n', 'it.json': '{"a": ""}' }, 'unknown', 'it.json differs'],
+  ['an entry point of JavaScript', { 'mod.js': '', 'package.json': '{ "exports": "./mod.js" }' }, { 'mod.ts': FUNCTION }, 'unknown', 'the entry point mod.js is JavaScript without types'],
   ['a major change beside what is not known', { 'mod.ts': S, 'package.json': zod('^3') }, { 'mod.ts': `${ZOD}export type S = z.ZodNumber;\n`, 'package.json': zod('^4') }, 'major', 'zod is taken as ^4'],
   ['a module that was moved', { 'mod.ts': 'export * from "./a.ts";\n', 'a.ts': SHAPE }, { 'mod.ts': 'export * from "./b.ts";\n', 'b.ts': SHAPE }, 'patch', ''],
   ['a type of another module', { 'mod.ts': 'export { f } from "./f.ts";\n', 'f.ts': 'import type { A } from "./a.ts";\nexport function f(it: A): void {}\n', 'a.ts': 'export interface A { a: 1 }\n' },

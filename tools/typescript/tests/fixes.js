@@ -29,6 +29,8 @@ const SOURCES = [
   ['a module by the JavaScript that it becomes', CALL.replace('.ts', '.js'), IMPORT.replace('.ts', '.js') + WRITTEN.replace('.ts', '.js')],
   ['a module without an ending', CALL.replace('.ts', ''), IMPORT.replace('.ts', '') + WRITTEN.replace('.ts', '')],
   ['a comment on the whole file', `// deno-lint-ignore-file\n${CALL}`, `// deno-lint-ignore-file\n${IMPORT}${WRITTEN}`],
+  ['a default value, where the name of it is taken', 'const _default: 1 = 1;\nexport const _default_1 = 2;\nexport default Math.max(1);\n',
+    'const _default: 1 = 1;\nexport const _default_1 = 2;\nconst _default_2: number = Math.max(1);\nexport default _default_2;\n'],
   ['a text whose last line has no end', `${PLAIN}export default Math.max(1)`, `${TYPED}const _default: number = Math.max(1);\nexport default _default;`],
   ['a circle', 'function b() { return a(); }\nexport function a() { return b(); }\nconst o = { k: b() };\nexport class C { c = [o.k]; }\n', null, 'not fixed: its type comes of b, which is in a circle'],
   ['a part of a circle', 'export function f() { return { a: 1, f }; }\n', null, 'not fixed: its type has itself in it'],

@@ -19,7 +19,7 @@ const LAUNCHER = path.resolve(__dirname, '../../../fast-check-ts');
 // Packages with forms that TypeScript 4.8 does not read. What it says instead is stored, and what a compiler says that reads them all, which
 // is compared by those alone (newest.sh fetches one).
 const NEWER = [
-  'using', 'quoted-names', 'newer-forms', 'newer-classes', 'newer-modules', 'apart-accessor', 'apart-enum-constant', 'apart-const-enum', 'instead-const-enum',
+  'using', 'quoted-names', 'newer-forms', 'newer-classes', 'newer-modules', 'apart-accessor', 'apart-enum-constant', 'apart-const-enum', 'instead-const-enum', 'dts-newer',
 ];
 const READS_ALL = isFrom(5, 9);
 const READS_NONE = !isFrom(4, 9);
@@ -46,7 +46,10 @@ async function run(words, { cwd = PACKAGES, environment = {}, isTTY = false } = 
   const io = { cwd, environment: { FAST_CHECK: process.env.FAST_CHECK || '', ...environment }, out: keeper(isTTY), err: keeper() };
   const status = await main(words, io);
   const untimed = (text) => text.replace(/, \d+\.\d\d s(?=\n|;)/g, ', 0.00 s');
-  return { status, out: untimed(io.out.text), err: untimed(io.err.text) };
+  // The paths of a patch begin at the repository.
+  const inside = `${path.relative(path.resolve(__dirname, '../../..'), cwd)}/`;
+  const out = words.includes('--dry') ? io.out.text.replaceAll(`a/${inside}`, 'a/').replaceAll(`b/${inside}`, 'b/') : io.out.text;
+  return { status, out: untimed(out), err: untimed(io.err.text) };
 }
 
 /** One test: passed where it throws nothing. */
@@ -82,6 +85,10 @@ const MORE = {
   'workspace-large': [['check', '--verify']],
   'javascript-entry': [['check', '--max-warnings', '0']],
   'single-returns': [['check', '--rules', 'deno']],
+  ...Object.fromEntries(['generic-arrows', 'var-in-block', 'self-import', 'expect-error', 'private-static'].map((name) => [name, [['check', '--verify']]])),
+  ...Object.fromEntries(['typeof-values', 'expando-keywords', 'namespace-blocks', 'widened-literals'].map((name) => [name, [['check', '--verify'], ['skeleton', '--dts']]])),
+  ...Object.fromEntries(['accessor-pairs', 'arrow-default', 'fixed-this'].map((name) => [name, [['fix', '--dry']]])),
+  'shadowed-global': [['skeleton', '--dts']],
   'several-messages': [['check', '--allow', 'missing-explicit-type'], ...['github', 'sarif', 'junit'].map((format) => ['check', '--format', format])],
 };
 
@@ -608,6 +615,47 @@ async function fixesAround() {
       holds((await diffOf(path.join(folder, 'packages/user'))).includes('const made: Made<number> ='), 'its members are found');
     }));
   }
+  await test('fix of elements without a configuration of the compiler', () => withFolder(async (folder) => {
+    const { write } = require('./odd.js');
+    const runtime = 'export namespace JSX { interface Element { kind: string } interface IntrinsicElements { div: {} } }\n';
+    write(folder, {
+      'package.json': '{ "name": "own", "version": "1.0.0", "exports": "./mod.tsx", "dependencies": { "react": "1" } }',
+      'deno.json': '{}',
+      'node_modules/react/package.json': '{ "types": "./index.d.ts" }',
+      'node_modules/react/index.d.ts': 'export declare const version: string;\n',
+      'node_modules/react/jsx-runtime.d.ts': runtime,
+      'mod.tsx': 'export function View() { return <div />; }\nexport const arrow = () => <div />;\n',
+    });
+    const { out } = await run(['fix', '--dry', '.'], { cwd: folder });
+    for (const each of ['+import type { JSX } from "react/jsx-runtime";\n', '+export function View(): JSX.Element {', '+export const arrow = (): JSX.Element =>']) holds(out.includes(each), out);
+    write(folder, {
+      'package.json': '{ "name": "own", "version": "1.0.0", "exports": "./mod.tsx", "dependencies": { "preact": "1" } }',
+      'deno.json': '{ "compilerOptions": { "jsx": "react-jsx", "jsxImportSource": "preact" } }',
+      'node_modules/preact/package.json': '{ "types": "./index.d.ts" }', 'node_modules/preact/index.d.ts': 'export {};\n', 'node_modules/preact/jsx-runtime.d.ts': runtime,
+    });
+    const preact = (await run(['fix', '--dry', '.'], { cwd: folder })).out;
+    holds(preact.includes('+import type { JSX } from "preact/jsx-runtime";\n'), preact);
+  }));
+  await test('git takes the diff of fix --dry', () => withFolder(async (folder) => {
+    const { write } = require('./odd.js');
+    write(folder, { 'one/deno.json': '{ "name": "@test/one", "version": "1.0.0", "exports": "./mod.ts" }', 'one/mod.ts': 'export const a = Math.max(1);\n', 'other/note.txt': '' });
+    const git = (cwd, words, input) => childProcess.spawnSync('git', words, { cwd, input, encoding: 'utf8' });
+    const [one, other] = ['one', 'other'].map((name) => path.join(folder, name));
+    const taken = async (cwd, word, at) => {
+      const { out, err } = await run(['fix', '--dry', word], { cwd });
+      holds(/1 type to write in 1 file, /.test(err), err);
+      const { status, stderr } = git(at, ['apply', '--check', '-'], out);
+      same(`${status}${stderr}`, '0', `what git says of\n${out}`);
+    };
+    await taken(folder, 'one', folder);
+    await taken(one, '.', one);
+    await taken(other, '../one', one);
+    git(folder, ['init', '-q']);
+    const { out } = await run(['fix', '--dry', '../one'], { cwd: other });
+    holds(out.startsWith('--- a/one/mod.ts\n'), out);
+    same(git(folder, ['apply', '-'], out).status, 0, 'the status of git apply');
+    holds(fs.readFileSync(path.join(one, 'mod.ts'), 'utf8').includes('a: number'), 'the type is written');
+  }));
   await test('fix with packages of NODE_PATH', () => withFolder(async (folder) => {
     const write = (file, text) => {
       fs.mkdirSync(path.dirname(path.join(folder, file)), { recursive: true });
@@ -656,7 +704,16 @@ async function trees() {
   for (const [name, body] of require('./trees.js').tests) await test(name, body);
 }
 
+/** The parts behind the packages, each of which may be run by itself. */
+const PARTS = { trees, edits, differences, revisions, commandLine, checks, oddFolders, faults, compilers, fixes, fixesAround, declarationFiles, fuzzed, programs, memory, others, pages, verified };
+
 async function all(words) {
+  if (words[0] === '--part') {
+    for (const name of words.slice(1)) await PARTS[name]();
+    console.log(`${passed} passed, ${failed.length} failed`);
+    process.exitCode = failed.length ? 1 : 0;
+    return;
+  }
   const isStoring = words[0] === '--store';
   const asked = isStoring ? words.slice(1) : words;
   const names = fs.readdirSync(PACKAGES).sort().filter((name) => !asked.length || asked.includes(name));
@@ -665,7 +722,7 @@ async function all(words) {
     return;
   }
   await storedPackages(names);
-  if (!asked.length) for (const part of [trees, () => everyDiagnostic(names), edits, differences, revisions, commandLine, checks, oddFolders, faults, compilers, fixes, fixesAround, declarationFiles, fuzzed, programs, memory, others, pages, verified]) await part();
+  if (!asked.length) for (const part of [() => everyDiagnostic(names), ...Object.values(PARTS)]) await part();
   const not = names.filter((name) => !isCompared(name));
   if (not.length) console.log(`not compared under TypeScript ${ts.version}: ${not.join(', ')}`);
   console.log(`${passed} passed, ${failed.length} failed`);
