@@ -122,7 +122,7 @@ function plain(value) {
   if (value.TsAs && JSON.stringify(plain(value.TsAs.type_ann)) === NEVER) return plain({ TsAs: { ...value.TsAs, type_ann: ANY } });
   const made = {};
   for (const key of Object.keys(value).sort()) {
-    const it = value[key];
+    const it = key === 'TsModuleBlock' ? { ...value[key], body: writable(value[key].body || []) } : value[key];
     const isDefault = it === null || it === false || (Array.isArray(it) && it.length === 0);
     const isLeftOut = PLACES.has(key) || isDefault || (key === 'raw' && value.value !== undefined);
     if (!isLeftOut) made[key] = key === 'spread' ? true : plain(it);
