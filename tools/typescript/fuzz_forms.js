@@ -44,7 +44,7 @@ class FormWriter {
 
   module(name, before) {
     const { r } = this;
-    Object.assign(this, { types: [], values: [], consts: [], hasHoisted: false, file: name, before });
+    Object.assign(this, { types: [], values: [], consts: [], hasHoisted: false, hasItself: false, file: name, before });
     const lines = ['declare function load(): any;', 'declare const flag: boolean;', 'declare const text: string;', 'const mark: unique symbol = Symbol();'];
     if (r.one(8)) lines.push(...this.shadow());
     const forms = [
@@ -198,6 +198,8 @@ class FormWriter {
   }
 
   hoistedOf() {
+    // The compiler's declarations of such a module have no declaration of the variable.
+    if (this.hasItself) return [];
     this.hasHoisted = true;
     this.hoisted.add(this.file);
     const name = this.name('h');
@@ -240,6 +242,7 @@ class FormWriter {
   itselfOf() {
     const [own, name] = [this.name('self'), this.name('s')];
     if (/\.[mc]ts$/.test(this.file) || this.hasHoisted) return [];
+    this.hasItself = true;
     const from = this.file.replace(/\.[cm]?tsx?$/, (it) => this.r.of([it, it.replace('ts', 'js').replace('jsx', 'js')]));
     return [`import * as ${own} from "./${from}";`, `export const ${name}: number = 1;`, `export const ${this.name('s')}: typeof ${own}.${name} = 1;`];
   }

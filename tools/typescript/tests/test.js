@@ -84,7 +84,7 @@ const MORE = {
   baseline: [['check', '--baseline', 'known.jsonl']],
   'workspace-large': [['check', '--verify']],
   'javascript-entry': [['check', '--max-warnings', '0']],
-  ...Object.fromEntries(['generic-arrows', 'var-in-block', 'self-import', 'expect-error', 'private-static'].map((name) => [name, [['check', '--verify']]])),
+  ...Object.fromEntries(['generic-arrows', 'var-in-block', 'self-import', 'expect-error', 'private-static', 'verified-members'].map((name) => [name, [['check', '--verify']]])),
   ...Object.fromEntries(['typeof-values', 'expando-keywords', 'namespace-blocks', 'widened-literals'].map((name) => [name, [['check', '--verify'], ['skeleton', '--dts']]])),
   ...Object.fromEntries(['accessor-pairs', 'arrow-default', 'fixed-this'].map((name) => [name, [['fix', '--dry']]])),
   'shadowed-global': [['skeleton', '--dts']],
