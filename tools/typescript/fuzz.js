@@ -88,7 +88,8 @@ function modulesOf(seed, sources) {
   return Array.from({ length: MODULES }, (_, place) => {
     if (!sources.length || r.one(2)) {
       const isDeclaration = r.one(5);
-      return [`m${place}${isDeclaration ? '.d' : ''}.ts`, new ModuleWriter(seed * MODULES + place, isDeclaration).module()];
+      const ending = r.one(3) ? r.of(isDeclaration ? ['.d.mts', '.d.cts'] : ['.tsx', '.mts', '.cts']) : isDeclaration ? '.d.ts' : '.ts';
+      return [`m${place}${ending}`, new ModuleWriter(seed * MODULES + place, isDeclaration).module()];
     }
     const file = r.of(sources);
     const ending = /(\.d)?\.[cm]?tsx?$/.exec(file)[0];

@@ -105,14 +105,16 @@ function typeText(node) {
   return name && text.includes(name) ? text.slice(text.indexOf(name) + name.length).replace(/^\??:\s*/, '') : text;
 }
 
-/** The members of a declaration by their names, each with what it is declared as; null of a declaration without members. */
+/** The members of a declaration by their names, each with its words and what it is declared as; null of a declaration without members. */
 function membersOf(node) {
   if (!node.members) return null;
   const found = new Map();
   for (const it of node.members) {
     const words = (it.modifiers || []).filter((each) => SHOWN.has(each.kind)).map((each) => `${each.getText()} `).join('');
-    const name = `${words}${it.name ? it.name.getText() : ts.isConstructorDeclaration(it) ? 'constructor' : ''}${it.questionToken ? '?' : ''}`;
-    found.set(name, [...(found.get(name) || []), typeText(it)]);
+    const name = it.name ? it.name.getText() : ts.isConstructorDeclaration(it) ? 'constructor' : '';
+    const key = words.includes('static ') ? `static ${name}` : name;
+    const before = found.get(key) || { words: '', texts: [] };
+    found.set(key, { words: `${words}${name}${it.questionToken ? '?' : ''}`, texts: [...before.texts, typeText(it)] });
   }
   return found;
 }
@@ -122,9 +124,13 @@ function details([one, ...more], [other, ...others]) {
   if (!one || !other || more.length || others.length || one.kind !== other.kind) return [];
   const [before, after] = [membersOf(one), membersOf(other)];
   if (!before) return ts.isVariableDeclaration(one) || ts.isTypeAliasDeclaration(one) ? [['', typeText(one), typeText(other)]] : [];
-  const text = (members, name) => (members.get(name) || []).join('; ');
-  const names = [...new Set([...before.keys(), ...after.keys()])];
-  return names.filter((name) => text(before, name) !== text(after, name)).map((name) => [name, text(before, name), text(after, name)]);
+  const whole = (it) => (it ? [it.words, it.texts.join('; ')].filter(Boolean).join(': ') : '');
+  const names = [...new Set([...before.keys(), ...after.keys()])].filter((name) => whole(before.get(name)) !== whole(after.get(name)));
+  return names.map((name) => {
+    const both = [before.get(name), after.get(name)];
+    const isOfWords = !both[0] || !both[1] || both[0].words !== both[1].words;
+    return [name, ...both.map((it) => (isOfWords ? whole(it) : it.texts.join('; ')))];
+  });
 }
 
 /** How a declaration differs, in words: the name of each member that does, with both whole types. */
