@@ -199,10 +199,12 @@ async function analyse(dir, options, context) {
 }
 
 /** The preview of the packages that have no skeletons, since they have messages; null where there are none, or nothing can be shown. */
-async function previewFor({ request, answers, skeletons, messages }, ask) {
+async function previewFor(world, ask) {
+  const { request, answers, skeletons, messages } = world;
   if (!messages.some((it) => it.level !== 'Warning')) return null;
   const found = await previewOf(request, answers, ask);
-  const wrong = new Set(messages.filter((it) => it.level !== 'Warning').map((it) => it.specifier));
+  const own = found ? skeletonMessages({ ...world, skeletons: found.skeletons }, (file) => file) : [];
+  const wrong = new Set([...messages, ...own].filter((it) => it.level !== 'Warning').map((it) => it.specifier));
   return found && { ...found, skeletons: new Map([...found.skeletons].filter(([specifier]) => !skeletons.has(specifier) && !wrong.has(specifier))) };
 }
 

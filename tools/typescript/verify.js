@@ -178,6 +178,14 @@ function scriptMessage(module, { world, cwd }) {
   };
 }
 
+/** Whether a name that the compiler declares for a skeleton alone is the same in the source: its declarations lack a `var` of a block, though they export it. */
+function isInSource(key, { modules, sources, skeletons }) {
+  const [stem, name] = [key.slice(0, key.lastIndexOf('#')), key.slice(key.lastIndexOf('#') + 1)];
+  const module = modules.find((each) => stemOf(each.path) === stem);
+  const [own, shown] = module ? [sources, skeletons].map(({ program }) => viewOf(program, module.path).get(name)) : [];
+  return own !== undefined && own === shown;
+}
+
 /** The names that a file declares with `typeof` in their types, or in what they are made of. */
 function queryingNames(file) {
   const asks = (node) => node.kind === ts.SyntaxKind.TypeQuery || Boolean(ts.forEachChild(node, asks));
@@ -212,7 +220,7 @@ function differenceMessages(view, wrong) {
   const stems = new Set([...without, ...scripts].map((module) => stemOf(module.path)));
   const silent = without.filter((module) => isDeclared(sources, module) && !wrong.has(`${shownName(module.path, view.cwd)} (skeleton)`));
   const undeclared = silent.map((module) => undeclaredMessage(module, view));
-  const differing = found.filter(({ key }) => !stems.has(key.slice(0, key.lastIndexOf('#'))));
+  const differing = found.filter((it) => !stems.has(it.key.slice(0, it.key.lastIndexOf('#'))) && !(it.isNew && isInSource(it.key, view)));
   const emptied = scripts.filter(hasItems).map((module) => scriptMessage(module, view));
   const told = new Set(differing.map(({ key }) => key));
   const asked = view.modules.filter((module) => !stems.has(stemOf(module.path))).flatMap((module) => queryMessages(module, view, surfaces, told));
