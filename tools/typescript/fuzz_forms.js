@@ -7,6 +7,12 @@ const { isFrom } = require('./typescript');
 const KINDS = ['.ts', '.ts', '.tsx', '.mts', '.cts'];
 const TYPES = ['number', 'string', 'boolean', 'number | null', 'string | undefined', '"a" | "b"', 'string[]', '{ a: number | null }', '() => boolean', '[number, string]', 'unknown', 'any'];
 const LITERALS = ['1', '"a"', 'true', '-1', '10n', '`t`', 'null', '/a/'];
+const VALUES = [
+  'flag ? 1 : 2', 'flag ? "a" : "a"', 'flag ? 1 : null', '[1, 2]', '[..."abc"]', '[1, ...[2]]', 'text + "a"', '+text', 'typeof text', '`a${text}`', '1 + 2',
+  'text as string', '[1] as const', '{ a: 1, "b-c": "x", 3: true }', '{ a: 1 } as const', '[1, "a"] as const', 'void 0', 'Object.freeze({ a: 1, b: flag ? 1 : 2 })',
+  '(1)', '() => flag ? 1 : 2', '() => 1', 'Object.freeze([1, 2])', 'Object.freeze({ a: Symbol.iterator, b: "x", c: [1], d: { e: 1 } })', '(a: number) => [a]',
+  'flag === true', 'undefined', 'Symbol.iterator', 'mark', '[mark] as const', '{ a: mark }',
+];
 const RESERVED = ['delete', 'default', 'in', 'new', 'class', 'static', 'plain', 'other'];
 const KEYS = ['name', '"quoted"', '1', '"a-b"', '["computed"]', '[Symbol.iterator]', '[mark]', 'get', 'static'];
 const GLOBALS = ['Promise', 'RegExp', 'Readonly', 'Array', 'Symbol'];
@@ -118,14 +124,13 @@ class FormWriter {
 
   accessorsOf() {
     const { r } = this;
+    const inUnion = (type) => (type.includes('=>') ? `(${type})` : type);
     const pair = () => {
       const name = this.name('v');
-      const [get, set] = [this.type(), r.one(2) ? this.type() : null];
+      const [own, more] = [this.type(), r.one(2) ? this.type() : null].map((it) => it && inUnion(it));
       const word = r.one(3) ? 'static ' : '';
-      const type = set ? `${get} | ${set.includes('=>') ? `(${set})` : set}` : get;
-      const getter = r.of([`get ${name}(): ${get.includes('=>') ? `(${get})` : get} { return load(); }`, `get ${name}() { return ${r.of(LITERALS)}; }`]);
-      const parts = [`${word}${getter}`, ...(r.one(4) ? [] : [`${word}set ${name}(it: ${get.includes('=>') ? `(${get})` : get}${set ? ` | ${set.includes('=>') ? `(${set})` : set}` : ''}) {}`])];
-      void type;
+      const getter = r.of([`get ${name}(): ${own} { return load(); }`, `get ${name}() { return ${r.of(LITERALS)}; }`]);
+      const parts = [`${word}${getter}`, ...(r.one(4) ? [] : [`${word}set ${name}(it: ${own}${more ? ` | ${more}` : ''}) {}`])];
       return (r.one(2) ? parts : parts.reverse()).join(' ');
     };
     return [`export class ${this.declared('A', 'types')} { ${Array.from({ length: 1 + r.below(3) }, pair).join(' ')} }`];
@@ -219,18 +224,23 @@ class FormWriter {
     return [`${r.one(2) ? 'export ' : ''}const ${name} = ${r.of(['"x"', '1', 'true', '-1', '"x" as const'])};`, r.of(uses)];
   }
 
+  /** A value that may stay in a skeleton. */
+  value(depth = 0) {
+    const { r } = this;
+    const inner = (before, after) => (depth > 2 ? '1' : `${before}${this.value(depth + 1)}${after}`);
+    const found = r.of([LITERALS, ...VALUES.slice(0, 19), '[', '{', ...VALUES.slice(19)]);
+    if (found === LITERALS) return r.of(LITERALS);
+    return found === '[' ? inner('[', ']') : found === '{' ? inner('{ a: ', ' }') : found;
+  }
+
   valuesOf() {
     const { r } = this;
-    const value = (depth = 0) => r.of([
-      () => r.of(LITERALS), () => 'flag ? 1 : 2', () => 'flag ? "a" : "a"', () => 'flag ? 1 : null', () => '[1, 2]', () => '[..."abc"]', () => '[1, ...[2]]', () => 'text + "a"', () => '+text', () => 'typeof text',
-      () => '`a${text}`', () => '1 + 2', () => 'text as string', () => '<const>[1]', () => '{ a: 1, "b-c": "x", 3: true }', () => '{ a: 1 } as const', () => '[1, "a"] as const', () => 'void 0',
-      () => 'Object.freeze({ a: 1, b: flag ? 1 : 2 })', () => '(1)', () => (depth > 2 ? '1' : `[${value(depth + 1)}]`), () => (depth > 2 ? '1' : `{ a: ${value(depth + 1)} }`), () => '() => flag ? 1 : 2',
-      () => '() => 1', () => 'Object.freeze([1, 2])', () => 'Object.freeze({ a: Symbol.iterator, b: "x", c: [1], d: { e: 1 } })', () => '(a: number) => [a]', () => 'flag === true', () => 'undefined', () => 'Symbol.iterator', () => 'mark', () => '[mark] as const', () => '{ a: mark }',
-    ])();
-    const shown = () => value().replace(/^<const>(.*)$/, '$1 as const');
     const [word, name] = [r.of(['const', 'const', 'let', 'var']), this.name('w')];
-    return [r.of([`export ${word} ${name} = ${shown()};`, `export class ${this.name('V')} { ${r.of(['', 'readonly ', 'static ', 'static readonly '])}${name} = ${shown()}; }`,
-      `export const ${name} = () => ${`(${shown()})`};`])];
+    return [r.of([
+      `export ${word} ${name} = ${this.value()};`,
+      `export class ${this.name('V')} { ${r.of(['', 'readonly ', 'static ', 'static readonly '])}${name} = ${this.value()}; }`,
+      `export const ${name} = () => (${this.value()});`,
+    ])];
   }
 
   laterOf() {

@@ -655,6 +655,12 @@ async function fuzzed() {
     await fuzz(300 / MODULES, 1, [__dirname], (line) => told.push(line));
     holds(!told.length, told.join('\n'));
   });
+  await test('what users of 50 random packages see', async () => {
+    const { fuzzViews } = require('../fuzz_views.js');
+    const told = [];
+    const { modules } = await fuzzViews(50, 1, (line) => told.push(line));
+    holds(!told.length && modules > 25, told.join('\n') || `${modules} modules were tried`);
+  });
   await test('types that are dropped, and written by fix', async () => {
     const told = [];
     const folders = fs.readdirSync(PACKAGES).map((name) => path.join(PACKAGES, name));
