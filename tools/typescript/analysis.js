@@ -5,6 +5,7 @@ const path = require('path');
 const { build } = require('./program.js');
 const { INTERNAL } = require('./faults.js');
 const { isInside, readText } = require('./files.js');
+const { hintOf } = require('./hints.js');
 const { inputOf } = require('./input.js');
 const { Lines } = require('./lines.js');
 const { previewOf } = require('./preview.js');
@@ -72,10 +73,10 @@ function absentName(specifier, dir, cwd) {
 }
 
 /** A diagnostic of the program as a message with its place. */
-function messageOf(diagnostic, { files, dir }, cwd) {
+function messageOf(diagnostic, { files, dir, info }, cwd) {
   const file = files.get(diagnostic.specifier);
   const message = {
-    level: diagnostic.level, code: diagnostic.code, message: diagnostic.message, hint: diagnostic.hint, info: diagnostic.info,
+    level: diagnostic.level, code: diagnostic.code, message: diagnostic.message, ...hintOf(diagnostic, info.modules.find((it) => it.specifier === diagnostic.specifier)),
     docs: diagnostic.docs_url, specifier: diagnostic.specifier, file: file ? shownName(file.path, cwd) : absentName(diagnostic.specifier, dir, cwd),
   };
   if (!file || !diagnostic.range) return message;
@@ -93,17 +94,35 @@ function part(answers, world, cwd) {
   return { skeletons, messages: [...messages.values()].map((each) => messageOf(each, world, cwd)) };
 }
 
-/** The imports that lead to no file of the folder, as messages. */
+/** The places of the sources whose names a module exports again: of `export .. from`, and of imports of names that it exports. */
+function reExported({ tree: { program } }) {
+  const all = (program.Module && program.Module.body) || [];
+  const found = all.map(({ ModuleDecl: it }) => it && (it.ExportAll || it.ExportNamed)).filter((it) => it && it.src);
+  const lists = all.map(({ ModuleDecl: it }) => it && it.ExportNamed).filter((it) => it && !it.src).flatMap((it) => it.specifiers || []);
+  const names = new Set(lists.map(({ Named: it }) => it && it.orig.Ident && it.orig.Ident.sym));
+  const imports = all.map(({ ModuleDecl: it }) => it && it.Import).filter(Boolean);
+  const isExported = ({ specifiers = [] }) => specifiers.some((it) => names.has(Object.values(it)[0].local.sym));
+  return new Set([...found, ...imports.filter(isExported)].map((it) => it.src.span[0]));
+}
+
+/** The imports that lead to no file of the folder, as messages: an error where an entry point exports what it asks for. */
 function missingMessages(info, files, cwd) {
+  const modules = new Map(info.modules.map((it) => [it.specifier, it]));
+  const isLost = (specifier, offset) => {
+    const isAsked = info.entryPoints.includes(specifier) && modules.has(specifier);
+    return isAsked && [...reExported(modules.get(specifier))].some((it) => files.get(specifier).lines.offset(it) === offset);
+  };
   const byPath = new Map([...files.values()].map((file) => [file.path, file]));
   return (info.missing || []).map(({ path: at, offset, text, isOutside }) => {
     const { lines, specifier } = byPath.get(at);
     const [message, hint] = isOutside
       ? [`the module '${text}' lies outside of the folder`, 'give the path of a file of the package, or name another package']
       : [`there is no module '${text}'`, 'give the path of a file that is there'];
-    const info = ['what is asked of this module is not followed'];
     const place = { file: shownName(at, cwd), lines, start: offset, end: offset + text.length + 2 };
-    return { level: 'Warning', code: 'missing-module', message, hint, info, specifier, ...place };
+    const [level, told] = isLost(specifier, offset)
+      ? ['Error', 'this entry point exports names of it, which nobody could import']
+      : ['Warning', 'what is asked of this module is not followed'];
+    return { level, code: 'missing-module', message, hint, info: [told], specifier, ...place };
   });
 }
 
@@ -159,8 +178,10 @@ function read(dir, options, context) {
     const reader = broken.some((each) => each.code === 'syntax-error') ? ` by TypeScript ${typescript.version}` : '';
     throw new ReadError(`${shownName(dir, cwd)} cannot be read${reader}`, [...broken, ...faults]);
   }
-  const warnings = [...missingMessages(info, files, cwd), ...unresolvedMessages(info, files, cwd)];
-  return { dir, request, info, files, warnings, broken, faults };
+  const missing = missingMessages(info, files, cwd);
+  const ofLevel = (level) => missing.filter((it) => it.level === level);
+  const warnings = [...ofLevel('Warning'), ...unresolvedMessages(info, files, cwd)];
+  return { dir, request, info, files, warnings, broken, faults, lost: ofLevel('Error') };
 }
 
 /** The package of a module, or of a file of the folder, by its folder: the innermost one. */
@@ -186,17 +207,19 @@ async function analyse(dir, options, context) {
   const { skeletons, messages } = part(answers, world, cwd);
   const told = skeletonMessages({ ...world, skeletons }, (file) => shownName(file, cwd));
   const [warnings, errors] = [true, false].map((isWarning) => told.filter(({ level }) => (level === 'Warning') === isWarning));
-  const faulty = [...world.info.faults.filter((it) => it.level !== 'Warning').map((it) => it.path), ...errors.map((it) => world.files.get(it.specifier).path)];
+  const faulty = [...world.info.faults.filter((it) => it.level !== 'Warning').map((it) => it.path), ...[...world.lost, ...errors].map((it) => world.files.get(it.specifier).path)];
   const left = withoutFaulty({ ...world, skeletons }, faulty);
-  const made = { ...world, answers, skeletons: left, warnings: [...world.warnings, ...warnings], messages: [...world.faults, ...messages, ...errors] };
+  const made = { ...world, answers, skeletons: left, warnings: [...world.warnings, ...warnings], messages: [...world.faults, ...world.lost, ...messages, ...errors] };
   return options.preview ? { ...made, preview: await previewFor(made, ask) } : made;
 }
 
 /** The preview of the packages that have no skeletons, since they have messages; null where there are none, or nothing can be shown. */
-async function previewFor({ request, answers, skeletons, messages }, ask) {
+async function previewFor(world, ask) {
+  const { request, answers, skeletons, messages } = world;
   if (!messages.some((it) => it.level !== 'Warning')) return null;
   const found = await previewOf(request, answers, ask);
-  const wrong = new Set(messages.filter((it) => it.level !== 'Warning').map((it) => it.specifier));
+  const own = found ? skeletonMessages({ ...world, skeletons: found.skeletons }, (file) => file) : [];
+  const wrong = new Set([...messages, ...own].filter((it) => it.level !== 'Warning').map((it) => it.specifier));
   return found && { ...found, skeletons: new Map([...found.skeletons].filter(([specifier]) => !skeletons.has(specifier) && !wrong.has(specifier))) };
 }
 

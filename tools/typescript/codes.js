@@ -7,7 +7,7 @@ const PROGRAM = [
   'unsupported-javascript-entrypoint', 'unsupported-nested-javascript', 'unsupported-private-member-reference', 'unsupported-require',
   'unsupported-super-class-expr', 'unsupported-ts-export-assignment', 'unsupported-ts-namespace-export', 'unsupported-using', 'export-not-found',
 ];
-const OWN = ['built-entry-point', 'declared-otherwise', 'missing-module', 'unresolved-import', 'no-entry-point', 'untold-type'];
+const OWN = ['built-entry-point', 'declared-otherwise', 'missing-module', 'unresolved-import', 'no-entry-point', 'shadowed-global', 'untold-type', 'widened-literal'];
 const REFUSED = ['bad-configuration', 'internal-error', 'nested-too-deep', 'refused-file', 'syntax-error'];
 
 const from = (codes, source) => Object.fromEntries(codes.map((code) => [code, source]));

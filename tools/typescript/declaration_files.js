@@ -2,7 +2,7 @@
 // Declaration files of skeletons: the same declarations without bodies and values. No type is inferred: a value that stays has one where its form says the type.
 
 const { blockOf, isMade, scopesOf } = require('./value_scopes');
-const { CONSTANT, WIDE, Untold, ValueTypes, annotated, literalOf, madeLiteral } = require('./value_types');
+const { CONSTANT, WIDE, Untold, ValueTypes, annotated, isUnique, keyword, literalOf, madeLiteral } = require('./value_types');
 const { placedIn, shadowedMessages } = require('./skeleton_messages');
 const { enumValues } = require('./enum_values');
 const { saysExports } = require('./ambient');
@@ -67,6 +67,12 @@ function functionOf(item) {
 function methodOf({ Method: method, Constructor: made }) {
   if (made) return { name: 'constructor', body: made.body };
   return method ? { name: keyOf(method), body: method.function.body } : null;
+}
+
+/** A type, which is `symbol` in place of a `unique symbol` that the program wrote for what may not have it. */
+function ownSymbol(type_ann, mayHave) {
+  const isMadeSymbol = type_ann && !type_ann.span[0] && isUnique(type_ann.type_ann);
+  return isMadeSymbol && !mayHave ? annotated(keyword('Symbol')) : type_ann;
 }
 
 /** Makes the declarations of one module. Those of a declaration file stand as they are written, but for a class that is exported by default. */
@@ -147,7 +153,7 @@ class Declarations {
   declarator(node, holder) {
     const { Ident: name } = node.name;
     const typed = (type_ann) => ({ name: { Ident: { ...name, type_ann } } });
-    return { ...node, definite: false, ...this.held(node.init, name.type_ann, holder, typed, 'init') };
+    return { ...node, definite: false, ...this.held(node.init, ownSymbol(name.type_ann, holder === CONSTANT), holder, typed, 'init') };
   }
 
   /** What holds a value, with the written type or that of the value; a constant keeps a literal, as the compiler's own declarations do. */
@@ -155,6 +161,7 @@ class Declarations {
     const literal = holder === CONSTANT && this.literal(value, type_ann);
     if (literal) return { ...typed(null), [field]: { Lit: literal } };
     if (type_ann) return { ...typed(type_ann), [field]: null };
+    if (value && holder === CONSTANT && this.types.isSymbol(value)) return { ...typed(annotated(keyword('Symbol'))), [field]: null };
     if (!value) return { ...typed({ span: NONE, type_ann: { TsKeywordType: { span: NONE, kind: 'TsAnyKeyword' } } }), [field]: null };
     if (holder === CONSTANT && this.isConstant(value)) return { ...typed(null), [field]: value };
     return { ...typed(annotated(this.types.of(value, holder))), [field]: null };
@@ -240,7 +247,7 @@ class Declarations {
   memberClassProp(node) {
     const plain = { ...node, declare: false, definite: false, is_override: false };
     if (node.accessibility === 'Private') return { ...plain, type_ann: null, value: null };
-    return { ...plain, ...this.held(node.value, node.type_ann, node.readonly ? CONSTANT : WIDE, (type_ann) => ({ type_ann }), 'value') };
+    return { ...plain, ...this.held(node.value, ownSymbol(node.type_ann, node.readonly && node.is_static), node.readonly ? CONSTANT : WIDE, (type_ann) => ({ type_ann }), 'value') };
   }
 
   memberMethod(node) {

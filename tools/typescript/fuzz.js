@@ -88,7 +88,8 @@ function modulesOf(seed, sources) {
   return Array.from({ length: MODULES }, (_, place) => {
     if (!sources.length || r.one(2)) {
       const isDeclaration = r.one(5);
-      return [`m${place}${isDeclaration ? '.d' : ''}.ts`, new ModuleWriter(seed * MODULES + place, isDeclaration).module()];
+      const ending = r.one(3) ? r.of(isDeclaration ? ['.d.mts', '.d.cts'] : ['.tsx', '.mts', '.cts']) : isDeclaration ? '.d.ts' : '.ts';
+      return [`m${place}${ending}`, new ModuleWriter(seed * MODULES + place, isDeclaration).module()];
     }
     const file = r.of(sources);
     const ending = /(\.d)?\.[cm]?tsx?$/.exec(file)[0];
@@ -122,7 +123,7 @@ function plain(value) {
   if (value.TsAs && JSON.stringify(plain(value.TsAs.type_ann)) === NEVER) return plain({ TsAs: { ...value.TsAs, type_ann: ANY } });
   const made = {};
   for (const key of Object.keys(value).sort()) {
-    const it = value[key];
+    const it = key === 'TsModuleBlock' ? { ...value[key], body: writable(value[key].body || []) } : value[key];
     const isDefault = it === null || it === false || (Array.isArray(it) && it.length === 0);
     const isLeftOut = PLACES.has(key) || isDefault || (key === 'raw' && value.value !== undefined);
     if (!isLeftOut) made[key] = key === 'spread' ? true : plain(it);

@@ -11,7 +11,8 @@ const FLAGS = NoTruncation | AllowUniqueESSymbolType;
 
 /** A text of types with the members of unions in order. */
 function inOrder(text) {
-  return text.split(/([;:,{}()[\]<>]|=>)/).map((it) => it.split(' | ').sort().join(' | ')).join('');
+  const sorted = (it) => it.split('|').map((each) => each.trim()).sort().join(' | ');
+  return text.split(/([;:,{}()[\]<>]|=>)/).map((it) => it.replace(/\S(.*\S)?/s, sorted)).join('');
 }
 
 /** A text of types in which type parameters of signatures beside each other have the names that are written: the compiler may call the second `T_1`. */
@@ -81,4 +82,4 @@ function judgeDeclarations(world, { declared, source, skeletons, entries, progra
   return { files: files.length, compared: found.count, untold: [], errors: found.errors.map((it) => it.text), asSource: asSource.length, differ };
 }
 
-module.exports = { isAlike, judgeDeclarations, judged };
+module.exports = { inOrder, isAlike, judgeDeclarations, judged };

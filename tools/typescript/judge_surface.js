@@ -186,7 +186,7 @@ function textOf(node) {
 function normalise(text) {
   return text
     .replace(/'((?:[^'\\"]|\\.)*)'/g, '"$1"')
-    .replace(/\b((?:readonly|const) [\w$]+) = ("(?:[^"\\]|\\.)*"|-?[\d.]\w*|true|false)/g, '$1: $2')
+    .replace(/\b((?:readonly|const) (?:[\w$]+|"[^"]*"|\[[^\]]*\])) = ("(?:[^"\\]|\\.)*"|-?[\d.]\w*|true|false)/g, '$1: $2')
     .replace(/"(\.{1,2}\/[^"]*?)(\.d)?\.[cm]?[jt]sx?"/g, '"$1"')
     .replace(/"(\.{1,2}\/[^"]*)\/index"/g, '"$1"')
     .replace(/\b(export|declare) /g, '')
@@ -391,4 +391,4 @@ function errorsIn(program, name) {
   return found.map((it) => ({ code: it.code, start: it.start, end: it.start + it.length, text: ts.flattenDiagnosticMessageText(it.messageText, ' ') }));
 }
 
-module.exports = { programOf, resolverOf, declarationName, emitted, surfaceOf, compared, errorsIn, normalise, takeLooseTypes };
+module.exports = { programOf, resolverOf, declarationName, emitted, surfaceOf, compared, errorsIn, normalise, takeLooseTypes, textOf };

@@ -127,7 +127,7 @@ async function parts(folder) {
   const answers = await build(request, { environment: process.env, tell: () => {} });
   times.program = seconds(begun);
   const files = filesOf(info, folder);
-  const world = { dir: folder, request, info, files, ...part(answers, { files, dir: folder }, folder) };
+  const world = { dir: folder, request, info, files, ...part(answers, { files, dir: folder, info }, folder) };
   begun = process.hrtime.bigint();
   printed(world);
   times.print = seconds(begun);

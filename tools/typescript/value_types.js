@@ -86,6 +86,12 @@ function entityOf(value) {
 /** Whether a type is `unique symbol`. */
 const isUnique = (type) => Boolean(type && type.TsTypeOperator && type.TsTypeOperator.op === 'Unique');
 
+/** Whether a value is a symbol that the language knows, as `Symbol.iterator`. */
+function isKnownSymbol({ Member: member }, scope) {
+  const of = member && member.obj.Ident && member.obj.Ident.sym === 'Symbol' && scope.find(member.obj);
+  return Boolean(of) && of.form === 'other' && !of.nodes;
+}
+
 /** The literal of a value that is one, behind a minus too: `{lit, isNegative}`, or null. */
 function literalOf(value) {
   if (value.Paren) return literalOf(value.Paren.expr);
@@ -231,6 +237,15 @@ class ValueTypes {
     return node.prop.Computed ? this.indexed(node, holder) : this.named(value, holder);
   }
 
+  /** Whether a value is the name of a symbol that is one of its kind, which another constant is not. */
+  isSymbol(value) {
+    if (value.Paren) return this.isSymbol(value.Paren.expr);
+    if (!value.Ident && !value.Member) return false;
+    const found = this.scope.find(value);
+    if (found.form === 'value' && !found.nodes) return new ValueTypes(found.scope).isSymbol(found.value);
+    return found.form === 'typed' ? isUnique(found.type) : found.form === 'other' && isKnownSymbol(value, this.scope);
+  }
+
   /** A member under a literal, of what a name stands for that is no enum. */
   indexed({ obj, prop, span }, holder) {
     const [name, key] = [entityOf(obj), literalOf(prop.Computed.expr)];
@@ -248,9 +263,12 @@ class ValueTypes {
     const found = this.scope.find(value);
     if (found.isSaid) return found.type;
     if (found.form === 'member' && holder !== WIDE) return reference(name);
-    if (holder !== WIDE || found.form === 'other') return query(name);
+    if (holder !== WIDE) return query(name);
+    if (found.form === 'other' && isKnownSymbol(value, this.scope)) return keyword('Symbol');
+    if (found.form === 'other') return query(name);
     if (found.isMade) return literal(madeLiteral(found), WIDE);
     if (found.form === 'typed') return isUnique(found.type) ? keyword('Symbol') : query(name);
+    if (this.isSymbol(value)) return keyword('Symbol');
     if (found.form === 'value') return new ValueTypes(found.scope).again(found.value, name, span);
     if (found.form === 'member' && value.Member && value.Member.obj.Ident) return reference({ Ident: value.Member.obj.Ident });
     throw new Untold(span, 'what the name stands for is declared in another package or in another form, and may be a literal');
@@ -366,4 +384,4 @@ class ValueTypes {
   }
 }
 
-module.exports = { CONSTANT, WIDE, Untold, ValueTypes, annotated, entityOf, literalOf, madeLiteral, textOf };
+module.exports = { CONSTANT, WIDE, Untold, ValueTypes, annotated, entityOf, isUnique, keyword, literalOf, madeLiteral, textOf };

@@ -2,17 +2,19 @@
 // Has TypeScript's compiler check the skeletons beside the sources: what it finds wrong in the skeletons alone is reported, and each public declaration of which
 // it declares another type, module by module.
 const { shownName } = require('./analysis.js');
-const { programOf, resolverOf, declarationName, emitted, surfaceOf, compared, errorsIn } = require('./judge_surface.js');
+const { programOf, resolverOf, declarationName, emitted, surfaceOf, compared, errorsIn, normalise, textOf } = require('./judge_surface.js');
 const { Lines } = require('./lines.js');
 const { printed } = require('./skeletons.js');
 const { ts } = require('./typescript.js');
-const { told, ways } = require('./ways.js');
+const { viewOf } = require('./users_view.js');
+const { told: toldWay, ways } = require('./ways.js');
 
 /** What is to be done about errors that come of a reference which the skeletons do not answer. */
 const LOST = new Set([2304, 2305, 2307, 2339, 2503, 2552, 2614, 2694, 2724, 4023, 4033]);
 const HINT = 'refer to what is meant by a name of its own; docs/TYPESCRIPT.md lists where the rules part from TypeScript';
 const TYPE_HINT = 'write the type; docs/TYPESCRIPT.md says what to write where the rules part from TypeScript';
 const LONGEST = 200;
+const SHOWN = new Set([ts.SyntaxKind.StaticKeyword, ts.SyntaxKind.AbstractKeyword, ts.SyntaxKind.ReadonlyKeyword, ts.SyntaxKind.ProtectedKeyword, ts.SyntaxKind.AccessorKeyword]);
 
 /** The compiler's view of the modules of a folder, as sources or as skeletons. `texts` are by their paths; declarations are made of those that are `answered`. */
 class Side {
@@ -58,7 +60,7 @@ function placeOf(file, name) {
 
 /** The way to a declaration, as lines that say more. */
 function wayTo(module, name, { world, found }) {
-  const way = name ? told(world, found, `${module.specifier}\n${name}`) : '';
+  const way = name ? toldWay(world, found, `${module.specifier}\n${name}`) : '';
   if (way) return [`the way to it: ${way}`];
   return world.info.entryPoints.includes(module.specifier) ? [`${module.name} is an entry point`] : [];
 }
@@ -94,29 +96,54 @@ function cut(text) {
   return !made ? 'nothing' : made.length > LONGEST ? `${made.slice(0, LONGEST)} ..` : made;
 }
 
-/** Where two texts differ: each without the words that both begin and end with. */
-function apart(one, other) {
-  const words = (text) => text.match(/[\w$]+|\s+|[^\w$\s]/g) || [];
-  const [a, b] = [words(one), words(other)];
-  let [first, last] = [0, 0];
-  while (first < Math.min(a.length, b.length) && a[first] === b[first]) first += 1;
-  while (last < Math.min(a.length, b.length) - first && a[a.length - 1 - last] === b[b.length - 1 - last]) last += 1;
-  // Of `symbol` and `unique symbol` the word is shown that follows.
-  const isOneEmpty = first + last === Math.min(a.length, b.length);
-  if (isOneEmpty && last > 0 && /^[\w$]/.test(a[a.length - last])) last -= 1;
-  return [a, b].map((it) => cut(it.slice(first, it.length - last).join('')));
+/** What a member or a variable is declared as, without its name: its whole type, or its signature. */
+function typeText(node) {
+  if (node.type && !ts.isFunctionLike(node)) return normalise(textOf(node.type));
+  if (node.initializer) return normalise(textOf(node.initializer));
+  const text = normalise(textOf(node));
+  const name = node.name ? node.name.getText() : '';
+  return name && text.includes(name) ? text.slice(text.indexOf(name) + name.length).replace(/^\??:\s*/, '') : text;
 }
 
-/** How a declaration differs, in words. */
-function differenceText({ missing, added, isLost, isNew }) {
-  if (isLost) return 'declared in the source, and not in the skeletons';
-  if (isNew) return 'declared in the skeletons, and not in the source';
-  const [before, after] = apart(missing.join('; '), added.join('; '));
-  return `${before} in the source, ${after} in the skeleton`;
+/** The members of a declaration by their names, each with its words and what it is declared as; null of a declaration without members. */
+function membersOf(node) {
+  if (!node.members) return null;
+  const found = new Map();
+  for (const it of node.members) {
+    const words = (it.modifiers || []).filter((each) => SHOWN.has(each.kind)).map((each) => `${each.getText()} `).join('');
+    const name = it.name ? it.name.getText() : ts.isConstructorDeclaration(it) ? 'constructor' : '';
+    const key = words.includes('static ') ? `static ${name}` : name;
+    const before = found.get(key) || { words: '', texts: [] };
+    found.set(key, { words: `${words}${name}${it.questionToken ? '?' : ''}`, texts: [...before.texts, typeText(it)] });
+  }
+  return found;
+}
+
+/** Where one declaration of a name differs from another: `[member, before, after]`, without a member where the whole differs. */
+function details([one, ...more], [other, ...others]) {
+  if (!one || !other || more.length || others.length || one.kind !== other.kind) return [];
+  const [before, after] = [membersOf(one), membersOf(other)];
+  if (!before) return ts.isVariableDeclaration(one) || ts.isTypeAliasDeclaration(one) ? [['', typeText(one), typeText(other)]] : [];
+  const whole = (it) => (it ? [it.words, it.texts.join('; ')].filter(Boolean).join(': ') : '');
+  const names = [...new Set([...before.keys(), ...after.keys()])].filter((name) => whole(before.get(name)) !== whole(after.get(name)));
+  return names.map((name) => {
+    const both = [before.get(name), after.get(name)];
+    const isOfWords = !both[0] || !both[1] || both[0].words !== both[1].words;
+    return [name, ...both.map((it) => (isOfWords ? whole(it) : it.texts.join('; ')))];
+  });
+}
+
+/** How a declaration differs, in words: the name of each member that does, with both whole types. */
+function differenceTexts({ key, missing, added, isLost, isNew }, name, [one, other]) {
+  if (isLost) return [`${name}: declared in the source, and not in the skeletons`];
+  if (isNew) return [`${name}: declared in the skeletons, and not in the source`];
+  const found = details(one.nodes.get(key) || [], other.nodes.get(key) || []);
+  const all = found.length ? found : [['', missing.join('; '), added.join('; ')]];
+  return all.map(([member, before, after]) => `${member ? `${name}.${member}` : name}: ${cut(before)} in the source, ${cut(after)} in the skeleton`);
 }
 
 /** A declaration of another type as a message. */
-function differenceMessage(found, view) {
+function differenceMessagesOf(found, view, surfaces) {
   const { key } = found;
   const [stem, names] = [key.slice(0, key.lastIndexOf('#')), key.slice(key.lastIndexOf('#') + 1)];
   const file = [...view.world.files.values()].find((each) => stemOf(each.path) === stem);
@@ -124,7 +151,8 @@ function differenceMessage(found, view) {
   const place = { file: shownName(file.path, view.cwd), lines: file.lines, ...placeOf(view.sources.file(file.path), first) };
   const name = names === '*' ? 'the exports' : names;
   const info = ["TypeScript's compiler declares this otherwise for the skeleton than for the source", ...(names === '*' ? [] : wayTo(file, first, view))];
-  return { level: 'Error', code: 'declared-otherwise', message: `${name}: ${differenceText(found)}`, info, hint: TYPE_HINT, ...place };
+  const made = { level: 'Error', code: 'declared-otherwise', info, hint: TYPE_HINT, ...place };
+  return differenceTexts(found, name, surfaces).map((message) => ({ ...made, message }));
 }
 
 /** A skeleton of which the compiler makes no declarations, though it does of the source, as a message. */
@@ -150,20 +178,53 @@ function scriptMessage(module, { world, cwd }) {
   };
 }
 
+/** Whether a name that the compiler declares for a skeleton alone is the same in the source: its declarations lack a `var` of a block, though they export it. */
+function isInSource(key, { modules, sources, skeletons }) {
+  const [stem, name] = [key.slice(0, key.lastIndexOf('#')), key.slice(key.lastIndexOf('#') + 1)];
+  const module = modules.find((each) => stemOf(each.path) === stem);
+  const [own, shown] = module ? [sources, skeletons].map(({ program }) => viewOf(program, module.path).get(name)) : [];
+  return own !== undefined && own === shown;
+}
+
+/** The names that a file declares with `typeof` in their types, or in what they are made of. */
+function queryingNames(file) {
+  const asks = (node) => node.kind === ts.SyntaxKind.TypeQuery || Boolean(ts.forEachChild(node, asks));
+  const parts = file.statements.flatMap((each) => (each.declarationList ? [...each.declarationList.declarations] : [each]));
+  return parts.filter((each) => each.name && asks(each)).map((each) => each.name.getText(file));
+}
+
+/** Where `typeof` of a skeleton stands for another type than in what the compiler declares for the source, as messages. */
+function queryMessages(module, { world, cwd, sources, skeletons, found }, [{ program }], told) {
+  const names = queryingNames(skeletons.file(module.path));
+  if (!names.length || !program.getSourceFile(declarationName(module.path))) return [];
+  const [wanted, own, shown] = [viewOf(program, declarationName(module.path)), viewOf(sources.program, module.path), viewOf(skeletons.program, module.path)];
+  const differ = names.filter((name) => wanted.has(name) && shown.get(name) !== wanted.get(name) && shown.get(name) !== own.get(name) && !told.has(`${stemOf(module.path)}#${name}`));
+  const file = world.files.get(module.specifier);
+  const typed = (text) => cut(text.replace(/^(type|value|function) /, ''));
+  return [...new Set(differ)].map((name) => ({
+    level: 'Error', code: 'declared-otherwise', message: `${name}: ${typed(wanted.get(name))} in the source, ${typed(shown.get(name))} in the skeleton`,
+    hint: TYPE_HINT, info: ['`typeof` stands for another type in the skeleton', ...wayTo(module, name, { world, found })],
+    file: shownName(module.path, cwd), lines: file.lines, ...placeOf(sources.file(module.path), name),
+  }));
+}
+
 /** The public declarations of which the compiler declares another type, in modules of which it declares something. `wrong` are the files of the errors. */
 function differenceMessages(view, wrong) {
   const { world, sources, skeletons } = view;
   const entries = world.info.entryPoints.filter((it) => world.skeletons.has(it)).map((it) => world.files.get(it).path);
-  const found = compared(sources.surface(entries), skeletons.surface(entries));
+  const surfaces = [sources.surface(entries), skeletons.surface(entries)];
+  const found = compared(...surfaces);
   const isDeclared = (side, module) => side.declared.has(declarationName(module.path));
   const without = view.modules.filter((module) => !isDeclared(sources, module) || !isDeclared(skeletons, module));
   const scripts = world.info.modules.filter((module) => entries.includes(module.path) && module.tree.program.Script);
   const stems = new Set([...without, ...scripts].map((module) => stemOf(module.path)));
   const silent = without.filter((module) => isDeclared(sources, module) && !wrong.has(`${shownName(module.path, view.cwd)} (skeleton)`));
   const undeclared = silent.map((module) => undeclaredMessage(module, view));
-  const differing = found.filter(({ key }) => !stems.has(key.slice(0, key.lastIndexOf('#'))));
+  const differing = found.filter((it) => !stems.has(it.key.slice(0, it.key.lastIndexOf('#'))) && !(it.isNew && isInSource(it.key, view)));
   const emptied = scripts.filter(hasItems).map((module) => scriptMessage(module, view));
-  return [...undeclared, ...emptied, ...differing.map((each) => differenceMessage(each, view))];
+  const told = new Set(differing.map(({ key }) => key));
+  const asked = view.modules.filter((module) => !stems.has(stemOf(module.path))).flatMap((module) => queryMessages(module, view, surfaces, told));
+  return [...undeclared, ...emptied, ...differing.flatMap((each) => differenceMessagesOf(each, view, surfaces)), ...asked];
 }
 
 const DIRECTIVES = ['referencedFiles', 'typeReferenceDirectives', 'libReferenceDirectives'];

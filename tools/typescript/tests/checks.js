@@ -209,7 +209,7 @@ function going({ withFolder, same, LAUNCHER }) {
     for (const stream of [child.stdout, child.stderr]) stream.on('data', tell);
     try {
       const steps = [
-        [() => {}, /there is no module '\.\/new\/b\.ts'[^]*\n2 files, 2 public modules, 1 message, /],
+        [() => {}, /there is no module '\.\/new\/b\.ts'[^]*\n2 files, 1 message, /],
         [() => fs.writeFileSync(path.join(folder, 'a.ts'), UNTYPED), /a\.ts changed\n[^]*\n2 files, 1 read again, 2 messages, /],
         [() => fs.writeFileSync(path.join(folder, 'note.txt'), ''), /^\n$/],
         [() => write(folder, { 'deno.json': CONFIG, 'new/b.ts': 'export const b: 1 = 1;\n' }), /\n3 files, [01] read again, 1 message, /],

@@ -16,7 +16,7 @@ const PASSED_OVER = isFrom(5, 9)
   : /^(dts-untold|dts-newer|missing-import|newer-.*|quoted-names|apart-.*|instead-.*)$/;
 
 // Packages whose declaration files are compared with what the compiler declares for the sources, since literals are wider there than in the skeletons.
-const AS_SOURCES = /^(dts-.*|widened-literals)$/;
+const AS_SOURCES = /^(dts-.*|verified-members|widened-literals)$/;
 
 /** The package of a folder: its world, its skeletons and its declaration files by their paths, and its entry points. Null where it has no skeletons. */
 async function packageOf(dir) {

@@ -45,7 +45,7 @@ const FOLDERS = [
   ['an entry point elsewhere', { 'deno.json': CONFIG.replace('./mod.ts', '../mod.ts') }, 2, ['the entry point ../mod.ts lies outside of the package']],
   ['an entry point of the machine', { 'deno.json': CONFIG.replace('./mod.ts', '/etc/passwd') }, 2, ['the entry point /etc/passwd lies outside']],
   ['an entry point of JavaScript that is not there', { 'deno.json': CONFIG.replace('mod.ts', 'mod.js') }, 2, ['the entry point ./mod.js is not there']],
-  ['a module elsewhere', { 'mod.ts': 'export * from "../../../../../etc/passwd";' }, 0, ["the module '../../../../../etc/passwd' lies outside of the folder"]],
+  ['a module elsewhere', { 'mod.ts': 'export * from "../../../../../etc/passwd";' }, 1, ["the module '../../../../../etc/passwd' lies outside of the folder"]],
   ['a configuration that breaks off', { 'deno.json': '{ "name": "a",\n "exports": }' }, 2, ['bad-configuration', 'deno.json:2:13', '|             ^']],
   ['a configuration that is a list', { 'deno.json': '[]', 'mod.ts': '' }, 2, ['this is no object', '!tsconfig']],
   ['a name that is a number', { 'deno.json': '{\n  "name": 1 }', 'mod.ts': '' }, 2, ['`name` has to be a text', 'deno.json:2:3', '!no-entry-point']],

@@ -85,7 +85,7 @@ const MORE = {
   'workspace-large': [['check', '--verify']],
   'javascript-entry': [['check', '--max-warnings', '0']],
   'single-returns': [['check', '--rules', 'deno']],
-  ...Object.fromEntries(['generic-arrows', 'var-in-block', 'self-import', 'expect-error', 'private-static'].map((name) => [name, [['check', '--verify']]])),
+  ...Object.fromEntries(['generic-arrows', 'var-in-block', 'self-import', 'expect-error', 'private-static', 'verified-members'].map((name) => [name, [['check', '--verify']]])),
   ...Object.fromEntries(['typeof-values', 'expando-keywords', 'namespace-blocks', 'widened-literals'].map((name) => [name, [['check', '--verify'], ['skeleton', '--dts']]])),
   ...Object.fromEntries(['accessor-pairs', 'arrow-default', 'fixed-this'].map((name) => [name, [['fix', '--dry']]])),
   'shadowed-global': [['skeleton', '--dts']],
@@ -680,6 +680,12 @@ async function fuzzed() {
     const told = [];
     await fuzz(300 / MODULES, 1, [__dirname], (line) => told.push(line));
     holds(!told.length, told.join('\n'));
+  });
+  await test('what users of 50 random packages see', async () => {
+    const { fuzzViews } = require('../fuzz_views.js');
+    const told = [];
+    const { modules } = await fuzzViews(50, 1, (line) => told.push(line));
+    holds(!told.length && modules > 25, told.join('\n') || `${modules} modules were tried`);
   });
   await test('types that are dropped, and written by fix', async () => {
     const told = [];

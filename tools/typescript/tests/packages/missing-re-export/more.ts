@@ -1,0 +1,2 @@
+import "./effects.ts";
+export const f: number = 1;

@@ -1,0 +1,2 @@
+export * from "./behind.ts";
+export const e: number = 1;
