@@ -84,9 +84,11 @@ class Comparison:
         def notes_with(words):
             return same(ours, Ran(self.explain, command, file, EXPLAIN=",".join(words)))
 
-        words = [word for word in self.words if word in WORDS.get(command, self.words)]
-        notes = notes_with(words)
-        if notes is None:
+        all_words = [word for word in self.words if word in WORDS.get(command, self.words)]
+        # a difference may stand in for what another one shows, so each is left out in turn
+        starts = [all_words] + [[each for each in all_words if each != word] for word in all_words]
+        words, notes = next(((words, notes) for words in starts for notes in [notes_with(words)] if notes is not None), (None, None))
+        if words is None:
             return None
         for word in list(words):
             fewer = [each for each in words if each != word]

@@ -157,7 +157,13 @@ DIFFERENCES = [
           Change("range_finder.rs", "let mut handled = false;", before="""
           let is_asked = !asked_once.insert((symbol_id, explained_paths(&parts), referrer_id));
           if is_asked && crate::explain::on("asked_once") { continue; }""")),
-    Patch("one_path", "the names of one qualified name are demanded as one path",
+    Patch("one_path", "the names of one qualified name are demanded as one path, and sets of names are not joined while they wait",
+          Change("range_finder.rs", "if let Some(trace) = self.traced_exports.add(specifier, trace) {", after="""
+      if crate::explain::on("one_path")
+        && let Some((package_nv, exports_to_trace)) = self.pending_traces.0.shift_remove(specifier)
+      {
+        self.analyze_trace(&PendingTrace { package_nv, specifier: specifier.clone(), exports_to_trace });
+      }"""),
           Change("range_finder.rs", "let mut handled = false;", before="""
           let paths = explained_paths(&parts);
           if paths.len() > 1 && crate::explain::on("one_path") {
