@@ -33,17 +33,20 @@ import patches
 from inputs import runs_of, cached_runs, files_of, package_input, random_inputs, stored_files
 
 sys.setrecursionlimit(1000000)
-WORDS = {"transform": ("else_branch", "single_return", "arrow_body")}
+WORDS = {"transform": ("else_branch", "single_return", "faulty_arrow")}
 ENDINGS = {101: "panics", -6: "does not end", -9: "does not end", -24: "does not end", -11: "does not end"}
 # a search that does not end takes memory too
-LIMITS = ["sh", "-c", 'ulimit -t 1; ulimit -v 1500000; exec "$@"', "sh"]
+LIMITS = 'ulimit -t {}; ulimit -v 1500000; exec "$@"'
+SECONDS_A_MEGABYTE = 10
 
 
 class Ran:
-    """A run: its status, or how else it ended, and what it printed."""
+    """A run on a file: its status, or how else it ended, and what it printed."""
 
-    def __init__(self, words, **variables):
-        done = subprocess.run([*LIMITS, *words], stdin=subprocess.DEVNULL, capture_output=True, env={**os.environ, **variables})
+    def __init__(self, program, command, file, **variables):
+        seconds = 1 + SECONDS_A_MEGABYTE * os.path.getsize(file) // 1_000_000
+        words = ["sh", "-c", LIMITS.format(seconds), "sh", program, command, file]
+        done = subprocess.run(words, stdin=subprocess.DEVNULL, capture_output=True, env={**os.environ, **variables})
         self.status = ENDINGS.get(done.returncode, done.returncode)
         self.out, self.err = done.stdout.decode("utf8", "replace"), done.stderr.decode("utf8", "replace")
 
@@ -65,8 +68,8 @@ class Comparison:
 
     def verdict(self, command, ours_of, theirs_of):
         """`ours_of` is the input of the program, `theirs_of` that of the original; they are one but under a change."""
-        ours = Ran([self.program, command, ours_of])
-        theirs = Ran([self.original, command, theirs_of])
+        ours = Ran(self.program, command, ours_of)
+        theirs = Ran(self.original, command, theirs_of)
         if not ours.answers():
             why = ours.err.strip().replace("error: input refused: ", "") or ours.status
             return f"refused as {why}, where the original {'answers' if theirs.answers() else 'panics' if theirs.status == 'panics' else 'refuses'}"
@@ -79,11 +82,13 @@ class Comparison:
     def explained(self, command, ours, file, told):
         """By which of the listed differences the original answers alike."""
         def notes_with(words):
-            return same(ours, Ran([self.explain, command, file], EXPLAIN=",".join(words)))
+            return same(ours, Ran(self.explain, command, file, EXPLAIN=",".join(words)))
 
-        words = [word for word in self.words if word in WORDS.get(command, self.words)]
-        notes = notes_with(words)
-        if notes is None:
+        all_words = [word for word in self.words if word in WORDS.get(command, self.words)]
+        # a difference may stand in for what another one shows, so each is left out in turn
+        starts = [all_words] + [[each for each in all_words if each != word] for word in all_words]
+        words, notes = next(((words, notes) for words in starts for notes in [notes_with(words)] if notes is not None), (None, None))
+        if words is None:
             return None
         for word in list(words):
             fewer = [each for each in words if each != word]
@@ -97,7 +102,7 @@ class Comparison:
         with tempfile.NamedTemporaryFile("w", suffix=".json") as file:
             json.dump(run, file)
             file.flush()
-            given = lambda words: numbered(Ran([self.explain if words else self.original, "rebuild", file.name], EXPLAIN=",".join(words)))
+            given = lambda words: numbered(Ran(self.explain if words else self.original, "rebuild", file.name, EXPLAIN=",".join(words)))
             if given([]) == numbered_lines(stored):
                 return "same"
             words = list(self.words)

@@ -102,13 +102,16 @@ DIFFERENCES = [
   }
 """),
           Change("transform.rs", "BlockStmtOrExpr::BlockStmt(body) => {", after="crate::explain::enter_arrow(n.is_generator);")),
-    Patch("arrow_body", "the body of an arrow whose return type is missing is hidden",
+    Patch("faulty_arrow", "the body of an arrow whose return type is missing is hidden, and so is the default of a parameter whose type is missing",
           Change("transform.rs", "if let Some(t) = &n.return_type {", behind="fn transform_arrow(", before="""
-    if crate::explain::on("arrow_body") && n.return_type.is_none() && let BlockStmtOrExpr::BlockStmt(body) = &mut *n.body {
+    if crate::explain::on("faulty_arrow") && n.return_type.is_none() && let BlockStmtOrExpr::BlockStmt(body) = &mut *n.body {
       body.stmts.clear();
     }"""),
           Change("transform.rs", "if !is_expr_leavable {", behind="fn transform_arrow(", after="""
-                if crate::explain::on("arrow_body") { *expr = obj_as_never_expr(); }""")),
+                if crate::explain::on("faulty_arrow") { *expr = obj_as_never_expr(); }"""),
+          *(Change("transform.rs", line, behind="fn handle_param_pat(", nth=nth, after="""
+                  if crate::explain::on("faulty_arrow") { assign.right = obj_as_never_expr(); }""")
+            for line, nth in (("if !is_expr_leavable {", 1), ("{", 1), ("{", 2), ("Pat::Assign(_) | Pat::Invalid(_) | Pat::Rest(_) | Pat::Expr(_) => {", 1)))),
     Patch("partial_default", "a set of names with `default` in part, and all names but `default` added, answers all names",
           Change("range_finder.rs", 'if current_subset.0.contains_key("default") {', before="""
           let all = crate::explain::on("partial_default")
@@ -154,7 +157,13 @@ DIFFERENCES = [
           Change("range_finder.rs", "let mut handled = false;", before="""
           let is_asked = !asked_once.insert((symbol_id, explained_paths(&parts), referrer_id));
           if is_asked && crate::explain::on("asked_once") { continue; }""")),
-    Patch("one_path", "the names of one qualified name are demanded as one path",
+    Patch("one_path", "the names of one qualified name are demanded as one path, and sets of names are not joined while they wait",
+          Change("range_finder.rs", "if let Some(trace) = self.traced_exports.add(specifier, trace) {", after="""
+      if crate::explain::on("one_path")
+        && let Some((package_nv, exports_to_trace)) = self.pending_traces.0.shift_remove(specifier)
+      {
+        self.analyze_trace(&PendingTrace { package_nv, specifier: specifier.clone(), exports_to_trace });
+      }"""),
           Change("range_finder.rs", "let mut handled = false;", before="""
           let paths = explained_paths(&parts);
           if paths.len() > 1 && crate::explain::on("one_path") {
