@@ -1,0 +1,143 @@
+//! Names.
+use crate::error::ParseError;
+use crate::tokens::Tokens;
+use fast_check_program_forms::{BindingIdent, Ident, IdentName, PrivateName};
+use fast_check_source_lexer::{Keyword, TokenKind};
+use fast_check_syntax::{SourcePos, SyntaxContext, Tree};
+use fast_check_type_forms::TsQualifiedName;
+use std::alloc::Global;
+
+/// Words that name nothing.
+pub fn is_reserved(word: Keyword) -> bool {
+    matches!(
+        word,
+        Keyword::Break
+            | Keyword::Case
+            | Keyword::Catch
+            | Keyword::Class
+            | Keyword::Const
+            | Keyword::Continue
+            | Keyword::Debugger
+            | Keyword::Default
+            | Keyword::Delete
+            | Keyword::Do
+            | Keyword::Else
+            | Keyword::Enum
+            | Keyword::Export
+            | Keyword::Extends
+            | Keyword::False
+            | Keyword::Finally
+            | Keyword::For
+            | Keyword::Function
+            | Keyword::If
+            | Keyword::Import
+            | Keyword::In
+            | Keyword::Instanceof
+            | Keyword::New
+            | Keyword::Null
+            | Keyword::Return
+            | Keyword::Super
+            | Keyword::Switch
+            | Keyword::This
+            | Keyword::Throw
+            | Keyword::True
+            | Keyword::Try
+            | Keyword::Typeof
+            | Keyword::Var
+            | Keyword::Void
+            | Keyword::While
+            | Keyword::With
+    )
+}
+
+/// Whether a name that is no reserved word comes next.
+pub fn sees_ident(tokens: &Tokens<'_>) -> bool {
+    tokens.at.is(TokenKind::Name) && !is_reserved(tokens.at.word())
+}
+
+/// A name that is no reserved word, as an identifier.
+pub fn ident(alloc: Global, tokens: &mut Tokens<'_>) -> Result<Tree, ParseError> {
+    if sees_ident(tokens) {
+        word_ident(alloc, tokens)
+    } else {
+        Err(tokens.at.refuse())
+    }
+}
+
+/// Any word as an identifier.
+pub fn word_ident(alloc: Global, tokens: &mut Tokens<'_>) -> Result<Tree, ParseError> {
+    if !tokens.at.is(TokenKind::Name) {
+        return Err(tokens.at.refuse());
+    }
+    let span = tokens.at.here();
+    let sym = tokens.at.name(alloc, 0)?;
+    tokens.at.advance();
+    let made = Ident {
+        span,
+        ctxt: SyntaxContext(0),
+        sym,
+        optional: false,
+    };
+    Ok(made.into_tree(alloc)?)
+}
+
+/// Any word as a name that is not resolved.
+pub fn ident_name(alloc: Global, tokens: &mut Tokens<'_>) -> Result<Tree, ParseError> {
+    if !tokens.at.is(TokenKind::Name) {
+        return Err(tokens.at.refuse());
+    }
+    let span = tokens.at.here();
+    let sym = tokens.at.name(alloc, 0)?;
+    tokens.at.advance();
+    Ok(IdentName { span, sym }.into_tree(alloc)?)
+}
+
+/// `#a`
+pub fn private_name(alloc: Global, tokens: &mut Tokens<'_>) -> Result<Tree, ParseError> {
+    if !tokens.at.is(TokenKind::PrivateName) {
+        return Err(tokens.at.refuse());
+    }
+    let span = tokens.at.here();
+    let name = tokens.at.name(alloc, 1)?;
+    tokens.at.advance();
+    Ok(PrivateName { span, name }.into_tree(alloc)?)
+}
+
+/// A name as a pattern.
+pub fn binding(alloc: Global, tokens: &mut Tokens<'_>) -> Result<Tree, ParseError> {
+    let made = BindingIdent {
+        id: ident(alloc, tokens)?,
+        type_ann: Tree::Absent,
+    };
+    Ok(made.into_tree(alloc)?)
+}
+
+/// `a.b.c`
+pub fn entity(alloc: Global, tokens: &mut Tokens<'_>) -> Result<Tree, ParseError> {
+    let start = tokens.at.start();
+    let first = word_ident(alloc, tokens)?;
+    qualified(alloc, tokens, start, first)
+}
+
+fn qualified(
+    alloc: Global,
+    tokens: &mut Tokens<'_>,
+    start: SourcePos,
+    first: Tree,
+) -> Result<Tree, ParseError> {
+    let mut left = first;
+    for _turn in 0..tokens.at.left() {
+        if !tokens.at.eat(TokenKind::Dot) {
+            break;
+        }
+        tokens.link()?;
+        let right = ident_name(alloc, tokens)?;
+        let made = TsQualifiedName {
+            span: tokens.at.from(start),
+            left,
+            right,
+        };
+        left = made.into_tree(alloc)?;
+    }
+    Ok(left)
+}

@@ -1,0 +1,87 @@
+//! The cursor that the rules move, with what is remembered of places and heights.
+use crate::cursor::Cursor;
+use fast_check_source_lexer::Keyword;
+use std::alloc::{AllocError, Global};
+use std::collections::BTreeSet;
+
+/// What is remembered of a place, so that a rule is tried in vain there but once.
+#[derive(Clone, Copy, PartialEq, Eq, Debug)]
+pub enum Note {
+    /// No arrow function begins here.
+    NoArrow,
+    /// No type arguments of a value stand here.
+    NoArgs,
+    /// An `extends` here begins no constraint of what `infer` names.
+    NoConstraint,
+    /// A literal here is a pattern, since something is assigned to it.
+    Target,
+    /// `of` or `in` stands behind what begins here, in the head of a `for`.
+    Walked,
+}
+
+/// The tokens that the rules move over.
+#[derive(Drop)]
+pub struct Tokens<'a> {
+    /// The next token.
+    pub at: Cursor<'a>,
+    // Whether something was read that stands in modules alone.
+    module: bool,
+    no_arrows: BTreeSet<usize>,
+    no_args: BTreeSet<usize>,
+    no_constraints: BTreeSet<usize>,
+    targets: BTreeSet<usize>,
+    walked: BTreeSet<usize>,
+}
+
+impl<'a> Tokens<'a> {
+    /// At the first token of a text, if it is not too long.
+    pub fn new(alloc: Global, text: &'a str, jsx: bool) -> Option<Tokens<'a>> {
+        Some(Tokens {
+            at: Cursor::new(text, jsx)?,
+            module: false,
+            no_arrows: BTreeSet::new(alloc),
+            no_args: BTreeSet::new(alloc),
+            no_constraints: BTreeSet::new(alloc),
+            targets: BTreeSet::new(alloc),
+            walked: BTreeSet::new(alloc),
+        })
+    }
+
+    /// Whether this was noted of the place of the next token.
+    pub fn is_noted(&self, note: Note) -> bool {
+        let place = self.at.place();
+        match note {
+            Note::NoArrow => self.no_arrows.contains(&place),
+            Note::NoArgs => self.no_args.contains(&place),
+            Note::NoConstraint => self.no_constraints.contains(&place),
+            Note::Target => self.targets.contains(&place),
+            Note::Walked => self.walked.contains(&place),
+        }
+    }
+
+    /// Notes something of a place.
+    pub fn note(&mut self, note: Note, place: usize) -> Result<(), AllocError> {
+        let _ = match note {
+            Note::NoArrow => self.no_arrows.insert(place)?,
+            Note::NoArgs => self.no_args.insert(place)?,
+            Note::NoConstraint => self.no_constraints.insert(place)?,
+            Note::Target => self.targets.insert(place)?,
+            Note::Walked => self.walked.insert(place)?,
+        };
+        Ok(())
+    }
+
+    /// Notes that something was read that stands in modules alone: `import.meta`, or an `await` outside of functions.
+    pub fn note_module(&mut self) {
+        self.module = true;
+    }
+
+    pub fn is_module(&self) -> bool {
+        self.module
+    }
+
+    /// Whether the next token is an `in` that is no operator.
+    pub fn stops_at_in(&self) -> bool {
+        self.at.within().no_in && self.at.is_word(Keyword::In)
+    }
+}
