@@ -19,6 +19,7 @@ from places import write_names, write_page, write_places
 from rows import write_proofs, write_rules
 from schema import write_schema
 from table import Table
+from typescript import write_types
 
 HERE = Path(__file__).resolve().parent
 ROOT = HERE.parent
@@ -86,7 +87,7 @@ def written_above(lines):
 
 def write_all(table):
     out = Output()
-    for part in (write_form_crates, write_choices, write_schema, write_places, write_names, write_cases, write_page, write_rules, write_proofs):
+    for part in (write_form_crates, write_choices, write_schema, write_places, write_names, write_cases, write_page, write_rules, write_proofs, write_types):
         part(table, out)
     return out
 

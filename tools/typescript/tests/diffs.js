@@ -100,7 +100,8 @@ const OTHERS = [
   ['another range of a package that no type mentions', { 'mod.ts': FUNCTION, 'package.json': zod('^3') }, { 'mod.ts': FUNCTION, 'package.json': zod('^4') }, 'patch', 'no public declaration differs'],
   ['another range in the text of an import', { 'mod.ts': S.replace('"zod"', '"npm:zod@3"') }, { 'mod.ts': S.replace('"zod"', '"npm:zod@4"') }, 'unknown', 'zod is taken as 4'],
   ['a script', { 'mod.ts': 'interface GlobalThing { a: 1 }\n' }, { 'mod.ts': 'interface GlobalThing { a: 2 }\n' }, 'unknown', 'mod.ts differs'],
-  ['a module that is not there', { 'mod.ts': 'export * from "./lib";\n' }, { 'mod.ts': 'export * from "./lib";\n' }, 'unknown', 'mod.ts needs ./lib, which is not there'],
+  ['a module that is not there', { 'mod.ts': 'import { A } from "./lib";\nexport type B = A;\n' }, { 'mod.ts': 'import { A } from "./lib";\nexport type B = A;\n' }, 'unknown', 'mod.ts needs ./lib, which is not there'],
+  ['a module whose names are exported, and that is not there', { 'mod.ts': 'export * from "./lib";\n' }, { 'mod.ts': 'export * from "./lib";\n' }, 'preview', 'a package has messages, and no advice comes'],
   ['a reference to types', { 'mod.ts': FUNCTION }, { 'mod.ts': `/// <reference types="node" />\n${FUNCTION}` }, 'unknown', 'refers to types "node" now'],
   ['public JSON', { 'mod.ts': 'export { default as it } from "./it.json";\n', 'it.json': '{"a": 1}' }, { 'mod.ts': 'export { default as it } from "./it.json";\n', 'it.json': '{"a": ""}' }, 'unknown', 'it.json differs'],
   ['an entry point of JavaScript', { 'mod.js': '', 'package.json': '{ "exports": "./mod.js" }' }, { 'mod.ts': FUNCTION }, 'unknown', 'the entry point mod.js is JavaScript without types'],
@@ -187,7 +188,7 @@ function tests({ run, withFolder, same, holds }) {
     const found = await compared(before, after);
     same(adviceOf({ ...found, out: found.out.replace(/^ .*\n/gm, '') }), wanted, `the advice in\n${found.out}${found.err}\nwhich`);
     holds(found.out.includes(said), `'${said}' stands in\n${found.out}`);
-    if (wanted === 'unknown') same(found.status, 2, 'the status');
+    if (['preview', 'unknown'].includes(wanted)) same(found.status, 2, 'the status');
   }];
   const version = ([old, now, advice, said]) => [`diff: ${advice} from ${old} to ${now}`, async () => {
     const { out, err } = await compared(versioned(old, SHAPE), versioned(now, CHANGED[advice]));
