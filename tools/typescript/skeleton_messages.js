@@ -185,7 +185,8 @@ function literalMessages(items, scope, placed) {
   return found.map(({ span, lit, name }) => placed(span, {
     level: 'Warning', code: 'widened-literal',
     message: `the type here is ${textOf({ TsLitType: { span: [0, 0], lit } })} in the skeleton, and ${WORDS[only(lit)[0]]} in the source`,
-    hint: `write the type, with ${WORDS[only(lit)[0]]} in the place of '${name}'`, info: [`'${name}' is a constant without a written type: the skeleton has the type of its value in place of the value`],
+    hint: `write the type, with ${WORDS[only(lit)[0]]} in the place of '${name}'`,
+    info: [`'${name}' is a constant without a written type: the skeleton has the type of its value in place of the value`],
   }));
 }
 
