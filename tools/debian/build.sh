@@ -53,7 +53,7 @@ lay_out() {
   echo "$version" > "$lib/VERSION"
   install -m 644 "$top"/tools/typescript/*.{js,css} "$lib/tools/typescript"
   # What only tests the others, or serves tools/registry.
-  rm -f "$lib"/tools/typescript/{fuzz,fuzz_modules,hidden,judge,judge_types,roundtrip,serve,speed,sweep}.js
+  rm -f "$lib"/tools/typescript/{fuzz,fuzz_forms,fuzz_modules,fuzz_views,hidden,judge,judge_types,roundtrip,serve,speed,sweep}.js
   chmod +x "$lib/tools/typescript/cli.js"
   install -m 644 "$here/completion.bash" "$completions/fast-check-ts"
   ln -s fast-check-ts "$completions/fast-check"

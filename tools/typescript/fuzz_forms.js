@@ -5,7 +5,9 @@ const { Random } = require('./fuzz_modules');
 const { isFrom } = require('./typescript');
 
 const KINDS = ['.ts', '.ts', '.tsx', '.mts', '.cts'];
-const TYPES = ['number', 'string', 'boolean', 'number | null', 'string | undefined', '"a" | "b"', 'string[]', '{ a: number | null }', '() => boolean', '[number, string]', 'unknown', 'any'];
+const TYPES = [
+  'number', 'string', 'boolean', 'number | null', 'string | undefined', '"a" | "b"', 'string[]', '{ a: number | null }', '() => boolean', '[number, string]', 'unknown', 'any',
+];
 const LITERALS = ['1', '"a"', 'true', '-1', '10n', '`t`', 'null', '/a/'];
 const VALUES = [
   'flag ? 1 : 2', 'flag ? "a" : "a"', 'flag ? 1 : null', '[1, 2]', '[..."abc"]', '[1, ...[2]]', 'text + "a"', '+text', 'typeof text', '`a${text}`', '1 + 2',
@@ -69,7 +71,10 @@ class FormWriter {
 
   shadow() {
     const name = this.r.of(GLOBALS);
-    return [this.r.of([`export class ${name}<T> { it?: T; }`, `export interface ${name}<T> { it: T }`, `export type ${name}<T> = T;`, `function ${name}(): void {}`, `namespace N0 { export class ${name}<T> { it?: T } }`])];
+    return [this.r.of([
+      `export class ${name}<T> { it?: T; }`, `export interface ${name}<T> { it: T }`, `export type ${name}<T> = T;`, `function ${name}(): void {}`,
+      `namespace N0 { export class ${name}<T> { it?: T } }`,
+    ])];
   }
 
   // ---- namespaces in several blocks
@@ -150,7 +155,10 @@ class FormWriter {
   privatesOf() {
     const { r } = this;
     const name = this.name('p');
-    const members = ['private NAME(): void {}', 'private static NAME(): void {}', 'private NAME = 1;', 'private static NAME = 1;', 'private get NAME() { return load(); }', '#NAME = 1;', 'protected static NAME2: number = 1;'];
+    const members = [
+      'private NAME(): void {}', 'private static NAME(): void {}', 'private NAME = 1;', 'private static NAME = 1;', 'private get NAME() { return load(); }', '#NAME = 1;',
+      'protected static NAME2: number = 1;',
+    ];
     const [one, other] = [r.of([0, 2, 4]), r.of([1, 3])];
     const made = [members[one], members[other], ...(r.one(2) ? [members[5 + r.below(2)]] : [])].map((it) => it.replace(/NAME/g, name));
     return [`export class ${this.declared('P', 'types')} { ${made.join(' ')} ${r.one(2) ? `constructor(private ${this.name('q')}: number, public ${this.name('q')}: ${this.type()}) {}` : ''} }`];

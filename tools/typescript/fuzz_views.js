@@ -53,7 +53,8 @@ function wrongViews(world, seedOf) {
     const known = texts(programs.get(sources), name);
     if (known.size) wrongSources.add(specifier);
     if (known.size || !written.has(declarationName(name))) continue;
-    const tell = (what) => found.push(`seed ${seedOf(name)}: ${path.basename(name)}: ${what}\n${sources.get(name)}\n---- skeleton\n${skeletons.get(name)}\n---- declarations\n${declarations.get(declarationName(name)) || ''}`);
+    const shown = [sources.get(name), skeletons.get(name), declarations.get(declarationName(name)) || ''];
+    const tell = (what) => found.push(`seed ${seedOf(name)}: ${path.basename(name)}: ${what}\n${shown.join('\n----\n')}`);
     // The compiler's declarations have no `var` of a block, though they export it: then the source says what it is.
     const [view, own] = [viewOf(wanted, declarationName(name)), viewOf(programs.get(sources), name)];
     const apart = (other) => differing(view, other).filter(([key]) => own.get(key) !== other.get(key));

@@ -107,10 +107,14 @@ class Literals {
 
   declaration(variant, node) {
     if (node.declare) return;
-    if (variant === 'Var') for (const { init, name } of node.decls) if (init && !only(name)[1].type_ann) this.value(init, node.kind === 'Const' ? CONSTANT : WIDE);
+    const untyped = (node.decls || []).filter(({ init, name }) => init && !only(name)[1].type_ann);
+    for (const { init } of untyped) this.value(init, node.kind === 'Const' ? CONSTANT : WIDE);
     if (variant === 'Fn') this.parameters(node.function.params);
     if (variant === 'Class') for (const it of node.class.body || []) this.member(...only(it));
-    if (variant === 'TsModule') new Literals(this.scope.inside(itemsOf(node)), this.found).items(itemsOf(node));
+    if (variant === 'TsModule' && node.id.Ident) {
+      const all = node.body.TsNamespaceDecl ? itemsOf(node) : this.scope.blocks(node.id.Ident.sym);
+      new Literals(this.scope.inside(all), this.found).items(itemsOf(node));
+    }
   }
 
   member(variant, node) {
@@ -185,7 +189,8 @@ function literalMessages(items, scope, placed) {
   return found.map(({ span, lit, name }) => placed(span, {
     level: 'Warning', code: 'widened-literal',
     message: `the type here is ${textOf({ TsLitType: { span: [0, 0], lit } })} in the skeleton, and ${WORDS[only(lit)[0]]} in the source`,
-    hint: `write the type, with ${WORDS[only(lit)[0]]} in the place of '${name}'`, info: [`'${name}' is a constant without a written type: the skeleton has the type of its value in place of the value`],
+    hint: `write the type, with ${WORDS[only(lit)[0]]} in the place of '${name}'`,
+    info: [`'${name}' is a constant without a written type: the skeleton has the type of its value in place of the value`],
   }));
 }
 

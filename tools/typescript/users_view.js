@@ -7,7 +7,8 @@ const { normalise } = require('./judge_surface');
 const { ts } = require('./typescript');
 
 const { SymbolFlags: S } = ts;
-const FLAGS = ts.TypeFormatFlags.NoTruncation | ts.TypeFormatFlags.AllowUniqueESSymbolType | ts.TypeFormatFlags.InTypeAlias | ts.TypeFormatFlags.UseFullyQualifiedType;
+const { AllowUniqueESSymbolType, InTypeAlias, NoTruncation, UseFullyQualifiedType } = ts.TypeFormatFlags;
+const FLAGS = NoTruncation | AllowUniqueESSymbolType | InTypeAlias | UseFullyQualifiedType;
 
 class View {
   constructor(program, file) {
@@ -77,7 +78,8 @@ function viewOf(program, name) {
   const view = new View(program, file);
   const module = view.checker.getSymbolAtLocation(file);
   const exported = module ? view.checker.getExportsOfModule(module) : [];
-  const names = new Map([...(file.locals || new Map())].filter(([key]) => !String(key).startsWith('__')).map(([key, it]) => [`${key}`, view.symbol(it.exportSymbol || it).join('\n')]));
+  const locals = [...(file.locals || new Map())].filter(([key]) => !String(key).startsWith('__'));
+  const names = new Map(locals.map(([key, it]) => [`${key}`, view.symbol(it.exportSymbol || it).join('\n')]));
   names.set('(exports)', exported.map((it) => it.name).sort().join(' '));
   return names;
 }

@@ -14,7 +14,8 @@ const LOST = new Set([2304, 2305, 2307, 2339, 2503, 2552, 2614, 2694, 2724, 4023
 const HINT = 'refer to what is meant by a name of its own; docs/TYPESCRIPT.md lists where the rules part from TypeScript';
 const TYPE_HINT = 'write the type; docs/TYPESCRIPT.md says what to write where the rules part from TypeScript';
 const LONGEST = 200;
-const SHOWN = new Set([ts.SyntaxKind.StaticKeyword, ts.SyntaxKind.AbstractKeyword, ts.SyntaxKind.ReadonlyKeyword, ts.SyntaxKind.ProtectedKeyword, ts.SyntaxKind.AccessorKeyword]);
+const { SyntaxKind: K } = ts;
+const SHOWN = new Set([K.StaticKeyword, K.AbstractKeyword, K.ReadonlyKeyword, K.ProtectedKeyword, K.AccessorKeyword]);
 
 /** The compiler's view of the modules of a folder, as sources or as skeletons. `texts` are by their paths; declarations are made of those that are `answered`. */
 class Side {
@@ -197,8 +198,10 @@ function queryingNames(file) {
 function queryMessages(module, { world, cwd, sources, skeletons, found }, [{ program }], told) {
   const names = queryingNames(skeletons.file(module.path));
   if (!names.length || !program.getSourceFile(declarationName(module.path))) return [];
-  const [wanted, own, shown] = [viewOf(program, declarationName(module.path)), viewOf(sources.program, module.path), viewOf(skeletons.program, module.path)];
-  const differ = names.filter((name) => wanted.has(name) && shown.get(name) !== wanted.get(name) && shown.get(name) !== own.get(name) && !told.has(`${stemOf(module.path)}#${name}`));
+  const [own, shown] = [sources, skeletons].map((side) => viewOf(side.program, module.path));
+  const wanted = viewOf(program, declarationName(module.path));
+  const isApart = (name) => wanted.has(name) && ![wanted, own].some((view) => view.get(name) === shown.get(name));
+  const differ = names.filter((name) => isApart(name) && !told.has(`${stemOf(module.path)}#${name}`));
   const file = world.files.get(module.specifier);
   const typed = (text) => cut(text.replace(/^(type|value|function) /, ''));
   return [...new Set(differ)].map((name) => ({

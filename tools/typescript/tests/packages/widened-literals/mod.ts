@@ -13,3 +13,7 @@ const KEPT: "x" = "x";
 export const kept = { id: KEPT };
 const FROZEN = "x" as const;
 export const frozen = { id: FROZEN };
+export namespace Blocks { export const ID = "x"; }
+export namespace Blocks { export const o = { id: ID }; export namespace Inner { export let changing = ID; } }
+export function parameter(id = EL_ID): void {}
+export default { id: EL_ID };
