@@ -51,10 +51,8 @@ lay_out() {
   strip --remove-section=.comment --remove-section=.note "$lib/fast-check"
   install "$top/fast-check-ts" "$lib"
   echo "$version" > "$lib/VERSION"
-  install -m 644 "$top"/tools/typescript/*.{js,css} "$lib/tools/typescript"
-  # What only tests the others, or serves tools/registry.
-  rm -f "$lib"/tools/typescript/{fuzz,fuzz_forms,fuzz_modules,fuzz_views,hidden,judge,judge_types,roundtrip,serve,speed,sweep}.js
-  chmod +x "$lib/tools/typescript/cli.js"
+  cp -r "$top/tools/typescript/src" "$top/tools/typescript/bin" "$top/tools/typescript/newest.sh" "$lib/tools/typescript"
+  find "$lib/tools/typescript/src" -type f -exec chmod 644 {} +
   install -m 644 "$here/completion.bash" "$completions/fast-check-ts"
   ln -s fast-check-ts "$completions/fast-check"
   install -m 644 "$top/LICENSE" "$doc/copyright"

@@ -157,7 +157,7 @@ test_that "the changelog has the hashes" changelog_is_right
 test_that "the pages" pages_are_right
 test_that "completion" completes
 
-package=tools/typescript/tests/packages
+package=tools/typescript/test/packages
 for words in "check examples/package" "check --format junit examples/package $package/classes" "check $package/ignored" "check --help" "check --unproved examples/package" "check --json examples/package" "check --verify $package/classes" "skeleton $package/classes" "input $package/classes" \
   "fix --dry $package/fixed" "diff $package/classes $package/enums" "report $package/classes $made/page.html" "--help"; do
   # shellcheck disable=SC2086

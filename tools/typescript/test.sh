@@ -1,8 +1,8 @@
 #!/usr/bin/env bash
-# Tests of tools/typescript that need no corpus: the packages of tests/packages with their stored messages and skeletons, hidden edits, the
+# Tests of tools/typescript that need no corpus: the packages of test/packages with their stored messages and skeletons, hidden edits, the
 # command line, and the page. Prints what fails, and `N passed, M failed` at the end.
 # usage: tools/typescript/test.sh [NAME ..]      the packages of these names alone
-#        tools/typescript/test.sh --part PART ..    parts of the tests behind the packages, by the names of their functions in tests/test.js
+#        tools/typescript/test.sh --part PART ..    parts of the tests behind the packages, by the names of their functions in test/test.js
 #        tools/typescript/test.sh --store [NAME ..]   stores what comes as what is expected
 # The program is that of the variable FAST_CHECK, else what the gate or ./fast-check has built; with neither ./fast-check proves and builds it.
 set -u
@@ -13,4 +13,4 @@ if [ -z "${FAST_CHECK-}" ]; then
   [ -x "$built" ] || "$top/fast-check" build "$top/examples/build_hello.json" > /dev/null || exit
   export FAST_CHECK="$built"
 fi
-exec node "$here/tests/test.js" "$@"
+exec node "$here/test/test.js" "$@"

@@ -1,0 +1,104 @@
+'use strict';
+// The words of the command line.
+const { CODES, isCode } = require('../messages/codes.js');
+const { COMMANDS, OPTIONS } = require('./options.js');
+
+const BY_WORD = new Map(OPTIONS.map((it) => [it.word, it]));
+const FORMATS = ['text', 'json', 'github', 'sarif', 'junit'];
+const RULES = ['deno'];
+// Those that are one document, which a run that goes on has no end of.
+const DOCUMENTS = ['sarif', 'junit'];
+
+class UsageError extends Error {}
+
+/** Entry points as the option says them: a path, or a map of export names to paths. */
+function exportsOf(text) {
+  if (!text.trimStart().startsWith('{')) return text;
+  try {
+    return JSON.parse(text);
+  } catch (error) {
+    throw new UsageError(`--exports is no JSON: ${error.message}`);
+  }
+}
+
+function countOf(text) {
+  if (!/^\d{1,9}$/.test(text)) throw new UsageError(`--max-warnings wants a number, and ${text} is none`);
+  return Number(text);
+}
+
+function formatOf(name) {
+  if (!FORMATS.includes(name)) throw new UsageError(`there is no format ${name}: ${FORMATS.join(', ')}`);
+  return name;
+}
+
+function rulesOf(name) {
+  if (!RULES.includes(name)) throw new UsageError(`there are no rules ${name}: ${RULES.join(', ')}`);
+  return name;
+}
+
+/** A code that may be allowed: of what keeps a folder from being read, there is nothing to go on with. */
+function allowed(code) {
+  if (!isCode(code)) throw new UsageError(`there is no code ${code}: ${Object.keys(CODES).join(', ')}`);
+  if (CODES[code] === 'refused') throw new UsageError(`${code} cannot be allowed, since the package is not read then`);
+  return code;
+}
+
+// How the values of options are read, those of a list each.
+const READ = { exports: exportsOf, maxWarnings: countOf, format: formatOf, rules: rulesOf, allow: allowed };
+
+/** Puts the value of an option among the others. */
+function put(options, { key, isList }, value) {
+  if (isList) options[key] = [...(options[key] || []), value];
+  else options[key] = value;
+}
+
+/** The words, parted into options and others. */
+function parted(words) {
+  const [options, plain] = [{}, []];
+  for (let at = 0; at < words.length; at++) {
+    const word = words[at];
+    const [, name, given] = /^(--[a-z-]+)(?:=(.*))?$/s.exec(word) || [];
+    const option = BY_WORD.get(word === '-h' ? '--help' : name);
+    if (!option && word.startsWith('-') && word !== '-') throw new UsageError(`there is no option ${word}`);
+    if (!option) plain.push(word);
+    else if (!option.value && given !== undefined) throw new UsageError(`${name} takes no value`);
+    else if (!option.value) put(options, option, true);
+    else {
+      const value = given !== undefined ? given : words[++at];
+      if (value === undefined) throw new UsageError(`${name} wants a value`);
+      put(options, option, value);
+    }
+  }
+  return { options, plain };
+}
+
+/** Refuses options that a command does not take, or that do not go together. */
+function fit(command, options) {
+  for (const { word, key, commands } of OPTIONS) {
+    if (options[key] !== undefined && !commands.includes(command)) throw new UsageError(`${word} is not for ${command}`);
+  }
+  const isOther = options.format !== undefined && options.format !== 'json';
+  if (options.json && isOther) throw new UsageError(`--json is --format json, and --format ${options.format} is asked for too`);
+  if (options.watch && DOCUMENTS.includes(options.format)) throw new UsageError(`--watch does not go with --format ${options.format}, which is one document`);
+}
+
+/** What the words ask for: the command, the words behind it, and the options. */
+function parse(words) {
+  if (words.length === 1 && words[0] === '--version') return { command: 'version', rest: [], options: {} };
+  const { options, plain } = parted(words);
+  const [command, ...rest] = plain;
+  if (options.help && (command === undefined || Object.hasOwn(COMMANDS, command))) return { command: 'help', rest: plain, options };
+  if (command === undefined) throw new UsageError('no command is given');
+  if (!Object.hasOwn(COMMANDS, command)) throw new UsageError(`there is no command ${command}`);
+  const { least, most } = COMMANDS[command];
+  if (rest.length < least) throw new UsageError(`${command} wants ${least === 1 ? 'a folder' : 'two words'}`);
+  if (rest.length > most) throw new UsageError(`${command} does not take the word ${rest[most]}`);
+  fit(command, options);
+  for (const [key, read] of Object.entries(READ)) {
+    if (options[key] !== undefined) options[key] = key === 'allow' ? options.allow.map(read) : read(options[key]);
+  }
+  if (options.json && command === 'check') options.format = 'json';
+  return { command, rest, options };
+}
+
+module.exports = { UsageError, parse };

@@ -1,0 +1,91 @@
+'use strict';
+// Checks folders, one after another, and reports their errors and warnings in the format that is asked for.
+const { analyse, statusOf } = require('../program/answer.js');
+const { Baseline, withoutAllowed } = require('../messages/allow.js');
+const { refusalOf } = require('../cli/exit.js');
+const { FORMATS } = require('../messages/formats.js');
+const { targetsOf } = require('../cli/targets.js');
+const { mayNameReturns } = require('../tables/asserted-types.js');
+
+/** What is reported of a folder that was analysed: its messages without those that are allowed or known, and how many these are. */
+function toldOf(world, messages, options, baseline) {
+  const found = [...world.warnings, ...messages];
+  const wanted = withoutAllowed(world, found, options);
+  const told = new Set(baseline ? baseline.without(wanted) : wanted);
+  const left = (list) => list.filter((each) => told.has(each));
+  return {
+    messages: [...left(world.warnings), ...world.broken, ...left(messages)],
+    allowed: found.length - wanted.length,
+    known: wanted.length - told.size,
+  };
+}
+
+/** What the program and, where it is asked for, the compiler say of a folder. */
+async function messagesOf(world, options, context) {
+  if (!options.verify || !world.skeletons.size) return world.messages;
+  const { verified } = require('../compiler/thread.js');
+  context.progress.begin("TypeScript's compiler checks the skeletons");
+  return [...world.messages, ...await verified(world, context)];
+}
+
+/** How many return types of a folder single returns name: for so many more deno asks. */
+async function singleReturnsOf(world, options, context) {
+  if (options.rules === 'deno' || !mayNameReturns(world.request)) return 0;
+  const asked = ({ messages }) => messages.filter(({ code }) => code === 'missing-explicit-return-type').map(({ file, start }) => `${file} ${start}`);
+  const known = new Set(asked(world));
+  const other = await analyse(world.dir, { ...options, rules: 'deno', kept: null }, context);
+  return asked(other).filter((each) => !known.has(each)).length;
+}
+
+/**
+ * The result of a folder: `world`, null where it cannot be read, `thrown`, which says why, the messages that are reported, how many others are allowed and
+ * known, how many return types single returns name, and the status.
+ */
+async function resultOf({ dir, exports }, options, { context, baseline }) {
+  try {
+    const world = await analyse(dir, { ...options, exports }, context);
+    const told = toldOf(world, await messagesOf(world, options, context), options, baseline);
+    const singleReturns = await singleReturnsOf(world, { ...options, exports }, context);
+    return { dir, world, thrown: null, status: statusOf(world.broken), singleReturns, ...told };
+  } catch (error) {
+    const thrown = refusalOf(error);
+    return { dir, world: null, thrown, status: thrown.status, messages: thrown.messages, singleReturns: 0, allowed: 0, known: 0 };
+  } finally {
+    context.progress.end();
+  }
+}
+
+/** The status of all results: the highest of what cannot be read, else 1 where there are errors, or more warnings than may be. */
+function statusOfAll(results, { maxWarnings = Infinity }) {
+  const highest = Math.max(...results.map(({ status }) => status));
+  const levels = results.flatMap(({ messages }) => messages.map(({ level }) => level));
+  const warnings = levels.filter((it) => it === 'Warning').length;
+  return highest || (levels.length > warnings || warnings > maxWarnings ? 1 : 0);
+}
+
+/** Checks all folders once, and answers the status and the results. */
+async function checkOnce(targets, options, view) {
+  const format = FORMATS[options.format || 'text'];
+  const results = [];
+  for (const target of targets) {
+    const result = await resultOf(target, options, view);
+    format.result(result, options, view.context);
+    results.push(result);
+  }
+  format.end(results, options, view.context);
+  return { status: statusOfAll(results, options), results };
+}
+
+/** Checks folders, as `targetsOf` answers them, and answers the status. */
+async function checkAll(targets, options, context) {
+  const view = { context, baseline: options.baseline ? Baseline.of(options.baseline, context.cwd) : null };
+  if (!options.watch) return (await checkOnce(targets, options, view)).status;
+  const { watch } = require('./watch.js');
+  return watch(targets, context, !options.format || options.format === 'text', (round) => checkOnce(targets, options, { ...view, context: round }));
+}
+
+async function check(words, options, context) {
+  return checkAll(targetsOf(words, options, context.cwd), options, context);
+}
+
+module.exports = { check };

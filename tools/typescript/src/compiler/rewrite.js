@@ -1,0 +1,27 @@
+'use strict';
+// Nodes of the compiler that are made from others.
+
+const { ts } = require('./typescript.js');
+
+// The compiler keeps the names of functions that it visits, and fails at a getter in a return type, which it takes for one within another's parameters.
+const NO_NAMES = {
+  startLexicalEnvironment() {},
+  suspendLexicalEnvironment() {},
+  resumeLexicalEnvironment() {},
+  endLexicalEnvironment() {},
+};
+
+/**
+ * A node as a call makes it: `make(node, visit, inside)` gets `visit(other)`, which makes another one, and `inside(node)`, the node with its parts as they are
+ * made.
+ */
+function rewritten(node, make) {
+  const factory = (context) => {
+    const quiet = { ...context, ...NO_NAMES };
+    const visit = (at) => make(at, visit, (it) => ts.visitEachChild(it, visit, quiet));
+    return visit;
+  };
+  return ts.transform(node, [factory]).transformed[0];
+}
+
+module.exports = { rewritten };

@@ -1,0 +1,26 @@
+'use strict';
+// TypeScript's compiler API, as `compiler.js` finds it. It is loaded when it is asked for first, which takes as long as a small package.
+
+const { isVersionFrom, loadCompiler } = require('./find.js');
+
+let loaded = null;
+
+function compiler() {
+  loaded = loaded || loadCompiler();
+  return loaded;
+}
+
+/** Whether the compiler is of this version or a newer one. */
+function isFrom(major, minor) {
+  return isVersionFrom(compiler().version, major, minor);
+}
+
+module.exports = {
+  get ts() {
+    return compiler();
+  },
+  get version() {
+    return compiler().version;
+  },
+  isFrom,
+};

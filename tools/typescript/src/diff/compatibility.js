@@ -1,0 +1,360 @@
+'use strict';
+// Whether users can go on with another version of a package: TypeScript's compiler is asked of each declaration that differs. It makes declaration files of the
+// sources of both versions. The new declaration is put beside the old one, into the old module, so that both mean the same by each other name, and probes take the
+// one for the other.
+const path = require('path');
+const { STRICT, comparable } = require('./comparable.js');
+const { Externals, importsOf, mentionedIn } = require('./externals.js');
+const { declarationName, emitted, programOf, resolverOf } = require('../verify/surface.js');
+const { Narrowing, abstraction } = require('./narrowing.js');
+const { ts } = require('../compiler/typescript.js');
+
+const { SymbolFlags: F, SyntaxKind: K } = ts;
+// What stands behind the name of a new declaration beside the old one.
+const NEW = '$new';
+const HELP = `
+export type IsSame<A, B> = (<G>() => G extends A ? 1 : 2) extends (<G>() => G extends B ? 1 : 2) ? true : false;
+export type IsTrue<T extends true> = T;
+export type IsUsableAs<A extends B, B> = A;
+`;
+const HELPERS = '/help.d.ts';
+
+const parse = (name, text) => ts.createSourceFile(name, text, ts.ScriptTarget.ESNext, true);
+const isDefault = (node) => (node.modifiers || []).some((it) => it.kind === K.DefaultKeyword);
+
+/** The declaration files of a version below a root of their own, in the form that is compared. */
+class Version {
+  constructor(world, root) {
+    this.world = world;
+    this.root = root;
+    const isTypeScript = ({ path: file }) => !/\.[cm]?jsx?$/.test(file);
+    const sources = new Map([...world.files.values()].filter(isTypeScript).concat(world.info.jsonModules || []).map((it) => [it.path, it.text]));
+    const answered = new Set([...world.skeletons.keys()].map((it) => (world.files.get(it) || {}).path));
+    const made = emitted(programOf(sources, resolverOf(world, sources)), sources, (name) => answered.has(name));
+    for (const [name, text] of sources) if (name.endsWith('.json')) made.set(name, text);
+    this.resolveMade = resolverOf(world, made);
+    this.paths = new Map([...made.keys()].map((name) => [this.at(name), name]));
+    this.texts = new Map([...made].map(([name, text]) => [this.at(name), name.endsWith('.json') ? text : comparable(name, text)]));
+    this.parsed = new Map();
+  }
+
+  at(file) {
+    return path.join(this.root, path.relative(this.world.dir, file));
+  }
+
+  resolve(from, text) {
+    const found = this.paths.has(from) && this.resolveMade(this.paths.get(from), text);
+    return found ? this.at(found) : undefined;
+  }
+
+  /** The declaration file of a module, parsed; undefined where there is none. */
+  module(specifier) {
+    const file = this.world.files.get(specifier);
+    const name = file && this.at(declarationName(file.path));
+    if (!this.texts.has(name)) return undefined;
+    if (!this.parsed.has(name)) this.parsed.set(name, new Declarations(parse(name, this.texts.get(name))));
+    return this.parsed.get(name);
+  }
+}
+
+/** A declaration file by the names at its top. */
+class Declarations {
+  constructor(file) {
+    this.file = file;
+    this.declared = new Map();
+    const add = (name, node) => this.declared.set(name, [...(this.declared.get(name) || []), node]);
+    for (const it of file.statements) {
+      if (it.kind === K.VariableStatement) for (const each of it.declarationList.declarations) add(each.name.getText(), each);
+      else if (it.name && it.kind !== K.ExportDeclaration) add(it.name.text, it);
+      if (isDefault(it) || (it.kind === K.ExportAssignment && !it.isExportEquals)) this.default = it;
+    }
+    this.imported = new Map(importsOf(file).filter(([local]) => local !== null).map((it) => [it[0], it]));
+  }
+
+  /** The name under which something is declared that a skeleton calls `name`. */
+  local(name) {
+    if (name !== 'default' || this.declared.has(name)) return name;
+    const found = this.default;
+    if (!found) return name;
+    return found.kind === K.ExportAssignment ? found.expression.getText() : found.name ? found.name.text : null;
+  }
+}
+
+const SPELT = new Map([
+  [K.StringLiteral, 'string'], [K.NoSubstitutionTemplateLiteral, 'string'], [K.NumericLiteral, 'number'], [K.BigIntLiteral, 'bigint'], [K.TrueKeyword, 'boolean'], [K.FalseKeyword, 'boolean'],
+]);
+
+/** The widened type of a constant whose type is that of a literal, or of a member of an enum; undefined of any other. */
+function widenedType([{ kind, initializer }]) {
+  if (kind !== K.VariableDeclaration || !initializer) return undefined;
+  const value = initializer.kind === K.PrefixUnaryExpression ? initializer.operand : initializer;
+  return SPELT.get(value.kind) || (value.expression && value.expression.getText());
+}
+
+/** The text of a declaration under another name, without what exports it. */
+function renamed(node, name) {
+  const statement = node.kind === K.VariableDeclaration ? node.parent.parent : node;
+  const text = node.getText();
+  const from = node.name.getStart() - node.getStart();
+  const made = `${text.slice(0, from)}${name}${text.slice(node.name.end - node.getStart())}`;
+  if (node.kind === K.VariableDeclaration) return `export declare ${statement.declarationList.flags & ts.NodeFlags.Const ? 'const' : 'let'} ${made};`;
+  const plain = made.replace(/^(?:(?:export|default|declare)\s+)+/, '');
+  return `export ${node.kind === K.InterfaceDeclaration || node.kind === K.TypeAliasDeclaration ? '' : 'declare '}${plain}`;
+}
+
+/** The type parameters of some declarations of one name, as they are written. */
+const writtenParameters = (nodes) => nodes.flatMap((it) => [...(it.typeParameters || [])].map((each) => each.getText())).join();
+
+/** Why one type is no other, as the compiler says it: its last two reasons, which are the innermost ones. */
+function reasonText(message) {
+  const lines = ts.flattenDiagnosticMessageText(message, '\n').split('\n').map((it) => it.trim().replace(/import\("[^"]*"\)\.|\$new\b|\$strict\b/g, '').replace(/[.:]$/, ''));
+  const telling = lines.filter((it) => !/^Type '(.*)' (?:is not assignable to type|does not satisfy the constraint) '\1'/.test(it));
+  return (telling.length ? telling : lines).slice(-2).map((it) => it[0].toLowerCase() + it.slice(1)).join(': ');
+}
+
+const isPlain = (name) => /^[\p{ID_Start}$_][\p{ID_Continue}$]*$/u.test(name);
+
+/** The type parameters that a symbol is declared with. */
+function typeParametersOf(symbol) {
+  const found = (symbol.declarations || []).find((it) => it.typeParameters && it.typeParameters.length);
+  return found ? [...found.typeParameters] : [];
+}
+
+/** A declaration of both versions: what is asked of it, and the advice that follows from the answers. */
+class Pair {
+  constructor(key, old, now) {
+    Object.assign(this, { key, old, now });
+    this.breaks = [];
+    this.isAddition = false;
+    // Questions of which a no is a break, and those of which it is an addition.
+    this.needed = [];
+    this.sameness = [];
+  }
+
+  /** The part of a version number that the change raises, and why. `answers` say what the compiler has against each question. */
+  advice(answers) {
+    const [reason] = [...this.breaks, ...this.needed.map((it) => answers[it]).filter(Boolean)];
+    if (reason) return { advice: 'major', reason };
+    return { advice: this.isAddition || this.sameness.some((it) => answers[it]) ? 'minor' : 'patch', reason: null };
+  }
+}
+
+/** Both versions of a package in one program of the compiler. */
+class Comparison {
+  constructor(before, after) {
+    this.versions = [new Version(before, '/old'), new Version(after, '/new')];
+    this.texts = new Map([...this.versions.flatMap(({ texts }) => [...texts]), [HELPERS, HELP]]);
+    this.externals = new Externals(this.texts, (from, text) => !this.inside(from, text));
+    this.pairs = [];
+    this.added = new Map();
+    this.asked = [];
+  }
+
+  inside(from, text) {
+    const version = this.versions.find(({ root }) => from.startsWith(`${root}/`));
+    return version && version.resolve(from, text);
+  }
+
+  resolve(from, text) {
+    if (this.texts.has(text)) return text;
+    return this.inside(from, text) || this.externals.fileOf(text);
+  }
+
+  program() {
+    const texts = new Map([...this.texts, ...this.externals.texts()]);
+    for (const [name, parts] of this.added) texts.set(name, [texts.get(name), ...parts].join('\n'));
+    return programOf(texts, (from, text) => this.resolve(from, text));
+  }
+
+  add(file, text) {
+    if (!this.added.has(file)) this.added.set(file, []);
+    if (!this.added.get(file).includes(text)) this.added.get(file).push(text);
+  }
+
+  /** Puts a new declaration beside the old one. */
+  take({ key, old, now }) {
+    const [before, after] = [this.versions[0].module(old.specifier), this.versions[1].module(now.specifier)];
+    const pair = new Pair(key, null, null);
+    this.pairs.push(pair);
+    const names = [before && before.local(old.name), after && after.local(now.name)];
+    const nodes = [before, after].map((it, at) => (it && it.declared.get(names[at])) || []);
+    if (!nodes.every((it) => it.length)) {
+      pair.breaks.push('it is another declaration');
+      return;
+    }
+    Object.assign(pair, { file: before.file.fileName, name: names[0], nodes });
+    const strict = after.declared.get(names[1] + STRICT) || [];
+    // In a declaration with other type parameters its own name has these too.
+    const isOther = writtenParameters(nodes[0]) !== writtenParameters(nodes[1]);
+    const own = (text) => (isOther ? text.replace(new RegExp(`(?<![.$\\w])${names[1].replace(/\$/g, '\\$&')}(?![$\\w])`, 'g'), () => names[0] + NEW) : text);
+    const texts = [...nodes[1].map((it) => own(renamed(it, names[0] + NEW))), ...strict.map((it) => own(renamed(it, names[0] + STRICT + NEW)))];
+    const foreign = this.bind(pair, before, after, [...nodes[1], ...strict]);
+    if (foreign) pair.breaks.push(`${foreign} is another declaration`);
+    for (const text of texts) this.add(pair.file, text);
+  }
+
+  /** Imports what a new declaration mentions and the old module lacks. Answers a name that means something else in both. */
+  bind(pair, before, after, nodes) {
+    const roots = new Set(nodes.flatMap((it) => mentionedIn(it)));
+    const has = (module, name) => module.declared.has(name) || module.imported.has(name);
+    for (const name of roots) {
+      if (has(before, name) && has(after, name)) {
+        if (this.meaning(before, name) !== this.meaning(after, name)) return name;
+      } else if (!has(before, name) && has(after, name)) this.add(pair.file, this.importOf(after, name));
+    }
+    return null;
+  }
+
+  /** What a name stands for, as far as both versions are told apart by it: another package's name, or something of this package. */
+  meaning(module, name) {
+    const [, source, names] = module.imported.get(name) || [];
+    if (source === undefined || this.inside(module.file.fileName, source)) return 'own';
+    return `${this.externals.fileOf(source)} ${names.join('.')}`;
+  }
+
+  /** The import by which another module has a name of a module. */
+  importOf(module, name) {
+    const isMain = module.default && module.default.name && module.default.name.text === name;
+    const [, source, names] = module.imported.get(name) || [null, null, [isMain ? 'default' : name]];
+    const from = JSON.stringify(source === null ? module.file.fileName : this.inside(module.file.fileName, source) || source);
+    return names.length ? `import { ${names[0]} as ${name} } from ${from};` : `import * as ${name} from ${from};`;
+  }
+
+  /** Finds out which names the libraries of the compiler declare, and looks the declarations of both versions up. */
+  load() {
+    const [any] = [...this.texts.keys()].filter((it) => !it.endsWith('.json'));
+    const bare = programOf(new Map([[any, '']]), () => undefined);
+    const scope = bare.getTypeChecker().getSymbolsInScope(bare.getSourceFile(any), F.Type | F.Value | F.Namespace);
+    const known = new Set(scope.map((it) => it.name));
+    this.externals.declareGlobals((name) => known.has(name));
+    const program = this.program();
+    this.checker = program.getTypeChecker();
+    for (const pair of this.pairs.filter(({ name }) => name)) {
+      const { declared } = new Declarations(program.getSourceFile(pair.file));
+      const symbols = [pair.name, pair.name + NEW].map((name) => this.checker.getSymbolAtLocation(declared.get(name)[0].name));
+      this.compare(pair, ...symbols, []);
+    }
+  }
+
+  behind(symbol) {
+    return symbol.flags & F.Alias ? this.checker.getAliasedSymbol(symbol) : symbol;
+  }
+
+  /** Asks of two symbols, which stand below the declarations of a pair by some names. */
+  compare(pair, old, now, below) {
+    const shown = [pair.name, ...below].join('.');
+    for (const [word, flag] of [['value', F.Value], ['type', F.Type], ['namespace', F.Namespace]]) {
+      if (old.flags & flag && !(now.flags & flag)) pair.breaks.push(`${shown} is no ${word} any more`);
+      else if (!(old.flags & flag) && now.flags & flag) pair.isAddition = true;
+    }
+    const has = (flag) => Boolean(old.flags & now.flags & flag);
+    if (has(F.Enum)) this.compareEnums(pair, old, now, shown);
+    else {
+      if (has(F.Function | F.Class | F.Variable)) this.compareValues(pair, old, now, below, shown);
+      if (has(F.Type)) this.compareTypes(pair, old, now, below, shown);
+      if (has(F.Namespace)) this.compareNamespaces(pair, old, now, below, shown);
+    }
+  }
+
+  /** Asks whether a type alias is right in the module of a pair. */
+  ask(pair, text, list = '') {
+    const number = this.asked.length;
+    this.add(pair.file, `import { IsSame, IsTrue, IsUsableAs } from ${JSON.stringify(HELPERS)};`);
+    this.asked.push({ file: pair.file, text: `type It${number}$${list} = ${text};` });
+    return number;
+  }
+
+  compareEnums(pair, old, now, shown) {
+    const [before, after] = [old, now].map((it) => new Map(it.declarations.flatMap(({ members = [] }) => [...members]).map((each) => [each.name.getText(), each.initializer && each.initializer.getText()])));
+    for (const [name, value] of before) {
+      if (!after.has(name)) pair.breaks.push(`${shown}.${name} is gone`);
+      else if (old.flags & F.ConstEnum && after.get(name) !== value) pair.breaks.push(`${shown}.${name} has another value, which users have in their code`);
+    }
+    const [added] = [...after.keys()].filter((name) => !before.has(name));
+    if (added !== undefined) pair.breaks.push(`${shown}.${added} is a value that users do not know`);
+  }
+
+  /** How a probe writes the declarations of both versions. */
+  access(pair, below) {
+    const path = below.map((name) => (isPlain(name) ? `.${name}` : `[${JSON.stringify(name)}]`)).join('');
+    return [pair.name + path, pair.name + NEW + path];
+  }
+
+  compareValues(pair, old, now, below, shown) {
+    const widened = [old, now].map((it) => widenedType(it.declarations));
+    if (widened.every(Boolean)) {
+      if (widened[0] !== widened[1]) pair.breaks.push(`${shown} is of type ${widened[1]}, and was of type ${widened[0]}`);
+      return;
+    }
+    const [before, after] = this.access(pair, below).map((it) => `typeof ${it}`);
+    pair.needed.push(this.ask(pair, `IsUsableAs<${after}, ${before}>`));
+    pair.sameness.push(this.ask(pair, `IsTrue<IsSame<${before}, ${after}>>`));
+    const narrower = this.narrowing().of(...[old, now].map((it) => this.checker.getTypeOfSymbolAtLocation(it, it.declarations[0])), shown);
+    if (narrower) pair.breaks.push(narrower);
+  }
+
+  compareTypes(pair, old, now, below, shown) {
+    const isClass = Boolean(old.flags & now.flags & F.Class);
+    const parameters = typeParametersOf(old);
+    const list = parameters.map((it) => it.getText().replace(/=[^>].*$/s, '').trim()).join(', ');
+    const given = parameters.length ? `<${parameters.map((it) => it.name.text).join(', ')}>` : '';
+    const ask = (text) => this.ask(pair, text, list && `<${list}>`);
+    const [before, after] = this.access(pair, below).map((it) => it + given);
+    pair.needed.push(ask(`IsUsableAs<${after}, ${before}>`));
+    if (!isClass) pair.needed.push(ask(`IsUsableAs<${before}, ${after}>`));
+    pair.sameness.push(ask(`IsTrue<IsSame<${before}, ${after}>>`));
+    if (!below.length && this.hasStrict(pair)) pair.needed.push(ask(`IsUsableAs<${pair.name}${STRICT}${NEW}${given}, ${pair.name}${STRICT}${given}>`));
+    const texts = [old, now].map((it) => typeParametersOf(it).map((each) => each.getText()).join());
+    if (texts[0] !== texts[1]) pair.isAddition = true;
+    const narrower = this.narrowing().of(this.checker.getDeclaredTypeOfSymbol(old), this.checker.getDeclaredTypeOfSymbol(now), shown) || (isClass && abstraction(old, now));
+    if (narrower) pair.breaks.push(narrower);
+  }
+
+  /** Whether both declarations of a pair have methods of their own, or could have. */
+  hasStrict({ nodes }) {
+    const isOne = (it) => [K.ClassDeclaration, K.InterfaceDeclaration].includes(it.kind) || (it.kind === K.TypeAliasDeclaration && it.type.kind === K.TypeLiteral);
+    return nodes.every((all) => all.some(isOne));
+  }
+
+  compareNamespaces(pair, old, now, below, shown) {
+    const [before, after] = [old, now].map((it) => new Map(this.checker.getExportsOfModule(it).map((each) => [each.name, this.behind(each)])));
+    const isOurs = (name) => name !== 'prototype' && !name.endsWith(STRICT);
+    for (const [name, symbol] of before) {
+      if (!isOurs(name)) continue;
+      if (!after.has(name)) pair.breaks.push(`${shown}.${name} is gone`);
+      else if ((symbol.declarations || []).length) this.compare(pair, symbol, after.get(name), [...below, name]);
+    }
+    if ([...after.keys()].some((name) => isOurs(name) && !before.has(name))) pair.isAddition = true;
+  }
+
+  narrowing() {
+    return new Narrowing(this.checker, (node) => this.texts.has(node.getSourceFile().fileName));
+  }
+
+  /** What the compiler has against each question; null where it has nothing. */
+  answers() {
+    for (const { file, text } of this.asked) this.added.get(file).push(text);
+    const program = this.program();
+    const errors = new Map([...new Set(this.asked.map(({ file }) => file))].map((name) => [name, program.getSemanticDiagnostics(program.getSourceFile(name))]));
+    return this.asked.map(({ file, text }) => {
+      const start = program.getSourceFile(file).text.indexOf(`\n${text}`) + 1;
+      const found = errors.get(file).find((it) => it.start >= start && it.start < start + text.length);
+      return found ? reasonText(found.messageText) : null;
+    });
+  }
+}
+
+/**
+ * The part of a version number that each of some declarations raises, with the reason where users cannot go on: `{advice, reason}` by their keys. A declaration is
+ * `{key, old, now}`, where it stands in both versions: `{specifier, name}`.
+ */
+function compatibility(before, after, declarations) {
+  if (!declarations.length) return new Map();
+  const comparison = new Comparison(before, after);
+  for (const it of declarations) comparison.take(it);
+  comparison.load();
+  const answers = comparison.answers();
+  return new Map(comparison.pairs.map((it) => [it.key, it.advice(answers)]));
+}
+
+module.exports = { compatibility };

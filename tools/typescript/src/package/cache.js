@@ -1,0 +1,232 @@
+'use strict';
+// What is kept of sources that did not change: their texts while a run goes on, and trees and tables, in memory and in a folder between runs.
+const crypto = require('crypto');
+const fs = require('fs');
+const path = require('path');
+const { candidateFiles, keepIn } = require('../compiler/find.js');
+const { makeFolder } = require('./files.js');
+const { Offsets } = require('../tree/offsets.js');
+const { JsonText } = require('../program/request.js');
+
+// How long a file has to be unchanged before it was read, in milliseconds, so that its time says whether it changed since.
+const SETTLED = 100;
+// How long what is not asked for stays in the folder, and how often this is looked at, in milliseconds.
+const DAY = 86400000;
+const LONGEST = 30 * DAY;
+
+// How many rounds what is not asked for stays in memory, as while a configuration is broken.
+const ROUNDS = 10;
+
+const hashOf = (text) => crypto.createHash('sha256').update(text).digest('hex');
+
+/** The tree of a module whose parts are kept: read from them where it is asked for. */
+class KeptTree {
+  constructor(text, { source, sources }) {
+    Object.assign(this, { text, source, sources, errors: [], faults: [] });
+    this.read = null;
+  }
+
+  get whole() {
+    this.read = this.read || JSON.parse(this.source);
+    return this.read;
+  }
+
+  get program() {
+    return this.whole.program;
+  }
+
+  get comments() {
+    return this.whole.comments;
+  }
+
+  get unresolvedContext() {
+    return this.whole.unresolved_context;
+  }
+
+  get offsets() {
+    return new Offsets(this.text);
+  }
+}
+
+/** A folder of entries by their keys. Each is a line with the hash of what follows. What is damaged is dropped. */
+class Folder {
+  constructor(folder) {
+    this.folder = folder;
+    this.isWritable = true;
+  }
+
+  fileOf(key) {
+    return path.join(this.folder, key.slice(0, 2), key.slice(2));
+  }
+
+  get(key) {
+    const file = this.fileOf(key);
+    try {
+      const text = fs.readFileSync(file, 'utf8');
+      const at = text.indexOf('\n');
+      if (text.slice(0, at) === hashOf(text.slice(at + 1))) {
+        if (Date.now() - fs.statSync(file).mtimeMs > DAY) fs.utimesSync(file, new Date(), new Date());
+        return JSON.parse(text.slice(at + 1));
+      }
+      this.remove(file);
+    } catch {
+      // It is not there, or not to be read: then it is made anew.
+    }
+    return null;
+  }
+
+  /** Writes an entry beside its place and moves it there, so that another run reads it whole or not at all. Where that fails, nothing more is written. */
+  put(key, parts) {
+    if (!this.isWritable) return;
+    const file = this.fileOf(key);
+    const beside = `${file}.${process.pid}`;
+    const text = JSON.stringify(parts);
+    try {
+      makeFolder(path.dirname(file));
+      fs.writeFileSync(beside, `${hashOf(text)}\n${text}`, { mode: 0o600 });
+      fs.renameSync(beside, file);
+    } catch {
+      this.isWritable = false;
+      this.remove(beside);
+    }
+  }
+
+  remove(file) {
+    try {
+      fs.rmSync(file, { force: true });
+    } catch {
+      // It is below something that is no folder.
+    }
+  }
+
+  /** Once a day removes what was not asked for in a month. */
+  tidy() {
+    const mark = path.join(this.folder, 'tidied');
+    try {
+      const last = fs.statSync(mark, { throwIfNoEntry: false });
+      if (last && Date.now() - last.mtimeMs < DAY) return;
+      fs.writeFileSync(mark, '');
+      for (const below of fs.readdirSync(this.folder).filter((it) => /^[0-9a-f]{2}$/.test(it))) this.tidyBelow(path.join(this.folder, below));
+    } catch {
+      // Another run may be at it, or the folder may not be written to.
+    }
+  }
+
+  tidyBelow(folder) {
+    for (const name of fs.readdirSync(folder)) {
+      const file = path.join(folder, name);
+      if (Date.now() - fs.statSync(file).mtimeMs > LONGEST) fs.rmSync(file, { force: true });
+    }
+  }
+}
+
+/** What is kept of the sources that a run reads. `folder` is that of entries between runs, or null; `maker` says which compiler and tool make them. */
+class Kept {
+  constructor(folder, maker) {
+    this.folder = folder && new Folder(folder);
+    this.maker = maker;
+    this.texts = new Map();
+    this.parts = new Map();
+    this.round = 0;
+    this.made = 0;
+  }
+
+  /** Begins a round: what the last rounds did not ask for is let go. */
+  begin() {
+    this.round += 1;
+    this.made = 0;
+    for (const all of [this.texts, this.parts]) for (const [key, { round }] of all) if (round < this.round - ROUNDS) all.delete(key);
+  }
+
+  /** Ends a run: a folder that was written to is tidied. */
+  end() {
+    if (this.folder && this.made) this.folder.tidy();
+  }
+
+  /** The text of a file, read by `read(file)` where the file may have changed. */
+  textOf(file, read) {
+    const { mtimeMs, size, ino } = fs.statSync(file);
+    const stamp = `${mtimeMs} ${size} ${ino}`;
+    const known = this.texts.get(file);
+    if (known && known.stamp === stamp && known.isSettled) {
+      known.round = this.round;
+      return known.found;
+    }
+    const isSettled = Date.now() - mtimeMs > SETTLED;
+    const found = read(file);
+    this.texts.set(file, { found, stamp, isSettled, round: this.round });
+    return found;
+  }
+
+  keyOf(mediaType, text) {
+    return hashOf(`${this.maker()}\n${mediaType}\n${text}`);
+  }
+
+  /** The parts of a module, or null where none are kept. */
+  find(mediaType, text) {
+    const key = this.keyOf(mediaType, text);
+    const known = this.parts.get(key);
+    const parts = known ? known.parts : this.folder && this.folder.get(key);
+    if (!parts) return null;
+    this.parts.set(key, { parts, round: this.round });
+    return parts;
+  }
+
+  /** A module of kept parts. */
+  static module(text, parts) {
+    const tree = new KeptTree(text, parts);
+    return { tree, source: new JsonText(parts.source), tables: parts.tables, hasEffects: parts.hasEffects };
+  }
+
+  /** Keeps the parts of a module that was made and is right. */
+  put({ mediaType, text, tree, source, tables, hasEffects }) {
+    const parts = { source: source.text, sources: tree.sources, tables, hasEffects };
+    const key = this.keyOf(mediaType, text);
+    this.made += 1;
+    this.parts.set(key, { parts, round: this.round });
+    if (this.folder) this.folder.put(key, parts);
+  }
+}
+
+/** The folder of entries between runs: $XDG_CACHE_HOME/fast-check-ts, else ~/.cache/fast-check-ts; null where neither is known. */
+function folderFor({ XDG_CACHE_HOME: own, HOME: home }) {
+  if (own && path.isAbsolute(own)) return path.join(own, 'fast-check-ts');
+  return home && path.isAbsolute(home) ? path.join(home, '.cache', 'fast-check-ts') : null;
+}
+
+/** A hash of the sources of this tool, which change what is made though its version stays. */
+function hashOfTool() {
+  const below = (folder) => fs.readdirSync(folder, { withFileTypes: true }).flatMap((it) => {
+    const name = path.join(folder, it.name);
+    return it.isDirectory() ? below(name) : name.endsWith('.js') ? [name] : [];
+  });
+  const names = below(path.resolve(__dirname, '..')).sort();
+  return hashOf(names.map((name) => `${name}\n${fs.readFileSync(name, 'utf8')}`).join('\n'));
+}
+
+/** Which compiler makes trees: its version, and how long its file is. It is loaded where the folder does not say it of the compilers that are there. */
+function compilerFor(folder) {
+  const candidates = candidateFiles().map((file) => ({ file, ...fs.statSync(file) }));
+  const key = hashOf(candidates.map(({ file, mtimeMs, size }) => `${file} ${mtimeMs} ${size}`).join('\n'));
+  const known = folder && folder.get(key);
+  if (known) return known.compiler;
+  const { version } = require('../compiler/typescript.js');
+  const compiler = `${version} ${candidates.map(({ size }) => size).join(' ')}`;
+  if (folder) folder.put(key, { compiler });
+  return compiler;
+}
+
+/** What is kept of sources for a command. Under other rules other trees are made. */
+function keptFor({ noCache, rules = '' }, environment) {
+  const folder = noCache ? null : folderFor(environment);
+  keepIn(folder);
+  let maker = null;
+  const kept = new Kept(folder, () => {
+    if (!kept.folder) return '';
+    maker = maker || `${hashOfTool()} ${compilerFor(kept.folder)} ${rules}`;
+    return maker;
+  });
+  return kept;
+}
+
+module.exports = { Kept, keptFor };

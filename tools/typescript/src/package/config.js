@@ -1,0 +1,373 @@
+'use strict';
+// What a folder says of its packages: names, versions and entry points.
+
+const fs = require('fs');
+const path = require('path');
+const { isDeclarationFile, isInside, isJavaScript, mediaTypeOf, readJson, readText } = require('./files.js');
+const { placeAt } = require('../tree/lines.js');
+const { NAMES } = require('../cli/targets.js');
+const typescript = require('../compiler/typescript.js');
+
+const USUAL = ['mod.ts', 'index.ts', 'src/index.ts', 'index.d.ts', 'mod.tsx', 'index.tsx', 'src/mod.ts'];
+const CONDITIONS = ['types', 'deno', 'import', 'module', 'node', 'browser', 'default', 'require'];
+
+const isText = (value) => typeof value === 'string';
+const isMap = (value) => value !== null && typeof value === 'object' && !Array.isArray(value);
+const areTexts = (value) => Array.isArray(value) && value.every(isText);
+
+// What the members that are read have to be.
+const WANTED = [
+  ['name', 'a text', isText],
+  ['version', 'a text', isText],
+  ['exports', 'a path or a map', (value) => isText(value) || value === null || typeof value === 'object'],
+  ['imports', 'a map', isMap],
+  ['workspace', 'a list of paths', (value) => areTexts(value) || (isMap(value) && (value.members === undefined || areTexts(value.members)))],
+  ['workspaces', 'a list of paths', (value) => areTexts(value) || (isMap(value) && (value.packages === undefined || areTexts(value.packages)))],
+];
+
+/** A configuration file, which may have comments; null where it is not there. */
+function readConfig(file, files, errors) {
+  if (!files.isFile(file)) return null;
+  const refusal = files.refusal(file);
+  if (refusal) {
+    errors.push({ path: file, code: 'refused-file', message: refusal });
+    return null;
+  }
+  const { text, wrong } = readText(file);
+  const { config, error } = readJson(file, text);
+  const refuse = (offset, message) => {
+    errors.push({ path: file, ...placeAt(text, offset), message });
+    return null;
+  };
+  if (wrong >= 0) return refuse(wrong, 'the file is no UTF-8 from here on');
+  if (!config || typeof config !== 'object' || Array.isArray(config) || text.trimStart().startsWith('[')) return refuse(0, 'this is no object');
+  if (error) return refuse(error.start, typescript.ts.flattenDiagnosticMessageText(error.messageText, ' '));
+  const [key, wanted] = WANTED.find(([name, , isRight]) => config[name] !== undefined && !isRight(config[name])) || [];
+  return key === undefined ? config : refuse(Math.max(0, text.indexOf(`"${key}"`)), `\`${key}\` has to be ${wanted}`);
+}
+
+/** The paths that pnpm-workspace.yaml lists, a line for each or in brackets. */
+function listedByPnpm(folder, files) {
+  const file = path.join(folder, 'pnpm-workspace.yaml');
+  if (!files.isFile(file) || files.refusal(file)) return [];
+  const text = `${readText(file).text.replace(/\r\n?/g, '\n')}\n`;
+  const [, list] = /^packages:[^\n[]*\n((?:[ \t]*(?:-[^\n]*|#[^\n]*)?\n)*)/m.exec(text) || [];
+  const [, inLine] = /^packages:\s*\[([^\]]*)\]/m.exec(text) || [];
+  const lines = [...(list || '').matchAll(/^[ \t]*-[ \t]*(["']?)([^"'#\n]+?)\1[ \t]*(?:#.*)?$/gm)].map(([, , path]) => path);
+  const parts = (inLine || '').replace(/#.*$/gm, '').split(',').map((it) => it.trim().replace(/^(["'])(.*)\1$/, '$2')).filter(Boolean);
+  return [...lines, ...parts];
+}
+
+/**
+ * The configuration files of a folder in one: of each member that of the first file that has it, and of `imports` each name so. `read` are the files. The members
+ * of a workspace that pnpm lists are those of npm's.
+ */
+function configOf(dir, files, errors) {
+  const merged = {};
+  const read = [];
+  for (const name of NAMES) {
+    const file = path.join(dir, name);
+    const found = readConfig(file, files, errors);
+    if (!found) continue;
+    read.push(file);
+    if (found.imports) merged.imports = { ...found.imports, ...merged.imports };
+    for (const key of Object.keys(found)) if (!(key in merged)) merged[key] = found[key];
+  }
+  const listed = merged.workspace || merged.workspaces ? [] : listedByPnpm(dir, files);
+  return { ...merged, ...(listed.length ? { workspaces: listed } : {}), read };
+}
+
+const NAMING_ENTRIES = new Set(['exports', 'types', 'typings']);
+
+/** Where the path of an entry point is written in a configuration file, as an offset of its text; undefined where it is not. */
+function placeOfPath(file, text, wanted) {
+  const { ts } = typescript;
+  const source = ts.parseJsonText(file, text);
+  const root = source.statements.length ? source.statements[0].expression : {};
+  const entries = (root.properties || []).filter((it) => it.name && NAMING_ENTRIES.has(it.name.text) && it.initializer);
+  const find = (node) => (ts.isStringLiteral(node) && node.text === wanted ? node.getStart(source) : ts.forEachChild(node, find));
+  return entries.map((it) => find(it.initializer)).find((it) => it !== undefined);
+}
+
+/** The path that an entry of `exports` has: a text, or the first condition that leads to one. */
+function pathOf(entry) {
+  if (typeof entry === 'string') return entry;
+  if (Array.isArray(entry)) return entry.map(pathOf).find(Boolean) || null;
+  if (!entry || typeof entry !== 'object') return null;
+  for (const condition of CONDITIONS) {
+    const found = pathOf(entry[condition]);
+    if (found) return found;
+  }
+  return null;
+}
+
+function isKeyed(map) {
+  return Object.keys(map).some((key) => key.startsWith('.'));
+}
+
+/** `exports` as a list of `[key, path]`, as it is written. */
+function writtenExports(exports) {
+  if (exports === undefined || exports === null) return [];
+  const entries = typeof exports === 'object' && !Array.isArray(exports) && isKeyed(exports) ? Object.entries(exports) : [['.', exports]];
+  return entries.map(([key, entry]) => [key, pathOf(entry)]).filter(([, found]) => found);
+}
+
+function filesBelow(dir, found = []) {
+  for (const it of fs.readdirSync(dir, { withFileTypes: true })) {
+    if (it.name === 'node_modules' || it.name.startsWith('.')) continue;
+    const file = path.join(dir, it.name);
+    if (it.isDirectory()) filesBelow(file, found);
+    else found.push(file);
+  }
+  return found;
+}
+
+/** An entry with `*` in its path stands for each file that fits, and where there is none, for each that the compiler would write. */
+function expanded(dir, [key, written], projects) {
+  if (!written.includes('*')) return [[key, written]];
+  const [before, after] = written.replace(/^\.\//, '').split('*');
+  const isFitting = (it) => it.startsWith(before) && it.endsWith(after) && it.length > before.length + after.length && mediaTypeOf(it) !== 'Unknown';
+  const fitting = (files) => files.map((it) => path.relative(dir, it)).filter(isFitting).sort();
+  const files = filesBelow(dir);
+  const found = fitting(files);
+  const all = found.length ? found : fitting([...projects.builtFiles(dir).keys()]);
+  return all.map((it) => [key.replace('*', () => it.slice(before.length, it.length - after.length)), `./${it}`]);
+}
+
+const SOURCES = 'name the sources with `--exports`, as `--exports ./src/index.ts`';
+const ABSENT = { message: 'is not there', more: { hint: `give the path of a file that is there, or ${SOURCES}` } };
+const NO_FILE = { message: 'fits no file', more: { level: 'Warning' } };
+const NO_MODULE = { message: 'is no module, and is passed over', more: { level: 'Warning' } };
+const BUILT = { message: 'is a built file, and nothing of src/ is read', more: { code: 'built-entry-point', level: 'Warning', hint: SOURCES } };
+
+/** What is wrong with an entry point, where its path is written. */
+function faultOf(text, wrong, { dir, config, given, isQuiet }) {
+  const fault = { path: dir, code: 'no-entry-point', message: `the entry point ${text} ${wrong.message}`, ...wrong.more };
+  for (const file of given === undefined && !isQuiet ? config.read : []) {
+    const source = readText(file).text;
+    const offset = placeOfPath(file, source, text);
+    if (offset !== undefined) return { ...fault, path: file, ...placeAt(source, offset), length: text.length + 2 };
+  }
+  return fault;
+}
+
+// The folders that builds write to.
+const BUILDS = new Set(['dist', 'build', 'lib', 'out', 'output', 'es', 'esm', 'cjs', 'types', 'typings', 'umd', 'bundle']);
+const BUILT_FILE = /(?:\.d)?\.[cm]?[jt]s$/;
+
+/** The source in `src` that a file of a build has the name of; null where none has. A build may have folders of its own above, as `dist/esm`. */
+function namesake(dir, wanted, files) {
+  const parts = path.relative(dir, wanted).split(path.sep);
+  const stems = parts.slice(1).map((_, at) => path.join(dir, 'src', ...parts.slice(at + 1)).replace(BUILT_FILE, ''));
+  const names = stems.flatMap((it) => ['.ts', '.tsx', '.mts', '.cts'].map((ending) => it + ending));
+  return names.find((it) => files.isFile(it)) || null;
+}
+
+/** Whether a file is one of a build: it lies in a folder for builds, or is not there, and no source stands in its place. */
+function isBuilt(dir, wanted, files) {
+  const [first, ...rest] = path.relative(dir, wanted).split(path.sep);
+  const found = files.find(wanted);
+  const isDeclared = !found || isDeclarationFile(mediaTypeOf(found)) || isJavaScript(mediaTypeOf(found));
+  return rest.length > 0 && BUILDS.has(first) && BUILT_FILE.test(wanted) && isDeclared;
+}
+
+/**
+ * The sources that stand for entry points of which all are files of a build, by their paths: those of the same names in `src`, and for a whole package in one
+ * file `src/index.ts`. Null where they are none, or some have no source.
+ */
+function sourcesOfBuild(dir, entries, files) {
+  const paths = entries.map(([, text]) => path.resolve(dir, text)).filter((it) => BUILT_FILE.test(it));
+  if (!paths.length || !paths.every((it) => isBuilt(dir, it, files))) return null;
+  const whole = ['index.ts', 'index.tsx', 'index.mts'].map((name) => path.join(dir, 'src', name)).find((it) => files.isFile(it));
+  const found = paths.map((it) => [it, namesake(dir, it, files) || (new Set(paths).size === 1 && whole) || null]);
+  return found.every(([, source]) => source) ? new Map(found) : null;
+}
+
+/** The written entry points that are modules, as `[key, path]`, what is wrong with the others, and which are taken in place of those that are written. */
+function modulesOf(dir, written, { config, given, files, projects, errors, isQuiet }) {
+  const [found, wrong, taken] = [[], [], []];
+  const refuse = (text, how) => wrong.push(faultOf(text, how, { dir, config, given, isQuiet }));
+  const each = written.map((it) => [it, expanded(dir, it, projects)]);
+  for (const [[, text], some] of each) if (!some.length) refuse(text, NO_FILE);
+  const entries = each.flatMap(([, some]) => some);
+  const build = given === undefined ? sourcesOfBuild(dir, entries, files) : null;
+  for (const [key, text] of entries) {
+    const wanted = path.resolve(dir, text);
+    const source = isInside(dir, wanted) && given === undefined ? projects.builtFiles(dir).get(wanted) || (build && build.get(wanted)) || null : null;
+    const file = source || files.find(wanted);
+    if (source) taken.push({ written: text, dir, file });
+    const isOutside = path.isAbsolute(text) || !isInside(dir, wanted);
+    if (isOutside) errors.push({ path: dir, message: `the entry point ${text} lies outside of the package` });
+    else if (!file) refuse(text, ABSENT);
+    else if (mediaTypeOf(file) === 'Unknown') refuse(text, NO_MODULE);
+    else if (!file.endsWith('.json') || given !== undefined) found.push([key, file]);
+    if (file && !source && isUnread(dir, wanted, { files, given })) refuse(text, BUILT);
+  }
+  return { found, wrong, taken };
+}
+
+/** Whether an entry point is a declaration file of a build beside sources in `src`. */
+function isUnread(dir, wanted, { files, given }) {
+  if (given !== undefined || !isInside(dir, wanted) || !isBuilt(dir, wanted, files)) return false;
+  const src = path.join(dir, 'src');
+  return files.kind(src) === 'folder' && filesBelow(src).some((it) => ['TypeScript', 'Tsx', 'Mts', 'Cts'].includes(mediaTypeOf(it)));
+}
+
+/** The entry point of a package in whose configuration none is there, or null. */
+function usualEntry(dir, config, files) {
+  const written = [config.module, config.main].filter(isText);
+  const usual = USUAL.find((it) => files.isFile(path.join(dir, it))) || written.find((it) => files.find(path.join(dir, it)));
+  return usual ? files.find(path.join(dir, usual)) : null;
+}
+
+/** The entry points of a package: `[key, path]`. What is wrong with some of them goes to `faults` where others are there, else to `errors`. */
+function entryPoints(dir, config, given, context) {
+  const { files, errors, faults } = context;
+  const written = writtenExports(given === undefined ? config.exports : given);
+  const types = config.types || config.typings;
+  if (written.length === 0 && typeof types === 'string') written.push(['.', types]);
+  const { found, wrong, taken } = modulesOf(dir, written, { ...context, config, given });
+  if (found.length) {
+    faults.push(...wrong);
+    context.taken.push(...taken);
+    return found;
+  }
+  const usual = given === undefined || wrong.length === 0 ? usualEntry(dir, config, files) : null;
+  if (usual) {
+    context.taken.push(...written.slice(0, 1).map(([, text]) => ({ written: text, dir, file: usual })));
+    return [['.', usual]];
+  }
+  errors.push(...wrong);
+  const isTold = wrong.length > 0 || errors.some((it) => it.path === dir);
+  if (!isTold) errors.push({ path: dir, message: 'no entry point: neither `exports`, nor mod.ts, index.ts or src/index.ts' });
+  return [];
+}
+
+/** A pattern for each choice of its braces, as `a/b` and `a/c` of `a/{b,c}`. */
+function withoutBraces(pattern) {
+  const [all, inside] = /\{([^{}]*)\}/.exec(pattern) || [];
+  return all === undefined ? [pattern] : inside.split(',').flatMap((it) => withoutBraces(pattern.replace(all, () => it)));
+}
+
+/** The folders below another one that have a configuration and fit one of some patterns, as the compiler matches paths. */
+function foldersThatFit(dir, patterns, without) {
+  const { ts } = typescript;
+  const wanted = patterns.flatMap((it) => NAMES.map((name) => `${it}/${name}`));
+  const found = ts.sys.readDirectory(dir, ['.json', '.jsonc'], ['**/node_modules', ...without], wanted);
+  return [...new Set(found.map((file) => path.dirname(path.resolve(file))))].filter((it) => it !== dir).sort();
+}
+
+const isPattern = (text) => /[*?]/.test(text);
+
+/** The folders of a workspace's members, of deno's (`workspace`) and of npm's (`workspaces`), in which a path behind `!` is left out. A pattern that fits nothing is a fault. */
+function membersOf(dir, config, faults = []) {
+  const listed = (value, name) => (Array.isArray(value) ? value : (value && value[name]) || []);
+  const texts = [...listed(config.workspace, 'members'), ...listed(config.workspaces, 'packages')];
+  const plain = (list) => list.flatMap(withoutBraces).map((it) => it.replace(/^\.\//, '').replace(/\/+$/, ''));
+  const without = plain(texts.filter((it) => it.startsWith('!')).map((it) => it.slice(1)));
+  const left = new Set(without.filter((it) => !isPattern(it)).map((it) => path.resolve(dir, it)));
+  const folders = texts.filter((it) => !it.startsWith('!')).flatMap((text) => {
+    const all = plain([text]);
+    const patterns = all.filter(isPattern);
+    const found = patterns.length ? foldersThatFit(dir, patterns, without) : [];
+    if (patterns.length && !found.length) faults.push({ path: dir, code: 'no-entry-point', level: 'Warning', message: `${text} of the workspace fits no folder with a package` });
+    return [...all.filter((it) => !isPattern(it)).map((it) => path.resolve(dir, it)), ...found];
+  });
+  return [...new Set(folders)].filter((it) => !left.has(it));
+}
+
+/**
+ * The map of imports of a folder: for each name the path of a file, which may have a `*`, or null where it leads elsewhere. A key that ends with `/` stands
+ * for what begins so.
+ */
+function importsOf(dir, config) {
+  const made = {};
+  for (const [key, entry] of Object.entries(config.imports || {})) {
+    const target = pathOf(entry);
+    if (target) made[key] = /^\.{1,2}\//.test(target) ? path.resolve(dir, target) + (target.endsWith('/') ? path.sep : '') : null;
+  }
+  return made;
+}
+
+const DEPENDENCIES = ['dependencies', 'devDependencies', 'peerDependencies', 'optionalDependencies'];
+
+/** The names of the packages that a configuration depends on; those that have their types in a package of their own too. */
+function dependenciesOf(config, kinds = DEPENDENCIES) {
+  const names = kinds.flatMap((it) => (isMap(config[it]) ? Object.keys(config[it]) : []));
+  const typed = names.filter((it) => it.startsWith('@types/')).map((it) => it.slice('@types/'.length));
+  return [...names, ...typed, ...typed.map((it) => it.replace(/^(.+)__/, '@$1/'))];
+}
+
+// Those that the users of a package have too.
+const NEEDED = DEPENDENCIES.filter((it) => it !== 'devDependencies');
+
+/** The names of a map of imports that lead out of the folder. */
+function mappedOut(config) {
+  return Object.entries(importsOf('/', config)).filter(([, target]) => target === null).map(([name]) => name.replace(/\/$/, ''));
+}
+
+/** The range of versions that a configuration names for each package outside, by the name that sources import. */
+function rangesOf(config) {
+  const isOut = ([, entry]) => isText(entry) && !/^\.{0,2}\//.test(entry);
+  const mapped = Object.entries(config.imports || {}).filter(isOut).map(([name, entry]) => [name.replace(/\/$/, ''), entry]);
+  return Object.fromEntries([...DEPENDENCIES.flatMap((it) => (isMap(config[it]) ? Object.entries(config[it]).filter(([, range]) => isText(range)) : [])), ...mapped]);
+}
+
+const VERSION = /^\d+\.\d+\.\d+(-[0-9A-Za-z.-]+)?(\+[0-9A-Za-z.-]+)?$/;
+
+/** The folders of a folder's packages: itself where it has entry points, and the members of its workspace, which have to lie within it. */
+function foldersOf(dir, config, options, { errors, faults }) {
+  const members = options.members || (options.exports === undefined ? membersOf(dir, config, faults) : []);
+  const isThere = (folder) => fs.existsSync(folder);
+  for (const folder of members) {
+    if (!isInside(dir, folder)) errors.push({ path: folder, code: 'no-entry-point', message: 'this member of the workspace lies outside of the folder' });
+    else if (!isThere(folder)) {
+      const absence = { path: folder, code: 'no-entry-point', message: 'this member of the workspace is not there' };
+      if (config.workspace) errors.push(absence);
+      else faults.push({ ...absence, level: 'Warning' });
+    }
+  }
+  const present = members.filter(isThere);
+  return members.length && config.exports === undefined ? present : [...present, dir];
+}
+
+/** Whether a member of npm's workspace, which may be anything, has no module to look at. */
+function isNoPackage({ dir, exports }, root, config, { errors, faults }) {
+  if (exports.length || dir === root || !config.workspaces) return false;
+  const own = errors.filter((it) => it.code === 'no-entry-point' || it.path === dir);
+  for (const it of own.filter((each) => isInside(root, each.path) && (each.path === dir || path.dirname(each.path) === dir))) {
+    errors.splice(errors.indexOf(it), 1);
+    faults.push({ ...it, code: 'no-entry-point', level: 'Warning', message: `${it.message}: this member of the workspace is passed over`, hint: null });
+  }
+  return true;
+}
+
+/**
+ * The packages of a folder. `context` has `files` and `projects`, and lists that are filled: what keeps a package from being read (`errors`), what is wrong with
+ * one that is read (`faults`), and which entry points are taken in place of those that are written (`taken`). Where it `isQuiet`, no places are looked for.
+ */
+function packagesOf(dir, options, context) {
+  const { files, errors } = context;
+  const config = configOf(dir, files, errors);
+  const folders = errors.length ? [] : foldersOf(dir, config, options, context);
+  if (errors.length) return [];
+  const found = folders.map((folder) => {
+    const own = folder === dir ? config : configOf(folder, files, errors);
+    const given = folder === dir ? options : {};
+    const version = given.version || own.version;
+    return {
+      name: given.name || own.name || path.basename(folder),
+      version: VERSION.test(version) ? version : '0.0.0',
+      isVersioned: VERSION.test(version),
+      ranges: { ...rangesOf(config), ...rangesOf(own) },
+      dir: folder,
+      imports: { ...importsOf(dir, config), ...importsOf(folder, own) },
+      dependencies: new Set([...dependenciesOf(config), ...dependenciesOf(own)]),
+      needed: [...new Set([...mappedOut(config), ...mappedOut(own), ...dependenciesOf(own, NEEDED)])],
+      exports: entryPoints(folder, own, given.exports, context),
+    };
+  });
+  return found.filter((it) => !isNoPackage(it, dir, config, context));
+}
+
+module.exports = { configOf, membersOf, packagesOf };

@@ -1,0 +1,242 @@
+'use strict';
+// Files of a package: kinds by their names, and where a source text leads.
+
+const fs = require('fs');
+const path = require('path');
+const typescript = require('../compiler/typescript.js');
+
+const MEDIA_TYPES = [
+  ['.d.ts', 'Dts'], ['.d.mts', 'Dmts'], ['.d.cts', 'Dcts'], ['.ts', 'TypeScript'], ['.mts', 'Mts'], ['.cts', 'Cts'], ['.tsx', 'Tsx'],
+  ['.js', 'JavaScript'], ['.mjs', 'Mjs'], ['.cjs', 'Cjs'], ['.jsx', 'Jsx'], ['.json', 'Json'],
+];
+
+/** The media type of a file by its name. */
+function mediaTypeOf(name) {
+  const found = MEDIA_TYPES.find(([ending]) => name.endsWith(ending));
+  return found ? found[1] : 'Unknown';
+}
+
+const DECLARATIONS = new Set(['Dts', 'Dmts', 'Dcts']);
+const SCRIPTS = new Set(['JavaScript', 'Mjs', 'Cjs', 'Jsx']);
+
+function isDeclarationFile(mediaType) {
+  return DECLARATIONS.has(mediaType);
+}
+
+function isJavaScript(mediaType) {
+  return SCRIPTS.has(mediaType);
+}
+
+// What TypeScript looks for in place of the ending that is written, in this order.
+const INSTEAD = [
+  ['.js', ['.ts', '.tsx', '.d.ts', '.js', '.jsx']],
+  ['.mjs', ['.mts', '.d.mts', '.mjs']],
+  ['.cjs', ['.cts', '.d.cts', '.cjs']],
+  ['.jsx', ['.tsx', '.ts', '.d.ts', '.jsx', '.js']],
+];
+const ADDED = ['.ts', '.tsx', '.d.ts', '.mts', '.cts', '.js', '.jsx', '.mjs', '.json'];
+
+/** What stands at a path; null where there is nothing, as behind links that lead in a circle and names that are too long. */
+function statOf(file) {
+  try {
+    return fs.statSync(file, { throwIfNoEntry: false }) || null;
+  } catch {
+    return null;
+  }
+}
+
+/** Where the text of some bytes is no UTF-8, as an offset in the text that Node makes of them; -1 where it is. */
+function firstWrong(bytes, text) {
+  const again = Buffer.from(text);
+  if (again.equals(bytes)) return -1;
+  let at = 0;
+  while (again[at] === bytes[at]) at += 1;
+  return Math.min(again.subarray(0, at).toString().replace(/\ufffd$/, '').length, text.length);
+}
+
+/** The bytes of a regular file. What is none, as a pipe, is an error: it is not waited for. */
+function bytesOf(file) {
+  const opened = fs.openSync(file, fs.constants.O_RDONLY | fs.constants.O_NONBLOCK);
+  try {
+    if (!fs.fstatSync(opened).isFile()) throw Object.assign(new Error(`${file} is no regular file`), { code: 'EINVAL' });
+    return fs.readFileSync(opened);
+  } finally {
+    fs.closeSync(opened);
+  }
+}
+
+const MARK = '\ufeff';
+
+/** How some bytes are read: as UTF-16 with its mark, the higher byte first (`isBig`) or last (`isLittle`), else as UTF-8. */
+function orderOf([first, second]) {
+  return { isBig: first === 0xfe && second === 0xff, isLittle: first === 0xff && second === 0xfe };
+}
+
+/** The text of a file without its mark of byte order, and where it is no text (`wrong`, else -1). Beside UTF-8 the compiler reads UTF-16 with its mark. */
+function readText(file) {
+  const bytes = bytesOf(file);
+  const { isBig, isLittle } = orderOf(bytes);
+  if (isBig || isLittle) {
+    const even = bytes.subarray(2, bytes.length - (bytes.length % 2));
+    return { text: (isBig ? Buffer.from(even).swap16() : even).toString('utf16le'), wrong: -1 };
+  }
+  const text = bytes.toString();
+  const mark = text.startsWith(MARK) ? 1 : 0;
+  const wrong = firstWrong(bytes, text);
+  return { text: text.slice(mark), wrong: wrong < 0 ? wrong : wrong - mark };
+}
+
+/** The mark of byte order that a file of UTF-8 begins with, or nothing. */
+function markOf(file) {
+  return bytesOf(file).toString('utf8', 0, 3) === MARK ? MARK : '';
+}
+
+/** Another text for a file that is there, as bytes like those of the file: in UTF-8 or UTF-16, with their mark of byte order where they have one. */
+function bytesFor(file, text) {
+  const { isBig, isLittle } = orderOf(bytesOf(file));
+  const mark = isBig || isLittle ? MARK : markOf(file);
+  const made = Buffer.from(mark + text, isBig || isLittle ? 'utf16le' : 'utf8');
+  return isBig ? made.swap16() : made;
+}
+
+/** Writes the bytes that are to replace a file into a new one beside it, which has its rights, and its owner where that may be. */
+function writeBeside(file, beside, bytes) {
+  fs.accessSync(file, fs.constants.W_OK);
+  const { mode, uid, gid } = fs.statSync(file);
+  const opened = fs.openSync(beside, 'wx', 0o600);
+  try {
+    fs.writeFileSync(opened, bytes);
+    try {
+      fs.fchownSync(opened, uid, gid);
+    } catch {
+      // Only root gives a file to others.
+    }
+    fs.fchmodSync(opened, mode & 0o777);
+    fs.fsyncSync(opened);
+  } finally {
+    fs.closeSync(opened);
+  }
+}
+
+/**
+ * Writes other texts to files that are there. All are written beside the files before the first is moved to its place: where one cannot be written, as on a
+ * full disk, no file changes.
+ */
+function rewriteTexts(texts) {
+  const mark = `${process.pid}-${Date.now()}`;
+  const all = [...texts].map(([name, text], place) => {
+    const file = fs.realpathSync(name);
+    return { file, text, beside: path.join(path.dirname(file), `.fast-check-${mark}-${place}`) };
+  });
+  const write = ({ file, text, beside }) => {
+    try {
+      writeBeside(file, beside, bytesFor(file, text));
+    } catch (error) {
+      throw Object.assign(new Error(`no file is changed, since ${file} cannot be written: ${error.message}`), { status: 2 });
+    }
+  };
+  try {
+    all.forEach(write);
+    for (const { file, beside } of all) fs.renameSync(beside, file);
+  } finally {
+    for (const { beside } of all) fs.rmSync(beside, { force: true });
+  }
+}
+
+/** The object in a text of JSON, which may have comments and commas that end a list: `{config, error}`, as the compiler reads it. */
+function readJson(file, text) {
+  try {
+    const config = JSON.parse(text);
+    if (config !== null && typeof config === 'object' && !Array.isArray(config)) return { config };
+  } catch {
+    // The compiler says where.
+  }
+  return typescript.ts.parseConfigFileTextToJson(file, text);
+}
+
+/**
+ * Makes a folder and those above it. Node's own recursive call does not come back where a file system lets nothing be made, as `/proc`.
+ */
+function makeFolder(folder) {
+  try {
+    fs.mkdirSync(folder);
+  } catch (error) {
+    if (error.code === 'EEXIST' && fs.statSync(folder).isDirectory()) return;
+    if (error.code !== 'ENOENT' || path.dirname(folder) === folder) throw error;
+    makeFolder(path.dirname(folder));
+    fs.mkdirSync(folder);
+  }
+}
+
+/** Whether a path lies below a folder. */
+function isInside(root, file) {
+  const inside = path.relative(root, file);
+  return inside !== '' && inside !== '..' && !inside.startsWith(`..${path.sep}`) && !path.isAbsolute(inside);
+}
+
+/** Looks files of a folder up, each once, and says which are not read. */
+class Files {
+  constructor(root) {
+    this.root = root;
+    this.realRoot = fs.realpathSync(root);
+    this.kinds = new Map();
+  }
+
+  kind(file) {
+    let kind = this.kinds.get(file);
+    if (kind === undefined) {
+      const found = statOf(file);
+      kind = !found ? 'none' : found.isDirectory() ? 'folder' : found.isFile() ? 'file' : 'other';
+      this.kinds.set(file, kind);
+    }
+    return kind;
+  }
+
+  /** Whether a file stands there, whatever may be in it. */
+  isFile(file) {
+    return this.kind(file) === 'file' || this.kind(file) === 'other';
+  }
+
+  /** Why a file that is there is not read: it is no regular file, or lies elsewhere, as behind a link that leads out of the folder. Else null. */
+  refusal(file) {
+    if (this.kind(file) === 'other') return 'this is no regular file';
+    if (isInside(this.realRoot, fs.realpathSync(file))) return null;
+    return isInside(this.root, file) ? 'this link leads out of the folder' : 'this file lies outside of the folder';
+  }
+
+  firstOf(stem, endings) {
+    const ending = endings.find((it) => this.isFile(stem + it));
+    return ending === undefined ? null : stem + ending;
+  }
+
+  /** The file that a path without or with an ending stands for, as TypeScript finds it, or null. */
+  find(wanted) {
+    const instead = INSTEAD.find(([ending]) => wanted.endsWith(ending));
+    if (instead) {
+      const found = this.firstOf(wanted.slice(0, -instead[0].length), instead[1]);
+      if (found) return found;
+    }
+    if (this.isFile(wanted)) return wanted;
+    return this.firstOf(wanted, ADDED) || this.firstOf(path.join(wanted, 'index'), ADDED);
+  }
+}
+
+const BEFORE_IMPORT = /^\/[/*]\s*@(?:deno-types|ts-types)\s*=\s*["']?([^"'\s*]+)/i;
+const AT_START = /^(?:\/[/*]\s*@(?:ts-self-types|deno-types)\s*=\s*|\/\/\/\s*<reference\s+types\s*=\s*)["']?([^"'\s>*]+)/i;
+
+/** The declaration file that a comment names for an import: `// @deno-types="./a.d.ts"` or `// @ts-types="./a.d.ts"`. */
+function namedTypes(comment) {
+  const found = BEFORE_IMPORT.exec(comment);
+  return found ? found[1] : null;
+}
+
+/** The declaration file that JavaScript names for itself in the comments at its start, or null. */
+function selfTypes(text) {
+  for (const { pos, end } of typescript.ts.getLeadingCommentRanges(text, 0) || []) {
+    const found = AT_START.exec(text.slice(pos, end));
+    if (found) return found[1];
+  }
+  return null;
+}
+
+module.exports = { Files, isInside, makeFolder, markOf, readJson, readText, rewriteTexts, mediaTypeOf, isDeclarationFile, isJavaScript, namedTypes, selfTypes };

@@ -1,0 +1,287 @@
+'use strict';
+// Reads a package: its entry points, and all modules that they lead to inside of the folder.
+
+const fs = require('fs');
+const { builtinModules } = require('module');
+const path = require('path');
+const { Files, isInside, readText, mediaTypeOf, isDeclarationFile, isJavaScript, namedTypes, selfTypes } = require('./files.js');
+const { packagesOf } = require('./config.js');
+const { internalText, isKnown, isTooDeep } = require('../cli/exit.js');
+const { writeExports } = require('../tables/ambient.js');
+const { hasEffects } = require('../skeleton/effects.js');
+const { NO_COMPILER } = require('../compiler/find.js');
+const { Kept } = require('./cache.js');
+const { placeAt } = require('../tree/lines.js');
+const { Projects, bestKey } = require('./tsconfig.js');
+
+const RELATIVE = /^\.{1,2}(\/|$)/;
+const SCHEME = /^[a-z][a-z0-9+.-]*:/i;
+
+/** The URL of a file: its path below the folder that was named. */
+function urlOf(root, file) {
+  return `file:///${urlPath(root, file)}`;
+}
+
+/** The path of a file below a folder, as a URL writes it. */
+function urlPath(folder, file) {
+  return path.relative(folder, file).split(path.sep).map(encodeURIComponent).join('/').replace(/%40/g, '@');
+}
+
+/** The name of the package that a source text begins with, as `@scope/name` or `npm:name`; of `@/x` and `#x/y` the part before the stroke. */
+function packageName(text) {
+  const [, scheme, rest] = /^((?:npm|jsr):\/?|)(.*)$/s.exec(text);
+  if (!scheme && SCHEME.test(text)) return text;
+  const [first, second] = rest.split('/');
+  const name = first.length > 1 && first.startsWith('@') && second ? `${first}/${second}` : first;
+  return scheme.replace('/', '') + (scheme ? name.replace(/(.)@.*/s, '$1') : name);
+}
+
+class Reader {
+  constructor(dir, options) {
+    this.root = path.resolve(dir);
+    this.options = options;
+    this.isQuiet = Boolean(options.isQuiet);
+    this.files = new Files(this.root);
+    this.projects = new Projects(this.root, this.files);
+    this.errors = [];
+    this.faults = [];
+    this.taken = [];
+    this.packages = packagesOf(this.root, options, this);
+    this.modules = new Map();
+    this.scripts = new Map();
+    this.jsonModules = new Map();
+    this.refused = new Set();
+    this.externals = [];
+    this.resolutions = [];
+    this.missing = [];
+    this.times = { parse: 0, tree: 0 };
+  }
+
+  packageAt(file) {
+    const inside = this.packages.filter((it) => it.dir === this.root || isInside(it.dir, file));
+    return inside.sort((a, b) => b.dir.length - a.dir.length)[0] || null;
+  }
+
+  /** The file behind links, as the compiler finds it, if it lies in the folder; else the file as it is named. */
+  behindLinks(file) {
+    if (this.files.refusal(file)) return file;
+    return path.join(this.root, path.relative(this.files.realRoot, fs.realpathSync(file)));
+  }
+
+  /** The declaration file of JavaScript, or the file itself. */
+  typed(file) {
+    if (!isJavaScript(mediaTypeOf(file))) return file;
+    const beside = this.files.find(file.replace(/\.jsx$/, '.js'));
+    if (beside && isDeclarationFile(mediaTypeOf(beside))) return beside;
+    const named = this.files.refusal(file) ? null : selfTypes(readText(file).text);
+    const found = named && named.startsWith('.') ? this.files.find(path.resolve(path.dirname(file), named)) : null;
+    return found || file;
+  }
+
+  /** The entry points of a package: the key and the file of each. */
+  entriesOf(it) {
+    return it.exports.map(([key, file]) => {
+      const behind = this.behindLinks(file);
+      return [key, this.typed(isInside(it.dir, behind) ? behind : file)];
+    });
+  }
+
+  /** The paths that a text which is no relative path may stand for: by the map of imports, by an alias of tsconfig.json, or by a package's name. */
+  mapped(from, text) {
+    const { imports } = this.packageAt(from) || { imports: {} };
+    const best = bestKey(imports, text);
+    if (best) return imports[best.key] === null ? [] : [imports[best.key].replace('*', () => best.rest)];
+    const folder = Object.keys(imports).filter((it) => it.endsWith('/') && text.startsWith(it)).sort((a, b) => b.length - a.length)[0];
+    if (folder !== undefined) return imports[folder] === null ? [] : [path.join(imports[folder], text.slice(folder.length))];
+    const own = this.ofPackage(text.replace(/^(jsr|npm):\/?/, ''));
+    return [...this.projects.paths(from, text), ...(own ? [own] : [])];
+  }
+
+  ofPackage(text) {
+    for (const it of this.packages) {
+      if (text !== it.name && !text.startsWith(`${it.name}/`) && !text.startsWith(`${it.name}@`)) continue;
+      const below = text.slice(it.name.length).replace(/^@[^/]*/, '');
+      const found = it.exports.find(([key]) => key === `.${below}`);
+      if (found) return found[1];
+    }
+    return null;
+  }
+
+  /** The paths that a relative text may stand for. */
+  relative(from, text) {
+    const resolved = this.projects.resolved(from, text);
+    return [...(resolved ? [resolved] : []), path.resolve(path.dirname(from), text)];
+  }
+
+  /** The file that a source text leads to, or null where it leads out of the folder. */
+  resolve(from, text, comment) {
+    const named = comment && namedTypes(comment);
+    if (named && named.startsWith('.')) {
+      const found = this.files.find(path.resolve(path.dirname(from), named));
+      if (found) return found;
+    }
+    const wanted = RELATIVE.test(text) ? this.relative(from, text) : this.mapped(from, text);
+    for (const each of wanted) {
+      const found = this.files.find(each);
+      if (found && isInside(this.root, found)) return this.typed(this.behindLinks(found));
+    }
+    return null;
+  }
+
+  /** Whether a package, an import map or the system explains a text that leads out of the folder. */
+  isExplained(from, text) {
+    if (SCHEME.test(text) || builtinModules.includes(text)) return true;
+    const { imports, dependencies } = this.packageAt(from) || { imports: {}, dependencies: new Set() };
+    const name = packageName(text);
+    const isMapped = [text, name].some((it) => imports[it] === null) || Object.keys(imports).some((it) => imports[it] === null && bestKey({ [it]: 1 }, text));
+    return isMapped || dependencies.has(name) || this.isInstalled(path.dirname(from), name);
+  }
+
+  /** Whether a package lies in a `node_modules` of the folder, above a file. */
+  isInstalled(folder, name) {
+    if (name === '' || name.startsWith('#')) return false;
+    if (this.files.kind(path.join(folder, 'node_modules', name)) === 'folder') return true;
+    return folder !== this.root && isInside(this.root, folder) && this.isInstalled(path.dirname(folder), name);
+  }
+
+  follow(module, source) {
+    const { text, offset } = source;
+    const file = this.resolve(module.path, text, source.comment);
+    if (file) {
+      this.resolutions.push([module.specifier, text, urlOf(this.root, file)]);
+      this.waiting.push(file);
+    } else if (RELATIVE.test(text)) {
+      const outside = this.files.find(path.resolve(path.dirname(module.path), text));
+      this.missing.push({ path: module.path, offset, text, isOutside: outside !== null });
+    } else {
+      const specifier = SCHEME.test(text) ? text : `npm:${text}`;
+      this.externals.push({ path: module.path, offset, text, specifier, name: packageName(text), isExplained: this.isExplained(module.path, text) });
+      this.resolutions.push([module.specifier, text, specifier]);
+    }
+  }
+
+  /** An error that keeps a file from being read, at a place of its text. */
+  errorAt(file, text, { offset, message, code }) {
+    this.errors.push({ path: file, ...placeAt(text, offset), message, code });
+  }
+
+  /** What an exception at a file says: of a system call, of a stack that did not suffice, or of a fault of this tool. */
+  caught(file, error) {
+    if (error.code === NO_COMPILER) throw error;
+    if (isKnown(error)) this.errors.push({ path: file, code: 'refused-file', message: error.message });
+    else if (isTooDeep(error)) this.errors.push({ path: file, code: 'nested-too-deep', message: 'this is nested deeper than can be read' });
+    else this.errors.push({ path: file, code: 'internal-error', message: internalText(error, path.relative(this.root, file)) });
+  }
+
+  /** A module's tree, and whether it has effects. */
+  parsed(file, mediaType, text) {
+    const { toTree, parse } = require('../tree/index.js');
+    const began = process.hrtime.bigint();
+    const sourceFile = parse(file, text);
+    const parsed = process.hrtime.bigint();
+    const tree = toTree(sourceFile, { short: this.options.short !== false, rules: this.options.rules });
+    this.times.parse += Number(parsed - began) / 1e6;
+    this.times.tree += Number(process.hrtime.bigint() - parsed) / 1e6;
+    for (const it of tree.errors) this.errorAt(file, text, it);
+    for (const { offset, length, message } of tree.faults) this.faults.push({ path: file, ...placeAt(text, offset), length, message, code: 'syntax-error' });
+    if (tree.program) writeExports(tree.program, isDeclarationFile(mediaType));
+    const made = { tree, hasEffects: Boolean(tree.program) && hasEffects(text, tree.program) };
+    return this.options.keepSourceFiles ? { ...made, sourceFile } : made;
+  }
+
+  readModule(file, mediaType, text) {
+    const specifier = urlOf(this.root, file);
+    const kept = this.options.kept && this.options.kept.find(mediaType, text);
+    const made = kept ? Kept.module(text, kept) : this.parsed(file, mediaType, text);
+    const module = { specifier, path: file, mediaType, text, isDeclaration: isDeclarationFile(mediaType), ...made };
+    this.modules.set(specifier, module);
+    for (const it of module.tree.sources || []) this.follow(module, it);
+    if (this.options.onModule) this.options.onModule(path.relative(this.root, file), this.modules.size);
+  }
+
+  /** The text of a file, or the one that is given in its place. */
+  textOf(file) {
+    const given = this.options.texts && this.options.texts.get(file);
+    if (given !== undefined) return { text: given, wrong: -1 };
+    return this.options.kept ? this.options.kept.textOf(file, readText) : readText(file);
+  }
+
+  readFile(file) {
+    const specifier = urlOf(this.root, file);
+    if (this.modules.has(specifier) || this.scripts.has(specifier) || this.jsonModules.has(specifier) || this.refused.has(file)) return;
+    const refusal = this.files.refusal(file);
+    if (refusal) {
+      this.refused.add(file);
+      this.errors.push({ path: file, code: 'refused-file', message: refusal });
+      return;
+    }
+    const mediaType = mediaTypeOf(file);
+    const { text, wrong } = this.textOf(file);
+    if (wrong >= 0 && mediaType !== 'Unknown') this.errorAt(file, text, { offset: wrong, message: 'the file is no UTF-8 from here on' });
+    if (mediaType === 'Json') this.jsonModules.set(specifier, { specifier, path: file, text });
+    else if (isJavaScript(mediaType)) this.scripts.set(specifier, { specifier, path: file, mediaType, text });
+    else if (mediaType !== 'Unknown') this.readModule(file, mediaType, text);
+  }
+
+  read() {
+    const entries = this.packages.flatMap((it) => this.entriesOf(it).map(([, file]) => file));
+    this.waiting = entries.reverse();
+    while (this.waiting.length) {
+      const file = this.waiting.pop();
+      try {
+        this.readFile(file);
+      } catch (error) {
+        this.refused.add(file);
+        this.caught(file, error);
+      }
+    }
+  }
+}
+
+/**
+ * Reads the packages of a folder with all modules that their entry points lead to.
+ *
+ * Options: `name`, `version`, `exports` (a text or a map), `short` (cut away what no rule looks at; it is the default),
+ * `keepSourceFiles`, `kept` (what is kept of sources that did not change), `texts` (texts by their paths, in place of those of the files), and
+ * `onModule(name, count)`.
+ *
+ * `errors` are what keeps a package from being read, `faults` what is wrong with one that is read; `caught(file, error)` adds the error of an exception.
+ */
+function readPackage(dir, options = {}) {
+  const reader = new Reader(dir, options);
+  reader.read();
+  const packages = reader.packages.map((it) => ({
+    name: it.name,
+    version: it.version,
+    isVersioned: it.isVersioned,
+    ranges: it.ranges,
+    dir: it.dir,
+    needed: it.needed,
+    exports: reader.entriesOf(it).map(([key, file]) => [key, `./${urlPath(it.dir, file)}`]),
+    entryPoints: reader.entriesOf(it).map(([, file]) => urlOf(reader.root, file)),
+    url: it.dir === reader.root ? 'file:///' : `${urlOf(reader.root, it.dir)}/`,
+  }));
+  return {
+    packages,
+    modules: [...reader.modules.values()],
+    scripts: [...reader.scripts.values()],
+    jsonModules: [...reader.jsonModules.values()],
+    externals: reader.externals,
+    resolutions: reader.resolutions,
+    missing: reader.missing,
+    errors: reader.errors,
+    faults: reader.faults,
+    taken: reader.taken,
+    times: reader.times,
+    dirOf: (file) => (reader.packageAt(file) || { dir: null }).dir,
+    caught: (file, error) => reader.caught(file, error),
+  };
+}
+
+/** Where the texts of files of a workspace with these `members` lead inside of it, as `(from, text) -> path`, or null. */
+function resolverOf(dir, members) {
+  const reader = new Reader(dir, { isQuiet: true, members });
+  return (from, text) => reader.resolve(from, text);
+}
+
+module.exports = { packageName, readPackage, resolverOf };

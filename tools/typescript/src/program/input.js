@@ -1,0 +1,137 @@
+'use strict';
+// The input of `fast-check build` for a folder (docs/FORMATS.md), and what messages need of it.
+
+const { placeAt } = require('../tree/lines.js');
+const { readPackage } = require('../package/read.js');
+const { JsonText } = require('./request.js');
+const { ownTables, jsonTables, tablesOf, World } = require('../tables/symbols.js');
+
+// The levels of JSON that the program reads.
+const MOST_LEVELS = 127;
+// The levels around the program of a module: the request, its list, its pair, its choice, itself and its source.
+const AROUND = 7;
+
+function elapsed(since) {
+  return Number(process.hrtime.bigint() - since) / 1e6;
+}
+
+/** The place of the innermost node around the first value that is nested too deep for the program, in the tree of a module; null where none is. */
+function tooDeep(program) {
+  let span = null;
+  const walk = (at, depth, around) => {
+    if (at === null || typeof at !== 'object') return false;
+    if (depth > MOST_LEVELS) {
+      span = around;
+      return true;
+    }
+    const here = Array.isArray(at.span) && at.span[0] > 0 ? at.span : around;
+    return Object.values(at).some((each) => walk(each, depth + 1, here));
+  };
+  return walk(program, AROUND, null) ? span || [1, 1] : null;
+}
+
+/** The error of a module that is nested too deep for the program. */
+function deepError(module, span) {
+  const place = placeAt(module.text, module.tree.offsets.offsetOf(span[0]));
+  const hint = 'give a part of it a name of its own';
+  return { path: module.path, ...place, length: 1, code: 'nested-too-deep', message: 'this is nested deeper than the program reads', hint };
+}
+
+/** What is found of the packages that can be read: without the others, and without what leads to a module that cannot be read. */
+function readable(found) {
+  if (!found.errors.length) return found;
+  const broken = new Set(found.errors.map((it) => found.dirOf(it.path)));
+  const wrong = new Set(found.errors.map((it) => it.path));
+  const modules = found.modules.filter((it) => !wrong.has(it.path) && it.tree.program);
+  const there = new Set([...modules, ...found.scripts, ...found.jsonModules].map((it) => it.specifier));
+  const resolutions = found.resolutions.filter(([, , to]) => there.has(to) || !to.startsWith('file:'));
+  // An error that lies in none of the packages is one of all.
+  const packages = broken.has(null) ? [] : found.packages.filter((it) => !broken.has(it.dir));
+  return { ...found, modules, resolutions, packages };
+}
+
+/** Makes what the program is handed of a module: its source as JSON, and its tables. One that the program does not read is an error. */
+function complete(module, found, kept) {
+  const { program, comments, unresolvedContext } = module.tree;
+  module.tables = ownTables(module);
+  module.source = new JsonText(JSON.stringify({ media_type: module.mediaType, text: module.text, program, comments, unresolved_context: unresolvedContext }));
+  const span = tooDeep(program);
+  if (span) found.errors.push(deepError(module, span));
+  else if (kept && !module.tree.faults.length) kept.put(module);
+}
+
+/** The tables of all modules that have some. A module whose tables cannot be made, or that the program does not read, is an error. */
+function tablesOfAll(found, kept) {
+  const targets = new Map(found.resolutions.map(([from, text, to]) => [`${from}\n${text}`, to]));
+  const world = new World((from, text) => targets.get(`${from}\n${text}`));
+  for (const it of found.modules) {
+    try {
+      if (!it.source) complete(it, found, kept);
+      world.add(it.specifier, it.tables);
+    } catch (error) {
+      found.caught(it.path, error);
+    }
+  }
+  for (const it of found.jsonModules) world.add(it.specifier, jsonTables(Buffer.byteLength(it.text)));
+  return world;
+}
+
+function moduleInput(module, world) {
+  return [module.specifier, { Esm: { specifier: module.specifier, source: module.source, ...tablesOf(module, world) } }];
+}
+
+function graphOf(found) {
+  const js = (it) => [it.specifier, { Js: { media_type: it.mediaType } }];
+  return {
+    modules: [
+      ...found.modules.map(js),
+      ...found.scripts.map(js),
+      ...found.jsonModules.map((it) => [it.specifier, { Json: {} }]),
+      ...[...new Set(found.externals.map((it) => it.specifier))].filter((it) => /^[a-z]+:\S+$/.test(it)).map((it) => [it, 'External']),
+    ],
+    resolutions: found.resolutions,
+    packages: [],
+  };
+}
+
+function requestOf(found, world) {
+  const packages = [...found.packages].sort((a, b) => b.url.length - a.url.length);
+  return {
+    graph: graphOf(found),
+    modules: [
+      ...found.modules.map((it) => moduleInput(it, world)),
+      ...found.jsonModules.map((it) => [it.specifier, { Json: { specifier: it.specifier, ...world.tables.get(it.specifier) } }]),
+    ],
+    aliases: [],
+    workspace_members: packages.map((it) => ({ name: it.name, version: it.version, base: it.url, exports: it.exports })),
+    provider: { packages: [], fallback: 'https://package.test/' },
+    pending: found.packages.map((it) => `${it.name}@${it.version}`),
+    first: false,
+  };
+}
+
+/** The request of what can be read, or null where that is no package. Making the tables may find further errors. */
+function readableRequest(found, kept) {
+  const world = tablesOfAll(readable(found), kept);
+  const now = readable(found);
+  return now.packages.length ? requestOf(now, world) : null;
+}
+
+/**
+ * The input of `fast-check build` for the packages of a folder.
+ *
+ * `request` is the JSON of the packages that can be read, null where none can: `info.errors` says what keeps the others from it, and `info.faults` what is
+ * wrong with those that are read. `info` has beside them the packages, the modules with their paths and texts, the entry points, and where the time went.
+ */
+function inputOf(dir, options = {}) {
+  const found = readPackage(dir, options);
+  const began = process.hrtime.bigint();
+  const request = readableRequest(found, options.kept);
+  const { packages } = readable(found);
+  const { modules, scripts, jsonModules, externals, missing, errors, faults, taken, times } = found;
+  times.tables = elapsed(began);
+  const entryPoints = packages.flatMap((it) => it.entryPoints);
+  return { request, info: { packages, entryPoints, modules, scripts, jsonModules, externals, missing, errors, faults, taken, times } };
+}
+
+module.exports = { inputOf };

@@ -1,0 +1,159 @@
+'use strict';
+// Which scope a name is resolved in. Each scope has a number; 1 stands for names that nothing in the module binds.
+//
+// A name may be bound as a value, as a type or as a namespace, and is looked up as one of these: in `(string: T): string` the
+// parameter is no type.
+
+const { ts } = require('../../compiler/typescript.js');
+
+const { SyntaxKind: K } = ts;
+
+const VALUE = 1;
+const TYPE = 2;
+const NAMESPACE = 4;
+const ANY = VALUE | TYPE | NAMESPACE;
+
+const UNRESOLVED = 1;
+const TOP = 2;
+
+class Scope {
+  constructor(number, parent) {
+    this.number = number;
+    this.parent = parent;
+    this.names = new Map();
+    this.joined = null;
+    // Names whose type no skeleton says: of parameters with a default, which may be left out there, and in patterns, of which a skeleton has no names. Whether
+    // an assertion says the type.
+    this.unsaid = new Map();
+  }
+
+  bind(name, meaning) {
+    this.names.set(name, (this.names.get(name) || 0) | meaning);
+  }
+
+  /** The number of the scope that binds the name with one of the meanings. */
+  find(name, meaning) {
+    for (let scope = this; scope; scope = scope.parent) {
+      const found = scope.numberOf(name, meaning);
+      if (found) return found;
+    }
+    return UNRESOLVED;
+  }
+
+  /** The number of this scope, or of one that it is joined with, where that binds the name. */
+  numberOf(name, meaning) {
+    if ((this.names.get(name) || 0) & meaning) return this.number;
+    for (const other of this.joined || []) {
+      if ((other.names.get(name) || 0) & meaning) return other.number;
+    }
+    return 0;
+  }
+}
+
+/** Calls back for each name of a pattern. */
+function eachName(name, call) {
+  if (name.kind === K.Identifier) {
+    call(name);
+    return;
+  }
+  if (!name.elements) return;
+  for (const element of name.elements) {
+    if (element.kind === K.BindingElement) eachName(element.name, call);
+  }
+}
+
+function bindPattern(scope, name) {
+  eachName(name, (it) => scope.bind(it.text, VALUE));
+}
+
+const MEANINGS = new Map([
+  [K.FunctionDeclaration, VALUE],
+  [K.ClassDeclaration, VALUE | TYPE],
+  [K.InterfaceDeclaration, TYPE],
+  [K.TypeAliasDeclaration, TYPE],
+  [K.EnumDeclaration, ANY],
+  [K.ModuleDeclaration, VALUE | NAMESPACE],
+  [K.ImportEqualsDeclaration, ANY],
+]);
+
+function bindImport(scope, statement) {
+  const clause = statement.importClause;
+  if (!clause) return;
+  if (clause.name) scope.bind(clause.name.text, ANY);
+  const bindings = clause.namedBindings;
+  if (!bindings) return;
+  if (bindings.kind === K.NamespaceImport) scope.bind(bindings.name.text, ANY);
+  else for (const element of bindings.elements) scope.bind(element.name.text, ANY);
+}
+
+function isVar(list) {
+  return (list.flags & ts.NodeFlags.BlockScoped) === 0;
+}
+
+/** Binds what a statement declares in its own block. `var` is bound by `bindVars`. */
+function bindStatement(scope, statement) {
+  const meaning = MEANINGS.get(statement.kind);
+  if (meaning) {
+    if (statement.name && statement.name.kind === K.Identifier) scope.bind(statement.name.text, meaning);
+  } else if (statement.kind === K.VariableStatement) {
+    if (isVar(statement.declarationList)) return;
+    for (const it of statement.declarationList.declarations) bindPattern(scope, it.name);
+  } else if (statement.kind === K.ImportDeclaration) {
+    bindImport(scope, statement);
+  } else if (statement.kind === K.LabeledStatement) {
+    bindStatement(scope, statement.statement);
+  }
+}
+
+/** Calls back for each list behind `var` of a statement, however deep in blocks, but not in functions, classes or namespaces. */
+function eachVarList(node, call) {
+  switch (node.kind) {
+    case K.VariableStatement:
+      if (isVar(node.declarationList)) call(node.declarationList);
+      return;
+    case K.ForStatement:
+    case K.ForInStatement:
+    case K.ForOfStatement: {
+      const list = node.initializer;
+      if (list && list.kind === K.VariableDeclarationList && isVar(list)) call(list);
+      eachVarList(node.statement, call);
+      return;
+    }
+    case K.Block:
+    case K.IfStatement:
+    case K.DoStatement:
+    case K.WhileStatement:
+    case K.WithStatement:
+    case K.SwitchStatement:
+    case K.CaseBlock:
+    case K.CaseClause:
+    case K.DefaultClause:
+    case K.LabeledStatement:
+    case K.TryStatement:
+    case K.CatchClause:
+      ts.forEachChild(node, (child) => eachVarList(child, call));
+      return;
+    default:
+  }
+}
+
+/** Binds each `var` of a statement. */
+function bindVars(scope, node) {
+  eachVarList(node, (list) => {
+    for (const it of list.declarations) bindPattern(scope, it.name);
+  });
+}
+
+function bindStatements(scope, statements) {
+  for (const it of statements) bindStatement(scope, it);
+}
+
+/** Binds what a body declares: that of a module, a namespace or a function. */
+function bindBody(scope, statements) {
+  for (const it of statements) {
+    bindStatement(scope, it);
+    bindVars(scope, it);
+  }
+}
+
+module.exports = { Scope, bindBody, bindPattern, bindStatements, eachName, eachVarList, isVar, VALUE, TYPE, NAMESPACE, ANY, UNRESOLVED, TOP };

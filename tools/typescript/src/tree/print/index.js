@@ -1,0 +1,42 @@
+'use strict';
+// The program's trees to TypeScript: two spaces, one item a line, comments where they stood.
+
+const { Writer } = require('./writer.js');
+const { items } = require('./statements.js');
+const { needsList } = require('../../tables/ambient.js');
+const { writable } = require('../../skeleton/reserved.js');
+
+// Files in which `<T>` before an arrow is an element, or is reserved for one.
+const ANGLE_RESERVED = /\.(tsx|[cm]ts)$/;
+
+/**
+ * The text of a program or a module, with the comments that stand at its nodes.
+ *
+ * A module without imports and exports is printed with `export {}`, without which a compiler would take it for a script, and so
+ * is a declaration file with a declaration that is not exported, without which it would be.
+ *
+ * `isDeclaration` says that it is such a file; `asWritten` adds nothing anywhere; `name` is that of the file, whose ending tells how arrows are written.
+ */
+function print(program, comments, { isDeclaration = false, asWritten = false, name = '' } = {}) {
+  const w = new Writer(comments);
+  w.isAngleReserved = ANGLE_RESERVED.test(name);
+  w.asWritten = asWritten;
+  w.isAmbient = isDeclaration;
+  const module = program.Module || program.Script || program;
+  const isScript = Boolean(program.Script);
+  if (module.shebang !== null && module.shebang !== undefined) {
+    w.write(`#!${module.shebang}`);
+    w.line();
+  }
+  const body = asWritten ? module.body || [] : writable(module.body || []);
+  if (isScript) items(w, body.map((Stmt) => ({ Stmt })));
+  else items(w, body);
+  if (!isScript && !asWritten && (!body.some((it) => it.ModuleDecl) || (isDeclaration && needsList(body, true)))) {
+    w.line();
+    w.write('export {};');
+  }
+  w.line();
+  return w.text();
+}
+
+module.exports = { print };

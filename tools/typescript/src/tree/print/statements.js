@@ -1,0 +1,641 @@
+'use strict';
+// Prints statements, declarations, classes, imports and exports.
+
+const t = require('./types.js');
+const e = require('./expressions.js');
+const { needsList } = require('../../tables/ambient.js');
+const { writable } = require('../../skeleton/reserved.js');
+const { isFrom } = require('../../compiler/typescript.js');
+
+const { at, variantOf } = t;
+const { expression } = e;
+// The word before the attributes of an import, as the compiler at hand reads it.
+const attributesWord = () => (isFrom(5, 3) ? 'with' : 'assert');
+
+// ---- statements
+
+/** Statements in braces. */
+function block(w, node) {
+  at(w, node, () => inBraces(w, node.stmts || [], node.span, statement));
+}
+
+/** A list in braces, each part on a line of its own; comments before the closing brace stay there. */
+function inBraces(w, list, span, call) {
+  const [start, end] = span || [0, 0];
+  const ends = end > 0 && w.hasLeading(end - 1);
+  if (list.length === 0 && !ends) {
+    w.write('{}');
+    return;
+  }
+  w.write('{');
+  w.trailing(start && start + 1);
+  w.indented(() => {
+    for (const it of list) {
+      w.line();
+      call(w, it);
+    }
+    if (ends) {
+      w.line();
+      w.leading(end - 1);
+    }
+  });
+  w.line();
+  w.write('}');
+}
+
+function nested(w, choice) {
+  w.write(' ');
+  statement(w, choice);
+}
+
+function head(w, word, node, field) {
+  w.write(`${word} (`);
+  expression(w, node[field]);
+  w.write(')');
+}
+
+function variables(w, node) {
+  const word = node.kind ? node.kind.toLowerCase() : node.is_await ? 'await using' : 'using';
+  w.write(`${node.declare ? 'declare ' : ''}${word} `);
+  const broken = t.isWide(w, node) && (node.decls || []).length > 1;
+  if (!broken) {
+    t.separated(w, node.decls, ', ', declarator);
+    return;
+  }
+  w.indented(() => {
+    node.decls.forEach((it, place) => {
+      if (place) w.write(',');
+      if (place) w.line();
+      declarator(w, it);
+    });
+  });
+}
+
+function declarator(w, node) {
+  at(w, node, () => {
+    // `!` stands between the name and its type.
+    if (node.definite && node.name.Ident) {
+      t.ident(w, node.name.Ident.id);
+      w.write('!');
+      t.annotation(w, node.name.Ident.type_ann);
+    } else {
+      t.pattern(w, node.name);
+    }
+    if (!node.init) return;
+    w.write(' = ');
+    if (!w.asWritten && narrows(node)) w.write('{} as any');
+    else expression(w, node.init);
+  });
+}
+
+// Types that are no union, whatever their parts are.
+const SINGLE = new Set(['TsArrayType', 'TsTupleType', 'TsFnOrConstructorType', 'TsTypeLit']);
+
+/** Whether a type may be a union by its form. */
+function mayBeUnion(choice) {
+  const [variant, node] = variantOf(choice);
+  if (variant === 'TsParenthesizedType') return mayBeUnion(node.type_ann);
+  if (variant === 'TsKeywordType') return node.kind === 'TsBooleanKeyword';
+  if (variant === 'TsLitType') return Boolean(node.lit.Tpl);
+  // The program writes names of classes alone.
+  if (variant === 'TsTypeRef' && !node.span[0]) return false;
+  return !SINGLE.has(variant) && !(variant === 'TsTypeOperator' && node.op !== 'KeyOf');
+}
+
+/** Whether a variable has the value `{} as never` of a skeleton, and a type of which a compiler would take that value for a part. */
+function narrows({ name, init: { TsAs: value } }) {
+  const isMade = value && value.expr.Object && value.type_ann.TsKeywordType && value.type_ann.TsKeywordType.kind === 'TsNeverKeyword' && !value.span[0];
+  return Boolean(isMade && name.Ident && name.Ident.type_ann && mayBeUnion(name.Ident.type_ann.type_ann));
+}
+
+function headVariables(w, choice) {
+  const list = choice.VarDecl || choice.UsingDecl;
+  if (list) at(w, list, () => variables(w, list));
+  else if (choice.Pat) t.pattern(w, choice.Pat);
+  else expression(w, choice.Expr || choice);
+}
+
+function forStatement(w, node) {
+  w.write('for (');
+  if (node.init) headVariables(w, node.init);
+  w.write(node.test ? '; ' : ';');
+  if (node.test) expression(w, node.test);
+  w.write(node.update ? '; ' : ';');
+  if (node.update) expression(w, node.update);
+  w.write(')');
+  nested(w, node.body);
+}
+
+function forEach(word) {
+  return (w, node) => {
+    w.write(node.is_await ? 'for await (' : 'for (');
+    headVariables(w, node.left);
+    w.write(` ${word} `);
+    expression(w, node.right);
+    w.write(')');
+    nested(w, node.body);
+  };
+}
+
+function ifStatement(w, node) {
+  head(w, 'if', node, 'test');
+  nested(w, node.cons);
+  if (!node.alt) return;
+  w.write(' else');
+  nested(w, node.alt);
+}
+
+function switchCase(w, node) {
+  at(w, node, () => {
+    if (node.test) {
+      w.write('case ');
+      expression(w, node.test);
+      w.write(':');
+    } else {
+      w.write('default:');
+    }
+    w.indented(() => {
+      for (const it of node.cons || []) {
+        w.line();
+        statement(w, it);
+      }
+    });
+  });
+}
+
+function tryStatement(w, node) {
+  w.write('try ');
+  block(w, node.block);
+  if (node.handler) {
+    at(w, node.handler, () => {
+      w.write(' catch ');
+      if (node.handler.param) {
+        w.write('(');
+        t.pattern(w, node.handler.param);
+        w.write(') ');
+      }
+      block(w, node.handler.body);
+    });
+  }
+  if (!node.finalizer) return;
+  w.write(' finally ');
+  block(w, node.finalizer);
+}
+
+function jump(word) {
+  return (w, node) => {
+    w.write(word);
+    const part = node.label || node.arg;
+    if (part) w.write(' ');
+    if (node.label) t.ident(w, node.label);
+    if (node.arg) expression(w, node.arg);
+    w.write(';');
+  };
+}
+
+const STATEMENTS = {
+  Empty: (w) => w.write(';'),
+  Debugger: (w) => w.write('debugger;'),
+  With: (w, node) => {
+    head(w, 'with', node, 'obj');
+    nested(w, node.body);
+  },
+  Return: jump('return'),
+  Throw: jump('throw'),
+  Break: jump('break'),
+  Continue: jump('continue'),
+  Labeled: (w, node) => {
+    t.ident(w, node.label);
+    w.write(':');
+    nested(w, node.body);
+  },
+  If: ifStatement,
+  Switch: (w, node) => {
+    head(w, 'switch', node, 'discriminant');
+    w.write(' ');
+    inBraces(w, node.cases || [], null, switchCase);
+  },
+  Try: tryStatement,
+  While: (w, node) => {
+    head(w, 'while', node, 'test');
+    nested(w, node.body);
+  },
+  DoWhile: (w, node) => {
+    w.write('do');
+    nested(w, node.body);
+    w.write(' ');
+    head(w, 'while', node, 'test');
+    w.write(';');
+  },
+  For: forStatement,
+  ForIn: forEach('in'),
+  ForOf: forEach('of'),
+  Expr: (w, node) => {
+    expression(w, node.expr);
+    w.write(';');
+  },
+};
+
+/** A statement. */
+function statement(w, choice) {
+  const [variant, node] = variantOf(choice);
+  if (variant === 'Decl') declaration(w, node);
+  else if (variant === 'Block') block(w, node);
+  else at(w, node, () => STATEMENTS[variant](w, node));
+}
+
+// ---- classes
+
+function accessibility(node) {
+  return node.accessibility ? `${node.accessibility.toLowerCase()} ` : '';
+}
+
+function words(w, node, list) {
+  for (const it of list) if (node[it]) w.write(`${it.replace(/^is_/, '')} `);
+}
+
+function memberKey(w, key) {
+  if (key.Private) t.privateName(w, key.Private);
+  else if (key.Public) e.propName(w, key.Public);
+  else if ('name' in key) t.privateName(w, key);
+  else e.propName(w, key);
+}
+
+function property(w, node) {
+  e.decorators(w, node.decorators, ' ');
+  words(w, node, ['declare']);
+  w.write(accessibility(node));
+  words(w, node, ['is_static', 'is_abstract', 'is_override', 'readonly']);
+  if (node.isAccessor) w.write('accessor ');
+  memberKey(w, node.key);
+  w.write(node.is_optional ? '?' : node.definite ? '!' : '');
+  t.annotation(w, node.type_ann);
+  if (node.value) {
+    w.write(' = ');
+    expression(w, node.value);
+  }
+  w.write(';');
+}
+
+const METHOD_WORDS = { Getter: 'get ', Setter: 'set ', Method: '' };
+
+function method(w, node) {
+  e.decorators(w, node.function.decorators, ' ');
+  w.write(accessibility(node));
+  words(w, node, ['is_static', 'is_abstract', 'is_override']);
+  if (node.function.is_async) w.write('async ');
+  w.write(METHOD_WORDS[node.kind]);
+  if (node.function.is_generator) w.write('*');
+  memberKey(w, node.key);
+  if (node.is_optional) w.write('?');
+  e.signature(w, node.function);
+  e.body(w, node.function.body);
+}
+
+function constructorParam(w, choice) {
+  const [variant, node] = variantOf(choice);
+  if (variant === 'Param') {
+    t.pattern(w, node);
+    return;
+  }
+  at(w, node, () => {
+    e.decorators(w, node.decorators, ' ');
+    w.write(accessibility(node));
+    words(w, node, ['is_override', 'readonly']);
+    t.pattern(w, node.param);
+  });
+}
+
+function constructor(w, node) {
+  w.write(accessibility(node));
+  e.propName(w, node.key);
+  const params = node.params || [];
+  const spans = params.map((it) => t.spanOf(it)).filter((it) => it && it[0]);
+  const isWide = !w.isHeld() && spans.length > 1 && spans[spans.length - 1][1] - spans[0][0] > 80;
+  t.listed(w, params, '(', ')', isWide || spans.some((it) => w.hasLeading(it[0])), constructorParam, t.afterLast(params));
+  e.body(w, node.body);
+}
+
+const MEMBERS = {
+  Constructor: constructor,
+  Method: method,
+  PrivateMethod: method,
+  ClassProp: property,
+  PrivateProp: property,
+  AutoAccessor: (w, node) => property(w, { ...node, isAccessor: true }),
+  TsIndexSignature: (w, node) => {
+    t.indexSignature(w, node);
+    w.write(';');
+  },
+  Empty: (w) => w.write(';'),
+  StaticBlock: (w, node) => {
+    w.write('static ');
+    block(w, node.body);
+  },
+};
+
+function member(w, choice) {
+  const [variant, node] = variantOf(choice);
+  at(w, node, () => MEMBERS[variant](w, node));
+}
+
+function implemented(w, node) {
+  at(w, node, () => {
+    expression(w, node.expr);
+    t.typeArguments(w, node.type_args);
+  });
+}
+
+/** A class, within its comments: decorators, name, heritage and members. */
+function classOf(w, ident, node, declare = false) {
+  e.decorators(w, node.decorators, '\n');
+  if (declare) w.write('declare ');
+  if (node.is_abstract) w.write('abstract ');
+  w.write('class');
+  if (ident) {
+    w.write(' ');
+    t.ident(w, ident);
+  }
+  t.typeParameters(w, node.type_params);
+  if (node.super_class) {
+    w.write(' extends ');
+    expression(w, node.super_class);
+    t.typeArguments(w, node.super_type_params);
+  }
+  if (node.implements && node.implements.length) {
+    w.write(' implements ');
+    t.separated(w, node.implements, ', ', implemented);
+  }
+  w.write(' ');
+  inBraces(w, node.body || [], node.span && [0, node.span[1]], member);
+}
+
+// ---- declarations
+
+function functionDeclaration(w, node) {
+  at(w, node.function, () => {
+    if (node.declare) w.write('declare ');
+    e.functionOf(w, node.ident, node.function);
+  });
+}
+
+function interfaceDeclaration(w, node) {
+  if (node.declare) w.write('declare ');
+  w.write('interface ');
+  t.ident(w, node.id);
+  t.typeParameters(w, node.type_params);
+  if (node.extends && node.extends.length) {
+    w.write(' extends ');
+    t.separated(w, node.extends, ', ', implemented);
+  }
+  w.write(' ');
+  at(w, node.body, () => t.memberLines(w, node.body.body || [], node.body));
+}
+
+function typeAlias(w, node) {
+  if (node.declare) w.write('declare ');
+  w.write('type ');
+  t.ident(w, node.id);
+  t.typeParameters(w, node.type_params);
+  w.write(' = ');
+  t.type(w, node.type_ann);
+  w.write(';');
+}
+
+function enumMember(w, node) {
+  at(w, node, () => {
+    if (node.id.Ident) t.ident(w, node.id.Ident);
+    else t.str(w, node.id.Str);
+    if (node.init) {
+      w.write(' = ');
+      expression(w, node.init);
+    }
+    w.write(',');
+  });
+}
+
+function enumDeclaration(w, node) {
+  if (node.declare) w.write('declare ');
+  w.write(node.is_const ? 'const enum ' : 'enum ');
+  t.ident(w, node.id);
+  w.write(' ');
+  inBraces(w, node.members || [], [0, (node.span || [0, 0])[1]], enumMember);
+}
+
+const EMPTY_LIST = { ModuleDecl: { ExportNamed: {} } };
+
+function namespaceBody(w, choice) {
+  if (choice.TsNamespaceDecl) {
+    w.write('.');
+    t.ident(w, choice.TsNamespaceDecl.id);
+    namespaceBody(w, choice.TsNamespaceDecl.body);
+    return;
+  }
+  const { body = [], span } = choice.TsModuleBlock;
+  const all = w.asWritten ? body : writable(body);
+  const list = w.isAmbient && !w.asWritten && needsList(body, false) ? [...all, EMPTY_LIST] : all;
+  w.write(' ');
+  at(w, choice.TsModuleBlock, () => inBraces(w, list, span, item));
+}
+
+function namespaceDeclaration(w, node) {
+  if (node.declare) w.write('declare ');
+  if (!node.global) w.write(node.namespace ? 'namespace ' : 'module ');
+  if (node.id.Str) t.str(w, node.id.Str);
+  else t.ident(w, node.id.Ident);
+  if (!node.body) {
+    w.write(';');
+    return;
+  }
+  const outer = w.isAmbient;
+  w.isAmbient = outer || Boolean(node.declare);
+  namespaceBody(w, node.body);
+  w.isAmbient = outer;
+}
+
+function variableStatement(w, node) {
+  variables(w, node);
+  w.write(';');
+}
+
+const DECLARATIONS = {
+  Var: variableStatement,
+  Using: variableStatement,
+  TsInterface: interfaceDeclaration,
+  TsTypeAlias: typeAlias,
+  TsEnum: enumDeclaration,
+  TsModule: namespaceDeclaration,
+};
+
+function declaration(w, choice) {
+  const [variant, node] = variantOf(choice);
+  if (variant === 'Fn') functionDeclaration(w, node);
+  else if (variant === 'Class') at(w, node.class, () => classOf(w, node.ident, node.class, node.declare));
+  else at(w, node, () => DECLARATIONS[variant](w, node));
+}
+
+// ---- imports and exports
+
+function moduleExportName(w, choice) {
+  if (choice.Str) t.str(w, choice.Str);
+  else t.ident(w, choice.Ident);
+}
+
+function fromSource(w, node) {
+  if (node.src) {
+    w.write(' from ');
+    t.str(w, node.src);
+  }
+  if (node.with) {
+    w.write(` ${attributesWord()} `);
+    expression(w, { Object: node.with });
+  }
+  w.write(';');
+}
+
+function named(w, node) {
+  at(w, node, () => {
+    if (node.is_type_only) w.write('type ');
+    if (node.orig) {
+      moduleExportName(w, node.orig);
+      if (!node.exported) return;
+      w.write(' as ');
+      moduleExportName(w, node.exported);
+      return;
+    }
+    if (node.imported) {
+      moduleExportName(w, node.imported);
+      w.write(' as ');
+    }
+    t.ident(w, node.local);
+  });
+}
+
+function namedList(w, list, node) {
+  if (t.isWide(w, node) || list.some((it) => w.hasLeading(it.span[0]))) t.listed(w, list, '{', '}', true, named);
+  else {
+    w.write('{ ');
+    t.separated(w, list, ', ', named);
+    w.write(' }');
+  }
+}
+
+function importDeclaration(w, node) {
+  w.write('import ');
+  if (node.type_only) w.write('type ');
+  if (node.phase === 'defer') w.write('defer ');
+  const list = node.specifiers || [];
+  if (list.length === 0 && !node.type_only) {
+    t.str(w, node.src);
+    fromSource(w, { with: node.with });
+    return;
+  }
+  const parts = [];
+  for (const it of list) {
+    if (it.Default) parts.push(() => at(w, it.Default, () => t.ident(w, it.Default.local)));
+    if (it.Namespace) {
+      parts.push(() => at(w, it.Namespace, () => {
+        w.write('* as ');
+        t.ident(w, it.Namespace.local);
+      }));
+    }
+  }
+  const names = list.filter((it) => it.Named).map((it) => it.Named);
+  if (names.length) parts.push(() => namedList(w, names, node));
+  if (list.length === 0) w.write('{}');
+  t.separated(w, parts, ', ', (_, part) => part());
+  fromSource(w, node);
+}
+
+function exportNamed(w, node) {
+  w.write('export ');
+  if (node.type_only) w.write('type ');
+  const list = node.specifiers || [];
+  const [first] = list;
+  if (first && first.Namespace) {
+    at(w, first.Namespace, () => {
+      w.write('* as ');
+      moduleExportName(w, first.Namespace.name);
+    });
+  } else if (list.length === 0) w.write('{}');
+  else namedList(w, list.map((it) => it.Named), node);
+  fromSource(w, node);
+}
+
+function importEquals(w, node) {
+  if (node.is_export) w.write('export ');
+  w.write(node.is_type_only ? 'import type ' : 'import ');
+  t.ident(w, node.id);
+  w.write(' = ');
+  const { TsEntityName, TsExternalModuleRef } = node.module_ref;
+  if (TsEntityName) t.entity(w, TsEntityName);
+  else {
+    w.write('require(');
+    t.str(w, TsExternalModuleRef.expr);
+    w.write(')');
+  }
+  w.write(';');
+}
+
+function defaultDeclaration(w, node) {
+  const [variant, decl] = variantOf(node.decl);
+  if (variant === 'Class') e.decorators(w, decl.class.decorators, '\n');
+  w.write('export default ');
+  if (variant === 'Fn') at(w, decl.function, () => e.functionOf(w, decl.ident, decl.function));
+  else if (variant === 'Class') at(w, decl.class, () => classOf(w, decl.ident, { ...decl.class, decorators: [] }));
+  else at(w, decl, () => interfaceDeclaration(w, decl));
+}
+
+/** A declaration behind `export`. The decorators of a class stand before the word. */
+function exportedDeclaration(w, node) {
+  const { Class } = node.decl;
+  if (Class) e.decorators(w, Class.class.decorators, '\n');
+  w.write('export ');
+  declaration(w, Class ? { Class: { ...Class, class: { ...Class.class, decorators: [] } } } : node.decl);
+}
+
+function ended(before, field) {
+  return (w, node) => {
+    w.write(before);
+    expression(w, node[field]);
+    w.write(';');
+  };
+}
+
+const MODULE_DECLARATIONS = {
+  Import: importDeclaration,
+  ExportDecl: exportedDeclaration,
+  ExportNamed: exportNamed,
+  ExportDefaultDecl: defaultDeclaration,
+  ExportDefaultExpr: ended('export default ', 'expr'),
+  ExportAll: (w, node) => {
+    w.write(node.type_only ? 'export type *' : 'export *');
+    fromSource(w, node);
+  },
+  TsImportEquals: importEquals,
+  TsExportAssignment: ended('export = ', 'expr'),
+  TsNamespaceExport: (w, node) => {
+    w.write('export as namespace ');
+    t.ident(w, node.id);
+    w.write(';');
+  },
+};
+
+/** An item of a module or a namespace. */
+function item(w, choice) {
+  if (choice.Stmt) {
+    statement(w, choice.Stmt);
+    return;
+  }
+  const [variant, node] = variantOf(choice.ModuleDecl);
+  at(w, node, () => MODULE_DECLARATIONS[variant](w, node));
+}
+
+function items(w, list) {
+  for (const it of list) {
+    w.line();
+    item(w, it);
+  }
+}
+
+module.exports = { block, classOf, statement, declaration, items };
