@@ -34,6 +34,13 @@ function withFolder(value, folder) {
   return path.join(folder, value.slice(value.indexOf(CONFIG_DIR) + CONFIG_DIR.length));
 }
 
+/** The innermost folder that some files lie in; undefined of no files. */
+function commonFolder(files) {
+  const folders = files.map((file) => path.dirname(file).split('/'));
+  const shared = (one, other) => one.slice(0, one.findIndex((part, at) => part !== other[at]) >>> 0);
+  return folders.length ? folders.reduce(shared).join('/') || '/' : undefined;
+}
+
 class Projects {
   /** `files` looks files up, and says which may be read. */
   constructor(root, files) {
@@ -187,9 +194,13 @@ class Projects {
     const folders = Object.fromEntries(['outDir', 'declarationDir', 'rootDir'].map((name) => [name, withFolder(options[name], folder)]));
     if (!folders.outDir && !folders.declarationDir) return [];
     const sources = fileNames.filter((name) => !/\.d\.[cm]?ts$|\.json$/.test(name));
-    const asked = { options: { ...options, ...folders, declaration: true, noEmit: false }, fileNames: sources, errors: [] };
-    const written = (source) => ts.getOutputFileNames(asked, source, false).map((each) => [path.resolve(each), source]);
-    return sources.flatMap(written).filter(([each, source]) => each !== source && this.isBelow(each));
+    // Without `rootDir` compilers before 6.0 begin at the folder that all sources have in common, and later ones at that of the configuration.
+    const roots = folders.rootDir ? [folders.rootDir] : [commonFolder(sources), undefined];
+    const written = (source, rootDir) => {
+      const asked = { options: { ...options, ...folders, rootDir, declaration: true, noEmit: false }, fileNames: sources, errors: [] };
+      return ts.getOutputFileNames(asked, source, false).map((each) => [path.resolve(each), source]);
+    };
+    return roots.flatMap((root) => sources.flatMap((source) => written(source, root))).filter(([each, source]) => each !== source && this.isBelow(each));
   }
 }
 
