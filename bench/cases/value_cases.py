@@ -2,7 +2,7 @@
 from function_cases import Case, ONE, THROW, const, func
 from trees import (
     angle, array_of, as_, call, declarator, default, exported, form, free, function, function_type, getter, lit, member, name, named, object_, pair, ref,
-    template, var_stmt,
+    intersection, optional_type, rest_type, template, tuple_type, type_operator, var_stmt,
 )
 
 TEXT = lit('"x"')
@@ -17,9 +17,23 @@ def shown_types():
     unread = template("t")
     unread["Tpl"]["quasis"][0]["cooked"] = None
     yield Case("a_template_without_a_cooked_text", [const("t", unread)], "export const t: string = {} as never;")
-    functions = {"TsTupleType": form(elem_types=[form(label=None, ty=function_type("void"))])}
+    functions = tuple_type(function_type("void"))
     yield Case("assertions_to_arrays_and_tuples", [const("a", as_(TEXT, array_of("string"))), const("t", angle(functions, TEXT))],
                "export const a: string[] = {} as never; export const t = <[() => void]>({} as never);")
+    parts = tuple_type("string", optional_type("number"), rest_type(array_of("boolean")))
+    operators = {"k": ("KeyOf", named("T"), "keyof T"), "u": ("Unique", "symbol", "unique symbol"), "r": ("ReadOnly", array_of("string"), "readonly string[]")}
+    yield Case("assertions_to_types_of_parts", [const("t", as_(TEXT, parts)), const("i", as_(TEXT, intersection("string", named("T")))),
+                                                *[const(name_, as_(TEXT, type_operator(op, of))) for name_, (op, of, _) in operators.items()]],
+               "export const t: [string, number?, ...boolean[]] = {} as never; export const i: string & T = {} as never; "
+               + " ".join(f"export const {name_}: {shown} = {{}} as never;" for name_, (_, _, shown) in operators.items()))
+    with_function = {"t": tuple_type(optional_type(function_type("void"))), "s": tuple_type(rest_type(function_type("void"))),
+                     "i": intersection("string", function_type("void")), "k": type_operator("KeyOf", function_type("void"))}
+    yield Case("assertions_to_types_of_functions", [const(name_, as_(TEXT, type)) for name_, type in with_function.items()],
+               "export const t = ({} as never) as [() => void?]; export const s = ({} as never) as [...() => void]; "
+               "export const i = ({} as never) as string & () => void; export const k = ({} as never) as keyof () => void;")
+    imported = call(ref("f"))
+    imported["Call"]["callee"] = {"Import": form(phase="Evaluation")}
+    yield Case("calls_that_make_no_symbol", [const("s", call(free("Symbol"), TEXT, TEXT)), const("i", imported)], ["type s", "type i"])
 
 
 def parts_of_functions():

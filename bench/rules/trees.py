@@ -95,6 +95,26 @@ def union(*types):
     return {"TsUnionOrIntersectionType": {"TsUnionType": form(types=[type_(type) for type in types])}}
 
 
+def intersection(*types):
+    return {"TsUnionOrIntersectionType": {"TsIntersectionType": form(types=[type_(type) for type in types])}}
+
+
+def tuple_type(*types):
+    return {"TsTupleType": form(elem_types=[form(label=None, ty=type_(type)) for type in types])}
+
+
+def optional_type(of):
+    return {"TsOptionalType": form(type_ann=type_(of))}
+
+
+def rest_type(of):
+    return {"TsRestType": form(type_ann=type_(of))}
+
+
+def type_operator(op, of):
+    return {"TsTypeOperator": form(op=op, type_ann=type_(of))}
+
+
 def function_type(result):
     return {"TsFnOrConstructorType": {"TsFnType": form(params=[], type_params=None, type_ann=ann(result), is_abstract=False)}}
 
@@ -652,9 +672,10 @@ LAYOUTS = {
     "type": {"TsKeywordType": [keyword_text], "TsTypeRef": [one("type_name", "entity"), one("type_params", "instantiation")],
              "TsArrayType": [one("elem_type", "type"), "[]"], "TsTupleType": ["[", many("elem_types", "tuple_element"), "]"],
              "TsUnionOrIntersectionType": "union", "TsFnOrConstructorType": "function_type",
-             "TsLitType": [one("lit", "literal")], "TsTypeOperator": ["unique ", one("type_ann", "type")]},
+             "TsOptionalType": [one("type_ann", "type"), "?"], "TsRestType": ["...", one("type_ann", "type")],
+             "TsLitType": [one("lit", "literal")], "TsTypeOperator": [lambda source, node: source.write(f"{node['op'].lower()} "), one("type_ann", "type")]},
     "tuple_element": [one("ty", "type")],
-    "union": {"TsUnionType": [many("types", "type", " | ")]},
+    "union": {"TsUnionType": [many("types", "type", " | ")], "TsIntersectionType": [many("types", "type", " & ")]},
     "function_type": {"TsFnType": ["(", many("params", "pattern"), ") => ", one("type_ann", "result")]},
     "entity": {"Ident": "ident"},
     "instantiation": ["<", many("params", "type"), ">"],
