@@ -142,6 +142,8 @@ function unresolvedMessages(info, files, cwd) {
   });
 }
 
+// The script that fetches a newer compiler.
+const NEWEST = path.resolve(__dirname, '../../newest.sh');
 // Forms that compilers before 5.2 do not read.
 const NEWER_FORMS = new RegExp([
   '\\bsatisfies\\b', '\\baccessor\\b', '\\busing\\b', '[<,]\\s*const\\s+[\\w$]', '\\bwith\\s*\\{', '\\bimport\\s+defer\\b', '\\bexport\\s+type\\s*\\*',
@@ -160,7 +162,8 @@ function withNewer(messages, context) {
   if (context.isNewerNamed || !messages.some(hasNewerForm) || typescript.isFrom(5, 2)) return messages;
   context.isNewerNamed = true;
   const first = messages.find(hasNewerForm);
-  const more = `TypeScript ${typescript.version} reads this; a newer one reads newer forms: \`export TYPESCRIPT=$(tools/typescript/newest.sh FOLDER)\` fetches it`;
+  const script = shownName(NEWEST, context.cwd);
+  const more = `TypeScript ${typescript.version} reads this; a newer one reads newer forms: \`export TYPESCRIPT=$(${script} FOLDER)\` fetches it`;
   return messages.map((each) => (each === first ? { ...each, info: [...each.info, more] } : each));
 }
 
