@@ -249,7 +249,12 @@ async function revisions() {
 const WRONG = [
   [[], 'no command is given'],
   [['nothing'], 'there is no command nothing'],
-  [['check'], 'check wants a folder'],
+  [['chekc', 'variables'], 'there is no command chekc; did you mean check?'],
+  [['check', '--formt', 'json'], 'there is no option --formt; did you mean --format?'],
+  [['check', '--format', 'sarf', 'variables'], 'did you mean sarif?'],
+  [['check', '--allow', 'missing-explicit-typ', 'variables'], 'did you mean missing-explicit-type?'],
+  [['help', 'chek'], 'did you mean check?'],
+  [['check', '-x'], 'there is no option -x'],
   [['skeleton', 'a', 'b', 'c'], 'skeleton does not take the word c'],
   [['check', 'nowhere'], 'there is no folder and no file nowhere'],
   [['check', 'variables', 'nowhere'], 'there is no folder and no file nowhere'],
@@ -297,6 +302,23 @@ async function commandLine() {
     });
   }
   await test('the version of package.json', () => same(require('../package.json').version, fs.readFileSync(path.resolve(__dirname, '../../../VERSION'), 'utf8').trim()));
+  await test('help COMMAND', async () => same((await run(['help', 'check'])).out, (await run(['check', '--help'])).out));
+  await test('help', async () => same((await run(['help'])).out, (await run(['--help'])).out));
+  await test('check without a folder', async () => {
+    const [here, there] = [await run(['check'], { cwd: path.join(PACKAGES, 'javascript-entry') }), await run(['check', '.'], { cwd: path.join(PACKAGES, 'javascript-entry') })];
+    same(here.out, there.out);
+    holds(here.out.includes('warning['), here.out);
+  });
+  await test('check --quiet', async () => {
+    same((await run(['check', '-q', 'javascript-entry'])).out, '', 'what is reported of warnings');
+    const { out, status } = await run(['check', '--quiet', 'missing-return-type']);
+    holds(status === 1 && out.includes('error[') && !/slow types|messages?,|warning/.test(out), out);
+  });
+  await test('fix --dry-run', async () => {
+    const [one, other] = [await run(['fix', '--dry-run', 'fixed']), await run(['fix', '--dry', 'fixed'])];
+    same(one.out.replaceAll('tools/typescript/test/packages/', ''), other.out.replaceAll('tools/typescript/test/packages/', ''));
+    holds(one.out.includes('--- a/'), one.out);
+  });
   await test('--version', async () => same((await run(['--version'])).out, `fast-check-ts ${fs.readFileSync(path.resolve(__dirname, '../../../VERSION'), 'utf8')}`));
   await test('--json gives an object a line', async () => {
     const { status, out } = await run(['check', '--json', 'missing-return-type']);

@@ -3,13 +3,30 @@
 const { CODES, isCode } = require('../messages/codes.js');
 const { COMMANDS, OPTIONS } = require('./options.js');
 
-const BY_WORD = new Map(OPTIONS.map((it) => [it.word, it]));
+const BY_WORD = new Map(OPTIONS.flatMap((it) => [it.word, ...(it.also || [])].map((word) => [word, it])));
 const FORMATS = ['text', 'json', 'github', 'sarif', 'junit'];
 const RULES = ['deno'];
 // Those that are one document, which a run that goes on has no end of.
 const DOCUMENTS = ['sarif', 'junit'];
 
 class UsageError extends Error {}
+
+/** How many letters have to change, come or go between two words. */
+function distance(one, other) {
+  let row = Array.from({ length: other.length + 1 }, (_, at) => at);
+  for (const [at, letter] of [...one].entries()) {
+    const next = [at + 1];
+    for (const [place, each] of [...other].entries()) next.push(Math.min(next[place] + 1, row[place + 1] + 1, row[place] + (letter === each ? 0 : 1)));
+    row = next;
+  }
+  return row[other.length];
+}
+
+/** What a wrong word may have been meant for, as the end of a sentence; nothing where no known word is near. */
+function meant(word, known) {
+  const [nearest] = known.map((it) => [distance(word, it), it]).filter(([count]) => count <= 2).sort(([a], [b]) => a - b);
+  return nearest ? `; did you mean ${nearest[1]}?` : '';
+}
 
 /** Entry points as the option says them: a path, or a map of export names to paths. */
 function exportsOf(text) {
@@ -27,7 +44,7 @@ function countOf(text) {
 }
 
 function formatOf(name) {
-  if (!FORMATS.includes(name)) throw new UsageError(`there is no format ${name}: ${FORMATS.join(', ')}`);
+  if (!FORMATS.includes(name)) throw new UsageError(`there is no format ${name}: ${FORMATS.join(', ')}${meant(name, FORMATS)}`);
   return name;
 }
 
@@ -38,7 +55,7 @@ function rulesOf(name) {
 
 /** A code that may be allowed: of what keeps a folder from being read, there is nothing to go on with. */
 function allowed(code) {
-  if (!isCode(code)) throw new UsageError(`there is no code ${code}: ${Object.keys(CODES).join(', ')}`);
+  if (!isCode(code)) throw new UsageError(`there is no code ${code}: ${Object.keys(CODES).join(', ')}${meant(code, Object.keys(CODES))}`);
   if (CODES[code] === 'refused') throw new UsageError(`${code} cannot be allowed, since the package is not read then`);
   return code;
 }
@@ -57,9 +74,9 @@ function parted(words) {
   const [options, plain] = [{}, []];
   for (let at = 0; at < words.length; at++) {
     const word = words[at];
-    const [, name, given] = /^(--[a-z-]+)(?:=(.*))?$/s.exec(word) || [];
-    const option = BY_WORD.get(word === '-h' ? '--help' : name);
-    if (!option && word.startsWith('-') && word !== '-') throw new UsageError(`there is no option ${word}`);
+    const [, name, given] = /^(--[a-z-]+|-[a-z])(?:=(.*))?$/s.exec(word) || [];
+    const option = BY_WORD.get(name);
+    if (!option && word.startsWith('-') && word !== '-') throw new UsageError(`there is no option ${word}${meant(word, [...BY_WORD.keys()])}`);
     if (!option) plain.push(word);
     else if (!option.value && given !== undefined) throw new UsageError(`${name} takes no value`);
     else if (!option.value) put(options, option, true);
@@ -82,23 +99,31 @@ function fit(command, options) {
   if (options.watch && DOCUMENTS.includes(options.format)) throw new UsageError(`--watch does not go with --format ${options.format}, which is one document`);
 }
 
-/** What the words ask for: the command, the words behind it, and the options. */
+/** The help of the program, or of a command. */
+function helpFor(rest, options) {
+  const [name] = rest;
+  if (name !== undefined && !Object.hasOwn(COMMANDS, name)) throw new UsageError(`there is no command ${name}${meant(name, Object.keys(COMMANDS))}`);
+  return { command: 'help', rest, options };
+}
+
+/** What the words ask for: the command, the words behind it, and the options. Where no folder is named, it is the one that the command was started in. */
 function parse(words) {
   if (words.length === 1 && words[0] === '--version') return { command: 'version', rest: [], options: {} };
   const { options, plain } = parted(words);
   const [command, ...rest] = plain;
+  if (command === 'help' && rest.length < 2) return helpFor(rest, options);
   if (options.help && (command === undefined || Object.hasOwn(COMMANDS, command))) return { command: 'help', rest: plain, options };
   if (command === undefined) throw new UsageError('no command is given');
-  if (!Object.hasOwn(COMMANDS, command)) throw new UsageError(`there is no command ${command}`);
+  if (!Object.hasOwn(COMMANDS, command)) throw new UsageError(`there is no command ${command}${meant(command, Object.keys(COMMANDS))}`);
   const { least, most } = COMMANDS[command];
-  if (rest.length < least) throw new UsageError(`${command} wants ${least === 1 ? 'a folder' : 'two words'}`);
+  if (rest.length < least) throw new UsageError(`${command} wants two words`);
   if (rest.length > most) throw new UsageError(`${command} does not take the word ${rest[most]}`);
   fit(command, options);
   for (const [key, read] of Object.entries(READ)) {
     if (options[key] !== undefined) options[key] = key === 'allow' ? options.allow.map(read) : read(options[key]);
   }
   if (options.json && command === 'check') options.format = 'json';
-  return { command, rest, options };
+  return { command, rest: rest.length ? rest : ['.'], options };
 }
 
 module.exports = { UsageError, parse };

@@ -5,21 +5,21 @@ const { CODES } = require('../messages/codes.js');
 /** The commands: how their words are shown, the least and the most of them, what they do, what more `COMMAND --help` says, and an example. */
 const COMMANDS = {
   check: {
-    words: 'DIR ..', least: 1, most: Infinity, text: 'messages for the packages in the folders DIR',
+    words: '[DIR ..]', least: 0, most: Infinity, text: 'messages for the packages in the folders DIR',
     more: ['A word may be a file too, which is checked as an entry point of the package that it lies in.',
       'A comment `// fast-check-ignore CODE` above a declaration allows messages of that code in it.'],
     example: 'fast-check-ts check --format sarif packages/a packages/b > slow.sarif',
   },
   fix: {
-    words: 'DIR', least: 1, most: 1, text: "writes the types that messages ask for, as TypeScript's compiler infers them",
+    words: '[DIR]', least: 0, most: 1, text: "writes the types that messages ask for, as TypeScript's compiler infers them",
     more: ['It runs until it can write no further type, and then reports the messages that are left.'], example: 'fast-check-ts fix --dry .',
   },
   skeleton: {
-    words: 'DIR [OUT]', least: 1, most: 2, text: 'the skeletons of its public modules as TypeScript, in the folder OUT or on standard output',
+    words: '[DIR [OUT]]', least: 0, most: 2, text: 'the skeletons of its public modules as TypeScript, in the folder OUT or on standard output',
     more: ['Messages go to standard error.'], example: 'fast-check-ts skeleton . out',
   },
   input: {
-    words: 'DIR', least: 1, most: 1, text: 'the input of `fast-check build`, as JSON',
+    words: '[DIR]', least: 0, most: 1, text: 'the input of `fast-check build`, as JSON',
     more: [], example: 'fast-check-ts input . > input.json',
   },
   diff: {
@@ -37,7 +37,7 @@ const ALL = Object.keys(COMMANDS);
 const READING = ['check', 'fix', 'skeleton', 'diff', 'report'];
 
 /**
- * The options: the word, how its value is shown where it takes one, the name in what `parse` answers (of those that may stand more than once a list),
+ * The options: the word and others for it (`also`), how its value is shown where it takes one, the name in what `parse` answers (of those that may stand more than once a list),
  * the commands that take it, and what it does.
  */
 const OPTIONS = [
@@ -67,19 +67,20 @@ const OPTIONS = [
     text: "check: have TypeScript's compiler check the skeletons, and report errors and types that the source has not",
   },
   { word: '--no-cache', key: 'noCache', commands: ALL, text: 'keep nothing between runs, and use nothing that was kept' },
-  { word: '--dry', key: 'dry', commands: ['fix'], text: 'fix: show the changes, and write nothing' },
+  { word: '--dry', also: ['--dry-run'], key: 'dry', commands: ['fix'], text: 'fix: show the changes, and write nothing' },
   { word: '--markdown', key: 'markdown', commands: ['diff'], text: 'diff: a text for a pull request' },
   { word: '--dts', key: 'dts', commands: ['skeleton'], text: 'skeleton: declaration files (.d.ts) in place of skeletons' },
   { word: '--with-dts', key: 'withDts', commands: ['skeleton'], text: 'skeleton: declaration files beside skeletons' },
   { word: '--unproved', key: 'unproved', commands: READING, text: 'run the program without any proof' },
   { word: '--no-own-compiler', key: 'noOwnCompiler', commands: ALL, text: "pass over the compiler in the folder's node_modules, whose code would be run" },
+  { word: '--quiet', also: ['-q'], key: 'quiet', commands: ['check'], text: 'check: report errors alone: no warnings, no notes, no closing lines' },
   { word: '--no-color', key: 'plain', commands: ALL, text: 'no colours on a terminal' },
-  { word: '--help', key: 'help', commands: ALL, text: 'these lines; behind a command, its options' },
+  { word: '--help', also: ['-h'], key: 'help', commands: ALL, text: 'these lines; behind a command, its options' },
 ];
 
 const WIDTH = 23;
 const entry = (words, text) => `  ${words.padEnd(WIDTH - 1)} ${text}`;
-const shown = ({ word, value }) => (value ? `${word} ${value}` : word);
+const shown = ({ word, also = [], value }) => [...also.filter((it) => /^-[a-z]$/.test(it)), word].join(', ') + (value ? ` ${value}` : '');
 
 const ENDS = `It ends with 0 where there is nothing to report but warnings, 1 where there are errors or differences, 2 where something cannot be read,
 3 where memory ran out, 5 where the program is not there, and 70 after an internal error of this tool.

@@ -1,15 +1,16 @@
 'use strict';
 // Checks folders, one after another, and reports their errors and warnings in the format that is asked for.
-const { analyse, statusOf } = require('../program/answer.js');
+const { analyse, answersTo, part, statusOf } = require('../program/answer.js');
 const { Baseline, withoutAllowed } = require('../messages/allow.js');
 const { refusalOf } = require('../cli/exit.js');
 const { FORMATS } = require('../messages/formats.js');
 const { targetsOf } = require('../cli/targets.js');
-const { mayNameReturns } = require('../tables/asserted-types.js');
+const { withoutNamedReturns } = require('../tables/asserted-types.js');
 
 /** What is reported of a folder that was analysed: its messages without those that are allowed or known, and how many these are. */
 function toldOf(world, messages, options, baseline) {
-  const found = [...world.warnings, ...messages];
+  const all = [...world.warnings, ...messages];
+  const found = options.quiet ? all.filter(({ level }) => level !== 'Warning') : all;
   const wanted = withoutAllowed(world, found, options);
   const told = new Set(baseline ? baseline.without(wanted) : wanted);
   const left = (list) => list.filter((each) => told.has(each));
@@ -30,11 +31,17 @@ async function messagesOf(world, options, context) {
 
 /** How many return types of a folder single returns name: for so many more deno asks. */
 async function singleReturnsOf(world, options, context) {
-  if (options.rules === 'deno' || !mayNameReturns(world.request)) return 0;
-  const asked = ({ messages }) => messages.filter(({ code }) => code === 'missing-explicit-return-type').map(({ file, start }) => `${file} ${start}`);
-  const known = new Set(asked(world));
-  const other = await analyse(world.dir, { ...options, rules: 'deno', kept: null }, context);
-  return asked(other).filter((each) => !known.has(each)).length;
+  const request = isCounted(options) ? withoutNamedReturns(world.request) : null;
+  if (!request) return 0;
+  const asked = (messages) => messages.filter(({ code }) => code === 'missing-explicit-return-type').map(({ file, start }) => `${file} ${start}`);
+  const known = new Set(asked(world.messages));
+  const { messages } = part(await answersTo(request, options, context), world, context.cwd);
+  return asked(messages).filter((each) => !known.has(each)).length;
+}
+
+/** Whether the last line of a check says how many return types single returns name. */
+function isCounted({ rules, format, quiet }) {
+  return rules !== 'deno' && (format === undefined || format === 'text') && !quiet;
 }
 
 /**
@@ -45,7 +52,7 @@ async function resultOf({ dir, exports }, options, { context, baseline }) {
   try {
     const world = await analyse(dir, { ...options, exports }, context);
     const told = toldOf(world, await messagesOf(world, options, context), options, baseline);
-    const singleReturns = await singleReturnsOf(world, { ...options, exports }, context);
+    const singleReturns = await singleReturnsOf(world, options, context);
     return { dir, world, thrown: null, status: statusOf(world.broken), singleReturns, ...told };
   } catch (error) {
     const thrown = refusalOf(error);

@@ -107,11 +107,11 @@ const text = {
     const [stream, paint] = thrown ? [context.err, context.paintErrors] : [context.out, context.paint];
     for (const message of messages) stream.write(`${framed(message, paint).join('\n')}\n`);
     if (thrown) context.err.write(`fast-check-ts: ${thrown.message}\n`);
-    else for (const line of notesOf(world, options, context.cwd)) context.out.write(`${line}\n`);
+    else if (!options.quiet) for (const line of notesOf(world, options, context.cwd)) context.out.write(`${line}\n`);
   },
 
   end(results, options, context) {
-    if (results.every(({ thrown }) => thrown)) return;
+    if (options.quiet || results.every(({ thrown }) => thrown)) return;
     const why = closing(results);
     for (const line of why) context.out.write(`${line}\n`);
     const { mayTellMore } = require('../skeleton/effects.js');

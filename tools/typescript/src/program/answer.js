@@ -200,12 +200,17 @@ function withoutFaulty({ info, files, skeletons }, paths) {
   return new Map([...skeletons].filter(([specifier]) => !files.has(specifier) || !faulty.has(packageOf(info, files.get(specifier).path))));
 }
 
+/** What the program answers to a request. */
+function answersTo(request, { unproved }, { progress, environment }) {
+  const tell = (line) => progress.line(line);
+  return progress.during('the program is at work', build(request, { unproved, environment, tell }));
+}
+
 /** Reads a folder and runs the program on it. `broken` says why packages of it cannot be read; `messages` are of the others. */
 async function analyse(dir, options, context) {
-  const { cwd, progress, environment } = context;
+  const { cwd } = context;
   const world = read(dir, options, context);
-  const tell = (line) => progress.line(line);
-  const ask = (request) => progress.during('the program is at work', build(request, { unproved: options.unproved, environment, tell }));
+  const ask = (request) => answersTo(request, options, context);
   const answers = await ask(world.request);
   const { skeletons, messages } = part(answers, world, cwd);
   const told = skeletonMessages({ ...world, skeletons }, (file) => shownName(file, cwd));
@@ -232,4 +237,4 @@ function statusOf(broken) {
   return broken.length ? 2 : 0;
 }
 
-module.exports = { analyse, filesOf, part, read, shownName, statusOf };
+module.exports = { analyse, answersTo, filesOf, part, read, shownName, statusOf };

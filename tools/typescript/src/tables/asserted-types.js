@@ -1,5 +1,6 @@
 'use strict';
 // The type that the only return of a function asserts, in the program's tree. The compiler is not asked.
+const { JsonText } = require('../program/request.js');
 
 // An empty list is left out of a tree.
 const stmtsOf = (block) => (block && block.stmts) || [];
@@ -46,9 +47,18 @@ function typeNamedBy(node) {
 
 const NAMING_RETURN = /"Return":\{"span":\[\d+,\d+\],"arg":\{"(?!This")/;
 
-/** Whether a body of a request's modules may name its return type by its only return. */
-function mayNameReturns({ modules }) {
-  return modules.some(([, { Esm }]) => Esm && NAMING_RETURN.test(Esm.source.text));
+const mayNameReturns = ({ Esm }) => Boolean(Esm) && NAMING_RETURN.test(Esm.source.text);
+
+/** A tree whose returned values name no type. */
+function withoutNames(key, value) {
+  return key === 'Return' && value.arg ? { ...value, arg: { This: { span: value.span } } } : value;
 }
 
-module.exports = { assertedType, mayNameReturns, typeNamedBy };
+/** A request in which no body names its return type by its only return; null where none may. */
+function withoutNamedReturns(request) {
+  if (!request.modules.some(([, module]) => mayNameReturns(module))) return null;
+  const less = (module) => (mayNameReturns(module) ? { Esm: { ...module.Esm, source: new JsonText(JSON.stringify(JSON.parse(module.Esm.source.text, withoutNames))) } } : module);
+  return { ...request, modules: request.modules.map(([name, module]) => [name, less(module)]) };
+}
+
+module.exports = { assertedType, typeNamedBy, withoutNamedReturns };
