@@ -7,7 +7,7 @@ from module_trees import (
     alias, default_import, default_value, export, export_all, import_, interface, named_export, property_signature, star_export, star_import,
 )
 from package_worlds import url_of
-from trees import class_stmt, declarator, exported, lit, named, prop, returned, unexported, var_stmt
+from trees import class_method, class_stmt, declarator, exported, lit, named, prop, returned, unexported, var_stmt
 
 # what shows no type, and must not be asked for
 Z, HIDDEN = let("z"), unexported(var_stmt("Let", declarator("z")))
@@ -191,6 +191,36 @@ def many_packages():
     yield Build("build_two_hundred_packages", world, [shown_of_many(number) for number in range(COUNT)])
 
 
+def who_asks_first():
+    """A private member that others refer to: of those that refer to it the first is named, and there is no fault where its own class is the first."""
+    to_p = [[{"QualifiedId": [["C", 2], ["prototype", "p"]]}, "Type_"]]
+    p, q, r = prop("p", "string", access="private"), prop("q", "string"), prop("r", "string")
+    of_class = lambda *members: exported(class_stmt("C", p, *members))
+    a, b, method = let("a", named("C")), let("b", named("C")), class_method("m", [], ret="string")
+    shown = "export class C { declare private p: any; %s}"
+
+    def build(name, items, first, second, shown=None):
+        world = World({"p": ["./mod.ts"]}, Module("p/mod.ts", *items, deps={first: to_p, second: to_p}))
+        told = shown or ["unsupported-private-member-reference p/mod.ts private p: string;"]
+        return Build(name, world, [("p/mod.ts", told)], without=lambda it: it[0] == "fault" and (shown or f"({first})" not in it[5]))
+
+    q_of, r_of, m_of = "C.prototype.q", "C.prototype.r", "C.prototype.m"
+    yield build("build_two_types_that_refer_to_a_private_member", [of_class(), a, b], "a", "b")
+    yield build("build_two_properties_that_refer_to_a_private_member", [of_class(q, r)], q_of, r_of)
+    yield build("build_a_method_and_a_property_that_refer_to_a_private_member", [of_class(method, q)], m_of, q_of)
+    yield build("build_a_type_before_the_class_of_a_private_member", [a, of_class()], "a", "C")
+    yield build("build_a_class_that_refers_to_its_private_member", [of_class(q)], "C", q_of, shown % "declare q: string; ")
+    yield build("build_a_class_before_a_type_that_refers_to_its_private_member", [of_class(), a], "C", "a", shown % "" + " export let a: C = {} as never;")
+    # the module of the class is searched for `a`, and later for `d`: the member is reported once
+    value = lambda name: [[{"Id": [name, 2]}, "Value"]]
+    mod = Module("p/mod.ts", import_("./c.ts", "d"), import_("./b.ts", "a"), let("x", "string"), let("y", "string"), resolved=near("b", "c"),
+                 deps={"x": value("d"), "y": value("a")})
+    b = Module("p/b.ts", of_class(), let("a", "string"), let("d", "string"), deps={"a": to_p, "d": to_p})
+    world = World({"p": ["./mod.ts"]}, mod, b, Module("p/c.ts", export("d", src="./b.ts"), resolved=near("b")))
+    yield Build("build_a_private_member_that_two_names_refer_to_in_turn", world,
+                [("p/mod.ts", ["unsupported-private-member-reference p/b.ts private p: string;"])], without=lambda it: it[0] == "fault" and "(a)" not in it[5])
+
+
 def parts_behind_an_import():
     """Two members of a class behind an import are found in whatever order they are asked for."""
     items = [import_("./b.ts", "C"), let("a", "number"), let("b", "string")]
@@ -210,6 +240,7 @@ GROUPS = [
     ("names that stand for each other, or for parts of each other", rings_of_aliases),
     ("symbols that list each other, or stand for each other", rings_of_symbols),
     ("a member of the workspace without version, handed in under another one", members),
+    ("who asks for a private member first", who_asks_first),
     ("two members of a class behind an import", parts_behind_an_import),
     ("two hundred packages in a chain", many_packages),
 ]

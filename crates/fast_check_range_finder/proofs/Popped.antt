@@ -1,12 +1,13 @@
--- A turn: what waits last is taken and followed.
+-- A turn: a demand that waits is taken and followed, of symbols the first, of names the last.
 use Rattle.std.proofs.Common.{◌≡◌, ◌∙◌, ◌<◌, sym, ap, subst, Bool, true, List, [], ◌∷◌, ◌++◌, Some, map, slice_get}
 use Rattle.std.specs.List.{Contains}
 use Rattle.std.proofs.lemmas.List.{append-nil, map-append}
-use Rattle.std.proofs.lemmas.List.Elements.{Contains-push, Contains-append_left}
+use Rattle.std.proofs.lemmas.List.Elements.{Contains-append_right}
 use Rattle.fast_check_packages.specs.Package.{Nv, nv_of}
 use Rattle.fast_check_packages.proofs.Longest.{item as get_some}
 use Rattle.fast_check_lattice.specs.Traces.{handled}
 use Rattle.fast_check_demands.specs.symbol_demands.Demands.{demand_of}
+use Rattle.fast_check_demands.proofs.worklists.Maps.{first_in}
 use Rattle.fast_check_demands.specs.worklists.Demands.{Demand, of_symbol}
 use Rattle.fast_check_demands.specs.facts.GraphFacts.{Known}
 use Rattle.fast_check_range_finder.specs.declared.demand.NamesAt.{NamesAt}
@@ -25,11 +26,11 @@ use Rattle.fast_check_range_finder.proofs.Taken.{symbol_taken, names_taken, turn
 
 module _ (k : Known) (f mid b : Finder) (sound : IsSound k.graph k.root_symbol f) where
   -- a symbol waits
-  module _ (same : mid ≡ record f { symbols = mid.symbols }) (at : SymbolAt) (items : f.symbols.items ≡ mid.symbols.items ++ at ∷ []) where
+  module _ (same : mid ≡ record f { symbols = mid.symbols }) (at : SymbolAt) (items : f.symbols.items ≡ at ∷ mid.symbols.items) where
     pub sound_popped : IsSound k.graph k.root_symbol mid
     sound_popped = subst (IsSound k.graph k.root_symbol) (sym same) (record {
       modules = sound.modules;
-      symbols = λ x h. sound.symbols x (subst (λ (xs : List SymbolAt). Contains xs x) (sym items) (Contains-append_left mid.symbols.items (at ∷ []) x h));
+      symbols = λ x h. sound.symbols x (subst (λ (xs : List SymbolAt). Contains xs x) (sym items) (Contains-append_right (at ∷ []) mid.symbols.items x h));
       once = sound.once;
     })
 
@@ -40,13 +41,13 @@ module _ (k : Known) (f mid b : Finder) (sound : IsSound k.graph k.root_symbol f
     turn_of_symbol follows =
         let rest = mid.symbols.items in
         let s = get_some f.modules.entries at.place
-        (sound.symbols at (subst (λ (xs : List SymbolAt). Contains xs at) (sym items) (Contains-push rest at))) in
+        (sound.symbols at (subst (λ (xs : List SymbolAt). Contains xs at) (sym items) (first_in at rest))) in
         let d = of_symbol (place_nv s.0) (place_text s.0) (demand_of at.demand) in
         turns_by k d f mid b
         (subst (λ (x : Finder). IsTaken d (search_of f) (search_of x)) (sym same)
         (symbol_taken (map nv_of f.packages) f.entered (handled f.handled) f.modules.entries (map names_seen f.names.items)
         (map seen_at f.symbols.items) (map seen_at rest) at.place (demand_of at.demand) s.0 s.1
-        (ap (map seen_at) items ∙ map-append seen_at rest (at ∷ []))))
+        (ap (map seen_at) items)))
         (ap yields_in same)
         (follows s.0 (subst (λ (x : Finder). slice_get x.modules.entries at.place ≡ Some s.0) (sym same) s.1) sound_popped)
 
@@ -63,11 +64,11 @@ turn_of_names k f mid b same at items follows =
     (ap yields_in same) follows
 
 -- no symbol waits, or no name
-pub past_symbols : (k : Known) (f mid b : Finder) → mid ≡ record f { symbols = mid.symbols } → f.symbols.items ≡ mid.symbols.items ++ [] →
+pub past_symbols : (k : Known) (f mid b : Finder) → mid ≡ record f { symbols = mid.symbols } → f.symbols.items ≡ mid.symbols.items →
     (more : Bool) → TurnsTo k more mid b → TurnsTo k more f b
 past_symbols k f mid b same items more t = turns_from k f mid b
     (ap search_of same ∙ ap (λ (xs : List SymbolAt). search_in (map nv_of f.packages) f.entered (handled f.handled) (map names_seen f.names.items)
-    f.modules.entries (map seen_at xs)) (sym (items ∙ append-nil mid.symbols.items))) (ap yields_in same) more t
+    f.modules.entries (map seen_at xs)) (sym items)) (ap yields_in same) more t
 
 pub past_names : (k : Known) (f mid b : Finder) → mid ≡ record f { names = mid.names } → f.names.items ≡ mid.names.items ++ [] →
     (more : Bool) → TurnsTo k more mid b → TurnsTo k more f b
@@ -77,13 +78,13 @@ past_names k f mid b same items more t = turns_from k f mid b
 
 -- the same while the loop goes on
 module _ {k : Known} {roots : List Nv} {done : List Demand} {f : Finder} (on : IsOn k roots done f) where
-  pub after_symbol : (mid b : Finder) → mid ≡ record f { symbols = mid.symbols } → (at : SymbolAt) → f.symbols.items ≡ mid.symbols.items ++ at ∷ [] →
+  pub after_symbol : (mid b : Finder) → mid ≡ record f { symbols = mid.symbols } → (at : SymbolAt) → f.symbols.items ≡ at ∷ mid.symbols.items →
       ((e : Followed) → slice_get mid.modules.entries at.place ≡ Some e → IsSound k.graph k.root_symbol mid →
       let d = of_symbol (place_nv e) (place_text e) (demand_of at.demand) in Goes k.graph k.root_symbol (followers k d) (demand_yields k d) mid b) → Turns k f b
   after_symbol mid b same at items follows = turn_of_symbol k f mid b on.sound same at items follows
 
   -- no symbol waits
-  module _ (one two b : Finder) (first : one ≡ record f { symbols = one.symbols }) (none : f.symbols.items ≡ one.symbols.items ++ [])
+  module _ (one two b : Finder) (first : one ≡ record f { symbols = one.symbols }) (none : f.symbols.items ≡ one.symbols.items)
       (second : two ≡ record one { names = two.names }) where
     pub after_names : (at : NamesAt) → one.names.items ≡ two.names.items ++ at ∷ [] →
         Goes k.graph k.root_symbol (followers k (names_seen at)) (demand_yields k (names_seen at)) two b → Turns k f b

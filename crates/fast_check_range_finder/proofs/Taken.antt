@@ -44,7 +44,7 @@ drop_next n xs x h = let e : suc n ≡ n + 1 = omega arith in drop_at n xs x h �
 
 module _ (packages : List Nv) (entered : ℕ) (handled : List (Parts × ImportedExports)) (ms : Modules) where
   pub symbol_taken : (names : List Demand) (all rest : List (ℕ × SymbolDemand)) (place : ℕ) (d : SymbolDemand) (e : Followed) →
-      slice_get ms place ≡ Some e → all ≡ rest ++ (place, d) ∷ [] →
+      slice_get ms place ≡ Some e → all ≡ (place, d) ∷ rest →
       IsTaken (of_symbol (place_nv e) (place_text e) d) (search_in packages entered handled names ms all) (search_in packages entered handled names ms rest)
   symbol_taken names all rest place d e here is = record {
     packages = refl;
@@ -53,15 +53,13 @@ module _ (packages : List Nv) (entered : ℕ) (handled : List (Parts × Imported
     waits = put_right (of_symbol (place_nv e) (place_text e) d) (names ++ flat_map (symbols_at (places ms)) rest)
         (names ++ flat_map (symbols_at (places ms)) all) (map of_package (drop entered packages))
         (put_right (of_symbol (place_nv e) (place_text e) d) (flat_map (symbols_at (places ms)) rest) (flat_map (symbols_at (places ms)) all) names
-        (subst (λ (xs : List Demand). IsPut (of_symbol (place_nv e) (place_text e) d) (flat_map (symbols_at (places ms)) rest) xs) (sym last)
-        (put_last (of_symbol (place_nv e) (place_text e) d) (flat_map (symbols_at (places ms)) rest))));
+        (subst (λ (xs : List Demand). IsPut (of_symbol (place_nv e) (place_text e) d) (flat_map (symbols_at (places ms)) rest) xs) (sym first)
+        (put_first (of_symbol (place_nv e) (place_text e) d) (flat_map (symbols_at (places ms)) rest))));
   }
     where
-      last : flat_map (symbols_at (places ms)) all ≡ flat_map (symbols_at (places ms)) rest ++ of_symbol (place_nv e) (place_text e) d ∷ []
-      last = ap (flat_map (symbols_at (places ms))) is ∙ (flat_map-append (symbols_at (places ms)) rest ((place, d) ∷ []) ∙
-          ap (λ (xs : List Demand). flat_map (symbols_at (places ms)) rest ++ xs)
-          (append-nil (symbols_at (places ms) (place, d)) ∙
-          ap (λ (o : Option (Nv × List ℕ)). map (symbol_at d) (option_to_list o)) (place_at ms place e here)))
+      first : flat_map (symbols_at (places ms)) all ≡ of_symbol (place_nv e) (place_text e) d ∷ flat_map (symbols_at (places ms)) rest
+      first = ap (flat_map (symbols_at (places ms))) is ∙
+          ap (λ (o : Option (Nv × List ℕ)). map (symbol_at d) (option_to_list o) ++ flat_map (symbols_at (places ms)) rest) (place_at ms place e here)
 
   pub names_taken : (all rest : List Demand) (symbols : List (ℕ × SymbolDemand)) (d : Demand) → all ≡ rest ++ d ∷ [] →
       IsTaken d (search_in packages entered handled all ms symbols) (search_in packages entered handled rest ms symbols)

@@ -63,7 +63,8 @@ impl<'a> Finder<'a> {
 }
 
 /// Follows the packages that are handed in, and all that follows from them, and answers what is found: what the demands of an account yield,
-/// neither more nor less. In each turn a demand that waits is followed: those of symbols before names, and names before packages.
+/// neither more nor less. In each turn a demand that waits is followed: those of symbols before names, and names before packages. Of
+/// the symbols that wait the first is followed.
 ///
 /// A package whose item in the cache is used is followed to the dependencies of the item alone. The search ends on every cache.
 ///
@@ -91,7 +92,7 @@ pub fn find_all<'a>(
     let mut finder = begin(alloc, roots)?;
     let mut members = MemberEntries::new(alloc);
     'turns: loop {
-        match finder.symbols.pop() {
+        match finder.symbols.pop_front() {
             Some(at) => finder.follow_symbol(lent, at)?,
             None => match finder.names.pop() {
                 Some(at) => finder.follow_names(lent, at)?,

@@ -25,7 +25,7 @@ use fast_check_package_ranges::findings::{Entrance, FoundModule};
 use fast_check_packages::PackageNv;
 use indexmap::IndexMap;
 use std::alloc::{AllocError, Global};
-use std::collections::BTreeSet;
+use std::collections::{BTreeSet, VecDeque};
 use url::Url;
 
 /// A module that is followed for a package.
@@ -53,7 +53,7 @@ pub struct Finder<'a> {
     pub names: Vec<NamesAt<'a>>,
     pub modules: IndexMap<Place<'a>, FollowedModule<'a>>,
     /// The demands of symbols that wait.
-    pub symbols: Vec<SymbolAt<'a>>,
+    pub symbols: VecDeque<SymbolAt<'a>>,
     pub entrances: Vec<(PackageNv, Entrance)>,
     pub dependencies: BTreeSet<Dependency>,
     /// The specifiers of modules whose types are not known, by which these were asked for.
@@ -86,12 +86,12 @@ fn ask_one<'a>(
     place: usize,
     demand: SymbolDemand<'a>,
     asked: &mut AskedSymbols<'a>,
-    symbols: &mut Vec<SymbolAt<'a>>,
+    symbols: &mut VecDeque<SymbolAt<'a>>,
 ) -> Result<(), AllocError>
     ensures { OnOk result (AsksOne place (demand_of demand.entry) asked.old asked.new symbols.old.items symbols.new.items) }
 {
     if let Some(demand) = asked.add(demand)? {
-        symbols.push(SymbolAt { place, demand })?;
+        symbols.push_back(SymbolAt { place, demand })?;
     }
     Ok(())
 }
@@ -101,7 +101,7 @@ pub fn ask_each<'a>(
     place: usize,
     demands: &Demands<'a>,
     asked: &mut AskedSymbols<'a>,
-    symbols: &mut Vec<SymbolAt<'a>>,
+    symbols: &mut VecDeque<SymbolAt<'a>>,
 ) -> Result<(), AllocError>
     ensures { OnOk result (AsksEach place demands.now asked.old asked.new symbols.old.items symbols.new.items) }
 {
@@ -144,7 +144,7 @@ impl<'a> Finder<'a> {
             handled: HandledExports::default(alloc),
             names: Vec::new(alloc),
             modules: IndexMap::new(alloc),
-            symbols: Vec::new(alloc),
+            symbols: VecDeque::new(alloc),
             entrances: Vec::new(alloc),
             dependencies: BTreeSet::new(alloc),
             untyped: Vec::new(alloc),

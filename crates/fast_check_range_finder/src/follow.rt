@@ -39,6 +39,7 @@ use fast_check_demands::{
 use fast_check_graph::AnyModuleInfo;
 use fast_check_packages::PackageNv;
 use std::alloc::{AllocError, Global};
+use std::collections::VecDeque;
 use url::Url;
 
 /// Adds what a demand of a symbol of a module yields.
@@ -69,7 +70,7 @@ fn ask_alias<'a>(
     alloc: Global,
     at: SymbolAt<'a>,
     followed: &mut FollowedModule<'a>,
-    symbols: &mut Vec<SymbolAt<'a>>,
+    symbols: &mut VecDeque<SymbolAt<'a>>,
 ) -> Result<(), AllocError>
     ensures asks { OnOk result (AreAliasesAsked followed.old → AsksOwn at.entry.place (own_names (tables_in followed.old.found.info.now) at.entry.demand.symbol
         at.entry.demand.referrer) followed.old followed.new symbols.old.items symbols.new.items) }
@@ -94,7 +95,7 @@ fn ask_own<'a>(
     alloc: Global,
     at: SymbolAt<'a>,
     followed: &mut FollowedModule<'a>,
-    symbols: &mut Vec<SymbolAt<'a>>,
+    symbols: &mut VecDeque<SymbolAt<'a>>,
 ) -> Result<(), AllocError>
     ensures asks { let d = demand_of at.entry.demand in OnOk result (AreAliasesAsked followed.old
         → AsksOwn at.entry.place (asked_own (tables_in followed.old.found.info.now) d d.asked) followed.old followed.new symbols.old.items symbols.new.items) }
@@ -139,7 +140,7 @@ fn follow_names_in<'a>(
     place: usize,
     names: NameDemand<'a>,
     followed: &mut FollowedModule<'a>,
-    symbols: &mut Vec<SymbolAt<'a>>,
+    symbols: &mut VecDeque<SymbolAt<'a>>,
 ) -> Result<ReExportDemands<'a>, AllocError>
     requires info { followed.old.found.info.now ≡ traced.info.now }
     requires index { IfSome followed.old.index (IsIndexOf traced) }

@@ -1,7 +1,7 @@
 use Rattle.std.proofs.Common.{refl, sym, subst, map, true, false, List, [], ◌∷◌, ◌++◌}
 use Rattle.std.specs.List.{Contains}
-use Rattle.std.proofs.lemmas.List.Elements.{Contains-push}
 use Rattle.fast_check_packages.specs.Package.{nv_of}
+use Rattle.fast_check_demands.proofs.worklists.Maps.{first_in}
 use Rattle.fast_check_packages.specs.MembersIn.{members_in}
 use Rattle.fast_check_package_ranges.proofs.entries.Passed.{passed_on}
 use Rattle.fast_check_range_finder.specs.declared.demand.SymbolAt.{SymbolAt}
@@ -28,12 +28,12 @@ turns-init g c =
 
 pub follow_symbol-requires : goal.follow_symbol-requires
 follow_symbol-requires g c = c.turns.invariant.on.sound.symbols c.in-Some.at
-    (subst (λ (xs : List SymbolAt). Contains xs c.in-Some.at) (sym c.in-Some.ensures.items) (Contains-push c.pop.new.self.items c.in-Some.at))
+    (subst (λ (xs : List SymbolAt). Contains xs c.in-Some.at) (sym c.in-Some.ensures.items) (first_in c.in-Some.at c.pop_front.new.self.items))
 
 pub turns-smaller-in_ok-follow_symbol-in-Some : goal.turns-smaller-in_ok-follow_symbol-in-Some
 turns-smaller-in_ok-follow_symbol-in-Some g c =
     let i = c.turns.invariant in
-    let mid : Finder = record c.turns.finder { symbols = c.pop.new.self } in
+    let mid : Finder = record c.turns.finder { symbols = c.pop_front.new.self } in
     let has = has_lent c.args.cache (λ x. (goal.FastCheckCache-dyn g x.now).hash_of x.now.1 c.args.input.seed.now)
     (λ x. (goal.FastCheckCache-dyn g x.now).stored x.now.1) c.args.input.facts.graph.now in
     less_left i.on (after_symbol i.on mid c.follow_symbol.new.self refl c.in-Some.at c.in-Some.ensures.items c.in_ok-follow_symbol-in-Some.ensures)
@@ -42,15 +42,15 @@ turns-smaller-in_ok-follow_symbol-in-Some g c =
 pub turns-preserved-in_ok-follow_symbol-in-Some : goal.turns-preserved-in_ok-follow_symbol-in-Some
 turns-preserved-in_ok-follow_symbol-in-Some g c =
     let i = c.turns.invariant in
-    let mid : Finder = record c.turns.finder { symbols = c.pop.new.self } in
+    let mid : Finder = record c.turns.finder { symbols = c.pop_front.new.self } in
     let t = after_symbol i.on mid c.follow_symbol.new.self refl c.in-Some.at c.in-Some.ensures.items c.in_ok-follow_symbol-in-Some.ensures in
     record { done = i.done ++ t.turn.demand ∷ []; on = turned_on i.on t; members = i.members }
 
 pub turns-smaller-in_ok-follow_names-in-Some-pop : goal.turns-smaller-in_ok-follow_names-in-Some-pop
 turns-smaller-in_ok-follow_names-in-Some-pop g c =
     let i = c.turns.invariant in
-    let one : Finder = record c.turns.finder { symbols = c.pop.new.self } in
-    let two : Finder = record one { names = c.pop-in-None.new.self } in
+    let one : Finder = record c.turns.finder { symbols = c.pop_front.new.self } in
+    let two : Finder = record one { names = c.pop.new.self } in
     let has = has_lent c.args.cache (λ x. (goal.FastCheckCache-dyn g x.now).hash_of x.now.1 c.args.input.seed.now)
     (λ x. (goal.FastCheckCache-dyn g x.now).stored x.now.1) c.args.input.facts.graph.now in
     less_left i.on (after_names i.on one two c.follow_names.new.self refl c.in-None.ensures.items refl c.in-Some-pop.at c.in-Some-pop.ensures.items
@@ -59,8 +59,8 @@ turns-smaller-in_ok-follow_names-in-Some-pop g c =
 pub turns-preserved-in_ok-follow_names-in-Some-pop : goal.turns-preserved-in_ok-follow_names-in-Some-pop
 turns-preserved-in_ok-follow_names-in-Some-pop g c =
     let i = c.turns.invariant in
-    let one : Finder = record c.turns.finder { symbols = c.pop.new.self } in
-    let two : Finder = record one { names = c.pop-in-None.new.self } in
+    let one : Finder = record c.turns.finder { symbols = c.pop_front.new.self } in
+    let two : Finder = record one { names = c.pop.new.self } in
     let t = after_names i.on one two c.follow_names.new.self refl c.in-None.ensures.items refl c.in-Some-pop.at c.in-Some-pop.ensures.items
     c.in_ok-follow_names-in-Some-pop.ensures in
     record { done = i.done ++ t.turn.demand ∷ []; on = turned_on i.on t; members = i.members }
@@ -68,8 +68,8 @@ turns-preserved-in_ok-follow_names-in-Some-pop g c =
 pub turns-smaller : goal.turns-smaller
 turns-smaller g c =
     let i = c.turns.invariant in
-    let one : Finder = record c.turns.finder { symbols = c.pop.new.self } in
-    let two : Finder = record one { names = c.pop-in-None.new.self } in
+    let one : Finder = record c.turns.finder { symbols = c.pop_front.new.self } in
+    let two : Finder = record one { names = c.pop.new.self } in
     let has = has_lent c.args.cache (λ x. (goal.FastCheckCache-dyn g x.now).hash_of x.now.1 c.args.input.seed.now)
     (λ x. (goal.FastCheckCache-dyn g x.now).stored x.now.1) c.args.input.facts.graph.now in
     less_left i.on (after_package i.on one two c.enter_next.new.self refl c.in-None.ensures.items refl c.in-None-pop.ensures.items true
@@ -78,8 +78,8 @@ turns-smaller g c =
 pub turns-preserved : goal.turns-preserved
 turns-preserved g c =
     let i = c.turns.invariant in
-    let one : Finder = record c.turns.finder { symbols = c.pop.new.self } in
-    let two : Finder = record one { names = c.pop-in-None.new.self } in
+    let one : Finder = record c.turns.finder { symbols = c.pop_front.new.self } in
+    let two : Finder = record one { names = c.pop.new.self } in
     let next = c.in_ok-enter_next-in-None-pop.ensures.turned i.members in
     let t = after_package i.on one two c.enter_next.new.self refl c.in-None.ensures.items refl c.in-None-pop.ensures.items true
     (rw c.if-not-branch.false at next.0) in
@@ -88,8 +88,8 @@ turns-preserved g c =
 pub returns-clause-found : goal.returns-clause-found
 returns-clause-found g c =
     let i = c.turns.invariant in
-    let one : Finder = record c.turns.finder { symbols = c.pop.new.self } in
-    let two : Finder = record one { names = c.pop-in-None.new.self } in
+    let one : Finder = record c.turns.finder { symbols = c.pop_front.new.self } in
+    let two : Finder = record one { names = c.pop.new.self } in
     let t = after_package i.on one two c.enter_next.new.self refl c.in-None.ensures.items refl c.in-None-pop.ensures.items false
     (rw c.if-not-branch.true at (c.in_ok-enter_next-in-None-pop.ensures.turned i.members).0) in
     on_ended _ _ i.done _ _ i.on t c.in_ok-into_found.field-0.entries (c.in_ok-into_found.ensures t.sound.once.apart)
