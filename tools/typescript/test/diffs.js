@@ -107,6 +107,8 @@ const OTHERS = [
   ['an entry point of JavaScript', { 'mod.js': '', 'package.json': '{ "exports": "./mod.js" }' }, { 'mod.ts': FUNCTION }, 'unknown', 'the entry point mod.js is JavaScript without types'],
   ['a major change beside what is not known', { 'mod.ts': S, 'package.json': zod('^3') }, { 'mod.ts': `${ZOD}export type S = z.ZodNumber;\n`, 'package.json': zod('^4') }, 'major', 'zod is taken as ^4'],
   ['a module that was moved', { 'mod.ts': 'export * from "./a.ts";\n', 'a.ts': SHAPE }, { 'mod.ts': 'export * from "./b.ts";\n', 'b.ts': SHAPE }, 'patch', ''],
+  ['an import that means another type', { 'mod.ts': 'import type { B as A } from "./a.ts";\nexport type T = A;\n', 'a.ts': 'export interface B { b: 1 }\n' },
+    { 'mod.ts': 'import type { C as A } from "./a.ts";\nexport type T = A;\n', 'a.ts': 'export interface C { c: 1 }\n' }, 'major', 'it leads to another declaration'],
   ['a type of another module', { 'mod.ts': 'export { f } from "./f.ts";\n', 'f.ts': 'import type { A } from "./a.ts";\nexport function f(it: A): void {}\n', 'a.ts': 'export interface A { a: 1 }\n' },
     { 'mod.ts': 'export { f } from "./f.ts";\n', 'f.ts': 'import type { A } from "./a.ts";\nexport function f(it: A): void {}\n', 'a.ts': 'export interface A { a: 1; b?: 2 }\n' }, 'minor', 'by A (a.ts)'],
 ];

@@ -80,7 +80,8 @@ async function advised(before, after, changes, context) {
   const adviceFor = (it) => {
     const all = changed.get(it).map((pair) => ofPair(it.name, pair));
     const advice = highest(all.map((each) => each.advice));
-    return all.find((each) => each.advice === advice) || { advice: 'patch', reason: null };
+    // Its own text and those that it mentions by the same names are the same: an import has another meaning.
+    return all.find((each) => each.advice === advice) || { advice: 'major', reason: 'it leads to another declaration' };
   };
   return changes.map((it) => {
     const { advice, reason } = { removed: GONE, added: NEW }[it.change] || adviceFor(it);
