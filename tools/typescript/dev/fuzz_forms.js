@@ -52,7 +52,13 @@ class FormWriter {
 
   module(name, before) {
     const { r } = this;
-    Object.assign(this, { types: [], values: [], consts: [], hasHoisted: false, hasItself: false, file: name, before });
+    this.types = [];
+    this.values = [];
+    this.consts = [];
+    this.hasHoisted = false;
+    this.hasItself = false;
+    this.file = name;
+    this.before = before;
     const lines = ['declare function load(): any;', 'declare const flag: boolean;', 'declare const text: string;', 'const mark: unique symbol = Symbol();'];
     if (r.one(8)) lines.push(...this.shadow());
     const forms = [

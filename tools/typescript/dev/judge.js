@@ -145,6 +145,7 @@ function differences(before, after) {
 /** Judges one package whose files lie in a folder of their own. */
 async function judge(dir, exports, work) {
   const began = await typed(dir, exports, work);
+  /** @type {any} */
   let asked = began;
   let way = began.written ? `types written: ${began.written}` : 'as it is';
   if (asked.messages.length) {

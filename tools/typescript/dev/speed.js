@@ -79,7 +79,7 @@ function writePackage(folder, count) {
 const seconds = (since) => Number(process.hrtime.bigint() - since) / 1e9;
 
 /** The least seconds of some runs of a command, which has to end with status 0, and the least of its processor. `before(run)` is called before each. */
-function best(words, before = () => {}) {
+function best(words, before = (run) => {}) {
   const least = { seconds: Infinity, processor: Infinity };
   for (let run = 0; run < RUNS; run++) {
     before(run);

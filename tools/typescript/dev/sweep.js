@@ -57,7 +57,11 @@ function causeOf({ code, info = [] }) {
   return note.replace(/its type names \S+, which/, 'its type names N, which').replace(/has \d+ characters/, 'has N characters');
 }
 
-/** Writes types into the texts of a package, and none of its files: what is left, and what a second run and the compiler find then. Null where it asks for none. */
+/**
+ * Writes types into the texts of a package, and none of its files: what is left, and what a second run and the compiler find then. Null where it asks for none.
+ *
+ * @returns {Promise<any>}
+ */
 async function fixed(dir) {
   const { analyse } = require('../src/program/answer.js');
   const { FIXABLE } = require('../src/messages/codes.js');

@@ -3,7 +3,8 @@
 const { CODES, isCode } = require('../messages/codes.js');
 const { COMMANDS, OPTIONS } = require('./options.js');
 
-const BY_WORD = new Map(OPTIONS.flatMap((it) => [it.word, ...(it.also || [])].map((word) => [word, it])));
+/** @type {Map<string, import('./types').Option>} */
+const BY_WORD = new Map(OPTIONS.flatMap((it) => [it.word, ...(it.also || [])].map((word) => /** @type {const} */ ([word, it]))));
 const FORMATS = ['text', 'json', 'github', 'sarif', 'junit'];
 const RULES = ['deno'];
 // Those that are one document, which a run that goes on has no end of.
@@ -63,7 +64,13 @@ function allowed(code) {
 // How the values of options are read, those of a list each.
 const READ = { exports: exportsOf, maxWarnings: countOf, format: formatOf, rules: rulesOf, allow: allowed };
 
-/** Puts the value of an option among the others. */
+/**
+ * Puts the value of an option among the others.
+ *
+ * @param {Record<string, any>} options
+ * @param {import('./types').Option} option
+ * @param {unknown} value
+ */
 function put(options, { key, isList }, value) {
   if (isList) options[key] = [...(options[key] || []), value];
   else options[key] = value;
@@ -71,7 +78,9 @@ function put(options, { key, isList }, value) {
 
 /** The words, parted into options and others. */
 function parted(words) {
-  const [options, plain] = [{}, []];
+  /** @type {import('./types').Options} */
+  const options = {};
+  const plain = [];
   for (let at = 0; at < words.length; at++) {
     const word = words[at];
     const [, name, given] = /^(--[a-z-]+|-[a-z])(?:=(.*))?$/s.exec(word) || [];
@@ -89,7 +98,12 @@ function parted(words) {
   return { options, plain };
 }
 
-/** Refuses options that a command does not take, or that do not go together. */
+/**
+ * Refuses options that a command does not take, or that do not go together.
+ *
+ * @param {string} command
+ * @param {import('./types').Options} options
+ */
 function fit(command, options) {
   for (const { word, key, commands } of OPTIONS) {
     if (options[key] !== undefined && !commands.includes(command)) throw new UsageError(`${word} is not for ${command}`);
@@ -106,7 +120,12 @@ function helpFor(rest, options) {
   return { command: 'help', rest, options };
 }
 
-/** What the words ask for: the command, the words behind it, and the options. Where no folder is named, it is the one that the command was started in. */
+/**
+ * What the words ask for: the command, the words behind it, and the options. Where no folder is named, it is the one that the command was started in.
+ *
+ * @param {string[]} words
+ * @returns {import('./types').Asked}
+ */
 function parse(words) {
   if (words.length === 1 && words[0] === '--version') return { command: 'version', rest: [], options: {} };
   const { options, plain } = parted(words);

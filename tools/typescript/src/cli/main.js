@@ -21,24 +21,36 @@ function contextOf(io, options) {
   return { ...again(), again };
 }
 
-/** The folder whose own compiler is looked for. */
+/**
+ * The folder whose own compiler is looked for.
+ *
+ * @param {import('./types').Asked} asked
+ * @param {{ cwd: string }} io
+ */
 function folderAsked({ command, rest, options }, { cwd }) {
   if (command === 'check') return targetsOf(rest, options, cwd)[0].dir;
   return path.resolve(cwd, rest[command === 'diff' ? 1 : 0]);
 }
 
-/** Tells why a command could not be done, and answers its status. */
-function refuse(thrown, options, context) {
+/**
+ * Tells why a command could not be done, and answers its status.
+ *
+ * @param {any} thrown
+ * @param {import('./types').Asked} asked
+ * @param {any} context
+ */
+function refuse(thrown, { command, options }, context) {
   const isUsage = thrown instanceof UsageError;
   const { messages, status, message } = isUsage ? { messages: [], status: 2, message: thrown.message } : refusalOf(thrown);
   writeMessages(messages, options, options.json ? context : { out: context.err, paint: context.paintErrors });
   context.err.write(`fast-check-ts: ${message}\n`);
-  if (isUsage && !options.command) context.err.write('fast-check-ts --help says what there is\n');
+  if (isUsage && !command) context.err.write('fast-check-ts --help says what there is\n');
   return status;
 }
 
 /** Runs a command line, and answers its status. `io` has `cwd`, `environment`, and the streams `out` and `err`. */
 async function main(words, io) {
+  /** @type {import('./types').Asked} */
   let asked = { options: {} };
   let context = contextOf(io, {});
   try {
@@ -55,7 +67,7 @@ async function main(words, io) {
     return status;
   } catch (error) {
     context.progress.end();
-    return refuse(error, { ...asked.options, command: asked.command }, context);
+    return refuse(error, asked, context);
   }
 }
 

@@ -37,8 +37,10 @@ const ALL = Object.keys(COMMANDS);
 const READING = ['check', 'fix', 'skeleton', 'diff', 'report'];
 
 /**
- * The options: the word and others for it (`also`), how its value is shown where it takes one, the name in what `parse` answers (of those that may stand more than once a list),
- * the commands that take it, and what it does.
+ * The options: the word and others for it (`also`), how its value is shown where it takes one, the name in what `parse` answers (of those that may stand more than
+ * once a list), the commands that take it, and what it does.
+ *
+ * @type {import('./types').Option[]}
  */
 const OPTIONS = [
   { word: '--name', value: 'NAME', key: 'name', commands: ALL, text: 'the name of the package, where no deno.json, jsr.json or package.json says it' },
@@ -80,6 +82,7 @@ const OPTIONS = [
 
 const WIDTH = 23;
 const entry = (words, text) => `  ${words.padEnd(WIDTH - 1)} ${text}`;
+/** @param {import('./types').Option} option */
 const shown = ({ word, also = [], value }) => [...also.filter((it) => /^-[a-z]$/.test(it)), word].join(', ') + (value ? ` ${value}` : '');
 
 const ENDS = `It ends with 0 where there is nothing to report but warnings, 1 where there are errors or differences, 2 where something cannot be read,

@@ -51,8 +51,7 @@ function declarationPairs(old, now) {
   const both = [...old.closure.keys()].filter((key) => now.closure.has(key) && now.closure.get(key) !== old.closure.get(key) && key !== own[0]).map((key) => [key, key]);
   const gone = new Map(differing(old, now).map((key) => [key.split('\n')[1], key]));
   const moved = differing(now, old).filter((key) => gone.has(key.split('\n')[1])).map((key) => [gone.get(key.split('\n')[1]), key]);
-  const isSame = ([one, other]) => old.closure.get(one) === now.closure.get(other);
-  return [own, ...both, ...moved].filter((it) => !isSame(it));
+  return [own, ...both, ...moved].filter(([one, other]) => old.closure.get(one) !== now.closure.get(other));
 }
 
 /** What a re-export of a whole module asks for, whose text lists its names. */

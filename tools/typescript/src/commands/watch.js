@@ -62,6 +62,7 @@ class Watcher {
 class Changes {
   constructor() {
     this.paths = new Set();
+    /** @type {(value?: unknown) => void} */
     this.wake = () => {};
   }
 

@@ -41,7 +41,8 @@ function requireCompiled(file, folder) {
   const cachedData = readOr(entry);
   const script = new vm.Script(Module.wrap(fs.readFileSync(file, 'utf8')), { filename: file, cachedData });
   const module = new Module(file, null);
-  Object.assign(module, { filename: file, paths: Module._nodeModulePaths(path.dirname(file)) });
+  module.filename = file;
+  module.paths = Module.createRequire(file).resolve.paths('typescript') || [];
   require.cache[file] = module;
   script.runInThisContext().call(module.exports, module.exports, Module.createRequire(file), module, file, path.dirname(file));
   module.loaded = true;

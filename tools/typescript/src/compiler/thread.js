@@ -89,7 +89,9 @@ async function fixed(dir, options, { cwd, environment, progress }) {
 /** Hands on what is at work. */
 class ToldProgress {
   constructor(tell) {
-    for (const name of ['begin', 'tell', 'line']) this[name] = (text) => tell([name, text]);
+    this.begin = (text) => tell(['begin', text]);
+    this.tell = (text) => tell(['tell', text]);
+    this.line = (text) => tell(['line', text]);
   }
 
   async during(stage, promise) {

@@ -122,8 +122,12 @@ function typeParametersOf(symbol) {
 
 /** A declaration of both versions: what is asked of it, and the advice that follows from the answers. */
 class Pair {
-  constructor(key, old, now) {
-    Object.assign(this, { key, old, now });
+  constructor(key) {
+    this.key = key;
+    // Where both stand, once they are found: the file and the name of the old one, and the nodes of each.
+    this.file = null;
+    this.name = null;
+    this.nodes = [];
     this.breaks = [];
     this.isAddition = false;
     // Questions of which a no is a break, and those of which it is an addition.
@@ -143,7 +147,9 @@ class Pair {
 class Comparison {
   constructor(before, after) {
     this.versions = [new Version(before, '/old'), new Version(after, '/new')];
-    this.texts = new Map([...this.versions.flatMap(({ texts }) => [...texts]), [HELPERS, HELP]]);
+    /** @type {Map<string, string>} */
+    this.texts = new Map(this.versions.flatMap(({ texts }) => [...texts]));
+    this.texts.set(HELPERS, HELP);
     this.externals = new Externals(this.texts, (from, text) => !this.inside(from, text));
     this.pairs = [];
     this.added = new Map();
@@ -161,7 +167,8 @@ class Comparison {
   }
 
   program() {
-    const texts = new Map([...this.texts, ...this.externals.texts()]);
+    const texts = new Map(this.texts);
+    for (const [name, text] of this.externals.texts()) texts.set(name, text);
     for (const [name, parts] of this.added) texts.set(name, [texts.get(name), ...parts].join('\n'));
     return programOf(texts, (from, text) => this.resolve(from, text));
   }
@@ -174,7 +181,7 @@ class Comparison {
   /** Puts a new declaration beside the old one. */
   take({ key, old, now }) {
     const [before, after] = [this.versions[0].module(old.specifier), this.versions[1].module(now.specifier)];
-    const pair = new Pair(key, null, null);
+    const pair = new Pair(key);
     this.pairs.push(pair);
     const names = [before && before.local(old.name), after && after.local(now.name)];
     const nodes = [before, after].map((it, at) => (it && it.declared.get(names[at])) || []);

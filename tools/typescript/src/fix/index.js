@@ -181,6 +181,13 @@ function editsByFile(made) {
   }));
 }
 
+/** Texts, some of which are replaced. */
+function withTexts(texts, changed) {
+  const made = new Map(texts);
+  for (const [name, text] of changed) made.set(name, text);
+  return made;
+}
+
 /** The texts of the files that some edits change. */
 function changedTexts(made) {
   return [...editsByFile(made)].map(([file, edits]) => [file.fileName, applied(file.text, edits)]);
@@ -199,7 +206,9 @@ function fixable(world) {
 
 class Fixer {
   constructor(dir, options, context) {
-    Object.assign(this, { dir, options, context });
+    this.dir = dir;
+    this.options = options;
+    this.context = context;
     this.texts = new Map(options.texts);
     this.rejected = new Set();
     this.notes = new Map();
@@ -234,7 +243,7 @@ class Fixer {
     const made = this.edits(world, texts, messages);
     const known = new KnownErrors(made.length ? errorsOf(this.project.program(world, texts), names) : []);
     const wrongFiles = (some) => {
-      const program = this.project.program(world, new Map([...texts, ...changedTexts(some)]));
+      const program = this.project.program(world, withTexts(texts, changedTexts(some)));
       const edits = new Map([...editsByFile(some)].map(([file, each]) => [file.fileName, each]));
       return new Set(errorsOf(program, names).filter((it) => !known.has(it, edits)).map((it) => it.name));
     };

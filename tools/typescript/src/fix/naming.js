@@ -29,7 +29,9 @@ function relativeSource(from, to, ending) {
 /** The names of modules in a folder's files, over a program of the compiler. `resolve(text, from)` is where a text of a file leads. */
 class Naming {
   constructor(world, program, resolve) {
-    Object.assign(this, { world, program, resolve });
+    this.world = world;
+    this.program = program;
+    this.resolve = resolve;
     this.checker = program.getTypeChecker();
     this.ending = endingOf(world, program);
     this.files = new Files(world.dir);

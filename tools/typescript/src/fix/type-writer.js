@@ -196,7 +196,10 @@ class Parts {
 class TypeWriter {
   /** `circles` are the places of names that the compiler finds no type for, since they are in a circle, as `file place`. */
   constructor(checker, file, naming, circles) {
-    Object.assign(this, { checker, file, naming, circles });
+    this.checker = checker;
+    this.file = file;
+    this.naming = naming;
+    this.circles = circles;
     this.taken = identifiersOf(file);
     this.imports = new Map();
     this.used = new Map();

@@ -45,7 +45,11 @@ function withoutAllowed(world, messages, { allow: codes = [], noIgnore }) {
   return messages.filter((each) => !codes.includes(each.code) && !(files.length && isIgnored(each, files)));
 }
 
-/** What a message is known by, wherever it stands in its file. */
+/**
+ * What a message is known by, wherever it stands in its file.
+ *
+ * @param {{ code: string, file?: string, message: string }} message
+ */
 function keyOf({ code, file, message }) {
   return JSON.stringify([code, file, message]);
 }

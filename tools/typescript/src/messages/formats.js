@@ -145,7 +145,13 @@ function escapedProperty(value) {
   return escapedValue(value).replace(/:/g, '%3A').replace(/,/g, '%2C');
 }
 
-/** A command with those of its properties that are known. A column counts where it is one of a single line. */
+/**
+ * A command with those of its properties that are known. A column counts where it is one of a single line.
+ *
+ * @param {string} level
+ * @param {Partial<import('./types').PlainMessage>} message
+ * @param {string} value
+ */
 function githubLine(level, { file, line, endLine, column, endColumn, code }, value) {
   const columns = line === endLine ? { col: column, endColumn } : {};
   const known = Object.entries({ file, line, endLine, ...columns, title: code }).filter(([, each]) => each !== undefined && each !== null);

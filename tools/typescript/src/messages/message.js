@@ -37,7 +37,8 @@ function pointed(text, from, to) {
 }
 
 /** A line with the carets under it; of a long one what stands around the carets. */
-function marked(text, [from, to]) {
+function marked(text, range) {
+  const [from, to] = range;
   const first = text.length <= LONGEST ? 0 : Math.max(0, Math.min(from - 60, text.length - LONGEST));
   const last = Math.min(text.length, first + LONGEST);
   const [before, behind] = [first > 0 ? '..' : '', last < text.length ? '..' : ''];
@@ -94,6 +95,7 @@ function format(message, paint) {
 
 /** One message as an object for tools, with lines and columns from 1. */
 function plain(message) {
+  /** @type {import('./types').PlainMessage & { package?: string }} */
   const made = { level: message.level.toLowerCase(), code: message.code, message: message.message, file: message.file || null };
   if (message.package) made.package = message.package;
   if (message.lines) {

@@ -22,7 +22,11 @@ const hashOf = (text) => crypto.createHash('sha256').update(text).digest('hex');
 /** The tree of a module whose parts are kept: read from them where it is asked for. */
 class KeptTree {
   constructor(text, { source, sources }) {
-    Object.assign(this, { text, source, sources, errors: [], faults: [] });
+    this.text = text;
+    this.source = source;
+    this.sources = sources;
+    this.errors = [];
+    this.faults = [];
     this.read = null;
   }
 
@@ -188,7 +192,11 @@ class Kept {
   }
 }
 
-/** The folder of entries between runs: $XDG_CACHE_HOME/fast-check-ts, else ~/.cache/fast-check-ts; null where neither is known. */
+/**
+ * The folder of entries between runs: $XDG_CACHE_HOME/fast-check-ts, else ~/.cache/fast-check-ts; null where neither is known.
+ *
+ * @param {Record<string, string | undefined>} environment
+ */
 function folderFor({ XDG_CACHE_HOME: own, HOME: home }) {
   if (own && path.isAbsolute(own)) return path.join(own, 'fast-check-ts');
   return home && path.isAbsolute(home) ? path.join(home, '.cache', 'fast-check-ts') : null;
@@ -216,7 +224,12 @@ function compilerFor(folder) {
   return compiler;
 }
 
-/** What is kept of sources for a command. Under other rules other trees are made. */
+/**
+ * What is kept of sources for a command. Under other rules other trees are made.
+ *
+ * @param {import('../cli/types').Options} options
+ * @param {Record<string, string | undefined>} environment
+ */
 function keptFor({ noCache, rules = '' }, environment) {
   const folder = noCache ? null : folderFor(environment);
   keepIn(folder);

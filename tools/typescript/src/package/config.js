@@ -15,7 +15,11 @@ const isText = (value) => typeof value === 'string';
 const isMap = (value) => value !== null && typeof value === 'object' && !Array.isArray(value);
 const areTexts = (value) => Array.isArray(value) && value.every(isText);
 
-// What the members that are read have to be.
+/**
+ * What the members that are read have to be.
+ *
+ * @type {[name: string, wanted: string, isRight: (value: any) => boolean][]}
+ */
 const WANTED = [
   ['name', 'a text', isText],
   ['version', 'a text', isText],
@@ -42,8 +46,10 @@ function readConfig(file, files, errors) {
   if (wrong >= 0) return refuse(wrong, 'the file is no UTF-8 from here on');
   if (!config || typeof config !== 'object' || Array.isArray(config) || text.trimStart().startsWith('[')) return refuse(0, 'this is no object');
   if (error) return refuse(error.start, typescript.ts.flattenDiagnosticMessageText(error.messageText, ' '));
-  const [key, wanted] = WANTED.find(([name, , isRight]) => config[name] !== undefined && !isRight(config[name])) || [];
-  return key === undefined ? config : refuse(Math.max(0, text.indexOf(`"${key}"`)), `\`${key}\` has to be ${wanted}`);
+  const unfit = WANTED.find(([name, , isRight]) => config[name] !== undefined && !isRight(config[name]));
+  if (!unfit) return config;
+  const [key, wanted] = unfit;
+  return refuse(Math.max(0, text.indexOf(`"${key}"`)), `\`${key}\` has to be ${wanted}`);
 }
 
 /** The paths that pnpm-workspace.yaml lists, a line for each or in brackets. */
@@ -63,18 +69,19 @@ function listedByPnpm(folder, files) {
  * of a workspace that pnpm lists are those of npm's.
  */
 function configOf(dir, files, errors) {
+  /** @type {Record<string, any>} */
   const merged = {};
-  const read = [];
+  merged.read = [];
   for (const name of NAMES) {
     const file = path.join(dir, name);
     const found = readConfig(file, files, errors);
     if (!found) continue;
-    read.push(file);
+    merged.read.push(file);
     if (found.imports) merged.imports = { ...found.imports, ...merged.imports };
     for (const key of Object.keys(found)) if (!(key in merged)) merged[key] = found[key];
   }
   const listed = merged.workspace || merged.workspaces ? [] : listedByPnpm(dir, files);
-  return { ...merged, ...(listed.length ? { workspaces: listed } : {}), read };
+  return listed.length ? { ...merged, workspaces: listed } : merged;
 }
 
 const NAMING_ENTRIES = new Set(['exports', 'types', 'typings']);

@@ -67,9 +67,13 @@ function bytesOf(file) {
 
 const MARK = '\ufeff';
 
-/** How some bytes are read: as UTF-16 with its mark, the higher byte first (`isBig`) or last (`isLittle`), else as UTF-8. */
-function orderOf([first, second]) {
-  return { isBig: first === 0xfe && second === 0xff, isLittle: first === 0xff && second === 0xfe };
+/**
+ * How some bytes are read: as UTF-16 with its mark, the higher byte first (`isBig`) or last (`isLittle`), else as UTF-8.
+ *
+ * @param {Buffer} bytes
+ */
+function orderOf(bytes) {
+  return { isBig: bytes[0] === 0xfe && bytes[1] === 0xff, isLittle: bytes[0] === 0xff && bytes[1] === 0xfe };
 }
 
 /** The text of a file without its mark of byte order, and where it is no text (`wrong`, else -1). Beside UTF-8 the compiler reads UTF-16 with its mark. */

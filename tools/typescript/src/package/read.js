@@ -160,7 +160,13 @@ class Reader {
     }
   }
 
-  /** An error that keeps a file from being read, at a place of its text. */
+  /**
+   * An error that keeps a file from being read, at a place of its text.
+   *
+   * @param {string} file
+   * @param {string} text
+   * @param {{ offset: number, message: string, code?: string }} error
+   */
   errorAt(file, text, { offset, message, code }) {
     this.errors.push({ path: file, ...placeAt(text, offset), message, code });
   }

@@ -200,13 +200,26 @@ function withoutFaulty({ info, files, skeletons }, paths) {
   return new Map([...skeletons].filter(([specifier]) => !files.has(specifier) || !faulty.has(packageOf(info, files.get(specifier).path))));
 }
 
-/** What the program answers to a request. */
+/**
+ * What the program answers to a request.
+ *
+ * @param {any} request
+ * @param {import('../cli/types').Options} options
+ * @param {any} context
+ */
 function answersTo(request, { unproved }, { progress, environment }) {
   const tell = (line) => progress.line(line);
   return progress.during('the program is at work', build(request, { unproved, environment, tell }));
 }
 
-/** Reads a folder and runs the program on it. `broken` says why packages of it cannot be read; `messages` are of the others. */
+/**
+ * Reads a folder and runs the program on it. `broken` says why packages of it cannot be read; `messages` are of the others.
+ *
+ * @param {string} dir
+ * @param {import('../cli/types').Options & Record<string, any>} options
+ * @param {any} context
+ * @returns {Promise<any>}
+ */
 async function analyse(dir, options, context) {
   const { cwd } = context;
   const world = read(dir, options, context);

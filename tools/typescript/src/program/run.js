@@ -61,7 +61,12 @@ function textOf(request) {
   }
 }
 
-/** The answers of the program to a request: a list of `[specifier, {Ok | Err}]`. */
+/**
+ * The answers of the program to a request: a list of `[specifier, {Ok | Err}]`.
+ *
+ * @param {any} request
+ * @param {{ unproved?: boolean, environment: Record<string, string | undefined>, tell: (line: string) => void }} options
+ */
 async function build(request, { unproved, environment, tell }) {
   const folder = fs.mkdtempSync(path.join(os.tmpdir(), FOLDER));
   const remove = () => fs.rmSync(folder, { recursive: true, force: true });

@@ -78,7 +78,10 @@ function ownSymbol(type_ann, mayHave) {
 /** Makes the declarations of one module. Those of a declaration file stand as they are written, but for a class that is exported by default. */
 class Declarations {
   constructor(scope, { isWritten = false, isInside = false, untold = [] }) {
-    Object.assign(this, { scope, isWritten, isInside, untold });
+    this.scope = scope;
+    this.isWritten = isWritten;
+    this.isInside = isInside;
+    this.untold = untold;
     this.types = new ValueTypes(scope);
   }
 

@@ -93,7 +93,8 @@ const [CONSTANT, WIDE, FROZEN] = ['constant', 'wide', 'frozen'];
 /** Looks for the names of constants in values that may be written again. */
 class Literals {
   constructor(scope, found) {
-    Object.assign(this, { scope, found });
+    this.scope = scope;
+    this.found = found;
   }
 
   items(list) {

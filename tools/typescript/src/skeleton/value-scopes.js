@@ -66,7 +66,8 @@ class Scope {
 
   /** Whether a key in brackets may be any text or symbol: the compiler declares no member of such a key. */
   isAnyKey({ Computed: computed }) {
-    const { form, type } = computed && (computed.expr.Ident || computed.expr.Member) ? this.find(computed.expr) : {};
+    if (!computed || !(computed.expr.Ident || computed.expr.Member)) return false;
+    const { form, type } = this.find(computed.expr);
     const { TsUnionType: union } = (type && type.TsUnionOrIntersectionType) || {};
     return form === 'typed' && (union ? union.types : [type]).some((it) => it.TsKeywordType);
   }

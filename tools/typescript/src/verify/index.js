@@ -194,7 +194,14 @@ function queryingNames(file) {
   return parts.filter((each) => each.name && asks(each)).map((each) => each.name.getText(file));
 }
 
-/** Where `typeof` of a skeleton stands for another type than in what the compiler declares for the source, as messages. */
+/**
+ * Where `typeof` of a skeleton stands for another type than in what the compiler declares for the source, as messages.
+ *
+ * @param {any} module
+ * @param {any} view
+ * @param {any[]} surfaces
+ * @param {Set<string>} told
+ */
 function queryMessages(module, { world, cwd, sources, skeletons, found }, [{ program }], told) {
   const names = queryingNames(skeletons.file(module.path));
   if (!names.length || !program.getSourceFile(declarationName(module.path))) return [];

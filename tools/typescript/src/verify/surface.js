@@ -84,7 +84,13 @@ function takeLooseTypes() {
   OPTIONS.strict = false;
 }
 
-/** The declarations that the compiler emits of the texts that are wanted, by their paths; declaration files are their own. */
+/**
+ * The declarations that the compiler emits of the texts that are wanted, by their paths; declaration files are their own.
+ *
+ * @param {any} program
+ * @param {Map<string, string>} texts
+ * @param {(name: string) => boolean} isWanted
+ */
 function emitted(program, texts, isWanted = () => true) {
   const made = new Map();
   const write = (name, text) => made.set(name, text);

@@ -89,6 +89,7 @@ function commentsOf(sourceFile, offsets) {
   const leading = new Map();
   const trailing = new Map();
   let waiting = [];
+  /** @type {{ end: number } | null} */
   let last = null;
   const onComment = (it) => {
     const made = { kind: it.kind, span: [offsets.of(it.start), offsets.of(it.end)], text: it.text };
@@ -101,7 +102,8 @@ function commentsOf(sourceFile, offsets) {
     last = { end };
   };
   scan(text, leaves, onComment, onToken);
-  for (const it of waiting) add(trailing, offsets.of(last ? last.end : 0), it);
+  const end = /** @type {{ end: number } | null} */ (last);
+  for (const it of waiting) add(trailing, offsets.of(end ? end.end : 0), it);
   return { leading: [...leading], trailing: [...trailing] };
 }
 

@@ -105,6 +105,7 @@ function tupleElement(c, node) {
   const optional = Boolean(node.questionToken);
   const end = optional ? node.questionToken.end : node.name.end;
   const id = form({ span: c.range(c.start(node.name), end), sym: node.name.text, optional });
+  /** @type {any} */
   let label = { Ident: { id } };
   if (node.dotDotDotToken) {
     label = { Rest: { span: c.range(c.start(node), end), dot3_token: c.span(node.dotDotDotToken), arg: label } };

@@ -1,0 +1,31 @@
+#!/usr/bin/env bash
+# Has TypeScript's compiler check the JavaScript of this folder by tsconfig.json:
+#
+#   tools/typescript/types.sh          prints the errors; status 0 where there are none, 5 where the types of Node cannot be had
+#
+# The types of Node are those of Debian's package `nodejs`, which is fetched into the cache folder and not installed. `tsc` is Debian's, or that of the
+# compiler which the variable TYPESCRIPT names.
+set -eu
+here=$(cd "$(dirname "$(readlink -f "${BASH_SOURCE[0]}")")" && pwd)
+folder=${XDG_CACHE_HOME:-$HOME/.cache}/fast-check-ts/node-types
+types=/usr/share/nodejs/@types
+
+# The newest version that Debian's mirror has, where others have one too.
+version() {
+  local mirror
+  mirror=$(apt-get indextargets --format '$(REPO_URI)' 'Identifier: Packages' 'Origin: Debian' 'Component: main' | grep -v security | sort -u | head -n 1)
+  apt-cache madison nodejs | awk -F ' *[|] *' -v mirror="${mirror%/}" 'index($3, mirror " ") == 1 { print $2; exit }'
+}
+
+if [ ! -d "$types/node" ]; then
+  types=$folder/usr/share/nodejs/@types
+  if [ ! -d "$types/node" ]; then
+    mkdir -p "$folder"
+    if ! { (cd "$folder" && apt-get -q download "nodejs=$(version)" > log 2>&1) && dpkg -x "$folder"/nodejs_*.deb "$folder"; }; then
+      echo "types.sh: Debian's package nodejs is not to be had: $folder/log says why" >&2
+      exit 5
+    fi
+  fi
+fi
+if [ "${TYPESCRIPT-}" ]; then tsc=(node "$TYPESCRIPT/lib/tsc.js"); else tsc=(tsc); fi
+exec "${tsc[@]}" -p "$here" --typeRoots "$types" --types node
