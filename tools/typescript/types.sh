@@ -3,8 +3,8 @@
 #
 #   tools/typescript/types.sh          prints the errors; status 0 where there are none, 5 where the types of Node cannot be had
 #
-# The types of Node are those of Debian's package `nodejs`, which is fetched into the cache folder and not installed. `tsc` is Debian's, or that of the
-# compiler which the variable TYPESCRIPT names.
+# The types of Node are those of Debian's package `nodejs`, which is fetched into the cache folder and not installed. The compiler is Debian's, or the one that the
+# variable TYPESCRIPT names.
 set -eu
 here=$(cd "$(dirname "$(readlink -f "${BASH_SOURCE[0]}")")" && pwd)
 folder=${XDG_CACHE_HOME:-$HOME/.cache}/fast-check-ts/node-types
@@ -27,5 +27,4 @@ if [ ! -d "$types/node" ]; then
     fi
   fi
 fi
-if [ "${TYPESCRIPT-}" ]; then tsc=(node "$TYPESCRIPT/lib/tsc.js"); else tsc=(tsc); fi
-exec "${tsc[@]}" -p "$here" --typeRoots "$types" --types node
+exec node "${TYPESCRIPT:-/usr/share/nodejs/typescript}/lib/tsc.js" -p "$here" --typeRoots "$types" --types node
