@@ -1,7 +1,7 @@
 #!/usr/bin/env bash
 # Has TypeScript's compiler check the JavaScript of this folder by tsconfig.json:
 #
-#   tools/typescript/types.sh          prints the errors; status 0 where there are none, 5 where the types of Node cannot be had
+#   tools/typescript/types.sh          prints the errors; status 0 where there are none, 5 where the compiler or the types of Node are missing
 #
 # The types of Node are those of Debian's package `nodejs`, which is fetched into the cache folder and not installed. The compiler is Debian's, or the one that the
 # variable TYPESCRIPT names.
@@ -9,6 +9,11 @@ set -eu
 here=$(cd "$(dirname "$(readlink -f "${BASH_SOURCE[0]}")")" && pwd)
 folder=${XDG_CACHE_HOME:-$HOME/.cache}/fast-check-ts/node-types
 types=/usr/share/nodejs/@types
+tsc=${TYPESCRIPT:-/usr/share/nodejs/typescript}/lib/tsc.js
+if [ ! -r "$tsc" ]; then
+  echo "types.sh: there is no $tsc; on Debian: apt-get install -y node-typescript" >&2
+  exit 5
+fi
 
 # The newest version that Debian's mirror has, where others have one too.
 version() {
@@ -27,4 +32,4 @@ if [ ! -d "$types/node" ]; then
     fi
   fi
 fi
-exec node "${TYPESCRIPT:-/usr/share/nodejs/typescript}/lib/tsc.js" -p "$here" --typeRoots "$types" --types node
+exec node "$tsc" -p "$here" --typeRoots "$types" --types node
