@@ -32,7 +32,7 @@ function memoryError(limit) {
 function threadFor(limit) {
   const [key] = candidateFiles();
   if (!threads.has(key)) {
-    const made = new Worker(__filename, { workerData: { own: chosen.own, cache: chosen.cache }, resourceLimits: { maxOldGenerationSizeMb: limit } });
+    const made = new Worker(__filename, { workerData: { own: chosen.own }, resourceLimits: { maxOldGenerationSizeMb: limit } });
     made.on('exit', () => threads.delete(key));
     made.unref();
     threads.set(key, made);
@@ -132,7 +132,8 @@ async function answerTo(asked) {
 }
 
 if (!isMainThread && workerData && parentPort) {
-  Object.assign(chosen, workerData);
+  // Without compiled code, which a thread with little memory does not take: it would end the whole command.
+  chosen.own = workerData.own;
   parentPort.on('message', async (asked) => parentPort.postMessage(await answerTo(asked)));
 }
 
