@@ -3,6 +3,7 @@
 const fs = require('fs');
 const path = require('path');
 const { COLOURS, folderOf, messagesOf, writeMessages } = require('./shared.js');
+const { moduleName } = require('../diff/module-name.js');
 const { nameChanges } = require('../diff/names.js');
 const { highest, versionText } = require('../diff/release.js');
 const { unpacked } = require('../package/revision.js');
@@ -54,6 +55,13 @@ function declarationPairs(old, now) {
   return [own, ...both, ...moved].filter(([one, other]) => old.closure.get(one) !== now.closure.get(other));
 }
 
+/** Whether two names with the same texts lead to different places, however imports write the modules of other packages. */
+function leadsElsewhere(old, now) {
+  const shown = (key) => (key.startsWith('\n') ? key.replace(/ of (.*)$/s, (_, text) => ` of ${moduleName(text)}`) : key);
+  const [before, after] = [old, now].map(({ closure }) => [...new Set([...closure.keys()].map(shown))].sort().join('\n\n'));
+  return before !== after;
+}
+
 /** What a re-export of a whole module asks for, whose text lists its names. */
 function ofNames(before, after) {
   const [old, now] = [before, after].map((text) => new Set(text.split(' ').filter(Boolean)));
@@ -79,8 +87,9 @@ async function advised(before, after, changes, context) {
   const adviceFor = (it) => {
     const all = changed.get(it).map((pair) => ofPair(it.name, pair));
     const advice = highest(all.map((each) => each.advice));
-    // Its own text and those that it mentions by the same names are the same: an import has another meaning.
-    return all.find((each) => each.advice === advice) || { advice: 'major', reason: 'it leads to another declaration' };
+    if (all.length) return all.find((each) => each.advice === advice);
+    // Its own text and those of the same names are the same: an import has another meaning, or names the same module otherwise.
+    return leadsElsewhere(before.names.get(it.name), after.names.get(it.name)) ? { advice: 'major', reason: 'it leads to another declaration' } : { advice: 'patch', reason: null };
   };
   return changes.map((it) => {
     const { advice, reason } = { removed: GONE, added: NEW }[it.change] || adviceFor(it);

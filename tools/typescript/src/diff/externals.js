@@ -1,16 +1,10 @@
 'use strict';
 // What stands for the packages outside of two versions that are compared: a module for each, in which every name that the versions mention is a class that is like
 // no other. So a type of another package is the same as itself, and as nothing else.
+const { moduleName } = require('./module-name.js');
 const { ts } = require('../compiler/typescript.js');
 
 const { SyntaxKind: K } = ts;
-
-/** The name of a package's module without the registry and the version that a text names: `zod/v4` of `npm:zod@4.1/v4`, `fs` of `node:fs`. */
-function moduleName(text) {
-  if (text.startsWith('node:')) return text.slice('node:'.length);
-  const found = /^(?:npm|jsr):\/?((?:@[^/]+\/)?[^@/]+)(?:@[^/]*)?(.*)$/s.exec(text);
-  return found ? found[1] + found[2] : text;
-}
 
 /** A name that is mentioned, with the most type arguments that it was given, and the names below it. */
 class Mentioned {
