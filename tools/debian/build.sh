@@ -52,6 +52,7 @@ lay_out() {
   install "$top/fast-check-ts" "$lib"
   echo "$version" > "$lib/VERSION"
   cp -r "$top/tools/typescript/src" "$top/tools/typescript/bin" "$top/tools/typescript/newest.sh" "$lib/tools/typescript"
+  sed "s/\"version\": \"[^\"]*\"/\"version\": \"$version\"/" "$top/tools/typescript/package.json" > "$lib/tools/typescript/package.json"
   find "$lib/tools/typescript/src" -type f -exec chmod 644 {} +
   install -m 644 "$here/completion.bash" "$completions/fast-check-ts"
   ln -s fast-check-ts "$completions/fast-check"

@@ -146,7 +146,7 @@ class Server:
     def __init__(self, program, limits):
         self.key, self.group = (program["top"], program["path"]), cgroups.Group.of(limits)
         environment = {**os.environ, **({"FAST_CHECK": program["path"]} if program["path"] else {})}
-        words = self.group.words(["node", f"{program['top']}/tools/typescript/src/commands/serve.js"])
+        words = self.group.words(["node", f"{program['top']}/tools/typescript/bin/fast-check-ts.js", "serve"])
         self.child = subprocess.Popen(words, stdin=subprocess.PIPE, stdout=subprocess.PIPE, stderr=subprocess.DEVNULL, text=True, env=environment)
 
     @classmethod

@@ -142,7 +142,7 @@ function parse(words) {
     if (options[key] !== undefined) options[key] = key === 'allow' ? options.allow.map(read) : read(options[key]);
   }
   if (options.json && command === 'check') options.format = 'json';
-  return { command, rest: rest.length ? rest : ['.'], options };
+  return { command, rest: rest.length || !most ? rest : ['.'], options };
 }
 
 module.exports = { UsageError, parse };

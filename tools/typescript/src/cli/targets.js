@@ -60,4 +60,4 @@ function targetsOf(words, options, cwd) {
   return [...folders].map(([dir, files]) => ({ dir, exports: files ? exportsOf(dir, [...new Set(files)]) : options.exports }));
 }
 
-module.exports = { NAMES, targetsOf };
+module.exports = { NAMES, packageAround, targetsOf };

@@ -5,7 +5,7 @@ const { shownName } = require('../program/answer.js');
 const { CODES, FIXABLE } = require('./codes.js');
 const { format: framed, plain } = require('./message.js');
 const { visible } = require('../tree/lines.js');
-const { versionOfTool } = require('../cli/version.js');
+const { NAME, VERSION } = require('../cli/installed.js');
 
 /** A number with its noun. */
 function count(number, noun) {
@@ -80,7 +80,7 @@ function closing(results) {
     '  3. its declaration files are made without a type checker.',
   ];
   const fixable = slow.find(({ code }) => FIXABLE.has(code));
-  return fixable ? [...why, '`fast-check-ts fix` writes those that the compiler infers; `fix --dry` shows them first.'] : why;
+  return fixable ? [...why, `\`${NAME} fix\` writes those that the compiler infers; \`fix --dry\` shows them first.`] : why;
 }
 
 /** How many return types single returns name, for which deno would ask, where there are some. */
@@ -106,7 +106,7 @@ const text = {
   result({ messages, world, thrown }, options, context) {
     const [stream, paint] = thrown ? [context.err, context.paintErrors] : [context.out, context.paint];
     for (const message of messages) stream.write(`${framed(message, paint).join('\n')}\n`);
-    if (thrown) context.err.write(`fast-check-ts: ${thrown.message}\n`);
+    if (thrown) context.err.write(`${NAME}: ${thrown.message}\n`);
     else if (!options.quiet) for (const line of notesOf(world, options, context.cwd)) context.out.write(`${line}\n`);
   },
 
@@ -127,7 +127,7 @@ const json = {
   result({ messages, world, thrown }, options, context) {
     const notes = world ? [...(options.externals ? externalsOf(world, context.cwd) : []), ...takenOf(world, context.cwd)] : [];
     for (const each of [...messages.map(plain), ...notes]) context.out.write(`${JSON.stringify(each)}\n`);
-    if (thrown) context.err.write(`fast-check-ts: ${thrown.message}\n`);
+    if (thrown) context.err.write(`${NAME}: ${thrown.message}\n`);
   },
 
   end() {},
@@ -208,7 +208,7 @@ const sarif = {
     const rules = sarifRules(messages);
     const notifications = results.filter(({ thrown }) => thrown).map(({ thrown }) => ({ level: 'error', message: { text: thrown.message } }));
     const run = {
-      tool: { driver: { name: 'fast-check-ts', version: versionOfTool(), rules } },
+      tool: { driver: { name: NAME, version: VERSION, rules } },
       invocations: [{ executionSuccessful: !notifications.length, toolExecutionNotifications: notifications }],
       columnKind: 'unicodeCodePoints',
       results: messages.map((each) => sarifResult(each, rules)),
