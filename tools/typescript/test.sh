@@ -16,7 +16,7 @@ fi
 status=0
 node "$here/test/test.js" "$@" || status=$?
 [ $# = 0 ] || exit $status
-node --test "$here/test/api" "$here/test/lsp" > "${said:=$(mktemp)}" 2>&1 || { status=1; cat "$said"; }
+node --test "$here/test/api" "$here/test/lsp" "$here/test/messages" > "${said:=$(mktemp)}" 2>&1 || { status=1; cat "$said"; }
 grep -E '^# (pass|fail)' "$said"
 rm "$said"
 exit $status

@@ -1,16 +1,18 @@
 'use strict';
 // Checks one folder: what is reported of it, without what is allowed or known.
+const path = require('path');
 const { analyse, answersTo, part, statusOf } = require('../program/answer.js');
-const { withoutAllowed } = require('../messages/allow.js');
+const { withoutAllowed, withoutSettledBaselines } = require('../messages/allow.js');
 const { refusalOf } = require('../cli/exit.js');
 const { withoutNamedReturns } = require('../tables/asserted-types.js');
 
 /** What is reported of a folder that was analysed: its messages without those that are allowed or known, and how many these are. */
-function toldOf(world, messages, options, baseline) {
+function toldOf(world, messages, options, { baseline, context }) {
   const all = [...world.warnings, ...messages];
   const found = options.quiet ? all.filter(({ level }) => level !== 'Warning') : all;
   const wanted = withoutAllowed(world, found, options);
-  const told = new Set(baseline ? baseline.without(wanted) : wanted);
+  const unsettled = withoutSettledBaselines(world, wanted, context.cwd);
+  const told = new Set(baseline ? baseline.without(unsettled) : unsettled);
   const left = (list) => list.filter((each) => told.has(each));
   return {
     messages: [...left(world.warnings), ...world.broken, ...left(messages)],
@@ -25,6 +27,11 @@ async function messagesOf(world, options, context) {
   const { verified } = require('../compiler/thread.js');
   context.progress.begin("TypeScript's compiler checks the skeletons");
   return [...world.messages, ...await verified(world, context)];
+}
+
+/** Whether a message is one of some files, where only these are asked for. */
+function isAsked(only, { cwd }) {
+  return ({ file }) => !only || (Boolean(file) && only.has(path.resolve(cwd, file)));
 }
 
 /** How many return types of a folder single returns name: for so many more deno asks. */
@@ -46,10 +53,11 @@ function isCounted({ rules, format, quiet }) {
  * The result of a folder: `world`, null where it cannot be read, `thrown`, which says why, `error`, which was thrown, the messages that are reported, how many others are allowed and
  * known, how many return types single returns name, and the status.
  */
-async function resultOf({ dir, exports }, options, { context, baseline }) {
+async function resultOf({ dir, exports, only }, options, { context, baseline }) {
   try {
     const world = await analyse(dir, { ...options, exports }, context);
-    const told = toldOf(world, await messagesOf(world, options, context), options, baseline);
+    const found = (await messagesOf(world, options, context)).filter(isAsked(only, context));
+    const told = toldOf({ ...world, warnings: world.warnings.filter(isAsked(only, context)) }, found, options, { baseline, context });
     const singleReturns = await singleReturnsOf(world, options, context);
     return { dir, world, thrown: null, status: statusOf(world.broken), singleReturns, ...told };
   } catch (error) {

@@ -24,4 +24,7 @@ const PROGRAM = isNpm ? PACKED : path.join(TOP, 'fast-check');
 /** The script that fetches a newer compiler; null where it is not installed. */
 const NEWEST = isNpm ? null : path.join(OWN, 'newest.sh');
 
-module.exports = { NAME, NEWEST, PROGRAM, VERSION: version, isClone, isNpm };
+/** The folder of the pages that explain codes. */
+const ERRORS = isClone ? path.join(TOP, 'docs/errors') : path.join(OWN, 'errors');
+
+module.exports = { ERRORS, NAME, NEWEST, PROGRAM, VERSION: version, isClone, isNpm };

@@ -28,7 +28,7 @@ function contextOf(io, options) {
  * @param {{ cwd: string }} io
  */
 function folderAsked({ command, rest, options }, { cwd }) {
-  if (!rest.length) return cwd;
+  if (!rest.length || command === 'explain') return cwd;
   if (command === 'check') return targetsOf(rest, options, cwd)[0].dir;
   return path.resolve(cwd, rest[command === 'diff' ? 1 : 0]);
 }

@@ -32,6 +32,9 @@ const COMMANDS = {
     words: 'DIR OUT.html', least: 2, most: 2, text: 'a page to look at: source beside skeleton, with the messages',
     more: [], example: 'report . page.html',
   },
+  explain: {
+    words: 'CODE', least: 1, most: 1, text: 'what a code of messages means, and what to write', more: [], example: 'explain missing-explicit-type',
+  },
   lsp: {
     words: '', least: 0, most: 0, text: 'a language server over standard input and output: diagnostics as you type, and quick fixes that write the missing types',
     more: [], example: 'lsp',
@@ -44,9 +47,9 @@ const COMMANDS = {
   },
 };
 
-// The commands that other programs talk to have no options.
-const TALKING = ['lsp', 'serve'];
-const ALL = Object.keys(COMMANDS).filter((name) => !TALKING.includes(name));
+// Commands that read no folder of their own, and take no options.
+const PLAIN = ['explain', 'lsp', 'serve'];
+const ALL = Object.keys(COMMANDS).filter((name) => !PLAIN.includes(name));
 const READING = ['check', 'fix', 'skeleton', 'diff', 'report'];
 
 // An installed tool has its proved program and no other.
@@ -66,7 +69,7 @@ const OPTIONS = [
     word: '--exports', value: 'EXPORTS', key: 'exports', commands: ALL,
     text: 'its entry points: a path, or a map as JSON, as {".": "./mod.ts", "./cli": "./cli.ts"}',
   },
-  { word: '--format', value: 'FORMAT', key: 'format', commands: ['check'], text: 'check: text, json, github, sarif or junit' },
+  { word: '--format', value: 'FORMAT', key: 'format', commands: ['check'], text: 'check: text, json, github, sarif, junit or badge' },
   { word: '--json', key: 'json', commands: ['check', 'diff'], text: 'check and diff: one object a line, as --format json' },
   { word: '--max-warnings', value: 'N', key: 'maxWarnings', commands: ['check'], text: 'check: status 1 where there are more warnings than N' },
   {
@@ -79,6 +82,8 @@ const OPTIONS = [
     text: 'check: leave out what is in FILE, which an earlier `check --json` has written',
   },
   { word: '--rules', value: 'RULES', key: 'rules', commands: ['check'], text: 'check: deno reports what deno_graph 0.111.1 does, for which a single return names no return type' },
+  { word: '--only', key: 'only', commands: ['check'], text: 'check: take the words for files, and report the messages of these alone, by the entry points of their packages' },
+  { word: '--fix', key: 'fix', commands: ['check'], text: "check: write the types that TypeScript's compiler infers first, as the command fix does" },
   { word: '--watch', key: 'watch', commands: ['check'], text: 'check: check again whenever a file changes' },
   { word: '--list-externals', key: 'externals', commands: ['check'], text: 'check: say which imports lead out of the folder, and are not followed' },
   {

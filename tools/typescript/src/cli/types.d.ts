@@ -21,6 +21,8 @@ export interface Options {
   noIgnore?: boolean;
   baseline?: string;
   rules?: string;
+  only?: boolean;
+  fix?: boolean;
   watch?: boolean;
   externals?: boolean;
   verify?: boolean;

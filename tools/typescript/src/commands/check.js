@@ -3,7 +3,9 @@
 const { resultOf } = require('../api/check.js');
 const { targetsOf } = require('../cli/targets.js');
 const { Baseline } = require('../messages/allow.js');
-const { FORMATS } = require('../messages/formats.js');
+const { fixed } = require('../compiler/thread.js');
+const { FORMATS, count } = require('../messages/formats.js');
+const { rewriteTexts } = require('../package/files.js');
 
 /** The status of all results: the highest of what cannot be read, else 1 where there are errors, or more warnings than may be. */
 function statusOfAll(results, { maxWarnings = Infinity }) {
@@ -26,8 +28,19 @@ async function checkOnce(targets, options, view) {
   return { status: statusOfAll(results, options), results };
 }
 
+/** Writes the types that messages of some folders ask for. */
+async function fixAll(targets, options, context) {
+  for (const { dir, exports } of targets) {
+    const { texts, count: types } = await fixed(dir, { ...options, exports }, context);
+    context.progress.end();
+    rewriteTexts(texts);
+    if (types) context.err.write(`${count(types, 'type')} written in ${count(texts.size, 'file')}\n`);
+  }
+}
+
 /** Checks folders, as `targetsOf` answers them, and answers the status. */
 async function checkAll(targets, options, context) {
+  if (options.fix) await fixAll(targets, options, context);
   const view = { context, baseline: options.baseline ? Baseline.of(options.baseline, context.cwd) : null };
   if (!options.watch) return (await checkOnce(targets, options, view)).status;
   const { watch } = require('./watch.js');

@@ -257,4 +257,4 @@ function statusOf(broken) {
   return broken.length ? 2 : 0;
 }
 
-module.exports = { analyse, answersTo, filesOf, part, read, shownName, statusOf };
+module.exports = { analyse, answersTo, filesOf, packageOf, part, read, shownName, statusOf };
