@@ -52,6 +52,10 @@ function isCounted({ rules, format, quiet }) {
 /**
  * The result of a folder: `world`, null where it cannot be read, `thrown`, which says why, `error`, which was thrown, the messages that are reported, how many others are allowed and
  * known, how many return types single returns name, and the status.
+ *
+ * @param {{ dir: string, exports?: any, only?: Set<string> }} target   `only` are the files whose messages are asked for, where not all are
+ * @param {any} options
+ * @param {{ context: any, baseline: import('../messages/allow.js').Baseline | null }} view
  */
 async function resultOf({ dir, exports, only }, options, { context, baseline }) {
   try {

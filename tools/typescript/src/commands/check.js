@@ -30,8 +30,9 @@ async function checkOnce(targets, options, view) {
 
 /** Writes the types that messages of some folders ask for. */
 async function fixAll(targets, options, context) {
-  for (const { dir, exports } of targets) {
-    const { texts, count: types } = await fixed(dir, { ...options, exports }, context);
+  for (const { dir, exports, only } of targets) {
+    const within = only && { files: only };
+    const { texts, count: types } = await fixed(dir, { ...options, exports, within }, context);
     context.progress.end();
     rewriteTexts(texts);
     if (types) context.err.write(`${count(types, 'type')} written in ${count(texts.size, 'file')}\n`);

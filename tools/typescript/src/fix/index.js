@@ -193,10 +193,10 @@ function changedTexts(made) {
   return [...editsByFile(made)].map(([file, edits]) => [file.fileName, applied(file.text, edits)]);
 }
 
-/** The messages that a type may answer, by the paths of their files: those of one file, or at one place in it, where `only` says so. */
-function fixable(world, only) {
+/** The messages that a type may answer, by the paths of their files: those of some files, or at one place in one, where `within` says so. */
+function fixable(world, within) {
   const found = new Map();
-  const isAsked = (file, { start }) => !only || (file.path === only.file && (only.start === undefined || start === only.start));
+  const isAsked = (file, { start }) => !within || (within.files.has(file.path) && (within.start === undefined || start === within.start));
   for (const message of world.messages) {
     const file = world.files.get(message.specifier);
     if (!file || !message.lines || !FIXABLE.has(message.code) || !isAsked(file, message)) continue;
@@ -237,7 +237,7 @@ class Fixer {
 
   /** One round: the edits of all files that bring no error. Answers how many there are. */
   round(world) {
-    const messages = fixable(world, this.options.only);
+    const messages = fixable(world, this.options.within);
     if (!messages.size) return 0;
     const texts = this.textsOf(world);
     const names = [...texts.keys()];
@@ -277,7 +277,8 @@ class Fixer {
     let world = await this.analyse();
     let isRetried = false;
     // A place is another one behind a round.
-    const rounds = this.options.only && this.options.only.start !== undefined ? 1 : ROUNDS;
+    const { within } = this.options;
+    const rounds = within && within.start !== undefined ? 1 : ROUNDS;
     for (let round = 0; round < rounds; round++) {
       this.context.progress.begin(`writing types, round ${round + 1}`);
       const written = this.round(world);

@@ -107,7 +107,7 @@ class Project {
     const { texts } = this.host;
     const { readText } = require('../package/files.js');
     const before = texts.has(file) ? texts.get(file) : readText(file).text;
-    const { texts: made } = await fixed(this.dir, { ...this.options, texts, only: { file, start } }, this.context(signal));
+    const { texts: made } = await fixed(this.dir, { ...this.options, texts, within: { files: new Set([file]), start } }, this.context(signal));
     return made.has(file) ? editsBetween(before, made.get(file)) : [];
   }
 
