@@ -16,7 +16,10 @@ fi
 status=0
 node "$here/test/test.js" "$@" || status=$?
 [ $# = 0 ] || exit $status
-node --test "$here/test/api" "$here/test/lsp" "$here/test/messages" > "${said:=$(mktemp)}" 2>&1 || { status=1; cat "$said"; }
-grep -E '^# (pass|fail)' "$said"
+said=$(mktemp)
+for part in api lsp messages schemas; do
+  NODE_PATH=${NODE_PATH-}:/usr/share/nodejs node --test "$here/test/$part" > "$said" 2>&1 || { status=1; cat "$said"; }
+  echo "$part: $(sed -n 's/^# \(pass\|fail\|skipped\) \(.*\)/\2 \1,/p' "$said" | tr '\n' ' ')"
+done
 rm "$said"
 exit $status
