@@ -36,6 +36,8 @@ made=$(mktemp -d)
 trap 'rm -rf "$made"' EXIT
 mkdir "$made/bin"
 cp -r "$top/tools/typescript/src" "$made/src"
+cp -r "$top/docs/errors" "$made/errors"
+cp -r "$top/tools/schemas" "$made/schemas"
 install -m 755 "$top/tools/typescript/bin/fast-check-ts.js" "$made/bin/nagdrez.js"
 install -m 755 "$program" "$made/bin/fast-check"
 strip --remove-section=.comment --remove-section=.note "$made/bin/fast-check"

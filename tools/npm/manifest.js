@@ -12,9 +12,9 @@ const manifest = {
   bin: { nagdrez: 'bin/nagdrez.js' },
   main: './src/api/index.js',
   types: './index.d.ts',
-  exports: { '.': { types: './index.d.ts', default: './src/api/index.js' }, './package.json': './package.json' },
+  exports: { '.': { types: './index.d.ts', default: './src/api/index.js' }, './package.json': './package.json', './schemas/*.json': './schemas/*.json' },
   os: ['linux'],
   cpu: ['x64'],
-  files: ['bin', 'src', 'index.d.ts', 'SHA256', 'CHANGELOG.md'],
+  files: ['bin', 'src', 'errors', 'schemas', 'index.d.ts', 'SHA256', 'CHANGELOG.md'],
 };
 process.stdout.write(`${JSON.stringify(manifest, null, 2)}\n`);

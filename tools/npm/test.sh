@@ -53,7 +53,8 @@ installs() {
 # Whether each command of the README that needs no network runs, but for those of a shell.
 readme_is_right() {
   ends_with 1 "index.ts:1:17" npx nagdrez check && ends_with 0 "+export function twice(n: number): number" npx nagdrez fix --dry-run &&
-    ends_with 0 "usage: nagdrez check" npx nagdrez help check && ends_with 1 "::error file=index.ts,line=1" npx nagdrez check --format github &&
+    ends_with 0 "usage: nagdrez check" npx nagdrez help check &&
+    ends_with 0 "# missing-explicit-return-type" npx nagdrez explain missing-explicit-return-type && ends_with 1 '"message":"1"' npx nagdrez check --format badge && ends_with 1 "::error file=index.ts,line=1" npx nagdrez check --format github &&
     ends_with 0 "1 type written in 1 file" npx nagdrez fix && ends_with 0 "0 messages" npx nagdrez check
 }
 
@@ -103,6 +104,20 @@ speaks_to_editors() {
   { printf 'Content-Length: %s\r\n\r\n%s' ${#text} "$text"; sleep 2; } | npx nagdrez lsp | grep -q '"name":"nagdrez"'
 }
 
+# Whether pre-commit reports a changed file alone, and writes its types, by the hooks of this repository.
+hooks_work() {
+  local repository="$made/hooks"
+  git init -q "$repository" && cd "$repository" && export PATH="$made/it/node_modules/.bin:$PATH" PRE_COMMIT_HOME="$made/pre-commit" || return 1
+  printf 'export * from "./other";\nexport function twice(n: number) { return 2 * n; }\n' > index.ts
+  printf 'export function slow(n: number) { return 2 * n; }\n' > other.ts
+  ln -s "$made/it/node_modules" node_modules && printf 'node_modules\n' > .gitignore && git add .
+  local said
+  said=$(pre-commit try-repo "$top" nagdrez --files other.ts 2>&1) && { echo "$said"; return 1; }
+  [[ $said == *"other.ts:1:17"* && $said != *"index.ts:2"* ]] || { echo "$said"; return 1; }
+  pre-commit try-repo "$top" nagdrez-fix --files other.ts > "$made/said-fix" 2>&1
+  grep -q 'slow(n: number): number' other.ts && ! grep -q ': number {' index.ts || { cat "$made/said-fix" other.ts index.ts; return 1; }
+}
+
 test_that "the package is built" builds
 test_that "it is installed without a network" installs
 cd "$made/it" 2> /dev/null || { echo "$passed passed, $failed failed"; exit 1; }
@@ -113,5 +128,6 @@ test_that "it passes its own check" passes_its_own_check
 test_that "it is complete" is_complete
 test_that "another platform is told" says_its_platform
 test_that "it speaks to editors" speaks_to_editors
+if command -v pre-commit > /dev/null; then test_that "its hooks work" hooks_work; else echo "not tried: pre-commit is not there (Debian: pre-commit)"; fi
 echo "$passed passed, $failed failed"
 [ $failed = 0 ]

@@ -52,10 +52,6 @@ const PLAIN = ['explain', 'lsp', 'serve'];
 const ALL = Object.keys(COMMANDS).filter((name) => !PLAIN.includes(name));
 const READING = ['check', 'fix', 'skeleton', 'diff', 'report'];
 
-// An installed tool has its proved program and no other.
-/** @type {import('./types').Option} */
-const UNPROVED = { word: '--unproved', key: 'unproved', commands: READING, text: 'run the program without any proof' };
-
 /**
  * The options: the word and others for it (`also`), how its value is shown where it takes one, the name in what `parse` answers (of those that may stand more than
  * once a list), the commands that take it, and what it does.
@@ -95,7 +91,8 @@ const OPTIONS = [
   { word: '--markdown', key: 'markdown', commands: ['diff'], text: 'diff: a text for a pull request' },
   { word: '--dts', key: 'dts', commands: ['skeleton'], text: 'skeleton: declaration files (.d.ts) in place of skeletons' },
   { word: '--with-dts', key: 'withDts', commands: ['skeleton'], text: 'skeleton: declaration files beside skeletons' },
-  ...(isClone ? [UNPROVED] : []),
+  // An installed tool has its proved program and no other.
+  { word: '--unproved', key: 'unproved', commands: READING, isHidden: !isClone, text: 'run the program without any proof' },
   { word: '--no-own-compiler', key: 'noOwnCompiler', commands: ALL, text: "pass over the compiler in the folder's node_modules, whose code would be run" },
   { word: '--quiet', also: ['-q'], key: 'quiet', commands: ['check'], text: 'check: report errors alone: no warnings, no notes, no closing lines' },
   { word: '--no-color', key: 'plain', commands: ALL, text: 'no colours on a terminal' },
@@ -116,7 +113,7 @@ const USAGE = `usage: ${NAME} COMMAND ..
 ${Object.keys(COMMANDS).map((name) => entry(`${name} ${COMMANDS[name].words}`.trimEnd(), COMMANDS[name].text)).join('\n')}
 
 options:
-${OPTIONS.map((it) => entry(shown(it), it.text)).join('\n')}
+${OPTIONS.filter((it) => !it.isHidden).map((it) => entry(shown(it), it.text)).join('\n')}
 
 ${ENDS}
 TypeScript's compiler is that of the folder's node_modules, else the one that the variable TYPESCRIPT names (a folder), else the system's.
@@ -148,7 +145,7 @@ function codesText() {
 /** What `COMMAND --help` says. */
 function helpOf(name) {
   const { words, text, more, example } = COMMANDS[name];
-  const taken = OPTIONS.filter(({ commands }) => commands.includes(name)).map((it) => entry(shown(it), textFor(it)));
+  const taken = OPTIONS.filter(({ commands, isHidden }) => commands.includes(name) && !isHidden).map((it) => entry(shown(it), textFor(it)));
   const about = [`${text[0].toUpperCase()}${text.slice(1)}.`, ...more].join('\n');
   const codes = name === 'check' ? codesText() : '';
   return `usage: ${NAME} ${name} [OPTION ..] ${words}\n\n${about}\n\noptions:\n${taken.join('\n')}\n\n${codes}example:\n  ${NAME} ${example}\n\n${ENDS}`;

@@ -6,6 +6,8 @@ export interface Option {
   key: keyof Options;
   isList?: boolean;
   commands: string[];
+  /** Whether `--help` passes over it. */
+  isHidden?: boolean;
   text: string;
 }
 
