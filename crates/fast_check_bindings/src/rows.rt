@@ -1,4 +1,4 @@
-//! The rows of expressions that go by what is known of names: `Object.freeze(x)` and `new C(x)`.
+//! The rows of expressions that stay slot by slot, two of them by what is known of names: `Object.freeze(x)` and `new C(x)`.
 ghost use Rattle.std.specs.Prelude.{◌≡◌, option_copied, IfOk};
 ghost use Rattle.fast_check_syntax.specs.Part.{seen};
 ghost use Rattle.fast_check_syntax.specs.Shape.{kind_of};
@@ -10,10 +10,28 @@ use crate::names::{is_plain_class, unresolved_context};
 use fast_check_expression_forms::{CallExpr, NewExpr};
 use fast_check_modules::EsModuleInfo;
 use fast_check_program_forms::Ident;
-use fast_check_signatures::{ASSERTION, FN_EXPR, FREEZE, NEW, SATISFIES, Slot};
+use fast_check_signatures::Slot;
 use fast_check_swc_helpers::object_freeze_call_arg;
 use fast_check_syntax::{Atom, Id, Kind, Part};
 use std::alloc::{AllocError, Global};
+
+/// `value satisfies type`: the value as it stays. A row has a slot for each field of its form, in their order.
+const SATISFIES: [Slot; 3] = [Slot::Span, Slot::Value, Slot::Written];
+
+/// `value as type`, `<type>value`: the value does not count.
+const ASSERTION: [Slot; 3] = [Slot::Span, Slot::Never, Slot::Written];
+
+/// A function expression.
+const FN_EXPR: [Slot; 2] = [Slot::Written, Slot::Function];
+
+/// `Object.freeze(x)`, and `new C(x)` of a class without type parameters: the arguments as they stay.
+const ARGUMENTS: [Slot; 5] = [
+    Slot::Span,
+    Slot::Scope,
+    Slot::Written,
+    Slot::Value,
+    Slot::Written,
+];
 
 /// Whether a call is `Object.freeze(x)`.
 fn freezes(info: &EsModuleInfo, expr: Part<'_>) -> bool
@@ -57,8 +75,7 @@ fn row_of_kind(kind: Kind, known: bool) -> Option<&'static [Slot]>
         Kind::TsSatisfiesExpr => Some(&SATISFIES),
         Kind::TsAsExpr | Kind::TsTypeAssertion => Some(&ASSERTION),
         Kind::FnExpr => Some(&FN_EXPR),
-        Kind::CallExpr => { if known { Some(&FREEZE) } else { None } }
-        Kind::NewExpr => { if known { Some(&NEW) } else { None } }
+        Kind::CallExpr | Kind::NewExpr => { if known { Some(&ARGUMENTS) } else { None } }
         _ => None,
     }
 }

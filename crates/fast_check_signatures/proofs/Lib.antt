@@ -7,4 +7,3 @@ pub mod Looks
 pub mod Adding
 pub mod Choices
 pub mod References
-pub mod Rows

@@ -15,7 +15,7 @@ use Rattle.fast_check_class_forms.specs.Functions.{Function-span, Function-param
 use Rattle.fast_check_expression_forms.specs.Expressions.{ArrowExpr-span, ArrowExpr-params, ArrowExpr-body, ArrowExpr-return_type}
 use Rattle.fast_check_expression_forms.specs.Patterns.{ArrayPat-span, ArrayPat-type_ann, ObjectPat-span, ObjectPat-type_ann, AssignPat-span}
 use Rattle.fast_check_expression_forms.specs.Patterns.{AssignPat-left, AssignPat-right}
-use Rattle.fast_check_program_forms.specs.Names.{Ident-span, BindingIdent-id, BindingIdent-type_ann}
+use Rattle.fast_check_program_forms.specs.Names.{Ident-span, BindingIdent-id}
 use Rattle.fast_check_swc_helpers.specs.declared.literal_type.DeclMutabilityKind.TheVariants.{Mutable}
 use Rattle.fast_check_swc_helpers.specs.Builders.{never_value}
 use Rattle.fast_check_swc_helpers.specs.InferredType.{inferred_type}
@@ -25,9 +25,11 @@ use Rattle.fast_check_signatures.specs.declared.function_kind.FunctionKind.TheVa
 use Rattle.fast_check_signatures.specs.declared.rules.Slot.{Slot}
 use Rattle.fast_check_signatures.specs.declared.rules.Slot.TheVariants as slots
 use Rattle.fast_check_signatures.specs.Bindings.{Bindings}
-use Rattle.fast_check_signatures.specs.Seen.{Seen, round, refused, seens}
+use Rattle.fast_check_signatures.specs.Seen.{Seen, written, round, refused, seens}
 use Rattle.fast_check_signatures.specs.NewNodes.{never_array}
-use Rattle.fast_check_signatures.specs.Parameters.{Look, default_seen, emptied_array, emptied_object, by_shown, ident_default_seen}
+use Rattle.fast_check_signatures.specs.Parameters.{Look, default_seen, emptied_array, emptied_object, default_typing, ident_default_seen}
+use Rattle.fast_check_signatures.specs.Parameters.{without_default}
+use Rattle.fast_check_signatures.specs.Typing.{type_of, seen_by}
 use Rattle.fast_check_signatures.specs.Parameters.{pattern_default_seen, assign_by_left, pat_by_kind, pat_seen, pats_seen}
 use Rattle.fast_check_signatures.specs.Functions.{or_own, signature_seen, return_type_seen, params_seen, function_seen, valued_arrow_seen}
 use Rattle.fast_check_signatures.specs.Functions.{by_value, arrow_by_type, arrow_seen}
@@ -65,12 +67,6 @@ module _ (bindings : Bindings) (look other : Look) (limit : ℕ) (same : (u : Tr
   default_same : (pat : Tree) → height pat < limit → look (AssignPat-right pat) ≡ other (AssignPat-right pat)
   default_same pat h = same (AssignPat-right pat) (field_below AssignPat-right _ (λ t. refl) limit pat h)
 
-  by_shown_same : (b : Bool) (pat : Tree) → height pat < limit → (shown : Option Tree) →
-      by_shown bindings look b pat shown ≡ by_shown bindings other b pat shown
-  by_shown_same b pat h (Some type) = refl
-  by_shown_same b pat h None = let place = Ident-span (BindingIdent-id (AssignPat-left pat)) in
-      ap (λ f. default_seen (AssignPat-span pat) place (AssignPat-left pat) (f (Some place))) (default_same pat h)
-
   pattern_default_same : (type : Tree) (place : SourceRange) (emptied never pat : Tree) → height pat < limit →
       pattern_default_seen bindings look type place emptied never pat ≡ pattern_default_seen bindings other type place emptied never pat
   pattern_default_same type place emptied never pat h =
@@ -79,8 +75,9 @@ module _ (bindings : Bindings) (look other : Look) (limit : ℕ) (same : (u : Tr
   ident_default_same : (b : Bool) (pat : Tree) → height pat < limit →
       ident_default_seen bindings look b pat ≡ ident_default_seen bindings other b pat
   ident_default_same b pat h =
-      choose (is_absent (BindingIdent-type_ann (AssignPat-left pat))) _ _ _ _
-      (λ e. by_shown_same b pat h (inferred_type Mutable bindings.unresolved (AssignPat-right pat))) refl
+      let id = BindingIdent-id (AssignPat-left pat) in
+      ap (λ f. seen_by (type_of bindings.unresolved (default_typing pat)) (λ type. written (without_default b id type))
+      (default_seen (AssignPat-span pat) (Ident-span id) (AssignPat-left pat) (f (Some (Ident-span id))))) (default_same pat h)
 
   by_left_same : (kind : Kind) (b : Bool) (pat : Tree) → height pat < limit →
       assign_by_left bindings look kind b pat ≡ assign_by_left bindings other kind b pat

@@ -1,12 +1,12 @@
 -- The equation of `is_reference`, and moves.
 use Rattle.std.specs.Prelude.{◌≡◌, Bool, false, ◌&&◌, refl}
-use Rattle.std.proofs.Common.{ap, ap₂, ◌∙◌, sym}
+use Rattle.std.proofs.Common.{ap, ap₂, ◌∙◌}
 use Rattle.fast_check_syntax.specs.declared.kind.Kind.{Kind}
 use Rattle.fast_check_syntax.specs.declared.kind.Kind.TheVariants as kinds
 use Rattle.fast_check_syntax.specs.declared.tree.Tree.{Tree}
 use Rattle.fast_check_syntax.specs.Shape.{kind_of}
-use Rattle.fast_check_syntax.specs.Moves.{Moves, Keeps, moved}
-use Rattle.fast_check_syntax.specs.Descent.{by_descent, by_descent_is, given, given_part, given_inner}
+use Rattle.fast_check_syntax.specs.Moves.{Moves, moved}
+use Rattle.fast_check_syntax.specs.Descent.{by_descent_is, given, given_part, given_inner}
 use Rattle.fast_check_syntax.proofs.Moved.{kind_of_moved}
 use Rattle.fast_check_syntax.proofs.DescentMoved.{by_descent_moved}
 use Rattle.fast_check_expression_forms.specs.Calls.{MemberExpr-obj, MemberExpr-prop}

@@ -1,5 +1,5 @@
 -- What is seen of a class: its superclass by its form, and of its members what tells their types.
-use Rattle.std.specs.Prelude.{Bool, true, false, ◌&&◌, Option, Some, None, List, [], ◌∷◌, ◌++◌, map, if◌then◌else◌}
+use Rattle.std.specs.Prelude.{Bool, true, false, ◌&&◌, Some, List, [], ◌∷◌, ◌++◌, map, unwrap_or, if◌then◌else◌}
 use Rattle.std.specs.List.{filter, flat_map}
 use Rattle.fast_check_syntax.specs.declared.kind.Kind.{Kind}
 use Rattle.fast_check_syntax.specs.declared.kind.Kind.TheVariants as kinds
@@ -38,8 +38,7 @@ use Rattle.fast_check_swc_helpers.specs.ranges.Ranges.{range_of_node}
 use Rattle.fast_check_statement_forms.specs.Statements.{BlockStmt-stmts, ExprStmt-span, ExprStmt-expr}
 use Rattle.fast_check_swc_helpers.specs.declared.literal_type.DeclMutabilityKind.{DeclMutabilityKind}
 use Rattle.fast_check_swc_helpers.specs.declared.literal_type.DeclMutabilityKind.TheVariants.{Const, Mutable}
-use Rattle.fast_check_swc_helpers.specs.Builders.{type_ann, any_type_ann, never_value}
-use Rattle.fast_check_swc_helpers.specs.InferredType.{inferred_type}
+use Rattle.fast_check_swc_helpers.specs.Builders.{any_type_ann, never_value}
 use Rattle.fast_check_signatures.specs.declared.fault.FaultKind.TheVariants.{MissingExplicitType}
 use Rattle.fast_check_signatures.specs.declared.fault.FaultKind.TheVariants.{UnsupportedDestructuring}
 use Rattle.fast_check_signatures.specs.declared.fault.FaultKind.TheVariants.{UnsupportedSuperClassExpr}
@@ -53,6 +52,7 @@ use Rattle.fast_check_signatures.specs.Functions.{function_seen, implementation_
 use Rattle.fast_check_signatures.specs.Parameters.{pats_seen}
 use Rattle.fast_check_signatures.specs.Expressions.{expr_seen}
 use Rattle.fast_check_signatures.specs.Answers.{declared_property}
+use Rattle.fast_check_signatures.specs.Typing.{Typing, type_of, seen_by}
 use Rattle.fast_check_signatures.specs.Members.{is_private, hash_mark, kept_members, ambient_members}
 
 -- ---- superclasses
@@ -180,11 +180,6 @@ param_property_head p =
       readonly = TsParamProp-readonly p;
     }
 
--- a type that is shown, or none
-abbrev pub type_or_none : Option Tree → Tree
-type_or_none (Some type) = type_ann type
-type_or_none None = Absent
-
 -- ---- bodies of constructors
 
 -- `super(..);`
@@ -256,27 +251,42 @@ class_head t = record {
   implements = Class-implements t;
 }
 
+-- ---- the types of members
+
+abbrev pub property_typing : Tree → Typing
+property_typing m = record {
+  is_private = is_private (ClassProp-accessibility m);
+  type = ClassProp-type_ann m;
+  value = ClassProp-value m;
+  mutability = mutability_of_property (ClassProp-readonly m);
+}
+
+-- an accessor is taken for one that changes
+abbrev pub accessor_typing : Tree → Typing
+accessor_typing m = record {
+  is_private = is_private (AutoAccessor-accessibility m);
+  type = AutoAccessor-type_ann m;
+  value = AutoAccessor-value m;
+  mutability = Mutable;
+}
+
+-- a parameter property has its default for a value, if it has one
+abbrev pub param_typing : Tree → Typing
+param_typing p =
+    let pat = TsParamProp-param p in record {
+      is_private = is_private (TsParamProp-accessibility p);
+      type = BindingIdent-type_ann (param_target p);
+      value = if kind_of pat is kinds.AssignPat then AssignPat-right pat else Absent;
+      mutability = mutability_of_property (TsParamProp-readonly p);
+    }
+
 -- ---- properties that parameters declare; `unresolved` is the scope number of the names that nothing in the module
 -- binds
 
 module _ (unresolved : SyntaxContext) where
-  -- the type that the default of a parameter shows, if it has one
-  abbrev pub default_type : DeclMutabilityKind → Tree → Option Tree
-  default_type mutability pat = if kind_of pat is kinds.AssignPat then inferred_type mutability unresolved
-      (AssignPat-right pat) else None
-
-  -- the type of a parameter property: a private one is of any type; else the written type, or the one that the default
-  -- shows, or none
-  abbrev pub param_property_type : Tree → Tree
-  param_property_type p =
-      let type = BindingIdent-type_ann (param_target p) in
-      if is_private (TsParamProp-accessibility p) then any_type_ann
-      else (if is_absent type then type_or_none
-      (default_type (mutability_of_property (TsParamProp-readonly p)) (TsParamProp-param p)) else type)
-
-  -- `declare name: type;` for a parameter property
+  -- `declare name: type;` for a parameter property; where nothing gives its type it has none
   abbrev pub param_property : Tree → Tree
-  param_property p = declared_property (param_property_head p) (param_property_type p)
+  param_property p = declared_property (param_property_head p) (unwrap_or (type_of unresolved (param_typing p)) Absent)
 
   -- the properties that a constructor declares by its parameters, if it is not at fault, and no other member
   abbrev pub declared_by_params : Tree → List Tree
@@ -292,34 +302,19 @@ module _ (bindings : Bindings) (is_implementation : SourceRange → Bool) where
   abbrev pub member_value_seen : SourceRange → Tree → Seen
   member_value_seen place value = if is_absent value then refused else expr_seen bindings value (Some place)
 
-  -- a property without a written type, by the type that its value shows, or else with the value as it may stay
-  abbrev pub untyped_property_seen : PropertyHead → Tree → Option Tree → Seen
-  untyped_property_seen p value (Some type) = typed_property p (type_ann type)
-  untyped_property_seen p value None = property p (member_value_seen (range_of_node p.key) value)
-
-  -- a property; a private one is of any type
+  -- a property, with its type, or else with its value as it may stay
   abbrev pub property_seen : Tree → Seen
   property_seen m =
       let p = property_head m in
-      if is_private p.accessibility then typed_property p any_type_ann
-      else (if is_absent (ClassProp-type_ann m) then
-      untyped_property_seen p (ClassProp-value m)
-      (inferred_type (mutability_of_property p.readonly) bindings.unresolved (ClassProp-value m))
-      else typed_property p (ClassProp-type_ann m))
+      seen_by (type_of bindings.unresolved (property_typing m)) (typed_property p)
+      (property p (member_value_seen (range_of_node p.key) (ClassProp-value m)))
 
-  -- an accessor without a written type, by the type that its value shows; its value can't stay
-  abbrev pub untyped_accessor_seen : PropertyHead → Option Tree → Seen
-  untyped_accessor_seen p (Some type) = typed_property p (type_ann type)
-  untyped_accessor_seen p None = faulty MissingExplicitType (range_of_node p.key)
-
-  -- an accessor with a public key
+  -- an accessor with a public key, with its type: its value can't stay
   abbrev pub accessor_seen : Tree → Seen
   accessor_seen m =
       let p = accessor_head m in
-      if is_private p.accessibility then typed_property p any_type_ann
-      else (if is_absent (AutoAccessor-type_ann m) then untyped_accessor_seen p
-      (inferred_type Mutable bindings.unresolved (AutoAccessor-value m))
-      else typed_property p (AutoAccessor-type_ann m))
+      seen_by (type_of bindings.unresolved (accessor_typing m)) (typed_property p)
+      (faulty MissingExplicitType (range_of_node p.key))
 
   -- the function of a method, a getter or a setter, by its signature; what is wrong with its return type is wrong at
   -- the key

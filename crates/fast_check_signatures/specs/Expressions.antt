@@ -11,7 +11,7 @@ use Rattle.fast_check_syntax.specs.Descent.{by_descent}
 use Rattle.fast_check_class_forms.specs.Functions.{Function-span}
 use Rattle.fast_check_expression_forms.specs.Calls.{CallExpr-callee, CallExpr-args, NewExpr-callee, NewExpr-type_args}
 use Rattle.fast_check_swc_helpers.specs.GlobalCalls.{object_freeze_call_arg}
-use Rattle.fast_check_signatures.specs.declared.rules.TheConstants.{SATISFIES, ASSERTION, FN_EXPR, FREEZE, NEW}
+use Rattle.fast_check_signatures.specs.Rows.{satisfies_row, assertion_row, fn_expr_row, arguments_row}
 use Rattle.fast_check_signatures.specs.declared.rules.Slot.{Slot}
 use Rattle.fast_check_signatures.specs.declared.rules.Slot.TheVariants as slots
 use Rattle.fast_check_signatures.specs.declared.function_kind.FunctionKind.TheVariants.{ExpressionLike}
@@ -106,12 +106,12 @@ pub data Rule : Type 0 where
 
 -- by its kind, and for a call and for `new` by whether it is one that is known
 abbrev pub other_rule : Kind → Bool → Rule
-other_rule kinds.TsSatisfiesExpr known = slotted SATISFIES
-other_rule kinds.TsAsExpr known = slotted ASSERTION
-other_rule kinds.TsTypeAssertion known = slotted ASSERTION
-other_rule kinds.CallExpr true = slotted FREEZE
-other_rule kinds.NewExpr true = slotted NEW
-other_rule kinds.FnExpr known = slotted FN_EXPR
+other_rule kinds.TsSatisfiesExpr known = slotted satisfies_row
+other_rule kinds.TsAsExpr known = slotted assertion_row
+other_rule kinds.TsTypeAssertion known = slotted assertion_row
+other_rule kinds.CallExpr true = slotted arguments_row
+other_rule kinds.NewExpr true = slotted arguments_row
+other_rule kinds.FnExpr known = slotted fn_expr_row
 other_rule kinds.ArrowExpr known = arrow
 other_rule _ known = not_at_all
 

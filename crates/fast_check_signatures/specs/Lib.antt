@@ -1,8 +1,10 @@
 pub mod Seen
 pub mod Bindings
 pub mod NewNodes
+pub mod Typing
 pub mod Parameters
 pub mod Functions
+pub mod Rows
 pub mod Expressions
 pub mod Answers
 pub mod Members

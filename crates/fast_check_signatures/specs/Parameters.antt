@@ -16,14 +16,14 @@ use Rattle.fast_check_swc_helpers.specs.ranges.Ranges.{range_of_node}
 use Rattle.fast_check_program_forms.specs.Names.{Ident-span, Ident-ctxt, Ident-sym, ident, BindingIdent-id}
 use Rattle.fast_check_program_forms.specs.Names.{BindingIdent-type_ann, binding_ident}
 use Rattle.fast_check_swc_helpers.specs.declared.literal_type.DeclMutabilityKind.TheVariants.{Mutable}
-use Rattle.fast_check_swc_helpers.specs.Builders.{type_ann, never_value}
-use Rattle.fast_check_swc_helpers.specs.InferredType.{inferred_type}
+use Rattle.fast_check_swc_helpers.specs.Builders.{never_value}
 use Rattle.fast_check_swc_helpers.specs.OptionalParams.{is_optional_param}
 use Rattle.fast_check_signatures.specs.declared.fault.FaultKind.TheVariants.{MissingExplicitType}
 use Rattle.fast_check_signatures.specs.declared.fault.FaultKind.TheVariants.{UnsupportedDestructuring}
 use Rattle.fast_check_signatures.specs.Bindings.{Bindings}
 use Rattle.fast_check_signatures.specs.Seen.{Seen, written, default, faulty}
 use Rattle.fast_check_signatures.specs.NewNodes.{never_array, empty_object_pat, or_undefined}
+use Rattle.fast_check_signatures.specs.Typing.{Typing, type_of, seen_by}
 
 -- What is seen of an expression. A fault of a function stands at the place that is given, that of the parent that names
 -- it, or else at the function.
@@ -72,21 +72,22 @@ without_default false id type = binding_ident (with_optional false id) (or_undef
 abbrev pub default_seen : SourceRange → SourceRange → Tree → Seen → Seen
 default_seen span place left value = default (record { span = span; left = left; place = place }) value
 
-module _ (bindings : Bindings) (look : Look) where
-  -- an identifier with a default, whose type is written, or shown by the default, or else left to it
-  abbrev pub by_shown : Bool → Tree → Option Tree → Seen
-  by_shown is_optional pat (Some type) =
-      written (without_default is_optional (BindingIdent-id (AssignPat-left pat)) (type_ann type))
-  by_shown is_optional pat None =
-      let place = Ident-span (BindingIdent-id (AssignPat-left pat)) in
-      default_seen (AssignPat-span pat) place (AssignPat-left pat) (look (AssignPat-right pat) (Some place))
+-- an identifier with a default
+abbrev pub default_typing : Tree → Typing
+default_typing pat = record {
+  is_private = false;
+  type = BindingIdent-type_ann (AssignPat-left pat);
+  value = AssignPat-right pat;
+  mutability = Mutable;
+}
 
+module _ (bindings : Bindings) (look : Look) where
+  -- an identifier with a default, with its type, or else with the default
   abbrev pub ident_default_seen : Bool → Tree → Seen
   ident_default_seen is_optional pat =
-      let id = AssignPat-left pat in
-      if is_absent (BindingIdent-type_ann id) then by_shown is_optional pat
-      (inferred_type Mutable bindings.unresolved (AssignPat-right pat))
-      else written (without_default is_optional (BindingIdent-id id) (BindingIdent-type_ann id))
+      let id = BindingIdent-id (AssignPat-left pat) in
+      seen_by (type_of bindings.unresolved (default_typing pat)) (λ type. written (without_default is_optional id type))
+      (default_seen (AssignPat-span pat) (Ident-span id) (AssignPat-left pat) (look (AssignPat-right pat) (Some (Ident-span id))))
 
   -- a pattern with a default: behind a written type, `never` stands for the default
   abbrev pub pattern_default_seen : Tree → SourceRange → Tree → Tree → Tree → Seen

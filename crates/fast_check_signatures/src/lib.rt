@@ -8,4 +8,4 @@ mod rules;
 
 pub use fault::{Fault, FaultKind};
 pub use function_kind::FunctionKind;
-pub use rules::{ASSERTION, FN_EXPR, FREEZE, NEW, SATISFIES, Slot, is_compound, is_plain};
+pub use rules::{Slot, is_compound, is_plain};

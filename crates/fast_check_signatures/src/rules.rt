@@ -1,5 +1,4 @@
-//! How expressions stay, kind by kind: which stay whole, which if their parts do, and the rows, which the definitions name and the
-//! transform walks.
+//! How expressions stay, kind by kind: which stay whole, which if their parts do, and what becomes of a part of the others.
 ghost use Rattle.std.specs.Prelude.{◌≡◌};
 ghost use Rattle.fast_check_signatures.specs.Expressions.{is_plain, is_compound};
 
@@ -68,30 +67,3 @@ pub fn is_compound(kind: Kind) -> bool
             | Kind::Tpl
     )
 }
-
-/// `value satisfies type`: the value as it stays. A row has a slot for each field of its form, in their order.
-pub const SATISFIES: [Slot; 3] = [Slot::Span, Slot::Value, Slot::Written];
-
-/// `value as type`, `<type>value`: the value does not count.
-pub const ASSERTION: [Slot; 3] = [Slot::Span, Slot::Never, Slot::Written];
-
-/// A function expression.
-pub const FN_EXPR: [Slot; 2] = [Slot::Written, Slot::Function];
-
-/// `Object.freeze(x)`: the arguments as they stay.
-pub const FREEZE: [Slot; 5] = [
-    Slot::Span,
-    Slot::Scope,
-    Slot::Written,
-    Slot::Value,
-    Slot::Written,
-];
-
-/// `new C(x)` of a class without type parameters: the arguments as they stay.
-pub const NEW: [Slot; 5] = [
-    Slot::Span,
-    Slot::Scope,
-    Slot::Written,
-    Slot::Value,
-    Slot::Written,
-];

@@ -1,5 +1,5 @@
 -- Modules that agree but for what is hidden are seen alike, so that their skeletons and faults are the same.
-use Rattle.std.specs.Prelude.{◌≡◌, ◌&&◌, Bool, true, false, not, ◌||◌, Option, Some, None, List, [], ◌∷◌, ◌++◌, map, flat_map, refl}
+use Rattle.std.specs.Prelude.{◌≡◌, ◌&&◌, Bool, true, false, not, ◌||◌, Some, List, [], ◌∷◌, ◌++◌, map, flat_map, refl}
 use Rattle.std.specs.Prelude.{if◌then◌else◌}
 use Rattle.std.specs.List.{list_all}
 use Rattle.std.proofs.Common.{ap, ap₂, ◌∙◌, sym, subst, subst₂}
@@ -35,13 +35,12 @@ use Rattle.fast_check_signatures.specs.declared.fault.FaultKind.TheVariants.{Uns
 use Rattle.fast_check_signatures.specs.declared.fault.FaultKind.TheVariants.{UnsupportedGlobalModule, UnsupportedAmbientModule}
 use Rattle.fast_check_signatures.specs.declared.function_kind.FunctionKind.TheVariants.{DeclarationLike}
 use Rattle.fast_check_skeleton.specs.ModuleFacts.{ModuleFacts, inside}
-use Rattle.fast_check_swc_helpers.specs.Builders.{type_ann, never_value}
-use Rattle.fast_check_swc_helpers.specs.InferredType.{inferred_type}
-use Rattle.fast_check_swc_helpers.proofs.BuildersMoved.{type_ann_moved, never_value_moved}
+use Rattle.fast_check_swc_helpers.specs.Builders.{never_value}
+use Rattle.fast_check_swc_helpers.proofs.BuildersMoved.{never_value_moved}
 use Rattle.fast_check_skeleton.specs.Mutability.{mutability_of}
 use Rattle.fast_check_skeleton.specs.Namespaces.{innermost, block_items, items_inside, body_round}
 use Rattle.fast_check_signatures.specs.Seen.{Seen, written, range, scope, flag, round, listed, declarator, faulty, refused, seens}
-use Rattle.fast_check_skeleton.specs.Visible.{declared_ident, declared_type, declarator_head, typed_declarator, value_seen, untyped_seen}
+use Rattle.fast_check_skeleton.specs.Visible.{declared_ident, declarator_head, typed_declarator, value_seen}
 use Rattle.fast_check_skeleton.specs.Visible.{ident_declarator_seen, declarator_seen, is_ambient_statement, is_public_declarator}
 use Rattle.fast_check_skeleton.specs.Visible.{declarator_in, public_declarator, public_declarators, statement_seen, signature_of}
 use Rattle.fast_check_skeleton.specs.Visible.{function_decl_seen, public_function, is_ambient_class, class_in, class_decl_seen}
@@ -51,15 +50,15 @@ use Rattle.fast_check_signatures.specs.Answers.{answer_of}
 use Rattle.fast_check_signatures.specs.Classes.{plain_class_seen, ambient_class}
 use Rattle.fast_check_signatures.specs.Expressions.{expr_seen}
 use Rattle.fast_check_signatures.specs.Functions.{function_seen, implementation_seen}
-use Rattle.fast_check_skeleton.specs.SameValues.{SameBindings, Both, SameExpr}
+use Rattle.fast_check_skeleton.specs.SameValues.{SameBindings, Both, SameValue}
 use Rattle.fast_check_skeleton.specs.SameValues as v
-use Rattle.fast_check_skeleton.proofs.AlikeTrees.{TreeAlike, image_alike, new_alike, absent_alike, range_leaf_alike, flag_leaf_alike}
+use Rattle.fast_check_skeleton.proofs.AlikeTrees.{TreeAlike, new_alike, range_leaf_alike, flag_leaf_alike}
 use Rattle.fast_check_skeleton.proofs.AlikeTrees.{node_alike, range_field_alike}
 use Rattle.fast_check_skeleton.proofs.AlikeSeen.{Alike, AllAlike, written_alike, same_written, range_alike, scope_alike, flag_alike}
-use Rattle.fast_check_skeleton.proofs.AlikeSeen.{alike_if, all_alike_if, faulty_alike, listed_alike, round_alike, append_alike}
+use Rattle.fast_check_skeleton.proofs.AlikeSeen.{alike_if, given_alike, none_alike, all_alike_if, faulty_alike, listed_alike, round_alike, append_alike}
 use Rattle.fast_check_signatures.proofs.Choices.{both_true}
 use Rattle.fast_check_signatures.proofs.MovedParts.{moved_declarator}
-use Rattle.fast_check_skeleton.proofs.AlikePresent.{absent_shows, expr_absent}
+use Rattle.fast_check_skeleton.proofs.AlikePresent.{expr_absent}
 use Rattle.fast_check_skeleton.proofs.Alike.{expr_alike, function_alike}
 use Rattle.fast_check_skeleton.proofs.AlikeClasses.{class_alike, ambient_class_alike}
 use Rattle.fast_check_skeleton.proofs.AlikeFunctions.{implementation_alike}
@@ -178,14 +177,8 @@ module _ (facts : ModuleFacts) where
 -- ---- what agrees is seen alike
 
 module _ (r : Renaming) (ok : IsRenaming r) where
-  absent_same : (t u : Tree) → SameTree r t u → is_absent t ≡ is_absent u
-  absent_same t u s = absent_alike r ok t u (tree_to r ok s)
-
   module _ (a b : ModuleFacts) where
     -- ---- declarators
-
-    abbrev shown_of : ModuleFacts → DeclMutabilityKind → Tree → Option Tree
-    shown_of facts mutability d = inferred_type mutability facts.bindings.unresolved (VarDeclarator-init d)
 
     of_ident : (facts : ModuleFacts) (mutability : DeclMutabilityKind) (d : Tree) → kind_of (VarDeclarator-name d) ≡ BindingIdent →
         declarator_seen facts mutability d ≡ ident_declarator_seen facts mutability d
@@ -221,69 +214,37 @@ module _ (r : Renaming) (ok : IsRenaming r) where
         new_alike r ok never_value never_value_moved i ∷ flag_leaf_alike r ok (VarDeclarator-definite t)
         (VarDeclarator-definite u) d.definite i ∷ []))
 
-    abbrev UntypedAlike : Tree → Tree → Option Tree → Option Tree → Type 0
-    UntypedAlike t u o o' = Alike r ok (untyped_seen a t o) (untyped_seen b u o')
-
-    -- where no type is written, as the values are seen
-    declared : (mutability : DeclMutabilityKind) (t u : Tree) → SameHead r a b t u →
-        (is_absent (declared_type t) ≡ true → UntypedAlike t u (shown_of a mutability t) (shown_of b mutability u)) →
-        Alike r ok (declarator_seen a mutability t) (declarator_seen b mutability u)
-    declared mutability t u d v =
-        subst₂ (Alike r ok) (sym (of_ident a mutability t d.names.left)) (sym (of_ident b mutability u d.names.right))
-        (alike_if r ok (is_absent (declared_type t)) (is_absent (declared_type u))
-        (untyped_seen a t (shown_of a mutability t)) (written (typed_declarator (declarator_head t) (declared_type t)))
-        (untyped_seen b u (shown_of b mutability u)) (written (typed_declarator (declarator_head u) (declared_type u)))
-        (absent_same (declared_type t) (declared_type u) d.type) v
-        (λ e. typed_alike t u (declared_type t) (declared_type u) d (tree_to r ok d.type)))
-
-    shown_alike : (t u x y : Tree) → SameHead r a b t u → TreeAlike r ok x y → UntypedAlike t u (Some x) (Some y)
-    shown_alike t u x y d e =
-        typed_alike t u (type_ann x) (type_ann y) d (image_alike r ok type_ann (λ m keeps t. sym (type_ann_moved m keeps t)) x y e)
-
     ident_place : (t u : Tree) → SameTree r t u → SameRange r (Ident-span t) (Ident-span u)
     ident_place t u s = range_from r ok (Ident-span t) (Ident-span u) (range_field_alike r ok Ident-span _ (λ t. refl) t u (tree_to r ok s))
 
-    -- values that show no type
-    kept_alike : SameBindings r a.bindings b.bindings → (t u : Tree) → SameHead r a b t u →
-        SameExpr r a.bindings b.bindings (VarDeclarator-init t) (VarDeclarator-init u) → UntypedAlike t u None None
-    kept_alike c t u d f =
-        let place = Ident-span (declared_ident t) in
-        let place' = Ident-span (declared_ident u) in
-        let value = VarDeclarator-init t in
-        let value' = VarDeclarator-init u in
-        let same : Alike r ok (value_seen a place value) (value_seen b place' value') =
-        alike_if r ok (is_absent value) (is_absent value') refused (expr_seen a.bindings value (Some place)) refused
-        (expr_seen b.bindings value' (Some place'))
+    value_alike : SameBindings r a.bindings b.bindings → (p q : SourceRange) (t u : Tree) → SameRange r p q →
+        SameValue r a.bindings b.bindings t u → Alike r ok (value_seen a p t) (value_seen b q u)
+    value_alike c p q t u s (v.SameValue.no_values x y) =
+        alike_if r ok (is_absent t) (is_absent u) refused (expr_seen a.bindings t (Some p)) refused (expr_seen b.bindings u (Some q))
+        (x ∙ sym y) (λ g. refl) (λ g. cc)
+    value_alike c p q t u s (v.SameValue.kept f) =
+        alike_if r ok (is_absent t) (is_absent u) refused (expr_seen a.bindings t (Some p)) refused (expr_seen b.bindings u (Some q))
         (expr_absent r ok a.bindings b.bindings f) (λ e. refl)
-        (λ e. expr_alike r ok a.bindings b.bindings c f (Some place) (Some place')
-        (ap Some (range_to r ok place place' (ident_place (declared_ident t) (declared_ident u) d.ident)))) in
-        λ i. declarator (head_alike t u d i) (same i)
+        (λ e. expr_alike r ok a.bindings b.bindings c f (Some p) (Some q) (ap Some (range_to r ok p q s)))
 
-    -- no values
-    none_alike : (t u : Tree) → SameHead r a b t u → is_absent (VarDeclarator-init t) ≡ true → is_absent (VarDeclarator-init u) ≡ true →
-        UntypedAlike t u None None
-    none_alike t u d e f =
-        let place = Ident-span (declared_ident t) in
-        let place' = Ident-span (declared_ident u) in
-        let value = VarDeclarator-init t in
-        let value' = VarDeclarator-init u in
-        let same : Alike r ok (value_seen a place value) (value_seen b place' value') =
-        alike_if r ok (is_absent value) (is_absent value') refused (expr_seen a.bindings value (Some place)) refused
-        (expr_seen b.bindings value' (Some place')) (e ∙ sym f) (λ g. refl) (λ g. cc) in
-        λ i. declarator (head_alike t u d i) (same i)
+    abbrev with_type : Tree → Tree → Seen
+    with_type d type = written (typed_declarator (declarator_head d) type)
+
+    abbrev untyped : ModuleFacts → Tree → Seen
+    untyped facts d = declarator (declarator_head d) (value_seen facts (Ident-span (declared_ident d)) (VarDeclarator-init d))
 
     declarator_alike : SameBindings r a.bindings b.bindings → (mutability : DeclMutabilityKind) {t u : Tree} →
         SameDeclarator r a b mutability t u →
         Alike r ok (declarator_seen a mutability t) (declarator_seen b mutability u)
-    declarator_alike c mutability (h.SameDeclarator.typed {t = t} {u = u} d w) = declared mutability t u d (λ e. cc)
-    declarator_alike c mutability (h.SameDeclarator.inferred {t = t} {u = u} x y d f g s) =
-        declared mutability t u d (λ e. subst₂ (UntypedAlike t u) (sym f) (sym g) (shown_alike t u x y d (tree_to r ok s)))
-    declarator_alike c mutability (h.SameDeclarator.absent {t = t} {u = u} d x y) =
-        declared mutability t u d
-        (λ e. subst₂ (UntypedAlike t u) (sym (absent_shows mutability a.bindings.unresolved (VarDeclarator-init t) x))
-        (sym (absent_shows mutability b.bindings.unresolved (VarDeclarator-init u) y)) (none_alike t u d x y))
-    declarator_alike c mutability (h.SameDeclarator.kept {t = t} {u = u} d f g s) =
-        declared mutability t u d (λ e. subst₂ (UntypedAlike t u) (sym f) (sym g) (kept_alike c t u d s))
+    declarator_alike c mutability (h.SameDeclarator.given {t = t} {u = u} d types) =
+        subst₂ (Alike r ok) (sym (of_ident a mutability t d.names.left)) (sym (of_ident b mutability u d.names.right))
+        (given_alike r ok (with_type t) (with_type u) (untyped a t) (untyped b u) types (λ x y e. typed_alike t u x y d e))
+    declarator_alike c mutability (h.SameDeclarator.kept {t = t} {u = u} d none x) =
+        let value = value_alike c (Ident-span (declared_ident t)) (Ident-span (declared_ident u)) (VarDeclarator-init t)
+        (VarDeclarator-init u) (ident_place (declared_ident t) (declared_ident u) d.ident) x in
+        subst₂ (Alike r ok) (sym (of_ident a mutability t d.names.left)) (sym (of_ident b mutability u d.names.right))
+        (none_alike r ok (with_type t) (with_type u) (untyped a t) (untyped b u) none
+        (λ i. declarator (head_alike t u d i) (value i)))
     declarator_alike c mutability (h.SameDeclarator.destructured {t = t} {u = u} n s) =
         subst₂ (Alike r ok) (sym (of_pattern a mutability t n.left)) (sym (of_pattern b mutability u n.right))
         (ap (faulty UnsupportedDestructuring) (range_to r ok _ _ s))

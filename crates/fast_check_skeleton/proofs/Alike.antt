@@ -15,11 +15,11 @@ use Rattle.fast_check_swc_helpers.specs.OptionalParams.{is_optional_param}
 use Rattle.fast_check_signatures.specs.Bindings.{Bindings}
 use Rattle.fast_check_signatures.specs.declared.function_kind.FunctionKind.{FunctionKind}
 use Rattle.fast_check_signatures.specs.declared.function_kind.FunctionKind.TheVariants.{ExpressionLike}
-use Rattle.fast_check_signatures.specs.declared.rules.TheConstants.{SATISFIES, ASSERTION, FN_EXPR}
 use Rattle.fast_check_signatures.specs.Seen.{Seen, written}
 use Rattle.fast_check_signatures.specs.NewNodes.{never_in_parens}
 use Rattle.fast_check_signatures.specs.Parameters.{pat_seen, pats_seen}
 use Rattle.fast_check_signatures.specs.Functions.{or_own, function_seen, params_seen, arrow_by_type, arrow_seen}
+use Rattle.fast_check_signatures.specs.Rows.{satisfies_row, assertion_row, fn_expr_row}
 use Rattle.fast_check_signatures.specs.Expressions.{is_known, Rule, slotted, arrow, rule, expr_form, expr_seen}
 use Rattle.fast_check_skeleton.specs.SameValues.{SameBindings, Both, SameFunctionHead, SameArrowHead, SameExpr, SameExprs, SameArrowBody}
 use Rattle.fast_check_skeleton.specs.SameValues.{SameFunction, SameParams, SamePats, SamePat}
@@ -29,7 +29,7 @@ use Rattle.fast_check_signatures.proofs.NewNodesMoved.{never_in_parens_moved}
 use Rattle.fast_check_skeleton.proofs.AlikeTrees.{RangeAlike, new_alike}
 use Rattle.fast_check_skeleton.proofs.AlikeSeen.{Alike, AllAlike, written_alike, same_written, range_alike, scope_alike}
 use Rattle.fast_check_skeleton.proofs.AlikeParameters.{PlaceAlike, same_optional, emptied_optional, rest_optional, assign_optional}
-use Rattle.fast_check_skeleton.proofs.AlikeParameters.{emptied_alike, rest_alike, typed_default_alike, shown_default_alike}
+use Rattle.fast_check_skeleton.proofs.AlikeParameters.{emptied_alike, rest_alike, given_default_alike}
 use Rattle.fast_check_skeleton.proofs.AlikeParameters.{kept_default_alike, typed_pattern_alike, kept_pattern_alike, unfit_same, bare_alike}
 use Rattle.fast_check_skeleton.proofs.AlikeParameters.{taken_apart_alike, default_taken_apart_alike}
 use Rattle.fast_check_skeleton.proofs.AlikeFunctions.{or_own_alike, signature_of_alike, param_alike, typed_alike, classed_alike}
@@ -46,8 +46,7 @@ module _ (r : Renaming) (ok : IsRenaming r) (c d : Bindings) (pair : SameBinding
   optional_alike (s.rest {t = t} {u = u} k a dots arg e) = rest_optional r ok c d t u k
   optional_alike (s.taken_apart {t = t} {u = u} e f a) = unfit_same r ok c d t u e f
   optional_alike (s.default_taken_apart {t = t} {u = u} k e f a) = assign_optional r ok c d t u k
-  optional_alike (s.typed_default {t = t} {u = u} k j e w) = assign_optional r ok c d t u k
-  optional_alike (s.shown_default {t = t} {u = u} k j e h) = assign_optional r ok c d t u k
+  optional_alike (s.given_default {t = t} {u = u} k j e h) = assign_optional r ok c d t u k
   optional_alike (s.kept_default {t = t} {u = u} k j a e h v) = assign_optional r ok c d t u k
   optional_alike (s.typed_pattern {t = t} {u = u} k a e w) = assign_optional r ok c d t u k
   optional_alike (s.kept_pattern {t = t} {u = u} k a e v) = assign_optional r ok c d t u k
@@ -90,12 +89,13 @@ module _ (r : Renaming) (ok : IsRenaming r) (c d : Bindings) (pair : SameBinding
     expr_alike (s.compound {t = t} {u = u} k b e xs) p q f =
         by_form t u p q (compound_alike r ok c d (expr_seen c) (expr_seen d) t u p q k b e (exprs_alike xs))
     expr_alike (s.satisfies {t = t} {u = u} b a x e) p q f =
-        by_kind t u p q kinds.TsSatisfiesExpr (slotted SATISFIES) b refl refl
+        by_kind t u p q kinds.TsSatisfiesExpr (slotted satisfies_row) b refl refl
         (range_alike r ok _ _ a, (expr_alike x None None refl, (same_written r ok e, tt)))
     expr_alike (s.as_type {t = t} {u = u} b a e) p q f =
-        by_kind t u p q kinds.TsAsExpr (slotted ASSERTION) b refl refl (range_alike r ok _ _ a, (never_alike, (same_written r ok e, tt)))
+        by_kind t u p q kinds.TsAsExpr (slotted assertion_row) b refl refl
+        (range_alike r ok _ _ a, (never_alike, (same_written r ok e, tt)))
     expr_alike (s.assertion {t = t} {u = u} b a e) p q f =
-        by_kind t u p q kinds.TsTypeAssertion (slotted ASSERTION) b refl refl
+        by_kind t u p q kinds.TsTypeAssertion (slotted assertion_row) b refl refl
         (range_alike r ok _ _ a, (never_alike, (same_written r ok e, tt)))
     expr_alike (s.frozen {t = t} {u = u} b b' a n callee x types) p q f =
         by_form t u p q (frozen_alike r ok c d (expr_seen c) (expr_seen d) t u p q b b' (
@@ -109,7 +109,7 @@ module _ (r : Renaming) (ok : IsRenaming r) (c d : Bindings) (pair : SameBinding
         ))
     expr_alike (s.function {t = t} {u = u} b e x) p q f =
         let left = Function-span (FnExpr-function t) in let right = Function-span (FnExpr-function u) in
-        by_kind t u p q kinds.FnExpr (slotted FN_EXPR) b refl refl (
+        by_kind t u p q kinds.FnExpr (slotted fn_expr_row) b refl refl (
           same_written r ok e,
           (
             function_alike x ExpressionLike (or_own p left) (or_own q right)
@@ -187,8 +187,7 @@ module _ (r : Renaming) (ok : IsRenaming r) (c d : Bindings) (pair : SameBinding
     pat_alike (s.taken_apart {t = t} {u = u} e f a) b = taken_apart_alike r ok c d (expr_seen c) (expr_seen d) b t u e f a
     pat_alike (s.default_taken_apart {t = t} {u = u} k e f a) b =
         default_taken_apart_alike r ok c d (expr_seen c) (expr_seen d) b t u k e f a
-    pat_alike (s.typed_default {t = t} {u = u} k j e w) b = typed_default_alike r ok c d (expr_seen c) (expr_seen d) b t u k j e w
-    pat_alike (s.shown_default {t = t} {u = u} k j e h) b = shown_default_alike r ok c d (expr_seen c) (expr_seen d) b t u k j e h
+    pat_alike (s.given_default {t = t} {u = u} k j e h) b = given_default_alike r ok c d (expr_seen c) (expr_seen d) b t u k j e h
     pat_alike (s.kept_default {t = t} {u = u} k j a e h x) b = kept_default_alike r ok c d (expr_seen c)
         (expr_seen d) b t u k j a e h (λ p q f. expr_alike x p q f)
     pat_alike (s.typed_pattern {t = t} {u = u} k a e w) b = typed_pattern_alike r ok c d (expr_seen c) (expr_seen d) b t u k a e w

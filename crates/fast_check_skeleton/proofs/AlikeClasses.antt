@@ -1,5 +1,5 @@
 -- Classes that agree but for what is hidden are seen alike.
-use Rattle.std.specs.Prelude.{◌≡◌, Bool, true, false, ◌&&◌, Option, Some, None, unwrap_or, option_map, List, [], ◌∷◌, ◌++◌, map, flat_map}
+use Rattle.std.specs.Prelude.{◌≡◌, Bool, true, false, ◌&&◌, unwrap_or, List, [], ◌∷◌, ◌++◌, map, flat_map}
 use Rattle.std.specs.Prelude.{refl, if◌then◌else◌}
 use Rattle.std.specs.List.{list_any, filter}
 use Rattle.std.proofs.Common.{ap, ap₂, ◌∙◌, sym, subst, subst₂, true≢false}
@@ -20,18 +20,14 @@ use Rattle.fast_check_syntax.proofs.Same.{tree_to, range_to}
 use Rattle.fast_check_swc_helpers.specs.ranges.Ranges.{range_of_node}
 use Rattle.fast_check_class_forms.specs.Classes.{Constructor-span, Constructor-ctxt, Constructor-key, Constructor-body}
 use Rattle.fast_check_class_forms.specs.Classes.{Constructor-accessibility, Constructor-is_optional, TsParamProp-accessibility}
-use Rattle.fast_check_class_forms.specs.Classes.{TsParamProp-readonly, TsParamProp-param}
 use Rattle.fast_check_class_forms.specs.Fields.{ClassProp-key, ClassProp-accessibility, AutoAccessor-key, AutoAccessor-accessibility}
 use Rattle.fast_check_class_forms.specs.Methods.{ClassMethod-span, ClassMethod-key, ClassMethod-function, ClassMethod-kind}
 use Rattle.fast_check_class_forms.specs.Methods.{ClassMethod-is_static, ClassMethod-accessibility, ClassMethod-is_abstract}
 use Rattle.fast_check_class_forms.specs.Methods.{ClassMethod-is_optional, ClassMethod-is_override}
 use Rattle.fast_check_expression_forms.specs.Expressions.{ExprOrSpread-spread}
-use Rattle.fast_check_expression_forms.specs.Patterns.{AssignPat-right}
-use Rattle.fast_check_program_forms.specs.Names.{Ident-span, Ident-sym, Ident-optional, BindingIdent-type_ann}
+use Rattle.fast_check_program_forms.specs.Names.{Ident-span, Ident-sym, Ident-optional}
 use Rattle.fast_check_statement_forms.specs.Statements.{BlockStmt-stmts}
-use Rattle.fast_check_swc_helpers.specs.declared.literal_type.DeclMutabilityKind.{DeclMutabilityKind}
-use Rattle.fast_check_swc_helpers.specs.Builders.{any_type_ann, never_value}
-use Rattle.fast_check_swc_helpers.specs.InferredType.{inferred_type}
+use Rattle.fast_check_swc_helpers.specs.Builders.{never_value}
 use Rattle.fast_check_swc_helpers.proofs.BuildersMoved.{never_value_moved}
 use Rattle.fast_check_signatures.specs.Bindings.{Bindings}
 use Rattle.fast_check_signatures.specs.declared.fault.FaultKind.TheVariants.{UnsupportedDestructuring, UnsupportedSuperClassExpr}
@@ -43,19 +39,21 @@ use Rattle.fast_check_signatures.specs.Expressions.{expr_seen}
 use Rattle.fast_check_signatures.specs.Functions.{any_params_from, function_seen, implementation_seen}
 use Rattle.fast_check_signatures.specs.Members.{is_private, is_computed, is_hash_named, hash_mark, stays_behind, each_behind, if_kept}
 use Rattle.fast_check_signatures.specs.Members.{is_private_computed_kind, is_private_computed, ambient_members}
-use Rattle.fast_check_signatures.specs.Classes.{is_reference, superclass_seen, mutability_of_property, private_method_head, param_target}
+use Rattle.fast_check_signatures.specs.Classes.{is_reference, superclass_seen, private_method_head, param_target}
 use Rattle.fast_check_signatures.specs.Classes.{takes_apart, param_properties, patterns_among, unless_any, param_property_head}
-use Rattle.fast_check_signatures.specs.Classes.{type_or_none, is_super_call, never_argument, super_call, constructor_body, constructor_of}
+use Rattle.fast_check_signatures.specs.Classes.{is_super_call, never_argument, super_call, constructor_body, constructor_of}
 use Rattle.fast_check_signatures.specs.Classes.{unless_taken_apart, method_kind, class_head, method_function_seen, plain_params_seen}
-use Rattle.fast_check_signatures.specs.Classes.{constructor_params_seen, constructor_seen, member_of_kind, member_seen, default_type}
-use Rattle.fast_check_signatures.specs.Classes.{param_property_type, param_property, declared_by_params, members_seen, plain_class_seen}
-use Rattle.fast_check_signatures.specs.Classes.{ambient_class}
+use Rattle.fast_check_signatures.specs.Classes.{constructor_params_seen, constructor_seen, member_of_kind, member_seen}
+use Rattle.fast_check_signatures.specs.Classes.{param_property, declared_by_params, members_seen, plain_class_seen}
+use Rattle.fast_check_signatures.specs.Classes.{ambient_class, param_typing}
+use Rattle.fast_check_signatures.specs.Typing.{type_of}
 use Rattle.fast_check_signatures.proofs.NewNodesMoved.{never_array_in_parens_moved, new_block_moved, hash_private_moved}
 use Rattle.fast_check_signatures.proofs.MovedParts.{moved_class, field_moved}
 use Rattle.fast_check_signatures.proofs.References.{is_reference_moved}
-use Rattle.fast_check_skeleton.specs.SameValues.{SameBindings, Both}
-use Rattle.fast_check_skeleton.specs.SameClasses.{SameParamType, SameParamProperty, SameSuperCall, SameSuperCalls, SameConstructorHead}
-use Rattle.fast_check_skeleton.specs.SameClasses.{SameConstructed, plain_params, SameConstructor, SameMethod, SameSigned, SameMember}
+use Rattle.fast_check_skeleton.specs.SameValues.{SameBindings, Both, SameTyping}
+use Rattle.fast_check_skeleton.specs.SameValues as v
+use Rattle.fast_check_skeleton.specs.SameClasses.{SameParamProperty, SameSuperCall, SameSuperCalls, SameConstructorHead}
+use Rattle.fast_check_skeleton.specs.SameClasses.{SameConstructed, plain_params, SameConstructor, SameMethod, SameMember}
 use Rattle.fast_check_skeleton.specs.SameClasses.{SameMembers, SameSuperclass, SameClassHead, SameClass, SameAmbientMembers}
 use Rattle.fast_check_skeleton.specs.SameClasses.{SameAmbientClass}
 use Rattle.fast_check_skeleton.specs.SameClasses as s
@@ -66,7 +64,7 @@ use Rattle.fast_check_skeleton.proofs.AlikeSeen.{faulty_alike, alike_if, append_
 use Rattle.fast_check_skeleton.proofs.AlikeFunctions.{any_params_alike, implementation_alike, signature_of_alike}
 use Rattle.fast_check_skeleton.proofs.Alike.{function_alike, params_alike}
 use Rattle.fast_check_skeleton.proofs.AlikeMembers.{silent, SameTaken, taken_left, taken_right, taken_next, private_alike, stays_alike}
-use Rattle.fast_check_skeleton.proofs.AlikeProperties.{nothing_alike, HeadAlike, declared_alike, any_alike, ann_alike, place_alike}
+use Rattle.fast_check_skeleton.proofs.AlikeProperties.{nothing_alike, HeadAlike, declared_alike, place_alike}
 use Rattle.fast_check_skeleton.proofs.AlikeProperties.{by_privacy, property_alike, accessor_alike}
 
 private_computed_by_kind : (m : Moves) (k : Kind) (t : Tree) → is_private_computed_kind k (moved m t) ≡ is_private_computed_kind k t
@@ -99,14 +97,6 @@ module _ (r : Renaming) (ok : IsRenaming r) where
   tree_if false false x x' y y' e p q = q
   tree_if true false x x' y y' e p q = cc
   tree_if false true x x' y y' e p q = cc
-
-  -- by the side that is chosen
-  tree_chosen : (a b : Bool) (x x' y y' : Tree) → a ≡ b → (a ≡ true → TreeAlike r ok x y) → (a ≡ false → TreeAlike r ok x' y') →
-      TreeAlike r ok (if a then x else x') (if b then y else y')
-  tree_chosen true true x x' y y' e p q = p refl
-  tree_chosen false false x x' y y' e p q = q refl
-  tree_chosen true false x x' y y' e p q = cc
-  tree_chosen false true x x' y y' e p q = cc
 
   lists_if : (a b : Bool) (xs xs' ys ys' : List Seen) → a ≡ b → (a ≡ true → AllAlike r ok xs ys) → (a ≡ false → AllAlike r ok xs' ys') →
       AllAlike r ok (if a then xs else xs') (if b then ys else ys')
@@ -232,91 +222,23 @@ module _ (r : Renaming) (ok : IsRenaming r) where
       readonly = h.readonly;
     }
 
-    type_or_none_alike : (x y : Option Tree) → option_map (moved (partners r)) x ≡ option_map (moved twice) y →
-        TreeAlike r ok (type_or_none x) (type_or_none y)
-    type_or_none_alike (Some x) (Some y) e = ann_alike r ok x y (ap (λ z. unwrap_or z (moved twice y)) e)
-    type_or_none_alike None None e = nothing_alike r ok
-    type_or_none_alike (Some x) None e = cc
-    type_or_none_alike None (Some y) e = cc
+    -- the type of a parameter property, which may have none
+    abbrev param_type : SyntaxContext → Tree → Tree
+    param_type unresolved p = unwrap_or (type_of unresolved (param_typing p)) Absent
 
-    -- the type that a default shows
-    abbrev ShownAlike : Tree → Tree → Type 0
-    ShownAlike t u =
-        option_map (moved (partners r))
-        (default_type c.unresolved (mutability_of_property (TsParamProp-readonly t)) (TsParamProp-param t)) ≡
-        option_map (moved twice) (default_type d.unresolved (mutability_of_property (TsParamProp-readonly u)) (TsParamProp-param u))
-
-    of_default : (unresolved : SyntaxContext) (mutability : DeclMutabilityKind) (pat : Tree) → kind_of pat ≡ kinds.AssignPat →
-        default_type unresolved mutability pat ≡ inferred_type mutability unresolved (AssignPat-right pat)
-    of_default unresolved mutability pat e =
-        ap (λ k. if k is kinds.AssignPat then inferred_type mutability unresolved (AssignPat-right pat) else None) e
-
-    no_default : (unresolved : SyntaxContext) (mutability : DeclMutabilityKind) (pat : Tree) →
-        kind_of pat is kinds.AssignPat ≡ false → default_type unresolved mutability pat ≡ None
-    no_default unresolved mutability pat e = ap (λ b. if b then inferred_type mutability unresolved (AssignPat-right pat) else None) e
-
-    -- what the defaults of two parameter properties show, one `readonly` where the other is
-    shown_alike : (t u : Tree) → TsParamProp-readonly t ≡ TsParamProp-readonly u → (x y : Option Tree) →
-        default_type c.unresolved (mutability_of_property (TsParamProp-readonly t)) (TsParamProp-param t) ≡ x →
-        default_type d.unresolved (mutability_of_property (TsParamProp-readonly t)) (TsParamProp-param u) ≡ y →
-        option_map (moved (partners r)) x ≡ option_map (moved twice) y → ShownAlike t u
-    shown_alike t u e x y p q h =
-        ap (option_map (moved (partners r))) p ∙ (h ∙ ap (option_map (moved twice))
-        (sym q ∙ ap (λ b. default_type d.unresolved (mutability_of_property b) (TsParamProp-param u)) e))
-
-    abbrev param_type : Tree → Tree
-    param_type p = BindingIdent-type_ann (param_target p)
-
-    -- the type of a property that is private, or else written, or else shown by the default
-    abbrev type_if : Tree → Tree → Bool → Bool → Tree
-    type_if shown written' is_private' lacks_type = if is_private' then any_type_ann else (if lacks_type then shown else written')
-
-    types_if : (x x' y y' : Tree) (p p' n n' : Bool) → p ≡ p' → (p ≡ false → n ≡ n') → (p ≡ false → n ≡ true → TreeAlike r ok x x') →
-        (p ≡ false → n ≡ false → TreeAlike r ok y y') → TreeAlike r ok (type_if x y p n) (type_if x' y' p' n')
-    types_if x x' y y' true true n n' q j h w = any_alike r ok
-    types_if x x' y y' false false n n' q j h w = tree_chosen n n' x y x' y' (j refl) (h refl) (w refl)
-    types_if x x' y y' true false n n' q j h w = cc
-    types_if x x' y y' false true n n' q j h w = cc
-
-    abbrev shown_type : SyntaxContext → Tree → Tree
-    shown_type unresolved p = type_or_none (default_type unresolved (mutability_of_property (TsParamProp-readonly p)) (TsParamProp-param p))
-
-    abbrev ParamTypeAlike : Tree → Tree → Type 0
-    ParamTypeAlike t u = TreeAlike r ok (param_property_type c.unresolved t) (param_property_type d.unresolved u)
-
-    types_alike : (t u : Tree) → SameTree r (TsParamProp-accessibility t) (TsParamProp-accessibility u) →
-        SameTree r (param_type t) (param_type u) →
-        (is_absent (param_type t) ≡ true → ShownAlike t u) → ParamTypeAlike t u
-    types_alike t u a e h =
-        types_if (shown_type c.unresolved t) (shown_type d.unresolved u) (param_type t) (param_type u)
-        (is_private (TsParamProp-accessibility t))
-        (is_private (TsParamProp-accessibility u)) (is_absent (param_type t)) (is_absent (param_type u)) (private_alike r ok _ _ a)
-        (λ p. absent_alike r ok _ _ (tree_to r ok e)) (λ p n. type_or_none_alike _ _ (h n)) (λ p n. tree_to r ok e)
-
-    param_type_alike : (t u : Tree) → SameTree r (TsParamProp-accessibility t) (TsParamProp-accessibility u) →
-        TsParamProp-readonly t ≡ TsParamProp-readonly u → SameParamType r c d f g t u → ParamTypeAlike t u
-    param_type_alike t u a o (s.SameParamType.any p) =
-        types_if (shown_type c.unresolved t) (shown_type d.unresolved u) (param_type t) (param_type u)
-        (is_private (TsParamProp-accessibility t))
-        (is_private (TsParamProp-accessibility u)) (is_absent (param_type t)) (is_absent (param_type u)) (private_alike r ok _ _ a)
-        (λ n. cc) (λ n. cc) (λ n. cc)
-    param_type_alike t u a o (s.SameParamType.typed e w) = types_alike t u a e (λ n. cc)
-    param_type_alike t u a o (s.SameParamType.inferred e k x) = types_alike t u a e (λ n.
-        shown_alike t u o (Some x.left) (Some x.right) (of_default c.unresolved _ _ k.left ∙ x.left_is)
-        (of_default d.unresolved _ _ k.right ∙ x.right_is)
-        (ap Some (tree_to r ok x.types)))
-    param_type_alike t u a o (s.SameParamType.untyped e k n) = types_alike t u a e (λ m.
-        shown_alike t u o None None (of_default c.unresolved _ _ k.left ∙ n.left) (of_default d.unresolved _ _ k.right ∙ n.right) refl)
-    param_type_alike t u a o (s.SameParamType.bare e k) = types_alike t u a e (λ m.
-        shown_alike t u o None None (no_default c.unresolved _ _ k.left) (no_default d.unresolved _ _ k.right) refl)
+    param_type_alike : (t u : Tree) → SameTyping r c d (param_typing t) (param_typing u) →
+        TreeAlike r ok (param_type c.unresolved t) (param_type d.unresolved u)
+    param_type_alike t u (v.SameTyping.given types) =
+        subst₂ (λ x y. TreeAlike r ok (unwrap_or x Absent) (unwrap_or y Absent)) (sym types.left_is) (sym types.right_is)
+        (tree_to r ok types.types)
+    param_type_alike t u (v.SameTyping.not_given none) =
+        subst₂ (λ x y. TreeAlike r ok (unwrap_or x Absent) (unwrap_or y Absent)) (sym none.left) (sym none.right) (nothing_alike r ok)
 
     param_property_alike : (t u : Tree) → SameParamProperty r c d f g t u →
         TreeAlike r ok (param_property c.unresolved t) (param_property d.unresolved u)
     param_property_alike t u h =
-        declared_alike r ok (param_property_head t) (param_property_head u) (param_property_type c.unresolved t)
-        (param_property_type d.unresolved u)
-        (param_head_alike t u h)
-        (param_type_alike t u h.accessibility h.readonly h.type)
+        declared_alike r ok (param_property_head t) (param_property_head u) (param_type c.unresolved t) (param_type d.unresolved u)
+        (param_head_alike t u h) (param_type_alike t u h.type)
 
     properties_alike : (ts us : List Tree) → Each (SameParamProperty r c d f g) ts us →
         AllAlike r ok (map written (map (param_property c.unresolved) ts)) (map written (map (param_property d.unresolved) us))

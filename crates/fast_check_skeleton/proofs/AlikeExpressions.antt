@@ -10,10 +10,10 @@ use Rattle.fast_check_syntax.specs.Moves.{Renaming, IsRenaming}
 use Rattle.fast_check_syntax.specs.Same.{SameTree}
 use Rattle.fast_check_syntax.proofs.Same.{tree_to}
 use Rattle.fast_check_signatures.specs.Bindings.{Bindings}
-use Rattle.fast_check_signatures.specs.declared.rules.TheConstants.{FREEZE, NEW}
 use Rattle.fast_check_signatures.specs.declared.rules.Slot.{Slot}
 use Rattle.fast_check_signatures.specs.Parameters.{Look}
 use Rattle.fast_check_signatures.specs.Functions.{arrow_seen}
+use Rattle.fast_check_signatures.specs.Rows.{arguments_row}
 use Rattle.fast_check_signatures.specs.Expressions.{is_plain, is_compound, freezes, is_frozen, makes_plain, is_made, known_by_kind}
 use Rattle.fast_check_signatures.specs.Expressions.{is_known, Rule, whole, parted, slotted, arrow, not_at_all, other_rule, rule, is_refused}
 use Rattle.fast_check_signatures.specs.Expressions.{slot_seen, slots_seen, by_rule, expr_form}
@@ -93,14 +93,14 @@ module _ (r : Renaming) (ok : IsRenaming r) (c d : Bindings) (look look' : Look)
       kind_alike k x b (ap (rule k) (ap (λ j. known_by_kind j c t) b.left ∙ e) ∙ same)
       (ap (rule k) (ap (λ j. known_by_kind j d u) b.right ∙ f) ∙ same) alike
 
-  pub frozen_alike : is_frozen c t ≡ true → is_frozen d u ≡ true → RuleAlike (slotted FREEZE) → FormAlike
+  pub frozen_alike : is_frozen c t ≡ true → is_frozen d u ≡ true → RuleAlike (slotted arguments_row) → FormAlike
   frozen_alike e f alike =
       let x = both_true (kind_of t is kinds.CallExpr) (freezes c t) e in
       let y = both_true (kind_of u is kinds.CallExpr) (freezes d u) f in
-      known_alike kinds.CallExpr (slotted FREEZE) (record { left = is_kind _ _ x.0; right = is_kind _ _ y.0 }) refl x.1 y.1 alike
+      known_alike kinds.CallExpr (slotted arguments_row) (record { left = is_kind _ _ x.0; right = is_kind _ _ y.0 }) refl x.1 y.1 alike
 
-  pub made_alike : is_made c t ≡ true → is_made d u ≡ true → RuleAlike (slotted NEW) → FormAlike
+  pub made_alike : is_made c t ≡ true → is_made d u ≡ true → RuleAlike (slotted arguments_row) → FormAlike
   made_alike e f alike =
       let x = both_true (kind_of t is kinds.NewExpr) (makes_plain c t) e in
       let y = both_true (kind_of u is kinds.NewExpr) (makes_plain d u) f in
-      known_alike kinds.NewExpr (slotted NEW) (record { left = is_kind _ _ x.0; right = is_kind _ _ y.0 }) refl x.1 y.1 alike
+      known_alike kinds.NewExpr (slotted arguments_row) (record { left = is_kind _ _ x.0; right = is_kind _ _ y.0 }) refl x.1 y.1 alike

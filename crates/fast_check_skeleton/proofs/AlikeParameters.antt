@@ -17,26 +17,24 @@ use Rattle.fast_check_expression_forms.specs.Patterns.{RestPat-arg, RestPat-type
 use Rattle.fast_check_expression_forms.specs.Patterns.{AssignPat-right, assign_pat}
 use Rattle.fast_check_swc_helpers.specs.ranges.Ranges.{range_of_node}
 use Rattle.fast_check_program_forms.specs.Names.{Ident-span, BindingIdent-id, BindingIdent-type_ann}
-use Rattle.fast_check_swc_helpers.specs.declared.literal_type.DeclMutabilityKind.TheVariants.{Mutable}
-use Rattle.fast_check_swc_helpers.specs.Builders.{type_ann, never_value}
-use Rattle.fast_check_swc_helpers.specs.InferredType.{inferred_type}
+use Rattle.fast_check_swc_helpers.specs.Builders.{never_value}
 use Rattle.fast_check_swc_helpers.specs.OptionalParams.{optional_by_kind, is_optional_param}
-use Rattle.fast_check_swc_helpers.proofs.BuildersMoved.{type_ann_moved, never_value_moved}
+use Rattle.fast_check_swc_helpers.proofs.BuildersMoved.{never_value_moved}
 use Rattle.fast_check_swc_helpers.proofs.ReturnsMoved.{is_optional_param_moved}
 use Rattle.fast_check_signatures.specs.Bindings.{Bindings}
 use Rattle.fast_check_signatures.specs.declared.fault.FaultKind.TheVariants.{MissingExplicitType, UnsupportedDestructuring}
 use Rattle.fast_check_signatures.specs.Seen.{Seen, written, default, faulty}
 use Rattle.fast_check_signatures.specs.NewNodes.{never_array, empty_object_pat}
 use Rattle.fast_check_signatures.specs.Parameters.{Look, emptied_array, emptied_object, typed, arg_by_kind, rest_arg, without_default}
-use Rattle.fast_check_signatures.specs.Parameters.{default_seen, by_shown, pattern_default_seen, assign_by_left, pat_by_kind, pat_seen}
-use Rattle.fast_check_skeleton.specs.SameValues.{Both, SameShown, NoneShown, SameEmptied, SameGathered, pattern_type, is_parameter}
+use Rattle.fast_check_signatures.specs.Parameters.{default_seen, default_typing, pattern_default_seen, assign_by_left, pat_by_kind, pat_seen}
+use Rattle.fast_check_skeleton.specs.SameValues.{Both, SameGiven, NoneGiven, SameEmptied, SameGathered, pattern_type, is_parameter}
 use Rattle.fast_check_skeleton.specs.SameValues.{takes_default, gathers_nothing}
 use Rattle.fast_check_skeleton.specs.SameValues as s
 use Rattle.fast_check_signatures.proofs.NewNodesMoved.{never_array_moved, empty_object_pat_moved}
 use Rattle.fast_check_signatures.proofs.ParametersMoved.{rest_arg_moved, without_default_moved}
 use Rattle.fast_check_skeleton.proofs.AlikeTrees.{TreeAlike, RangeAlike, image_alike, same_read, new_alike, field_alike, range_field_alike}
 use Rattle.fast_check_skeleton.proofs.AlikeTrees.{absent_alike, range_leaf_alike, flag_leaf_alike, node_alike, empty_list_alike}
-use Rattle.fast_check_skeleton.proofs.AlikeSeen.{Alike, written_alike, faulty_alike, alike_if}
+use Rattle.fast_check_skeleton.proofs.AlikeSeen.{Alike, written_alike, faulty_alike, alike_if, given_alike, none_alike}
 
 -- ---- what a parameter of each kind is seen as
 
@@ -243,65 +241,41 @@ module _ (r : Renaming) (ok : IsRenaming r) where
 
       -- ---- identifiers with defaults
 
-      abbrev shown : Bindings → Look → Tree → Option Tree → Seen
-      shown bindings f pat = by_shown bindings f b pat
+      -- one without a type
+      abbrev untyped : Look → Tree → Seen
+      untyped f pat =
+          let place = Ident-span (BindingIdent-id (AssignPat-left pat)) in
+          default_seen (AssignPat-span pat) place (AssignPat-left pat) (f (AssignPat-right pat) (Some place))
 
-      -- by the written type, or else as `by_shown` says
-      ident_default_alike : (t u : Tree) → Both kinds.AssignPat t u → Both kinds.BindingIdent (AssignPat-left t) (AssignPat-left u) →
-          SameTree r (AssignPat-left t) (AssignPat-left u) →
-          (is_absent (BindingIdent-type_ann (AssignPat-left t)) ≡ true →
-          Alike r ok (shown c look t (inferred_type Mutable c.unresolved (AssignPat-right t)))
-          (shown d look' u (inferred_type Mutable d.unresolved (AssignPat-right u)))) →
-          PatAlike t u
-      ident_default_alike t u k j e s =
-          let id = BindingIdent-id (AssignPat-left t) in
-          let id' = BindingIdent-id (AssignPat-left u) in
-          let type = BindingIdent-type_ann (AssignPat-left t) in
-          let type' = BindingIdent-type_ann (AssignPat-left u) in
-          let f : TreeAlike r ok id id' = field_alike r ok BindingIdent-id _ (λ t. refl) (AssignPat-left t) (AssignPat-left u)
-          (tree_to r ok e) in
-          let g : TreeAlike r ok type type' = field_alike r ok BindingIdent-type_ann _ (λ t. refl) (AssignPat-left t) (AssignPat-left u)
-          (tree_to r ok e) in
+      abbrev with_type : Tree → Tree → Seen
+      with_type pat type = written (without_default b (BindingIdent-id (AssignPat-left pat)) type)
+
+      id_alike : (t u : Tree) → SameTree r (AssignPat-left t) (AssignPat-left u) →
+          TreeAlike r ok (BindingIdent-id (AssignPat-left t)) (BindingIdent-id (AssignPat-left u))
+      id_alike t u e = field_alike r ok BindingIdent-id _ (λ t. refl) (AssignPat-left t) (AssignPat-left u) (tree_to r ok e)
+
+      pub given_default_alike : (t u : Tree) → Both kinds.AssignPat t u → Both kinds.BindingIdent (AssignPat-left t) (AssignPat-left u) →
+          SameTree r (AssignPat-left t) (AssignPat-left u) → SameGiven r c d (default_typing t) (default_typing u) → PatAlike t u
+      given_default_alike t u k j e types =
           subst₂ (Alike r ok) (sym (default_of c look b t kinds.BindingIdent k.left j.left))
           (sym (default_of d look' b u kinds.BindingIdent k.right j.right))
-          (alike_if r ok (is_absent type) (is_absent type')
-          (shown c look t (inferred_type Mutable c.unresolved (AssignPat-right t))) (written (without_default b id type))
-          (shown d look' u (inferred_type Mutable d.unresolved (AssignPat-right u))) (written (without_default b id' type'))
-          (absent_alike r ok type type' g) s (λ q. written_alike r ok (without_default b id type) (without_default b id' type')
-          (without_default_alike b id id' type type' f g)))
-
-      pub typed_default_alike : (t u : Tree) → Both kinds.AssignPat t u → Both kinds.BindingIdent (AssignPat-left t) (AssignPat-left u) →
-          SameTree r (AssignPat-left t) (AssignPat-left u) →
-          is_absent (BindingIdent-type_ann (AssignPat-left t)) ≡ false → PatAlike t u
-      typed_default_alike t u k j e w = ident_default_alike t u k j e (λ q. absurd (true≢false (sym q ∙ w)))
-
-      pub shown_default_alike : (t u : Tree) → Both kinds.AssignPat t u → Both kinds.BindingIdent (AssignPat-left t) (AssignPat-left u) →
-          SameTree r (AssignPat-left t) (AssignPat-left u) →
-          SameShown r c d Mutable (AssignPat-right t) (AssignPat-right u) → PatAlike t u
-      shown_default_alike t u k j e h =
-          let id = BindingIdent-id (AssignPat-left t) in
-          let id' = BindingIdent-id (AssignPat-left u) in
-          let f : TreeAlike r ok id id' = field_alike r ok BindingIdent-id _ (λ t. refl) (AssignPat-left t) (AssignPat-left u)
-          (tree_to r ok e) in
-          let g : TreeAlike r ok (type_ann h.left) (type_ann h.right) =
-          image_alike r ok type_ann (λ m keeps t. sym (type_ann_moved m keeps t)) h.left h.right (tree_to r ok h.types) in
-          ident_default_alike t u k j e (λ q.
-          subst₂ (λ x y. Alike r ok (shown c look t x) (shown d look' u y)) (sym h.left_is) (sym h.right_is)
-          (written_alike r ok (without_default b id (type_ann h.left)) (without_default b id' (type_ann h.right))
-          (without_default_alike b id id' (type_ann h.left) (type_ann h.right) f g)))
+          (given_alike r ok (with_type t) (with_type u) (untyped look t) (untyped look' u) types (λ x y h.
+          written_alike r ok (without_default b (BindingIdent-id (AssignPat-left t)) x)
+          (without_default b (BindingIdent-id (AssignPat-left u)) y)
+          (without_default_alike b (BindingIdent-id (AssignPat-left t)) (BindingIdent-id (AssignPat-left u)) x y (id_alike t u e) h)))
 
       pub kept_default_alike : (t u : Tree) → Both kinds.AssignPat t u → Both kinds.BindingIdent (AssignPat-left t) (AssignPat-left u) →
-          SameRange r (AssignPat-span t) (AssignPat-span u) →
-          SameTree r (AssignPat-left t) (AssignPat-left u) → NoneShown r c d Mutable (AssignPat-right t) (AssignPat-right u) → DefaultAlike t u →
-          PatAlike t u
-      kept_default_alike t u k j a e h v =
+          SameRange r (AssignPat-span t) (AssignPat-span u) → SameTree r (AssignPat-left t) (AssignPat-left u) →
+          NoneGiven r c d (default_typing t) (default_typing u) → DefaultAlike t u → PatAlike t u
+      kept_default_alike t u k j a e none v =
           let place = Ident-span (BindingIdent-id (AssignPat-left t)) in
           let place' = Ident-span (BindingIdent-id (AssignPat-left u)) in
           let f : RangeAlike r ok place place' =
           range_field_alike r ok Ident-span _ (λ t. refl) (BindingIdent-id (AssignPat-left t)) (BindingIdent-id (AssignPat-left u))
-          (field_alike r ok BindingIdent-id _ (λ t. refl) (AssignPat-left t) (AssignPat-left u) (tree_to r ok e)) in
-          ident_default_alike t u k j e (λ q.
-          subst₂ (λ x y. Alike r ok (shown c look t x) (shown d look' u y)) (sym h.left) (sym h.right)
+          (id_alike t u e) in
+          subst₂ (Alike r ok) (sym (default_of c look b t kinds.BindingIdent k.left j.left))
+          (sym (default_of d look' b u kinds.BindingIdent k.right j.right))
+          (none_alike r ok (with_type t) (with_type u) (untyped look t) (untyped look' u) none
           (default_alike (AssignPat-span t) (AssignPat-span u) place place' (AssignPat-left t) (AssignPat-left u)
           (look (AssignPat-right t) (Some place)) (look' (AssignPat-right u) (Some place')) a f (tree_to r ok e)
           (v (Some place) (Some place') (ap Some f))))

@@ -1,17 +1,13 @@
--- Of two expressions that agree neither is absent, or both are. What is absent shows no type.
-use Rattle.std.specs.Prelude.{◌≡◌, None, true, false, ◌||◌, not, refl}
+-- Of two expressions that agree neither is absent, or both are.
+use Rattle.std.specs.Prelude.{◌≡◌, true, false, ◌||◌, not, refl}
 use Rattle.std.proofs.Common.{ap, ◌∙◌, sym, true≢false}
 use Rattle.fast_check_syntax.specs.declared.kind.Kind.{Kind}
 use Rattle.fast_check_syntax.specs.declared.kind.Kind.TheVariants.{Leaf, CallExpr, NewExpr, TsSatisfiesExpr, TsAsExpr, TsTypeAssertion}
 use Rattle.fast_check_syntax.specs.declared.kind.Kind.TheVariants.{FnExpr, ArrowExpr}
-use Rattle.fast_check_syntax.specs.declared.source.SyntaxContext.{SyntaxContext}
 use Rattle.fast_check_syntax.specs.declared.tree.Tree.{Tree}
 use Rattle.fast_check_syntax.specs.Shape.{◌is◌, is_kind, not_absent, kind_of, is_absent}
 use Rattle.fast_check_syntax.specs.Moves.{Renaming, IsRenaming}
-use Rattle.fast_check_syntax.specs.Recursion.{by_form_is_absent}
 use Rattle.fast_check_syntax.proofs.Same.{tree_to}
-use Rattle.fast_check_swc_helpers.specs.declared.literal_type.DeclMutabilityKind.{DeclMutabilityKind}
-use Rattle.fast_check_swc_helpers.specs.InferredType.{inferred_form, inferred_type}
 use Rattle.fast_check_signatures.specs.Bindings.{Bindings}
 use Rattle.fast_check_signatures.specs.Expressions.{is_plain, is_compound, is_among, other_kinds, freezes, is_frozen, makes_plain, is_made}
 use Rattle.fast_check_signatures.specs.Expressions.{is_known, is_refused}
@@ -19,11 +15,6 @@ use Rattle.fast_check_signatures.proofs.Choices.{both_true}
 use Rattle.fast_check_skeleton.specs.SameValues.{Both, SameExpr}
 use Rattle.fast_check_skeleton.specs.SameValues as v
 use Rattle.fast_check_skeleton.proofs.AlikeTrees.{absent_alike}
-
-pub absent_shows : (mutability : DeclMutabilityKind) (unresolved : SyntaxContext) (t : Tree) → is_absent t ≡ true →
-    inferred_type mutability unresolved t ≡ None
-unfolding inferred_type
-absent_shows mutability unresolved t e = by_form_is_absent None (inferred_form mutability unresolved) t e
 
 there : (t : Tree) (k : Kind) → kind_of t ≡ k → (k ≡ Leaf → ⊥) → is_absent t ≡ false
 there t k e n = not_absent t k e n

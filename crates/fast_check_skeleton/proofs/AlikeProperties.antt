@@ -1,40 +1,37 @@
 -- Properties and accessors that agree but for what is hidden are seen alike.
-use Rattle.std.specs.Prelude.{◌≡◌, Bool, true, false, Option, Some, None, unwrap_or, option_map, [], ◌∷◌, refl, if◌then◌else◌}
-use Rattle.std.proofs.Common.{ap, ◌∙◌, sym, subst₂}
+use Rattle.std.specs.Prelude.{◌≡◌, Bool, true, false, Some, [], ◌∷◌, refl, if◌then◌else◌}
+use Rattle.std.proofs.Common.{ap, ◌∙◌, sym}
 use Rattle.fast_check_syntax.specs.declared.kind.Kind.TheVariants as kinds
 use Rattle.fast_check_syntax.specs.declared.source.SourceRange.{SourceRange}
 use Rattle.fast_check_syntax.specs.declared.tree.Tree.{Tree, Absent}
 use Rattle.fast_check_syntax.specs.Shape.{is_absent}
-use Rattle.fast_check_syntax.specs.Moves.{Renaming, IsRenaming, partners, twice, moved}
+use Rattle.fast_check_syntax.specs.Moves.{Renaming, IsRenaming, partners, twice}
 use Rattle.fast_check_syntax.specs.Same.{SameTree}
 use Rattle.fast_check_syntax.proofs.Moved.{absent_moved}
 use Rattle.fast_check_syntax.proofs.Partners.{partners-keep as partners_keep, twice-keeps as twice_keeps}
 use Rattle.fast_check_syntax.proofs.Same.{tree_to, range_to}
 use Rattle.fast_check_swc_helpers.specs.ranges.Ranges.{range_of_node}
 use Rattle.fast_check_swc_helpers.proofs.ranges.RangesMoved.{range_of_node_moved}
-use Rattle.fast_check_class_forms.specs.Fields.{ClassProp-value, ClassProp-type_ann, ClassProp-readonly, ClassProp-is_override}
-use Rattle.fast_check_class_forms.specs.Fields.{AutoAccessor-value, AutoAccessor-type_ann}
-use Rattle.fast_check_swc_helpers.specs.declared.literal_type.DeclMutabilityKind.{DeclMutabilityKind}
-use Rattle.fast_check_swc_helpers.specs.declared.literal_type.DeclMutabilityKind.TheVariants.{Mutable}
+use Rattle.fast_check_class_forms.specs.Fields.{ClassProp-value, ClassProp-is_override}
 use Rattle.fast_check_swc_helpers.specs.Builders.{type_ann, any_type_ann}
-use Rattle.fast_check_swc_helpers.specs.InferredType.{inferred_type}
 use Rattle.fast_check_swc_helpers.proofs.BuildersMoved.{type_ann_moved, any_type_ann_moved}
 use Rattle.fast_check_signatures.specs.Bindings.{Bindings}
 use Rattle.fast_check_signatures.specs.declared.fault.FaultKind.TheVariants.{MissingExplicitType}
-use Rattle.fast_check_signatures.specs.Seen.{PropertyHead, Seen, property, refused}
+use Rattle.fast_check_signatures.specs.Seen.{PropertyHead, Seen, property, refused, faulty}
 use Rattle.fast_check_signatures.specs.Answers.{declared_property}
 use Rattle.fast_check_signatures.specs.Expressions.{expr_seen}
 use Rattle.fast_check_signatures.specs.Members.{is_private}
-use Rattle.fast_check_signatures.specs.Classes.{typed_property, mutability_of_property, property_head, accessor_head, member_value_seen}
-use Rattle.fast_check_signatures.specs.Classes.{untyped_property_seen, property_seen, untyped_accessor_seen, accessor_seen}
+use Rattle.fast_check_signatures.specs.Classes.{typed_property, property_head, accessor_head, accessor_typing, member_value_seen}
+use Rattle.fast_check_signatures.specs.Classes.{property_seen, accessor_seen}
 use Rattle.fast_check_signatures.proofs.MovedParts.{moved_property}
-use Rattle.fast_check_skeleton.specs.SameValues.{SameBindings, SameExpr}
-use Rattle.fast_check_skeleton.specs.SameClasses.{SamePropertyHead, SameProperty, SameAccessor}
+use Rattle.fast_check_skeleton.specs.SameValues.{SameBindings, SameTyping, SameValue}
+use Rattle.fast_check_skeleton.specs.SameValues as v
+use Rattle.fast_check_skeleton.specs.SameClasses.{SamePropertyHead, SameProperty}
 use Rattle.fast_check_skeleton.specs.SameClasses as s
-use Rattle.fast_check_skeleton.proofs.AlikeTrees.{TreeAlike, RangeAlike, image_alike, new_alike, absent_alike, range_leaf_alike}
+use Rattle.fast_check_skeleton.proofs.AlikeTrees.{TreeAlike, RangeAlike, image_alike, new_alike, range_leaf_alike}
 use Rattle.fast_check_skeleton.proofs.AlikeTrees.{flag_leaf_alike, node_alike, empty_list_alike}
-use Rattle.fast_check_skeleton.proofs.AlikeSeen.{Alike, written_alike, faulty_alike, alike_if}
-use Rattle.fast_check_skeleton.proofs.AlikePresent.{absent_shows, expr_absent}
+use Rattle.fast_check_skeleton.proofs.AlikeSeen.{Alike, written_alike, faulty_alike, alike_if, given_alike, none_alike}
+use Rattle.fast_check_skeleton.proofs.AlikePresent.{expr_absent}
 use Rattle.fast_check_skeleton.proofs.AlikeMembers.{private_alike}
 use Rattle.fast_check_skeleton.proofs.Alike.{expr_alike}
 
@@ -100,54 +97,20 @@ module _ (r : Renaming) (ok : IsRenaming r) where
         (typed_property q any_type_ann) y
         (private_alike r ok p.accessibility q.accessibility h.accessibility) (λ b. typed_alike p q any_type_ann any_type_ann h any_alike) e
 
-    -- a written type stays, and others are as they are seen
-    by_type : (p q : PropertyHead) (x y : Tree) (a b : Seen) → SamePropertyHead r c d f g p q → SameTree r x y →
-        (is_absent x ≡ true → Alike r ok a b) →
-        Alike r ok (if is_absent x then a else typed_property p x) (if is_absent y then b else typed_property q y)
-    by_type p q x y a b h e n =
-        alike_if r ok (is_absent x) (is_absent y) a (typed_property p x) b (typed_property q y) (absent_alike r ok x y (tree_to r ok e)) n
-        (λ w. typed_alike p q x y h (tree_to r ok e))
-
     module _ (pair : SameBindings r c d) where
-      value_alike : (p q : SourceRange) (t u : Tree) → RangeAlike r ok p q → SameExpr r c d t u →
+      value_alike : (p q : SourceRange) (t u : Tree) → RangeAlike r ok p q → SameValue r c d t u →
           Alike r ok (member_value_seen c f p t) (member_value_seen d g q u)
-      value_alike p q t u e x =
+      value_alike p q t u e (v.SameValue.no_values x y) =
+          alike_if r ok (is_absent t) (is_absent u) refused (expr_seen c t (Some p)) refused (expr_seen d u (Some q)) (x ∙ sym y)
+          (λ a. refl) (λ a. cc)
+      value_alike p q t u e (v.SameValue.kept x) =
           alike_if r ok (is_absent t) (is_absent u) refused (expr_seen c t (Some p)) refused (expr_seen d u (Some q))
           (expr_absent r ok c d x) (λ a. refl)
           (λ a. expr_alike r ok c d pair x (Some p) (Some q) (ap Some e))
 
-      nothing_seen : (p q : SourceRange) (t u : Tree) → is_absent t ≡ true → is_absent u ≡ true →
-          Alike r ok (member_value_seen c f p t) (member_value_seen d g q u)
-      nothing_seen p q t u e j =
-          alike_if r ok (is_absent t) (is_absent u) refused (expr_seen c t (Some p)) refused (expr_seen d u (Some q)) (e ∙ sym j)
-          (λ a. refl) (λ a. cc)
-
       -- ---- properties
 
       module _ (t u : Tree) (h : SamePropertyHead r c d f g (property_head t) (property_head u)) where
-        abbrev UntypedAlike : Option Tree → Option Tree → Type 0
-        UntypedAlike x y =
-            Alike r ok (untyped_property_seen c f (property_head t) (ClassProp-value t) x)
-            (untyped_property_seen d g (property_head u) (ClassProp-value u) y)
-
-        abbrev mutability : Tree → DeclMutabilityKind
-        mutability m = mutability_of_property (ClassProp-readonly m)
-
-        abbrev shown : Bindings → Tree → Tree → Option Tree
-        shown bindings m value = inferred_type (mutability m) bindings.unresolved value
-
-        valued : SameTree r (ClassProp-type_ann t) (ClassProp-type_ann u) →
-            UntypedAlike (shown c t (ClassProp-value t)) (shown d u (ClassProp-value u)) →
-            Alike r ok (property_seen c f t) (property_seen d g u)
-        valued e x = by_privacy (property_head t) (property_head u) _ _ h
-            (λ n. by_type (property_head t) (property_head u) (ClassProp-type_ann t) (ClassProp-type_ann u) _ _ h e (λ a. x))
-
-        same_mutability : (value : Tree) → shown d u value ≡ shown d t value
-        same_mutability value = ap (λ b. inferred_type (mutability_of_property b) d.unresolved value) (sym h.readonly)
-
-        shown_alike : (x y : Tree) → TreeAlike r ok x y → UntypedAlike (Some x) (Some y)
-        shown_alike x y e = typed_alike (property_head t) (property_head u) (type_ann x) (type_ann y) h (ann_alike x y e)
-
         property_head_alike : ClassProp-is_override t ≡ ClassProp-is_override u →
             moved_property (partners r) (property_head t) ≡ moved_property twice (property_head u)
         property_head_alike o = λ i. record {
@@ -161,62 +124,31 @@ module _ (r : Renaming) (ok : IsRenaming r) where
           readonly = h.readonly i;
         }
 
-        kept_alike : ClassProp-is_override t ≡ ClassProp-is_override u → SameExpr r c d (ClassProp-value t) (ClassProp-value u) →
-            UntypedAlike None None
-        kept_alike o x =
-            let p = property_head t in let q = property_head u in
-            let value = value_alike (range_of_node p.key) (range_of_node q.key) (ClassProp-value t) (ClassProp-value u)
-            (place_alike p.key q.key h.key) x in
-            λ i. property (property_head_alike o i) (value i)
-
-        none_alike : ClassProp-is_override t ≡ ClassProp-is_override u →
-            is_absent (ClassProp-value t) ≡ true → is_absent (ClassProp-value u) ≡ true →
-            UntypedAlike None None
-        none_alike o e j =
-            let p = property_head t in let q = property_head u in
-            let value = nothing_seen (range_of_node p.key) (range_of_node q.key) (ClassProp-value t) (ClassProp-value u) e j in
-            λ i. property (property_head_alike o i) (value i)
+        abbrev untyped : Bindings → (SourceRange → Bool) → Tree → Seen
+        untyped bindings is_implementation m =
+            property (property_head m)
+            (member_value_seen bindings is_implementation (range_of_node (property_head m).key) (ClassProp-value m))
 
         pub property_alike : SameProperty r c d f g t u → Alike r ok (property_seen c f t) (property_seen d g u)
-        property_alike (s.SameProperty.any p) = by_privacy (property_head t) (property_head u) _ _ h (λ n. cc)
-        property_alike (s.SameProperty.typed e w) = by_privacy (property_head t) (property_head u) _ _ h
-            (λ n. by_type (property_head t) (property_head u) (ClassProp-type_ann t) (ClassProp-type_ann u) _ _ h e (λ a. cc))
-        property_alike (s.SameProperty.inferred e x) =
-            valued e (subst₂ UntypedAlike (sym x.left_is) (sym (same_mutability (ClassProp-value u) ∙ x.right_is))
-            (shown_alike x.left x.right (tree_to r ok x.types)))
-        property_alike (s.SameProperty.absent e o x y) =
-            valued e (subst₂ UntypedAlike (sym (absent_shows (mutability t) c.unresolved (ClassProp-value t) x))
-            (sym (absent_shows (mutability u) d.unresolved (ClassProp-value u) y)) (none_alike o x y))
-        property_alike (s.SameProperty.kept e o n x) =
-            valued e (subst₂ UntypedAlike (sym n.left) (sym (same_mutability (ClassProp-value u) ∙ n.right)) (kept_alike o x))
+        property_alike (s.SameProperty.given types) =
+            given_alike r ok (typed_property (property_head t)) (typed_property (property_head u)) (untyped c f t) (untyped d g u) types
+            (λ x y e. typed_alike (property_head t) (property_head u) x y h e)
+        property_alike (s.SameProperty.kept none o x) =
+            let value = value_alike _ _ (ClassProp-value t) (ClassProp-value u) (place_alike _ _ h.key) x in
+            none_alike r ok (typed_property (property_head t)) (typed_property (property_head u)) (untyped c f t) (untyped d g u) none
+            (λ i. property (property_head_alike o i) (value i))
 
       -- ---- accessors
 
       module _ (t u : Tree) (h : SamePropertyHead r c d f g (accessor_head t) (accessor_head u)) where
-        abbrev AccessorAlike : Option Tree → Option Tree → Type 0
-        AccessorAlike x y = Alike r ok (untyped_accessor_seen c f (accessor_head t) x) (untyped_accessor_seen d g (accessor_head u) y)
+        abbrev missing : Tree → Seen
+        missing m = faulty MissingExplicitType (range_of_node (accessor_head m).key)
 
-        accessor_valued : SameTree r (AutoAccessor-type_ann t) (AutoAccessor-type_ann u) →
-            AccessorAlike (inferred_type Mutable c.unresolved (AutoAccessor-value t))
-            (inferred_type Mutable d.unresolved (AutoAccessor-value u)) →
-            Alike r ok (accessor_seen c f t) (accessor_seen d g u)
-        accessor_valued e x = by_privacy (accessor_head t) (accessor_head u) _ _ h
-            (λ n. by_type (accessor_head t) (accessor_head u) (AutoAccessor-type_ann t) (AutoAccessor-type_ann u) _ _ h e (λ a. x))
-
-        accessor_shown : (x y : Option Tree) → option_map (moved (partners r)) x ≡ option_map (moved twice) y → AccessorAlike x y
-        accessor_shown (Some x) (Some y) q =
-            typed_alike (accessor_head t) (accessor_head u) (type_ann x) (type_ann y) h
-            (ann_alike x y (ap (λ z. unwrap_or z (moved twice y)) q))
-        accessor_shown None None q = faulty_alike r ok MissingExplicitType _ _ (place_alike _ _ h.key)
-        accessor_shown (Some x) None q = cc
-        accessor_shown None (Some y) q = cc
-
-        pub accessor_alike : SameAccessor r c d f g t u → Alike r ok (accessor_seen c f t) (accessor_seen d g u)
-        accessor_alike (s.SameAccessor.any p) = by_privacy (accessor_head t) (accessor_head u) _ _ h (λ n. cc)
-        accessor_alike (s.SameAccessor.typed e w) = by_privacy (accessor_head t) (accessor_head u) _ _ h
-            (λ n. by_type (accessor_head t) (accessor_head u) (AutoAccessor-type_ann t) (AutoAccessor-type_ann u) _ _ h e (λ a. cc))
-        accessor_alike (s.SameAccessor.inferred e x) =
-            accessor_valued e (subst₂ AccessorAlike (sym x.left_is) (sym x.right_is)
-            (accessor_shown (Some x.left) (Some x.right) (ap Some (tree_to r ok x.types))))
-        accessor_alike (s.SameAccessor.untyped e n) =
-            accessor_valued e (subst₂ AccessorAlike (sym n.left) (sym n.right) (accessor_shown None None refl))
+        pub accessor_alike : SameTyping r c d (accessor_typing t) (accessor_typing u) → Alike r ok (accessor_seen c f t)
+            (accessor_seen d g u)
+        accessor_alike (v.SameTyping.given types) =
+            given_alike r ok (typed_property (accessor_head t)) (typed_property (accessor_head u)) (missing t) (missing u) types
+            (λ x y e. typed_alike (accessor_head t) (accessor_head u) x y h e)
+        accessor_alike (v.SameTyping.not_given none) =
+            none_alike r ok (typed_property (accessor_head t)) (typed_property (accessor_head u)) (missing t) (missing u) none
+            (faulty_alike r ok MissingExplicitType _ _ (place_alike _ _ h.key))

@@ -1,6 +1,6 @@
 -- What is seen of two sources is alike if it is equal once each position and scope number is written by its partner.
-use Rattle.std.specs.Prelude.{◌≡◌, Bool, true, false, List, [], ◌∷◌, ◌++◌, map, refl, if◌then◌else◌}
-use Rattle.std.proofs.Common.{ap, ap₂, ◌∙◌, sym}
+use Rattle.std.specs.Prelude.{◌≡◌, Bool, true, false, Option, List, [], ◌∷◌, ◌++◌, map, refl, if◌then◌else◌}
+use Rattle.std.proofs.Common.{ap, ap₂, ◌∙◌, sym, subst₂}
 use Rattle.std.proofs.lemmas.List.{map-append}
 use Rattle.fast_check_syntax.specs.declared.kind.Kind.{Kind}
 use Rattle.fast_check_syntax.specs.declared.source.SourceRange.{SourceRange}
@@ -11,7 +11,9 @@ use Rattle.fast_check_syntax.specs.Same.{SameTree, SameRange}
 use Rattle.fast_check_syntax.proofs.Same.{tree_to, range_to}
 use Rattle.fast_check_signatures.specs.declared.fault.FaultKind.{FaultKind}
 use Rattle.fast_check_signatures.specs.Seen.{Seen, written, range, scope, flag, round, listed, faulty, seens}
+use Rattle.fast_check_signatures.specs.Typing.{seen_by}
 use Rattle.fast_check_signatures.proofs.MovedParts.{moved_seen, moved_seens, seens_moved}
+use Rattle.fast_check_skeleton.specs.SameValues.{SameTypes, NoTypes}
 use Rattle.fast_check_skeleton.proofs.AlikeTrees.{TreeAlike, RangeAlike, range_leaf_alike, scope_leaf_alike, flag_leaf_alike}
 
 module _ (r : Renaming) (ok : IsRenaming r) where
@@ -45,6 +47,16 @@ module _ (r : Renaming) (ok : IsRenaming r) where
   alike_if false false s s' t t' e p q = q refl
   alike_if true false s s' t t' e p q = cc
   alike_if false true s s' t t' e p q = cc
+
+  -- what is seen with types that agree, and without one
+  pub given_alike : {o p : Option Tree} (f g : Tree → Seen) (s t : Seen) → SameTypes r o p →
+      ((x y : Tree) → TreeAlike r ok x y → Alike (f x) (g y)) → Alike (seen_by o f s) (seen_by p g t)
+  given_alike f g s t h e =
+      subst₂ (λ o p. Alike (seen_by o f s) (seen_by p g t)) (sym h.left_is) (sym h.right_is) (e h.left h.right (tree_to r ok h.types))
+
+  pub none_alike : {o p : Option Tree} (f g : Tree → Seen) (s t : Seen) → NoTypes o p → Alike s t →
+      Alike (seen_by o f s) (seen_by p g t)
+  none_alike f g s t h e = subst₂ (λ o p. Alike (seen_by o f s) (seen_by p g t)) (sym h.left) (sym h.right) e
 
   pub all_alike_if : (a b : Bool) (s t : Seen) → a ≡ b → Alike s t → AllAlike (if a then s ∷ [] else []) (if b then t ∷ [] else [])
   all_alike_if true true s t e p = ap (λ x. x ∷ []) p

@@ -2,15 +2,15 @@
 use Rattle.std.specs.Prelude.{◌≡◌, ℕ, Bool, false, List, [], ◌∷◌, refl, ◌↔◌, slice_get, unwrap_or}
 use Rattle.std.proofs.Common.{inl, inr, arith, ap, ◌∙◌, sym, subst, subst₂}
 use Rattle.fast_check_syntax.specs.declared.kind.Kind.{Kind}
-use Rattle.fast_check_syntax.specs.declared.kind.Kind.TheVariants.{Module, VarDecl, VarDeclarator, ExportDecl, BindingIdent, TsTypeAnn}
-use Rattle.fast_check_syntax.specs.declared.kind.Kind.TheVariants.{TsKeywordType, List as List'}
+use Rattle.fast_check_syntax.specs.declared.kind.Kind.TheVariants.{Module, VarDecl, VarDeclarator, ExportDecl, BindingIdent}
+use Rattle.fast_check_syntax.specs.declared.kind.Kind.TheVariants.{List as List'}
 use Rattle.fast_check_syntax.specs.declared.kind.Word.TheVariants as words
 use Rattle.fast_check_syntax.specs.declared.source.SourceRange.{SourceRange}
 use Rattle.fast_check_syntax.specs.declared.source.SyntaxContext.{SyntaxContext}
 use Rattle.fast_check_syntax.specs.declared.tree.Tree as tree
 use Rattle.fast_check_syntax.specs.declared.tree.Tree.{Tree, Absent, roll-Tree, out-roll-Tree}
 use Rattle.fast_check_syntax.specs.declared.tree.Tree.TheOpen.{Tree-F}
-use Rattle.fast_check_syntax.specs.Shape.{parts, part, is_absent, node, list, range_of, flag_of, context_at, context_of}
+use Rattle.fast_check_syntax.specs.Shape.{parts, part, node, list, range_of, flag_of, context_at, context_of}
 use Rattle.fast_check_syntax.specs.Moves.{IsRenaming, IsPair, partners, twice, moved}
 use Rattle.fast_check_syntax.specs.Same.{SameTree, SameRange, Each}
 use Rattle.fast_check_syntax.proofs.Made.{kind_of_node, parts_node, part_node, is_absent_node, flag_of_flag, range_of_range}
@@ -26,7 +26,9 @@ use Rattle.fast_check_swc_helpers.specs.Builders.{never_value}
 use Rattle.fast_check_skeleton.specs.ModuleFacts.{ModuleFacts}
 use Rattle.fast_check_skeleton.specs.Mutability.{mutability_of}
 use Rattle.fast_check_swc_helpers.specs.ranges.Ranges.{range_of_node}
-use Rattle.fast_check_skeleton.specs.Visible.{declared_ident, declared_type, is_public_declarator, items_of}
+use Rattle.fast_check_skeleton.specs.Visible.{declared_ident, declared_type, declarator_typing, is_public_declarator, items_of}
+use Rattle.fast_check_skeleton.specs.SameValues.{SameGiven}
+use Rattle.fast_check_skeleton.proofs.GivenTypes.{given_written}
 use Rattle.fast_check_skeleton.specs.Hidden.{AgreeHidden, SameHead, SameDeclarator, SameDeclarators, SameStatement, SameDecl, SameItem}
 use Rattle.fast_check_skeleton.specs.Hidden.{SameItems}
 use Rattle.fast_check_skeleton.specs.SameClasses.{IsNoPartner}
@@ -154,22 +156,21 @@ heads = record {
       (same (name 23 2) (name 48 3) same_names);
   definite = definite_made (at 23 38) (name 23 2) (annotation 23) text_value false
       ∙ sym (definite_made (at 48 61) (name 48 3) (annotation 48) name_value false);
-  type = subst₂ Same (sym (type_made (at 23 38) (name 23 2) (annotation 23) text_value false))
-      (sym (type_made (at 48 61) (name 48 3) (annotation 48) name_value false))
-      (same (annotation 23) (annotation 48) same_types);
 }
-
--- a type is written, so the values do not count
-is_typed : is_absent (declared_type first_declarator) ≡ false
-is_typed = ap is_absent (type_made (at 23 38) (name 23 2) (annotation 23) text_value false) ∙
-    is_absent_node TsTypeAnn
-    (tree.Range (at 24 32) ∷ node TsKeywordType (tree.Range (at 26 32) ∷ tree.Word words.TsStringKeyword ∷ []) ∷ [])
 
 abbrev first_statement : Tree
 first_statement = statement 17 2 text_value 38
 
 abbrev second_statement : Tree
 second_statement = statement 42 3 name_value 61
+
+-- the same type is written, so the values do not count
+types : SameGiven renaming a.bindings b.bindings (declarator_typing (mutability_of (VarDecl-kind first_statement)) first_declarator)
+    (declarator_typing (mutability_of (VarDecl-kind first_statement)) second_declarator)
+types = given_written renaming a.bindings b.bindings _ _ refl refl (simp (part_node, is_absent_node)) (simp (part_node, is_absent_node))
+    (subst₂ Same (sym (type_made (at 23 38) (name 23 2) (annotation 23) text_value false))
+    (sym (type_made (at 48 61) (name 48 3) (annotation 48) name_value false))
+    (same (annotation 23) (annotation 48) same_types))
 
 abbrev const : Tree
 const = tree.Word words.Const
@@ -197,7 +198,7 @@ decls p q = h.SameDecl.variable statements (declare_made (at 17 39) (scope 0) co
     (subst₂ (SameDeclarators renaming a b (SameDeclarator renaming a b (mutability_of (VarDecl-kind first_statement))))
     (sym (decls_made (at 17 39) (scope 0) const false (first_declarator ∷ [])))
     (sym (decls_made (at 42 62) (scope 0) const false (second_declarator ∷ [])))
-    (l.SamePublic.next both_public (h.SameDeclarator.typed heads is_typed) l.SamePublic.end))
+    (l.SamePublic.next both_public (h.SameDeclarator.given heads types) l.SamePublic.end))
 
 abbrev first_export : SourceRange
 first_export = ExportDecl-span (exported 10 2 text_value 38)

@@ -10,31 +10,28 @@ use Rattle.fast_check_syntax.specs.declared.kind.Kind.TheVariants as kinds
 use Rattle.fast_check_syntax.specs.declared.source.SourceRange.{SourceRange}
 use Rattle.fast_check_syntax.specs.declared.tree.Tree.{Tree, Absent, roll-Tree, out-roll-Tree}
 use Rattle.fast_check_syntax.specs.declared.tree.Tree.TheOpen.{Tree-F}
-use Rattle.fast_check_syntax.specs.Shape.{◌is◌, kind_at, kind_of, parts, is_absent, node, list, OfAll}
+use Rattle.fast_check_syntax.specs.Shape.{◌is◌, kind_at, kind_of, parts, node, list, OfAll}
 use Rattle.fast_check_syntax.proofs.Made.{kind_of_node, parts_node, part_node}
 use Rattle.fast_check_class_forms.specs.Classes.{Class-body, Class-super_class, Constructor-span, Constructor-ctxt, Constructor-key}
 use Rattle.fast_check_class_forms.specs.Classes.{Constructor-body, Constructor-accessibility, Constructor-is_optional}
-use Rattle.fast_check_class_forms.specs.Fields.{ClassProp-value, ClassProp-type_ann, AutoAccessor-value, AutoAccessor-type_ann}
 use Rattle.fast_check_class_forms.specs.Methods.{ClassMethod-span, ClassMethod-key, ClassMethod-kind, ClassMethod-is_static}
 use Rattle.fast_check_class_forms.specs.Methods.{ClassMethod-accessibility, ClassMethod-is_abstract, ClassMethod-is_optional}
 use Rattle.fast_check_class_forms.specs.Methods.{ClassMethod-is_override}
-use Rattle.fast_check_swc_helpers.specs.declared.literal_type.DeclMutabilityKind.TheVariants.{Mutable}
-use Rattle.fast_check_swc_helpers.specs.Builders.{type_ann, any_type_ann}
-use Rattle.fast_check_swc_helpers.specs.InferredType.{inferred_type}
+use Rattle.fast_check_swc_helpers.specs.Builders.{any_type_ann}
 use Rattle.fast_check_signatures.specs.Bindings.{Bindings}
 use Rattle.fast_check_signatures.specs.Seen.{PropertyHead, Seen, written, range, scope, flag, listed, seens}
 use Rattle.fast_check_signatures.specs.Answers.{settled, with_tree, class_of, declared_property, valued_property, answer_to, parts_answer}
 use Rattle.fast_check_signatures.specs.Answers.{answer_of}
 use Rattle.fast_check_signatures.specs.Members.{is_private, is_hash_named_kind, is_hash_named, hash_mark, stays_by_kind, stays_behind}
 use Rattle.fast_check_signatures.specs.Members.{each_behind, if_kept, kept_members}
-use Rattle.fast_check_signatures.specs.Classes.{superclass_seen, typed_property, mutability_of_property, property_head, accessor_head}
+use Rattle.fast_check_signatures.specs.Classes.{superclass_seen, property_head, accessor_head}
 use Rattle.fast_check_signatures.specs.Classes.{private_method_head, param_properties, patterns_among, param_property_head}
 use Rattle.fast_check_signatures.specs.Classes.{constructor_body, method_function_seen, unless_any, constructor_of, unless_taken_apart}
-use Rattle.fast_check_signatures.specs.Classes.{class_head, untyped_property_seen, property_seen, untyped_accessor_seen, accessor_seen}
+use Rattle.fast_check_signatures.specs.Classes.{class_head, property_typing, property_seen, accessor_typing, accessor_seen}
 use Rattle.fast_check_signatures.specs.Classes.{method_seen, constructor_params_seen, constructor_seen, member_of_kind, member_seen}
-use Rattle.fast_check_signatures.specs.Classes.{param_property_type, param_property, declared_by_params, members_seen}
+use Rattle.fast_check_signatures.specs.Classes.{param_property, declared_by_params, members_seen}
 use Rattle.fast_check_signatures.proofs.Adding.{answer_append}
-use Rattle.fast_check_signatures.proofs.Choices.{of_choice}
+use Rattle.fast_check_signatures.proofs.Choices.{of_choice, of_typing}
 use Rattle.fast_check_skeleton.specs.HashMark.{IsMarked, HashMarked}
 
 -- ---- trees without a hash name
@@ -78,32 +75,14 @@ written_stay (t ∷ ts) = ap (λ us. t ∷ us) (written_stay ts)
 module _ (bindings : Bindings) (is_implementation : SourceRange → Bool) where
   -- ---- members
 
-  untyped_plain : (p : PropertyHead) (value : Tree) (o : Option Tree) →
-      PlainSeen (untyped_property_seen bindings is_implementation p value o)
-  untyped_plain p value (Some type) = property_plain p (type_ann type)
-  untyped_plain p value None = valued_plain p _
-
   property_seen_plain : (m : Tree) → PlainSeen (property_seen bindings is_implementation m)
   property_seen_plain m =
-      of_choice PlainSeen (is_private (property_head m).accessibility) _ _ (λ e. property_plain (property_head m) any_type_ann)
-      (λ e. of_choice PlainSeen (is_absent (ClassProp-type_ann m)) _ _
-      (λ n. untyped_plain (property_head m) (ClassProp-value m)
-      (inferred_type (mutability_of_property (property_head m).readonly) bindings.unresolved (ClassProp-value m)))
-      (λ w. property_plain (property_head m) (ClassProp-type_ann m)))
-
-  shown_plain : (p : PropertyHead) (o : Option Tree) → PlainSeen (untyped_accessor_seen bindings is_implementation p o)
-  shown_plain p (Some type) = property_plain p (type_ann type)
-  shown_plain p None = plain_absent
+      of_typing PlainSeen bindings.unresolved (property_typing m) _ _ (λ type e. property_plain (property_head m) type)
+      (valued_plain (property_head m) _)
 
   accessor_seen_plain : (m : Tree) → PlainSeen (accessor_seen bindings is_implementation m)
   accessor_seen_plain m =
-      of_choice PlainSeen (is_private (accessor_head m).accessibility) _ _ (λ e. property_plain (accessor_head m) any_type_ann)
-      (λ e. of_choice PlainSeen (is_absent (AutoAccessor-type_ann m))
-      (untyped_accessor_seen bindings is_implementation (accessor_head m)
-      (inferred_type Mutable bindings.unresolved (AutoAccessor-value m)))
-      (typed_property (accessor_head m) (AutoAccessor-type_ann m))
-      (λ n. shown_plain (accessor_head m) (inferred_type Mutable bindings.unresolved (AutoAccessor-value m)))
-      (λ w. property_plain (accessor_head m) (AutoAccessor-type_ann m)))
+      of_typing PlainSeen bindings.unresolved (accessor_typing m) _ _ (λ type e. property_plain (accessor_head m) type) plain_absent
 
   -- what is seen of a method that is not private, and of a constructor, part by part
   abbrev method_parts : Tree → List Seen
@@ -167,7 +146,7 @@ module _ (bindings : Bindings) (is_implementation : SourceRange → Bool) where
   param_properties_plain : (ps : List Tree) → OfAll Plain (map (param_property bindings.unresolved) ps)
   param_properties_plain [] = tt
   param_properties_plain (p ∷ ps) =
-      (property_plain (param_property_head p) (param_property_type bindings.unresolved p), param_properties_plain ps)
+      (property_plain (param_property_head p) _, param_properties_plain ps)
 
   declared_plain : (m : Tree) → OfAll Plain (declared_by_params bindings.unresolved m)
   declared_plain m = of_choice (OfAll Plain) (kind_of m is kinds.Constructor) _ _ (λ e. go (patterns_among (param_properties m))) (λ e. tt)

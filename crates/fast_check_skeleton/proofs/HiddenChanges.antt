@@ -37,7 +37,10 @@ use Rattle.fast_check_skeleton.specs.SameClasses as s
 use Rattle.fast_check_skeleton.specs.HiddenChanges.{number_type, void_function, typed_default, shown_default, pattern, as_number}
 use Rattle.fast_check_skeleton.specs.HiddenChanges.{method_m, decorated}
 use Rattle.fast_check_skeleton.specs.HiddenChanges.{call, sequence, HiddenChanges, HidesChanges}
+use Rattle.fast_check_signatures.specs.Parameters.{default_typing}
 use Rattle.fast_check_skeleton.proofs.AlikeTrees.{new_alike}
+use Rattle.fast_check_skeleton.proofs.TypedFunctions.{absent}
+use Rattle.fast_check_skeleton.proofs.GivenTypes.{given_written, given_shown}
 use Rattle.fast_check_skeleton.proofs.Example.{context_of_context as context_read}
 
 -- ---- what is read of leaves
@@ -93,6 +96,9 @@ module _ (r : Renaming) (ok : IsRenaming r) where
   pub same_numbers : Same numbers_type numbers_type
   same_numbers = new_same numbers_type (λ m keeps. simp (node_moved, range_moved, none_moved m keeps, word_moved))
 
+  pub same_annotation : Same (type_ann number_type) (type_ann number_type)
+  same_annotation = new_same (type_ann number_type) (λ m keeps. simp (node_moved, range_moved, none_moved m keeps, word_moved))
+
   same_typed : (name : List ℕ) →
       Same (binding_ident (new_ident name) (type_ann number_type)) (binding_ident (new_ident name) (type_ann number_type))
   same_typed name = new_same (binding_ident (new_ident name) (type_ann number_type))
@@ -129,24 +135,29 @@ module _ (r : Renaming) (ok : IsRenaming r) where
         (subst₂ (SameParams r c d) (sym (no_params ss)) (sym (no_params ts)) v.SameParams.no_params)
 
     typed_defaults : (x y : Tree) → SamePat r c d (typed_default x) (typed_default y)
-    typed_defaults x y = v.SamePat.typed_default (record { left = kind_of_node _ _; right = kind_of_node _ _ })
+    typed_defaults x y = v.SamePat.given_default (record { left = kind_of_node _ _; right = kind_of_node _ _ })
         (record { left = simp (part_node, kind_of_node); right = simp (part_node, kind_of_node) })
-        (are_same _ _ _ (part_node _ _ _) (part_node _ _ _) (same_typed _)) (simp (part_node, is_absent_node))
+        (are_same _ _ _ (part_node _ _ _) (part_node _ _ _) (same_typed _))
+        (given_written r c d (default_typing (typed_default x)) (default_typing (typed_default y)) refl refl
+        (simp (part_node, is_absent_node)) (simp (part_node, is_absent_node))
+        (are_same _ _ (type_ann number_type) (simp part_node) (simp part_node) same_annotation))
 
     shows : (scope : SyntaxContext) (x : List ℕ) → inferred_type Mutable scope (AssignPat-right (shown_default x)) ≡ Some number_type
     shows scope x =
         ap (inferred_type Mutable scope) (part_node _ _ _) ∙ (inferred_out Mutable scope (number none_range x) ∙ simp kind_of_node)
 
     shown_defaults : (x y : List ℕ) → SamePat r c d (shown_default x) (shown_default y)
-    shown_defaults x y = v.SamePat.shown_default (record { left = kind_of_node _ _; right = kind_of_node _ _ })
+    shown_defaults x y = v.SamePat.given_default (record { left = kind_of_node _ _; right = kind_of_node _ _ })
         (record { left = simp (part_node, kind_of_node); right = simp (part_node, kind_of_node) })
-        (are_same _ _ _ (part_node _ _ _) (part_node _ _ _) (same_untyped _)) (record {
+        (are_same _ _ _ (part_node _ _ _) (part_node _ _ _) (same_untyped _))
+        (given_shown r c d (default_typing (shown_default x)) (default_typing (shown_default y)) ok
+        ((refl, refl), (simp part_node absent, simp part_node absent)) (record {
           left = number_type;
           right = number_type;
           left_is = shows c.unresolved x;
           right_is = shows d.unresolved y;
           types = same_number;
-        })
+        }))
 
     elements : (es ds : List Tree) → SamePat r c d (pattern es) (pattern ds)
     elements es ds = v.SamePat.emptied (v.SameEmptied.array (record { left = kind_of_node _ _; right = kind_of_node _ _ })

@@ -38,7 +38,7 @@ unseen_items r a b = record {
   right = λ u s alone. h.SameItems.right s alone h.SameItems.end;
   left_names = λ p q t e. imports_exports.SamePublic.left e imports_exports.SamePublic.end;
   right_names = λ p q u e. imports_exports.SamePublic.right e imports_exports.SamePublic.end;
-  shown_values = λ mutability t u x y head e n same. h.SameDeclarator.inferred x y head e n same;
+  values = λ mutability t u head types. h.SameDeclarator.given head types;
 }
 
 pub hides_items : HidesItems

@@ -1,7 +1,6 @@
 -- Of the other rules that hide something: two parts of modules that differ by it agree.
 use Rattle.std.specs.Prelude.{◌≡◌, ℕ, Bool, false, Some, None, List, [], ◌∷◌}
 use Rattle.std.proofs.Common.{ap, ap₂, ◌∙◌, sym, subst₂}
-use Rattle.fast_check_syntax.specs.declared.kind.Kind.TheVariants as kinds
 use Rattle.fast_check_syntax.specs.declared.kind.Word.TheVariants as words
 use Rattle.fast_check_syntax.specs.declared.source.SourceRange.{SourceRange}
 use Rattle.fast_check_syntax.specs.declared.source.SyntaxContext.{SyntaxContext}
@@ -11,7 +10,6 @@ use Rattle.fast_check_syntax.specs.declared.tree.Tree.TheOpen.{Tree-F}
 use Rattle.fast_check_syntax.specs.Shape.{none_range, list, parts, has_word, word_is_at}
 use Rattle.fast_check_syntax.specs.Moves.{Renaming, IsRenaming}
 use Rattle.fast_check_syntax.proofs.Made.{kind_of_node, parts_node, part_node, is_absent_node, flag_of_flag, range_of_range}
-use Rattle.fast_check_class_forms.specs.Fields.{ClassProp-value, ClassProp-readonly}
 use Rattle.fast_check_class_forms.specs.Functions.{Function-params, Function-is_generator, Function-body, param}
 use Rattle.fast_check_class_forms.specs.Methods.{ClassMethod-span, ClassMethod-function}
 use Rattle.fast_check_expression_forms.specs.Expressions.{ArrowExpr-params, ArrowExpr-body, ArrowExpr-is_generator}
@@ -22,19 +20,19 @@ use Rattle.fast_check_swc_helpers.specs.NamedBodies.{named_return}
 use Rattle.fast_check_swc_helpers.specs.ReturnClass.{return_class}
 use Rattle.fast_check_swc_helpers.proofs.InferredTypes.{inferred_out}
 use Rattle.fast_check_signatures.specs.Bindings.{Bindings}
-use Rattle.fast_check_signatures.specs.Classes.{mutability_of_property}
 use Rattle.fast_check_signatures.specs.NewNodes.{new_block}
 use Rattle.fast_check_skeleton.specs.SameValues.{SameExpr, SameFunctionHead, SameReturn, SameFunction, SameImplementation}
 use Rattle.fast_check_skeleton.specs.SameValues.{SameArrowHead, SameArrowBody, SameParams, SamePats, SamePat, SameEmptied}
-use Rattle.fast_check_skeleton.specs.SameValues.{SameGathered, SameNamed, rests}
+use Rattle.fast_check_skeleton.specs.SameValues.{rests}
 use Rattle.fast_check_skeleton.specs.SameValues as v
-use Rattle.fast_check_skeleton.specs.SameClasses.{SameMethod, SameProperty, SameAccessor}
+use Rattle.fast_check_skeleton.specs.SameClasses.{SameMethod}
 use Rattle.fast_check_skeleton.specs.SameClasses as s
 use Rattle.fast_check_skeleton.specs.HiddenChanges.{number_type, pattern}
 use Rattle.fast_check_skeleton.specs.HiddenRules.{function_of, arrow_of, void_type, numbers_type, number_of, object}
-use Rattle.fast_check_skeleton.specs.HiddenRules.{pattern_default, setter_s, property_of, accessor_of, private_word}
+use Rattle.fast_check_skeleton.specs.HiddenRules.{pattern_default, setter_s}
 use Rattle.fast_check_skeleton.specs.HiddenRules.{Unnamed, HiddenValues, HiddenMembers, SilentMembers, HidesByRules}
-use Rattle.fast_check_skeleton.proofs.HiddenChanges.{private_read, Same, at_places, in_scopes, are_same}
+use Rattle.fast_check_skeleton.proofs.GivenTypes.{hidden_types}
+use Rattle.fast_check_skeleton.proofs.HiddenChanges.{Same, at_places, in_scopes, are_same}
 use Rattle.fast_check_skeleton.proofs.Example.{context_of_context as context_read}
 use Rattle.fast_check_skeleton.proofs.HiddenChanges.{same_absent, same_void, same_number, same_numbers}
 
@@ -45,11 +43,6 @@ setter_read = ap (word_is_at words.Setter) (out-roll-Tree (Tree-F.Word words.Set
 -- `1` and the like show `number`, as what may change
 shows_number : (scope : SyntaxContext) (x : List ℕ) → inferred_type Mutable scope (number none_range x) ≡ Some number_type
 shows_number scope x = inferred_out Mutable scope (number none_range x) ∙ simp kind_of_node
-
-shows_as : (scope : SyntaxContext) (readonly : Bool) (value : Tree) (x : List ℕ) → readonly ≡ false →
-    value ≡ number none_range x → inferred_type (mutability_of_property readonly) scope value ≡ Some number_type
-shows_as scope readonly value x e i =
-    ap₂ (λ b t. inferred_type (mutability_of_property b) scope t) e i ∙ shows_number scope x
 
 named_as : (scope : SyntaxContext) (is_generator : Bool) (body : Tree) (ss : List Tree) → is_generator ≡ false →
     body ≡ new_block ss → named_return scope false (new_block ss) ≡ None → named_return scope is_generator body ≡ None
@@ -234,77 +227,11 @@ module _ (r : Renaming) (ok : IsRenaming r) (c d : Bindings) where
         (subst₂ (λ t u. SameParams r c d (parts (Function-params t)) (parts (Function-params u))) (sym (method_of ss))
         (sym (method_of ts)) (same_params ss ts))
 
-    private_properties : (x y value other : Tree) →
-        SameProperty r c d f g (property_of private_word x value) (property_of private_word y other)
-    private_properties x y value other = s.SameProperty.any (ap (has_word words.Private) (part_node _ _ _) ∙ private_read)
-
-    private_accessors : (x y value other : Tree) →
-        SameAccessor r c d f g (accessor_of private_word x value) (accessor_of private_word y other)
-    private_accessors x y value other = s.SameAccessor.any (ap (has_word words.Private) (part_node _ _ _) ∙ private_read)
-
-    typed_properties : (x y : Tree) →
-        SameProperty r c d f g (property_of Absent numbers_type x) (property_of Absent numbers_type y)
-    typed_properties x y = s.SameProperty.typed
-        (are_same r ok _ _ numbers_type (part_node _ _ _) (part_node _ _ _) (same_numbers r ok)) (simp (part_node, is_absent_node))
-
-    typed_accessors : (x y : Tree) →
-        SameAccessor r c d f g (accessor_of Absent numbers_type x) (accessor_of Absent numbers_type y)
-    typed_accessors x y = s.SameAccessor.typed
-        (are_same r ok _ _ numbers_type (part_node _ _ _) (part_node _ _ _) (same_numbers r ok)) (simp (part_node, is_absent_node))
-
-    abbrev number_at : List ℕ → Tree
-    number_at x = property_of Absent Absent (number none_range x)
-
-    abbrev changes_at : List ℕ → Bool
-    changes_at x = ClassProp-readonly (number_at x)
-
-    changes : (x : List ℕ) → changes_at x ≡ false
-    changes x = simp (part_node, flag_of_flag)
-
-    shown_properties : (x y : List ℕ) → SameProperty r c d f g (property_of Absent Absent (number none_range x))
-        (property_of Absent Absent (number none_range y))
-    shown_properties x y = s.SameProperty.inferred
-        (are_same r ok _ _ Absent (part_node _ _ _) (part_node _ _ _) (same_absent r ok)) (record {
-          left = number_type;
-          right = number_type;
-          left_is = shows_as c.unresolved (changes_at x) (ClassProp-value (number_at x)) x (changes x) (part_node _ _ _);
-          right_is = shows_as d.unresolved (changes_at x) (ClassProp-value (number_at y)) y (changes x) (part_node _ _ _);
-          types = same_number r ok;
-        })
-
-    shown_accessors : (x y : List ℕ) → SameAccessor r c d f g (accessor_of Absent Absent (number none_range x))
-        (accessor_of Absent Absent (number none_range y))
-    shown_accessors x y = s.SameAccessor.inferred
-        (are_same r ok _ _ Absent (part_node _ _ _) (part_node _ _ _) (same_absent r ok)) (record {
-          left = number_type;
-          right = number_type;
-          left_is = ap (inferred_type Mutable c.unresolved) (part_node _ _ _) ∙ shows_number c.unresolved x;
-          right_is = ap (inferred_type Mutable d.unresolved) (part_node _ _ _) ∙ shows_number d.unresolved y;
-          types = same_number r ok;
-        })
-
-    untyped_accessors : (x y : Tree) → inferred_type Mutable c.unresolved x ≡ None → inferred_type Mutable d.unresolved y ≡ None →
-        SameAccessor r c d f g (accessor_of Absent Absent x) (accessor_of Absent Absent y)
-    untyped_accessors x y e n = s.SameAccessor.untyped
-        (are_same r ok _ _ Absent (part_node _ _ _) (part_node _ _ _) (same_absent r ok)) (record {
-          left = ap (inferred_type Mutable c.unresolved) (part_node _ _ _) ∙ e;
-          right = ap (inferred_type Mutable d.unresolved) (part_node _ _ _) ∙ n;
-        })
-
     all_members : HiddenMembers r c d f g
     all_members = record {
       setters = setters;
-      private_properties = private_properties;
-      private_accessors = private_accessors;
-      typed_properties = typed_properties;
-      typed_accessors = typed_accessors;
-      shown_properties = shown_properties;
-      shown_accessors = shown_accessors;
-      untyped_accessors = untyped_accessors;
-      private_params = λ t u p. s.SameParamType.any p;
-      typed_params = λ t u e w. s.SameParamType.typed e w;
-      shown_params = λ t u e k x. s.SameParamType.inferred e k x;
-      untyped_params = λ t u e k x. s.SameParamType.untyped e k x;
+      properties = λ t u types. s.SameProperty.given types;
+      accessors = λ t u both heads types. s.SameMember.accessor both heads types;
       constructed = λ t u calls each. record { super_calls = calls; properties = each };
       implemented_constructors = λ t u x e n i. s.SameConstructor.implementation x e n i;
       private_constructors = λ t u x p. s.SameConstructor.any x p;
@@ -330,4 +257,9 @@ silent_members earlier m = record {
 
 pub hides_by_rules : HidesByRules
 hides_by_rules r ok c d f g =
-    record { values = all_values r ok c d; members = all_members r ok c d f g; silent = silent_members }
+    record {
+      types = λ t u. hidden_types r c d t u ok;
+      values = all_values r ok c d;
+      members = all_members r ok c d f g;
+      silent = silent_members;
+    }

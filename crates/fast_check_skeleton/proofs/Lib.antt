@@ -9,6 +9,7 @@ pub mod Alike
 pub mod AlikePresent
 pub mod AlikeProperties
 pub mod AlikeClasses
+pub mod GivenTypes
 pub mod HiddenChanges
 pub mod HiddenRules
 pub mod Descending

@@ -24,7 +24,8 @@ use Rattle.fast_check_skeleton.specs.SameClasses.{HasNoPartner}
 use Rattle.fast_check_skeleton.specs.SameValues.{SameExpr}
 use Rattle.fast_check_skeleton.specs.SameValues as v
 use Rattle.fast_check_skeleton.specs.Mutability.{mutability_of}
-use Rattle.fast_check_skeleton.specs.Visible.{is_public_declarator}
+use Rattle.fast_check_skeleton.specs.Visible.{declarator_typing, is_public_declarator}
+use Rattle.fast_check_skeleton.proofs.GivenTypes.{given_written}
 use Rattle.fast_check_skeleton.specs.ModuleFacts.{ModuleFacts}
 use Rattle.fast_check_skeleton.specs.Hidden.{AgreeHidden, SameHead, SameDeclarator, SameDeclarators, SameStatement, SameDecl, SameItem}
 use Rattle.fast_check_skeleton.specs.Hidden.{SameItems}
@@ -72,13 +73,16 @@ heads = record {
   names = record { left = simp (part_node, kind_of_node); right = simp (part_node, kind_of_node) };
   ident = are_same _ _ (new_ident (120 ∷ [])) (simp part_node) (simp part_node) (same_ident (120 ∷ []));
   definite = refl;
-  type = are_same _ _ (type_ann (ts_keyword_type words.TsNumberKeyword)) (simp part_node) (simp part_node) same_type;
 }
 
 public_same : l.SamePublic (is_public_declarator a) (is_public_declarator b)
     (SameDeclarator no_places a b (mutability_of (VarDecl-kind (statement_x one))))
     (declarator_x one ∷ []) (declarator_x one ∷ [])
-public_same = l.SamePublic.next refl (h.SameDeclarator.typed heads (simp (part_node, is_absent_node))) l.SamePublic.end
+public_same = l.SamePublic.next refl (h.SameDeclarator.given heads (given_written no_places a.bindings b.bindings
+    (declarator_typing (mutability_of (VarDecl-kind (statement_x one))) (declarator_x one))
+    (declarator_typing (mutability_of (VarDecl-kind (statement_x one))) (declarator_x one)) refl refl
+    (simp (part_node, is_absent_node)) (simp (part_node, is_absent_node))
+    (are_same _ _ (type_ann (ts_keyword_type words.TsNumberKeyword)) (simp part_node) (simp part_node) same_type))) l.SamePublic.end
 
 statements : SameStatement no_places a b (statement_x one) (statement_x one)
 statements = record {

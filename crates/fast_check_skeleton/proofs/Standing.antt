@@ -10,7 +10,7 @@ use Rattle.fast_check_syntax.specs.declared.source.SourceRange.{SourceRange}
 use Rattle.fast_check_syntax.specs.declared.tree.Tree as tree
 use Rattle.fast_check_syntax.specs.declared.tree.Tree.{Tree, Absent}
 use Rattle.fast_check_syntax.specs.Shape.{◌is◌, kind_of, parts, is_absent, flag_of, node, list, OfAll}
-use Rattle.fast_check_syntax.proofs.Made.{kind_of_node, parts_node, part_node, is_absent_node, flag_of_flag}
+use Rattle.fast_check_syntax.proofs.Made.{kind_of_node, parts_node, part_node, flag_of_flag}
 use Rattle.fast_check_program_forms.specs.Names.{Ident-span}
 use Rattle.fast_check_expression_forms.specs.Expressions.{ClassExpr-ident, ClassExpr-class, FnExpr-ident, FnExpr-function}
 use Rattle.fast_check_program_forms.specs.ModuleDecls.{ExportDecl-span, ExportDecl-decl, ImportDecl-specifiers, NamedExport-specifiers}
@@ -23,9 +23,8 @@ use Rattle.fast_check_statement_forms.specs.Declarations.{FnDecl-declare, FnDecl
 use Rattle.fast_check_statement_forms.specs.Declarations.{VarDecl-kind, VarDecl-declare, VarDecl-decls, var_decl, VarDeclarator-name}
 use Rattle.fast_check_statement_forms.specs.Declarations.{VarDeclarator-init}
 use Rattle.fast_check_statement_forms.specs.Statements.{ExprStmt-expr}
-use Rattle.fast_check_swc_helpers.specs.Builders.{type_ann, never_value}
+use Rattle.fast_check_swc_helpers.specs.Builders.{never_value}
 use Rattle.fast_check_swc_helpers.specs.declared.literal_type.DeclMutabilityKind.{DeclMutabilityKind}
-use Rattle.fast_check_swc_helpers.specs.InferredType.{inferred_type}
 use Rattle.fast_check_statement_forms.specs.TsDeclarations.{TsModuleDecl-span, TsModuleDecl-declare, TsModuleDecl-global, TsModuleDecl-id}
 use Rattle.fast_check_swc_helpers.specs.ranges.Ranges.{range_of_node}
 use Rattle.fast_check_signatures.specs.declared.fault.FaultKind.TheVariants.{UnsupportedGlobalModule, UnsupportedAmbientModule}
@@ -36,7 +35,7 @@ use Rattle.fast_check_signatures.specs.Seen.{Seen, written, range, scope, flag, 
 use Rattle.fast_check_signatures.specs.Answers.{Answer, faultless, joined, visited, with_tree, round_answer, fault_at, answer_to}
 use Rattle.fast_check_signatures.specs.Answers.{parts_answer, answer_of}
 use Rattle.fast_check_signatures.specs.Expressions.{expr_seen}
-use Rattle.fast_check_signatures.proofs.Choices.{of_choice, no_left, not_empty}
+use Rattle.fast_check_signatures.proofs.Choices.{of_choice, of_typing, no_left, not_empty}
 use Rattle.fast_check_skeleton.specs.TypedGrammar.{IsLeavable, IsTypedFunction}
 use Rattle.fast_check_skeleton.specs.ClassGrammar.{IsAmbientClass, IsTypedClass}
 use Rattle.fast_check_signatures.specs.Classes.{plain_class_seen, ambient_class}
@@ -63,7 +62,7 @@ use Rattle.fast_check_skeleton.specs.Mutability.{mutability_of}
 use Rattle.fast_check_skeleton.specs.Rules.{decl_rule, expr_stmt_rule, default_rule, is_require, rule_of_kind}
 use Rattle.fast_check_skeleton.specs.ModuleFacts.{ModuleFacts, inside}
 use Rattle.fast_check_skeleton.specs.Namespaces.{is_ambient_module, is_namespace, items_inside, namespace_round, namespace_with}
-use Rattle.fast_check_skeleton.specs.Visible.{declared_ident, declared_type, value_seen, untyped_seen, declarator_seen}
+use Rattle.fast_check_skeleton.specs.Visible.{declared_ident, declarator_typing, value_seen, declarator_seen}
 use Rattle.fast_check_skeleton.specs.Visible.{is_ambient_statement, is_public_declarator, declarator_in, public_declarator}
 use Rattle.fast_check_skeleton.specs.Visible.{public_declarators, statement_seen, signature_of, function_decl_seen, public_function}
 use Rattle.fast_check_skeleton.specs.Visible.{is_ambient_class, class_in, class_decl_seen, public_class, is_public_using, using_place}
@@ -111,34 +110,23 @@ module _ (facts : ModuleFacts) (mutability : DeclMutabilityKind) (d : Tree) wher
       (answer_to (expr_seen facts.bindings value (Some name_place))).stays
       (stays_there facts.bindings value (Some name_place) e) (expr_stays facts.bindings value (Some name_place) f))
 
-  untyped_stays : (o : Option Tree) → StaysTyped (untyped_seen facts d o)
-  untyped_stays (Some type) = λ f. typed facts.bindings _ _ _ (type_ann type) never_value (inl (is_absent_node _ _, refl))
-  untyped_stays None =
-      λ f. typed facts.bindings _ _ _ Absent _
-      (inr (demanded_holds Gives (fault_at MissingExplicitType name_place) (answer_to (value_seen facts name_place value)) value_stays f))
-
   declarator_stays : StaysTyped (declarator_seen facts mutability d)
   declarator_stays =
       of_choice StaysTyped (kind_of (VarDeclarator-name d) is BindingIdent) _ _
-      (λ e. of_choice StaysTyped (is_absent (declared_type d)) _ _
-      (λ absent. untyped_stays (inferred_type mutability facts.bindings.unresolved value))
-      (λ present f. typed facts.bindings _ _ _ (declared_type d) never_value (inl (present, refl))))
+      (λ e. of_typing StaysTyped facts.bindings.unresolved (declarator_typing mutability d) _ _
+      (λ type present f. typed facts.bindings _ _ _ type never_value (inl (present, refl)))
+      (λ f. typed facts.bindings _ _ _ Absent _
+      (inr (demanded_holds Gives (fault_at MissingExplicitType name_place) (answer_to (value_seen facts name_place value)) value_stays f))))
       (λ e f. not_empty f)
 
   -- what stands of a declarator is one tree
   abbrev pub IsOne : Seen → Type 0
   IsOne s = (t : Tree) × ((answer_to s).stays ≡ Some t)
 
-  untyped_one : (o : Option Tree) → IsOne (untyped_seen facts d o)
-  untyped_one (Some type) = (_, refl)
-  untyped_one None = (_, refl)
-
   pub declarator_one : IsOne (declarator_seen facts mutability d)
   declarator_one =
       of_choice IsOne (kind_of (VarDeclarator-name d) is BindingIdent) _ _
-      (λ e. of_choice IsOne (is_absent (declared_type d)) _ _
-      (λ absent. untyped_one (inferred_type mutability facts.bindings.unresolved value))
-      (λ present. (_, refl)))
+      (λ e. of_typing IsOne facts.bindings.unresolved (declarator_typing mutability d) _ _ (λ type present. (_, refl)) (_, refl))
       (λ e. (Absent, refl))
 
 -- ---- statements and items

@@ -15,13 +15,13 @@ use Rattle.fast_check_swc_helpers.specs.GlobalCalls.{is_global_member, sole_argu
 use Rattle.fast_check_signatures.specs.Bindings.{Bindings, id_of}
 use Rattle.fast_check_signatures.specs.declared.function_kind.FunctionKind.{FunctionKind}
 use Rattle.fast_check_signatures.specs.declared.function_kind.FunctionKind.TheVariants.{ExpressionLike}
-use Rattle.fast_check_signatures.specs.declared.rules.TheConstants.{SATISFIES, ASSERTION, FN_EXPR, FREEZE, NEW}
 use Rattle.fast_check_signatures.specs.declared.rules.Slot.{Slot}
 use Rattle.fast_check_signatures.specs.declared.rules.Slot.TheVariants as slots
 use Rattle.fast_check_signatures.specs.Seen.{Seen, round, refused, seens}
 use Rattle.fast_check_signatures.specs.NewNodes.{never_in_parens}
 use Rattle.fast_check_signatures.specs.Parameters.{Look, pat_seen, pats_seen}
 use Rattle.fast_check_signatures.specs.Functions.{or_own, is_setter, function_seen, implementation_seen, arrow_seen}
+use Rattle.fast_check_signatures.specs.Rows.{satisfies_row, assertion_row, fn_expr_row, arguments_row}
 use Rattle.fast_check_signatures.specs.Expressions.{is_plain, is_compound, freezes, makes_plain, is_made, known_by_kind, is_known, Rule}
 use Rattle.fast_check_signatures.specs.Expressions.{slotted, other_rule, slot_seen, slots_seen, by_rule, expr_form, expr_seen}
 use Rattle.fast_check_signatures.specs.Answers.{answer_to, parts_answer, answer_of}
@@ -111,17 +111,17 @@ module _ (bindings : Bindings) where
 
     kind_stays : (kind : Kind) (b : Bool) (t : Tree) (place : Option SourceRange) → known_by_kind kind bindings t ≡ b →
         StaysLeavable (by_rule bindings (other_rule kind b) kind t look place)
-    kind_stays kinds.TsSatisfiesExpr b t place f = slotted_stays SATISFIES kinds.TsSatisfiesExpr t place
+    kind_stays kinds.TsSatisfiesExpr b t place f = slotted_stays satisfies_row kinds.TsSatisfiesExpr t place
         (λ u e h. IsLeavable.satisfies e h.1.0)
-    kind_stays kinds.TsAsExpr b t place f = slotted_stays ASSERTION kinds.TsAsExpr t place (λ u e h. IsLeavable.as_type e h.1.0)
-    kind_stays kinds.TsTypeAssertion b t place f = slotted_stays ASSERTION kinds.TsTypeAssertion t place
+    kind_stays kinds.TsAsExpr b t place f = slotted_stays assertion_row kinds.TsAsExpr t place (λ u e h. IsLeavable.as_type e h.1.0)
+    kind_stays kinds.TsTypeAssertion b t place f = slotted_stays assertion_row kinds.TsTypeAssertion t place
         (λ u e h. IsLeavable.assertion e h.1.0)
-    kind_stays kinds.CallExpr true t place f = slotted_stays FREEZE kinds.CallExpr t place
+    kind_stays kinds.CallExpr true t place f = slotted_stays arguments_row kinds.CallExpr t place
         (λ u e h. IsLeavable.frozen e
         (ap (is_global_member (codes "Object") (codes "freeze") bindings.unresolved) h.1.1.0 ∙ is_freeze bindings t f) h.1.1.1.0)
-    kind_stays kinds.NewExpr true t place f = slotted_stays NEW kinds.NewExpr t place
+    kind_stays kinds.NewExpr true t place f = slotted_stays arguments_row kinds.NewExpr t place
         (λ u e h. IsLeavable.made (made_is bindings u t e h.1.1.0 h.1.1.1.1.0 f) h.1.1.1.0)
-    kind_stays kinds.FnExpr b t place f = slotted_stays FN_EXPR kinds.FnExpr t place (λ u e h. IsLeavable.function e h.1.0)
+    kind_stays kinds.FnExpr b t place f = slotted_stays fn_expr_row kinds.FnExpr t place (λ u e h. IsLeavable.function e h.1.0)
     kind_stays kinds.ArrowExpr b t place f = arrow_stays bindings look stays place t
     kind_stays _ b t place f = λ g. tt
 

@@ -1,8 +1,8 @@
 -- Each class that stands without a fault is in the grammar.
-use Rattle.std.specs.Prelude.{◌≡◌, Bool, true, false, not, ◌&&◌, ◌⊎◌, Option, Some, None, List, [], ◌∷◌, ◌++◌, map, flat_map, refl}
+use Rattle.std.specs.Prelude.{◌≡◌, Bool, true, false, not, ◌&&◌, ◌⊎◌, Some, List, [], ◌∷◌, ◌++◌, map, flat_map, refl}
 use Rattle.std.specs.Prelude.{if◌then◌else◌}
 use Rattle.std.specs.List.{list_all, list_any, filter}
-use Rattle.std.proofs.Common.{ap, ap₂, ◌∙◌, sym, subst, subst₂, inl, inr}
+use Rattle.std.proofs.Common.{ap, ◌∙◌, sym, subst, subst₂, inl, inr}
 use Rattle.fast_check_syntax.specs.declared.kind.Kind.{Kind}
 use Rattle.fast_check_syntax.specs.declared.kind.Kind.TheVariants as kinds
 use Rattle.fast_check_syntax.specs.declared.kind.Word.TheVariants as words
@@ -12,42 +12,40 @@ use Rattle.fast_check_syntax.specs.declared.tree.Tree.{Tree, Absent}
 use Rattle.fast_check_syntax.specs.Shape.{◌is◌, kind_of, parts, is_absent, flag_of, has_word, node, list, OfAll}
 use Rattle.fast_check_syntax.proofs.Made.{kind_of_node, parts_node, part_node, flag_of_flag}
 use Rattle.fast_check_swc_helpers.specs.ranges.Ranges.{range_of_node}
-use Rattle.fast_check_class_forms.specs.Classes.{Class-body, Class-super_class, Class-decorators, Constructor-span, Constructor-ctxt}
+use Rattle.fast_check_class_forms.specs.Classes.{Class-body, Class-super_class, Constructor-span, Constructor-ctxt}
 use Rattle.fast_check_class_forms.specs.Classes.{Constructor-key, Constructor-params, Constructor-body, Constructor-accessibility}
 use Rattle.fast_check_class_forms.specs.Classes.{Constructor-is_optional}
-use Rattle.fast_check_class_forms.specs.Fields.{ClassProp-value, ClassProp-type_ann, AutoAccessor-value, AutoAccessor-type_ann}
+use Rattle.fast_check_class_forms.specs.Fields.{ClassProp-value, ClassProp-type_ann}
 use Rattle.fast_check_class_forms.specs.Functions.{Param-pat}
 use Rattle.fast_check_class_forms.specs.Methods.{ClassMethod-span, ClassMethod-key, ClassMethod-function, ClassMethod-kind}
 use Rattle.fast_check_class_forms.specs.Methods.{ClassMethod-is_static, ClassMethod-accessibility, ClassMethod-is_abstract}
 use Rattle.fast_check_class_forms.specs.Methods.{ClassMethod-is_optional, ClassMethod-is_override}
 use Rattle.fast_check_expression_forms.specs.Calls.{CallExpr-span, CallExpr-ctxt, CallExpr-callee, CallExpr-args, CallExpr-type_args}
 use Rattle.fast_check_expression_forms.specs.Calls.{call_expr}
-use Rattle.fast_check_expression_forms.specs.Expressions.{ExprOrSpread-spread, ExprOrSpread-expr}
+use Rattle.fast_check_expression_forms.specs.Expressions.{ExprOrSpread-spread}
 use Rattle.fast_check_statement_forms.specs.Statements.{BlockStmt-stmts, ExprStmt-expr}
-use Rattle.fast_check_swc_helpers.specs.Builders.{type_ann, any_type_ann, never_value}
-use Rattle.fast_check_swc_helpers.specs.declared.literal_type.DeclMutabilityKind.TheVariants.{Mutable}
-use Rattle.fast_check_swc_helpers.specs.InferredType.{inferred_type}
+use Rattle.fast_check_swc_helpers.specs.Builders.{any_type_ann, never_value}
 use Rattle.fast_check_signatures.specs.Bindings.{Bindings}
 use Rattle.fast_check_signatures.specs.declared.fault.FaultKind.TheVariants.{MissingExplicitType}
 use Rattle.fast_check_signatures.specs.declared.function_kind.FunctionKind.{FunctionKind}
 use Rattle.fast_check_signatures.specs.declared.function_kind.FunctionKind.TheVariants.{DeclarationLike, Getter, Setter}
-use Rattle.fast_check_signatures.specs.Seen.{ClassHead, PropertyHead, Seen, written, range, scope, flag, listed, seens}
+use Rattle.fast_check_signatures.specs.Seen.{ClassHead, PropertyHead, Seen, written, seens}
 use Rattle.fast_check_signatures.specs.NewNodes.{never_array_in_parens, hash_private}
 use Rattle.fast_check_signatures.specs.Expressions.{expr_seen}
-use Rattle.fast_check_signatures.specs.Functions.{any_params_from, function_seen, implementation_seen}
+use Rattle.fast_check_signatures.specs.Functions.{function_seen, implementation_seen}
 use Rattle.fast_check_signatures.specs.Members.{is_private, is_hash_named, hash_mark, stays_by_kind, stays_behind, each_behind, if_kept}
 use Rattle.fast_check_signatures.specs.Members.{kept_members, is_private_computed, ambient_members}
-use Rattle.fast_check_signatures.specs.Classes.{is_reference, superclass_seen, typed_property, mutability_of_property, property_head}
+use Rattle.fast_check_signatures.specs.Classes.{is_reference, superclass_seen, property_head}
 use Rattle.fast_check_signatures.specs.Classes.{accessor_head, private_method_head, plain_param, param_properties, patterns_among}
 use Rattle.fast_check_signatures.specs.Classes.{unless_any, is_super_call, never_argument, super_call, super_calls, constructor_body}
 use Rattle.fast_check_signatures.specs.Classes.{constructor_of, unless_taken_apart, method_kind, method_of, class_head, member_value_seen}
-use Rattle.fast_check_signatures.specs.Classes.{untyped_property_seen, property_seen, untyped_accessor_seen, accessor_seen}
-use Rattle.fast_check_signatures.specs.Classes.{method_function_seen, method_seen, plain_params_seen, constructor_params_seen}
-use Rattle.fast_check_signatures.specs.Classes.{constructor_seen, member_of_kind, member_seen, param_property_head, param_property_type}
+use Rattle.fast_check_signatures.specs.Classes.{property_typing, property_seen, accessor_typing, accessor_seen}
+use Rattle.fast_check_signatures.specs.Classes.{method_function_seen, method_seen, constructor_params_seen}
+use Rattle.fast_check_signatures.specs.Classes.{constructor_seen, member_of_kind, member_seen, param_property_head}
 use Rattle.fast_check_signatures.specs.Classes.{param_property, declared_by_params, members_seen, plain_class_seen, ambient_class}
-use Rattle.fast_check_signatures.specs.Answers.{Answer, settled, faultless, visited, list_answer, fault_at, class_of, declared_property}
+use Rattle.fast_check_signatures.specs.Answers.{settled, faultless, visited, list_answer, fault_at, class_of, declared_property}
 use Rattle.fast_check_signatures.specs.Answers.{valued_property, answer_to, parts_answer, answer_of}
-use Rattle.fast_check_signatures.proofs.Choices.{of_choice, both_true, not_empty}
+use Rattle.fast_check_signatures.proofs.Choices.{of_choice, of_typing, both_true, not_empty}
 use Rattle.fast_check_skeleton.specs.TypedGrammar.{IsLeavable, IsTypedFunction, AllTypedParams}
 use Rattle.fast_check_skeleton.specs.ClassGrammar.{IsNeverArgument, IsNeverSuper, IsSuperBody, IsAmbientClass, IsTypedSetter, IsTypedMember}
 use Rattle.fast_check_skeleton.specs.ClassGrammar.{IsTypedClass}
@@ -162,34 +160,18 @@ module _ (bindings : Bindings) (is_implementation : SourceRange → Bool) where
       (λ e f. both_some (λ v. is_absent v ≡ false) (IsLeavable bindings) (answer_to (expr_seen bindings value (Some place))).stays
       (stays_there bindings value (Some place) e) (expr_stays bindings value (Some place) f))
 
-  untyped_stays : (p : PropertyHead) (value : Tree) (o : Option Tree) →
-      StaysMember (untyped_property_seen bindings is_implementation p value o)
-  untyped_stays p value (Some type) = λ f. declared_stands p (type_ann type)
-  untyped_stays p value None =
-      λ f. valued_stands p _ (demanded_holds Gives (fault_at MissingExplicitType (range_of_node p.key))
-      (answer_to (member_value_seen bindings is_implementation (range_of_node p.key) value)) (value_stays (range_of_node p.key) value) f)
-
   property_stays : (m : Tree) → StaysMember (property_seen bindings is_implementation m)
   property_stays m =
       let p = property_head m in
-      of_choice StaysMember (is_private p.accessibility) _ _ (λ e f. declared_stands p any_type_ann)
-      (λ e. of_choice StaysMember (is_absent (ClassProp-type_ann m)) _ _
-      (λ n. untyped_stays p (ClassProp-value m) (inferred_type (mutability_of_property p.readonly) bindings.unresolved (ClassProp-value m)))
-      (λ w f. declared_stands p (ClassProp-type_ann m)))
-
-  accessor_shown : (p : PropertyHead) (o : Option Tree) → StaysMember (untyped_accessor_seen bindings is_implementation p o)
-  accessor_shown p (Some type) = λ f. declared_stands p (type_ann type)
-  accessor_shown p None = λ f. not_empty f
+      let place = range_of_node p.key in
+      of_typing StaysMember bindings.unresolved (property_typing m) _ _ (λ type e f. declared_stands p type)
+      (λ f. valued_stands p _ (demanded_holds Gives (fault_at MissingExplicitType place)
+      (answer_to (member_value_seen bindings is_implementation place (ClassProp-value m))) (value_stays place (ClassProp-value m)) f))
 
   accessor_stays : (m : Tree) → StaysMember (accessor_seen bindings is_implementation m)
   accessor_stays m =
-      let p = accessor_head m in
-      of_choice StaysMember (is_private p.accessibility) _ _ (λ e f. declared_stands p any_type_ann)
-      (λ e. of_choice StaysMember (is_absent (AutoAccessor-type_ann m))
-      (untyped_accessor_seen bindings is_implementation p (inferred_type Mutable bindings.unresolved (AutoAccessor-value m)))
-      (typed_property p (AutoAccessor-type_ann m))
-      (λ n. accessor_shown p (inferred_type Mutable bindings.unresolved (AutoAccessor-value m)))
-      (λ w f. declared_stands p (AutoAccessor-type_ann m)))
+      of_typing StaysMember bindings.unresolved (accessor_typing m) _ _ (λ type e f. declared_stands (accessor_head m) type)
+      (λ f. not_empty f)
 
   -- ---- methods
 
@@ -346,7 +328,7 @@ module _ (bindings : Bindings) (is_implementation : SourceRange → Bool) where
   param_properties_stand : (ps : List Tree) → OfAll Member (map (param_property bindings.unresolved) ps)
   param_properties_stand [] = tt
   param_properties_stand (p ∷ ps) =
-      (declared_stands (param_property_head p) (param_property_type bindings.unresolved p), param_properties_stand ps)
+      (declared_stands (param_property_head p) _, param_properties_stand ps)
 
   declared_by_stand : (m : Tree) → OfAll Member (declared_by_params bindings.unresolved m)
   declared_by_stand m = of_choice (OfAll Member) (kind_of m is kinds.Constructor) _ _ (λ e. go (patterns_among (param_properties m)))

@@ -13,19 +13,17 @@ use Rattle.fast_check_expression_forms.specs.Patterns.{ObjectPat-optional, Objec
 use Rattle.fast_check_expression_forms.specs.Patterns.{RestPat-arg, RestPat-type_ann, rest_pat, AssignPat-span, AssignPat-left}
 use Rattle.fast_check_expression_forms.specs.Patterns.{AssignPat-right, assign_pat}
 use Rattle.fast_check_program_forms.specs.Names.{Ident-span, BindingIdent-id, BindingIdent-type_ann, binding_ident}
-use Rattle.fast_check_swc_helpers.specs.declared.literal_type.DeclMutabilityKind.TheVariants.{Mutable}
-use Rattle.fast_check_swc_helpers.specs.Builders.{type_ann, never_value}
-use Rattle.fast_check_swc_helpers.specs.InferredType.{inferred_type}
+use Rattle.fast_check_swc_helpers.specs.Builders.{never_value}
 use Rattle.fast_check_swc_helpers.specs.OptionalParams.{is_optional_param}
 use Rattle.fast_check_signatures.specs.Bindings.{Bindings}
 use Rattle.fast_check_signatures.specs.declared.fault.FaultKind.TheVariants.{MissingExplicitType}
 use Rattle.fast_check_signatures.specs.Seen.{Seen}
 use Rattle.fast_check_signatures.specs.NewNodes.{never_array, empty_object_pat, or_undefined}
 use Rattle.fast_check_signatures.specs.Parameters.{Look, emptied_array, emptied_object, typed, arg_by_kind, rest_arg, rest_seen}
-use Rattle.fast_check_signatures.specs.Parameters.{with_optional, without_default, default_seen, by_shown, ident_default_seen}
+use Rattle.fast_check_signatures.specs.Parameters.{with_optional, without_default, default_seen, default_typing, ident_default_seen}
 use Rattle.fast_check_signatures.specs.Parameters.{pattern_default_seen, assign_by_left, pat_by_kind, pat_seen, pats_seen}
 use Rattle.fast_check_signatures.specs.Answers.{fault_at, answer_to, answer_of}
-use Rattle.fast_check_signatures.proofs.Choices.{of_choice, not_empty}
+use Rattle.fast_check_signatures.proofs.Choices.{of_choice, of_typing, not_empty}
 use Rattle.fast_check_skeleton.specs.TypedGrammar.{IsEmptiedArray, IsEmptiedObject, IsLeavable, IsTypedPat, AllTypedPats}
 use Rattle.fast_check_skeleton.proofs.Staying.{Holds, Stays, items_hold, demanded_holds}
 
@@ -175,20 +173,15 @@ module _ (bindings : Bindings) (look : Look) (stays : LookStays bindings look) w
   abbrev Typed : Seen → Type 0
   Typed s = StaysTyped bindings s
 
-  by_shown_stays : (b : Bool) (pat : Tree) → kind_of (AssignPat-left pat) ≡ kinds.BindingIdent → (shown : Option Tree) →
-      Typed (by_shown bindings look b pat shown)
-  by_shown_stays b pat kind (Some type) = λ f. typed_without_default bindings b (BindingIdent-id (AssignPat-left pat)) (type_ann type)
-      (is_absent_node _ _)
-  by_shown_stays b pat kind None = let place = Ident-span (BindingIdent-id (AssignPat-left pat)) in
-      default_stays bindings (AssignPat-span pat) place (AssignPat-left pat) (look (AssignPat-right pat) (Some place))
-      (ident_gives bindings (AssignPat-left pat) kind) (stays (AssignPat-right pat) (Some place))
-
   ident_default_stays : (b : Bool) (pat : Tree) → kind_of (AssignPat-left pat) ≡ kinds.BindingIdent →
       Typed (ident_default_seen bindings look b pat)
-  ident_default_stays b pat kind = let id = AssignPat-left pat in
-      of_choice Typed (is_absent (BindingIdent-type_ann id)) _ _
-      (λ e. by_shown_stays b pat kind (inferred_type Mutable bindings.unresolved (AssignPat-right pat)))
-      (λ e f. typed_without_default bindings b (BindingIdent-id id) (BindingIdent-type_ann id) e)
+  ident_default_stays b pat kind =
+      let left = AssignPat-left pat in
+      let place = Ident-span (BindingIdent-id left) in
+      of_typing Typed bindings.unresolved (default_typing pat) _ _
+      (λ type e f. typed_without_default bindings b (BindingIdent-id left) type e)
+      (default_stays bindings (AssignPat-span pat) place left (look (AssignPat-right pat) (Some place))
+      (ident_gives bindings left kind) (stays (AssignPat-right pat) (Some place)))
 
   pattern_default_stays : (type : Tree) (place : SourceRange) (emptied never pat : Tree) → GivesType bindings emptied →
       (is_absent type ≡ false → IsTypedPat bindings (assign_pat (AssignPat-span pat) emptied never)) →

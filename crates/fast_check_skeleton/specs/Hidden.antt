@@ -1,6 +1,6 @@
 -- Agreement of two sources but for what is hidden: one rule for each part that may differ.
 -- All else agrees node by node, under a renaming of positions and scope numbers.
-use Rattle.std.specs.Prelude.{◌≡◌, Bool, true, false, not, ◌&&◌, ◌||◌, Some, None, List, [], ◌∷◌}
+use Rattle.std.specs.Prelude.{◌≡◌, Bool, true, false, not, ◌&&◌, ◌||◌, List, [], ◌∷◌}
 use Rattle.std.specs.List.{list_all}
 use Rattle.fast_check_syntax.specs.declared.kind.Kind.{Kind}
 use Rattle.fast_check_syntax.specs.declared.kind.Kind.TheVariants.{BindingIdent, VarDecl, UsingDecl, ExportDecl, FnDecl}
@@ -8,11 +8,10 @@ use Rattle.fast_check_syntax.specs.declared.kind.Kind.TheVariants.{ClassDecl, Ex
 use Rattle.fast_check_syntax.specs.declared.kind.Kind.TheVariants.{TsNamespaceDecl}
 use Rattle.fast_check_syntax.specs.declared.source.SourceRange.{SourceRange}
 use Rattle.fast_check_syntax.specs.declared.tree.Tree.{Tree}
-use Rattle.fast_check_syntax.specs.Shape.{◌is◌, kind_of, parts, is_absent}
+use Rattle.fast_check_syntax.specs.Shape.{◌is◌, kind_of, parts}
 use Rattle.fast_check_syntax.specs.Moves.{Renaming, IsPair}
 use Rattle.fast_check_syntax.specs.Same.{SameTree, SameRange}
 use Rattle.fast_check_swc_helpers.specs.declared.literal_type.DeclMutabilityKind.{DeclMutabilityKind}
-use Rattle.fast_check_swc_helpers.specs.InferredType.{inferred_type}
 use Rattle.fast_check_swc_helpers.specs.ranges.Ranges.{range_of_node}
 use Rattle.fast_check_program_forms.specs.Programs.{Module-shebang}
 use Rattle.fast_check_program_forms.specs.ModuleDecls.{ExportDecl-span, ExportDecl-decl}
@@ -29,8 +28,8 @@ use Rattle.fast_check_statement_forms.specs.TsDeclarations.{TsModuleDecl-id, TsM
 use Rattle.fast_check_statement_forms.specs.TsDeclarations.{TsNamespaceDecl-span, TsNamespaceDecl-declare}
 use Rattle.fast_check_statement_forms.specs.TsDeclarations.{TsNamespaceDecl-global, TsNamespaceDecl-id}
 use Rattle.fast_check_statement_forms.specs.TsDeclarations.{TsNamespaceDecl-body}
-use Rattle.fast_check_skeleton.specs.SameValues.{SameBindings, Both, Neither, SameExpr, SameFunction}
-use Rattle.fast_check_skeleton.specs.SameValues.{SameImplementation}
+use Rattle.fast_check_skeleton.specs.SameValues.{SameBindings, Both, Neither, SameGiven, NoneGiven, SameValue}
+use Rattle.fast_check_skeleton.specs.SameValues.{SameFunction, SameImplementation}
 use Rattle.fast_check_skeleton.specs.SameClasses.{HasNoPartner, IsNoPartner, SameClass, SameAmbientClass}
 use Rattle.fast_check_skeleton.specs.Kinds.{is_standing, is_statement}
 use Rattle.fast_check_skeleton.specs.Mutability.{mutability_of}
@@ -42,7 +41,8 @@ use Rattle.fast_check_skeleton.specs.SameDefaults.{IsSilentDefault, SameDefault}
 use Rattle.fast_check_skeleton.specs.SameAssignments.{SameAssigned}
 use Rattle.fast_check_skeleton.specs.SameImportsExports.{IsSilentImportExport, SamePublic, SameImportExport}
 use Rattle.fast_check_skeleton.specs.ModuleFacts.{ModuleFacts, inside}
-use Rattle.fast_check_skeleton.specs.Visible.{declared_ident, declared_type, is_ambient_statement, is_public_declarator}
+use Rattle.fast_check_skeleton.specs.Visible.{declared_ident, declarator_typing, is_ambient_statement}
+use Rattle.fast_check_skeleton.specs.Visible.{is_public_declarator}
 use Rattle.fast_check_skeleton.specs.Visible.{is_ambient_class, is_public_using, using_place, items_of}
 
 -- a statement that is no declaration and no assignment
@@ -83,32 +83,23 @@ pub data IsSilent (facts : ModuleFacts) : Tree → Type 0 where
   default : {t : Tree} → IsSilentDefault facts t → IsSilent facts t
 
 module _ (r : Renaming) (a b : ModuleFacts) where
-  -- what agrees of two declarators, whatever their values
+  -- what agrees of two declarators, whatever their types and values
   pub record SameHead (t u : Tree) : Type 0 where
     pub span : SameRange r (VarDeclarator-span t) (VarDeclarator-span u)
     pub names : Both BindingIdent (VarDeclarator-name t) (VarDeclarator-name u)
     pub ident : SameTree r (declared_ident t) (declared_ident u)
     pub definite : VarDeclarator-definite t ≡ VarDeclarator-definite u
-    pub type : SameTree r (declared_type t) (declared_type u)
 
   -- declarators that are not ambient
   pub data SameDeclarator (mutability : DeclMutabilityKind) : Tree → Tree → Type 0 where
-    -- any values behind a written type, their presence too
-    typed : {t u : Tree} → SameHead t u → is_absent (declared_type t) ≡ false → SameDeclarator mutability t u
-    -- any values of the same inferred type
-    inferred : {t u : Tree} (x y : Tree) → SameHead t u →
-        inferred_type mutability a.bindings.unresolved (VarDeclarator-init t) ≡ Some x →
-        inferred_type mutability b.bindings.unresolved (VarDeclarator-init u) ≡ Some y →
-        SameTree r x y → SameDeclarator mutability t u
-    -- no values
-    absent : {t u : Tree} → SameHead t u →
-        is_absent (VarDeclarator-init t) ≡ true → is_absent (VarDeclarator-init u) ≡ true →
+    -- any values, their presence too
+    given : {t u : Tree} → SameHead t u →
+        SameGiven r a.bindings b.bindings (declarator_typing mutability t) (declarator_typing mutability u) →
         SameDeclarator mutability t u
-    -- values that show no type and are to stay
+    -- values that are to stay, or none
     kept : {t u : Tree} → SameHead t u →
-        inferred_type mutability a.bindings.unresolved (VarDeclarator-init t) ≡ None →
-        inferred_type mutability b.bindings.unresolved (VarDeclarator-init u) ≡ None →
-        SameExpr r a.bindings b.bindings (VarDeclarator-init t) (VarDeclarator-init u) → SameDeclarator mutability t u
+        NoneGiven r a.bindings b.bindings (declarator_typing mutability t) (declarator_typing mutability u) →
+        SameValue r a.bindings b.bindings (VarDeclarator-init t) (VarDeclarator-init u) → SameDeclarator mutability t u
     -- any values and types of patterns, which can't be declared
     destructured : {t u : Tree} → Neither BindingIdent (VarDeclarator-name t) (VarDeclarator-name u) →
         SameRange r (range_of_node (VarDeclarator-name t)) (range_of_node (VarDeclarator-name u)) →

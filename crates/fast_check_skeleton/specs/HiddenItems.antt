@@ -1,6 +1,6 @@
 -- Of the rules by which parts of a module go without a word, or differ unseen: such a part does, whatever stands in it.
 -- What is asked of it is no more than what decides that it is not public.
-use Rattle.std.specs.Prelude.{◌≡◌, Bool, true, false, not, Some, List, [], ◌∷◌}
+use Rattle.std.specs.Prelude.{◌≡◌, Bool, true, false, not, [], ◌∷◌}
 use Rattle.std.specs.List.{list_all}
 use Rattle.fast_check_syntax.specs.declared.kind.Kind.TheVariants.{VarDecl, UsingDecl, FnDecl, ClassDecl, ExportDecl}
 use Rattle.fast_check_syntax.specs.declared.kind.Kind.TheVariants.{TsModuleDecl, ExprStmt, AssignExpr, ImportDecl}
@@ -12,14 +12,13 @@ use Rattle.fast_check_syntax.specs.Shape.{kind_of, parts}
 use Rattle.fast_check_syntax.specs.Moves.{Renaming}
 use Rattle.fast_check_syntax.specs.Same.{SameTree}
 use Rattle.fast_check_swc_helpers.specs.declared.literal_type.DeclMutabilityKind.{DeclMutabilityKind}
-use Rattle.fast_check_swc_helpers.specs.InferredType.{inferred_type}
 use Rattle.fast_check_swc_helpers.specs.ranges.Ranges.{range_of_node}
 use Rattle.fast_check_expression_forms.specs.Operators.{AssignExpr-span}
 use Rattle.fast_check_program_forms.specs.ModuleDecls.{ExportDecl-span, ExportDecl-decl, ImportDecl-specifiers}
 use Rattle.fast_check_program_forms.specs.ModuleDecls.{NamedExport-specifiers, ExportAll-span}
 use Rattle.fast_check_program_forms.specs.ModuleDecls.{TsImportEqualsDecl-span, ExportDefaultDecl-span}
 use Rattle.fast_check_program_forms.specs.ModuleDecls.{ExportDefaultDecl-decl}
-use Rattle.fast_check_statement_forms.specs.Declarations.{VarDecl-decls, VarDeclarator-init}
+use Rattle.fast_check_statement_forms.specs.Declarations.{VarDecl-decls}
 use Rattle.fast_check_statement_forms.specs.Statements.{ExprStmt-expr}
 use Rattle.fast_check_skeleton.specs.SameClasses.{HasNoPartner, IsNoPartner}
 use Rattle.fast_check_skeleton.specs.Defaults.{is_public_value}
@@ -31,7 +30,8 @@ use Rattle.fast_check_skeleton.specs.SameImportsExports.{SamePublic}
 use Rattle.fast_check_skeleton.specs.Hidden.{is_plain_statement, IsSilentDecl, IsSilent, SameHead, SameDeclarator}
 use Rattle.fast_check_skeleton.specs.Hidden.{SameItems}
 use Rattle.fast_check_skeleton.specs.ModuleFacts.{ModuleFacts}
-use Rattle.fast_check_skeleton.specs.Visible.{is_public_declarator, is_public_using}
+use Rattle.fast_check_skeleton.specs.SameValues.{SameGiven}
+use Rattle.fast_check_skeleton.specs.Visible.{declarator_typing, is_public_declarator, is_public_using}
 
 -- a declaration `t`; `place` is the range of its export, or else its own
 pub record SilentDecls (facts : ModuleFacts) (place : SourceRange) (t : Tree) : Type 0 where
@@ -78,11 +78,10 @@ pub record UnseenItems (r : Renaming) (a b : ModuleFacts) : Type 0 where
   -- any declarator or specifier that is not public
   pub left_names : (p q : Tree → Bool) (t : Tree) → p t ≡ false → SamePublic p q (SameTree r) (t ∷ []) []
   pub right_names : (p q : Tree → Bool) (u : Tree) → q u ≡ false → SamePublic p q (SameTree r) [] (u ∷ [])
-  -- any two values of declarators that show the same type
-  pub shown_values : (mutability : DeclMutabilityKind) (t u left right : Tree) → SameHead r a b t u →
-      inferred_type mutability a.bindings.unresolved (VarDeclarator-init t) ≡ Some left →
-      inferred_type mutability b.bindings.unresolved (VarDeclarator-init u) ≡ Some right →
-      SameTree r left right → SameDeclarator r a b mutability t u
+  -- any two values of declarators of the same type
+  pub values : (mutability : DeclMutabilityKind) (t u : Tree) → SameHead r a b t u →
+      SameGiven r a.bindings b.bindings (declarator_typing mutability t) (declarator_typing mutability u) →
+      SameDeclarator r a b mutability t u
 
 pub record HiddenItems (r : Renaming) (a b : ModuleFacts) : Type 0 where
   pub decls : (facts : ModuleFacts) (place : SourceRange) (t : Tree) → SilentDecls facts place t

@@ -7,38 +7,35 @@ use Rattle.fast_check_syntax.specs.declared.kind.Word.TheVariants as words
 use Rattle.fast_check_syntax.specs.declared.source.SourceRange.{SourceRange}
 use Rattle.fast_check_syntax.specs.declared.tree.Tree as tree
 use Rattle.fast_check_syntax.specs.declared.tree.Tree.{Tree, Absent}
-use Rattle.fast_check_syntax.specs.Shape.{kind_of, parts, is_absent, none_range, node, list}
+use Rattle.fast_check_syntax.specs.Shape.{kind_of, parts, is_absent, none_range, list}
 use Rattle.fast_check_syntax.specs.Moves.{Renaming, IsRenaming}
 use Rattle.fast_check_syntax.specs.Same.{SameTree, SameRange, Each}
 use Rattle.fast_check_swc_helpers.specs.ranges.Ranges.{range_of_node}
 use Rattle.fast_check_class_forms.specs.Classes.{Constructor-span, Constructor-accessibility, Constructor-body}
-use Rattle.fast_check_class_forms.specs.Classes.{TsParamProp-accessibility, TsParamProp-readonly, TsParamProp-param}
-use Rattle.fast_check_class_forms.specs.Fields.{class_prop}
 use Rattle.fast_check_class_forms.specs.Functions.{function, param}
 use Rattle.fast_check_class_forms.specs.Methods.{class_method}
 use Rattle.fast_check_expression_forms.specs.Assertions.{ts_type_assertion}
 use Rattle.fast_check_expression_forms.specs.Expressions.{arrow_expr}
-use Rattle.fast_check_expression_forms.specs.Patterns.{AssignPat-span, AssignPat-left, AssignPat-right}
+use Rattle.fast_check_expression_forms.specs.Patterns.{AssignPat-span, AssignPat-left}
 use Rattle.fast_check_expression_forms.specs.Patterns.{assign_pat, object_pat}
 use Rattle.fast_check_program_forms.specs.Literals.{number}
-use Rattle.fast_check_program_forms.specs.Names.{BindingIdent-type_ann}
 use Rattle.fast_check_statement_forms.specs.Statements.{BlockStmt-stmts}
-use Rattle.fast_check_swc_helpers.specs.declared.literal_type.DeclMutabilityKind.TheVariants.{Mutable}
 use Rattle.fast_check_swc_helpers.specs.Builders.{ts_keyword_type, type_ann}
 use Rattle.fast_check_swc_helpers.specs.InferredType.{inferred_type}
 use Rattle.fast_check_swc_helpers.specs.NamedBodies.{named_return}
 use Rattle.fast_check_swc_helpers.specs.ReturnClass.{return_class}
 use Rattle.fast_check_signatures.specs.Bindings.{Bindings}
-use Rattle.fast_check_signatures.specs.Classes.{is_super_call, is_reference, param_target, param_properties}
-use Rattle.fast_check_signatures.specs.Classes.{mutability_of_property}
+use Rattle.fast_check_signatures.specs.Classes.{is_super_call, is_reference, param_properties, accessor_head}
+use Rattle.fast_check_signatures.specs.Classes.{property_typing, accessor_typing}
+use Rattle.fast_check_signatures.specs.Typing.{Typing}
 use Rattle.fast_check_signatures.specs.Members.{is_private, is_hash_named, is_private_method_of}
 use Rattle.fast_check_signatures.specs.Members.{is_private_implementation, is_private_computed}
 use Rattle.fast_check_signatures.specs.NewNodes.{no_scope, new_block, ident_name, ts_array_type}
 use Rattle.fast_check_skeleton.specs.SameValues.{SameExpr, SameFunction, SamePat, SameEmptied}
 use Rattle.fast_check_skeleton.specs.SameValues.{SameGathered, SameImplementation, rests, is_parameter}
-use Rattle.fast_check_skeleton.specs.SameValues.{Both, SameNamed, SameParams, SameShown, NoneShown}
-use Rattle.fast_check_skeleton.specs.SameValues.{takes_default}
-use Rattle.fast_check_skeleton.specs.SameClasses.{IsSilentMember, SameProperty, SameAccessor, SameParamType}
+use Rattle.fast_check_skeleton.specs.SameValues.{Both, SameNamed, SameParams, takes_default, SameTypes, NoTypes}
+use Rattle.fast_check_skeleton.specs.SameValues.{SameGiven, NoneGiven, SameTyping}
+use Rattle.fast_check_skeleton.specs.SameClasses.{IsSilentMember, SamePropertyHead, SameProperty, SameMember}
 use Rattle.fast_check_skeleton.specs.SameClasses.{SameConstructed, SameConstructor, SameSuperCalls, SameMethod}
 use Rattle.fast_check_skeleton.specs.SameClasses.{SameSuperclass, SameAmbientMembers, rest_params}
 use Rattle.fast_check_skeleton.specs.SameClasses.{SameParamProperty, SameMembers, HasNoPartner}
@@ -79,19 +76,10 @@ setter_s stmts =
     class_method none_range (ident_name none_range []) (function_of [] stmts Absent) (tree.Word words.Setter) false
     Absent false false false
 
--- a property and an accessor
-abbrev pub property_of : Tree → Tree → Tree → Tree
-property_of accessibility type value =
-    class_prop none_range (ident_name none_range []) value type false (list []) accessibility false false
-    false false false false
-
-abbrev pub accessor_of : Tree → Tree → Tree → Tree
-accessor_of accessibility type value =
-    node kinds.AutoAccessor (tree.Range none_range ∷ ident_name none_range [] ∷ value ∷ type ∷ tree.Flag false ∷
-    list [] ∷ accessibility ∷ tree.Flag false ∷ tree.Flag false ∷ tree.Flag false ∷ [])
-
-abbrev pub private_word : Tree
-private_word = tree.Word words.Private
+-- declarations that are not private, and have no written type
+abbrev pub LackTypes : Typing → Typing → Type 0
+LackTypes t u =
+    ((t.is_private ≡ false) × (u.is_private ≡ false)) × ((is_absent t.type ≡ true) × (is_absent u.type ≡ true))
 
 module _ (r : Renaming) (c d : Bindings) where
   -- bodies of one return class that name no type
@@ -99,6 +87,22 @@ module _ (r : Renaming) (c d : Bindings) where
     pub class : return_class (new_block stmts) ≡ return_class (new_block others)
     pub left : named_return c.unresolved false (new_block stmts) ≡ None
     pub right : named_return d.unresolved false (new_block others) ≡ None
+
+  -- of the types of two declarations
+  pub record HiddenTypes (t u : Typing) : Type 0 where
+    -- any types and values of private ones
+    pub private : t.is_private ≡ true → u.is_private ≡ true → SameGiven r c d t u
+    -- any values behind a written type
+    pub typed : t.is_private ≡ false → u.is_private ≡ false → is_absent t.type ≡ false → SameTree r t.type u.type →
+        SameGiven r c d t u
+    -- any two values that show the same type, or none
+    pub shown : LackTypes t u → SameTypes r (inferred_type t.mutability c.unresolved t.value)
+        (inferred_type u.mutability d.unresolved u.value) → SameGiven r c d t u
+    pub not_shown : LackTypes t u → NoTypes (inferred_type t.mutability c.unresolved t.value)
+        (inferred_type u.mutability d.unresolved u.value) → NoneGiven r c d t u
+    -- whatever else their values are, where these do not stay
+    pub given : SameGiven r c d t u → SameTyping r c d t u
+    pub not_given : NoneGiven r c d t u → SameTyping r c d t u
 
   -- of values and parameters
   pub record HiddenValues : Type 0 where
@@ -154,43 +158,11 @@ module _ (r : Renaming) (c d : Bindings) where
       -- any bodies of setters that are no implementations behind overloads
       pub setters : (stmts others : List Tree) → f none_range ≡ false → g none_range ≡ false →
           SameMethod r c d f g (setter_s stmts) (setter_s others)
-      -- any types and values of private properties and accessors
-      pub private_properties : (type another value other : Tree) →
-          SameProperty r c d f g (property_of private_word type value) (property_of private_word another other)
-      pub private_accessors : (type another value other : Tree) →
-          SameAccessor r c d f g (accessor_of private_word type value) (accessor_of private_word another other)
-      -- any values behind a written type
-      pub typed_properties : (value another : Tree) →
-          SameProperty r c d f g (property_of Absent numbers_type value) (property_of Absent numbers_type another)
-      pub typed_accessors : (value another : Tree) →
-          SameAccessor r c d f g (accessor_of Absent numbers_type value) (accessor_of Absent numbers_type another)
-      -- any two values that show the same type
-      pub shown_properties : (value another : List ℕ) → SameProperty r c d f g
-          (property_of Absent Absent (number none_range value)) (property_of Absent Absent (number none_range another))
-      pub shown_accessors : (value another : List ℕ) → SameAccessor r c d f g
-          (accessor_of Absent Absent (number none_range value)) (accessor_of Absent Absent (number none_range another))
-      -- any two values of accessors that show none
-      pub untyped_accessors : (value another : Tree) → inferred_type Mutable c.unresolved value ≡ None →
-          inferred_type Mutable d.unresolved another ≡ None →
-          SameAccessor r c d f g (accessor_of Absent Absent value) (accessor_of Absent Absent another)
-      -- any types and defaults of private parameter properties
-      pub private_params : (t u : Tree) → is_private (TsParamProp-accessibility t) ≡ true → SameParamType r c d f g t u
-      -- any defaults of parameter properties behind a written type
-      pub typed_params : (t u : Tree) →
-          SameTree r (BindingIdent-type_ann (param_target t)) (BindingIdent-type_ann (param_target u)) →
-          is_absent (BindingIdent-type_ann (param_target t)) ≡ false → SameParamType r c d f g t u
-      -- any two defaults of parameter properties that show the same type
-      pub shown_params : (t u : Tree) →
-          SameTree r (BindingIdent-type_ann (param_target t)) (BindingIdent-type_ann (param_target u)) →
-          Both kinds.AssignPat (TsParamProp-param t) (TsParamProp-param u) →
-          SameShown r c d (mutability_of_property (TsParamProp-readonly t))
-          (AssignPat-right (TsParamProp-param t)) (AssignPat-right (TsParamProp-param u)) → SameParamType r c d f g t u
-      -- any two defaults of parameter properties that show no type
-      pub untyped_params : (t u : Tree) →
-          SameTree r (BindingIdent-type_ann (param_target t)) (BindingIdent-type_ann (param_target u)) →
-          Both kinds.AssignPat (TsParamProp-param t) (TsParamProp-param u) →
-          NoneShown r c d (mutability_of_property (TsParamProp-readonly t))
-          (AssignPat-right (TsParamProp-param t)) (AssignPat-right (TsParamProp-param u)) → SameParamType r c d f g t u
+      -- any values of properties and accessors of the same type
+      pub properties : (t u : Tree) → SameGiven r c d (property_typing t) (property_typing u) → SameProperty r c d f g t u
+      pub accessors : (t u : Tree) → Both kinds.AutoAccessor t u →
+          SamePropertyHead r c d f g (accessor_head t) (accessor_head u) →
+          SameTyping r c d (accessor_typing t) (accessor_typing u) → SameMember r c d f g t u
       -- anything in a constructor but its calls of `super` and its parameter properties
       pub constructed : (t u : Tree) →
           SameSuperCalls r c d f g (parts (BlockStmt-stmts (Constructor-body t)))
@@ -232,6 +204,7 @@ pub record SilentMembers (earlier : List Tree) (m : Tree) : Type 0 where
       IsSilentMember earlier m
 
 pub record HiddenRules (r : Renaming) (c d : Bindings) (f g : SourceRange → Bool) : Type 0 where
+  pub types : (t u : Typing) → HiddenTypes r c d t u
   pub values : HiddenValues r c d
   pub members : HiddenMembers r c d f g
   pub silent : (earlier : List Tree) (m : Tree) → SilentMembers earlier m

@@ -4,7 +4,7 @@ use Rattle.std.specs.Prelude.{◌≡◌, ℕ, Bool, true, false, List, [], ◌�
 use Rattle.std.specs.List.{list_any}
 use Rattle.fast_check_syntax.specs.declared.kind.Kind.TheVariants.{Constructor, ClassMethod, ClassProp}
 use Rattle.fast_check_syntax.specs.declared.kind.Kind.TheVariants.{TsIndexSignature, AutoAccessor, StaticBlock}
-use Rattle.fast_check_syntax.specs.declared.kind.Kind.TheVariants.{EmptyStmt, BindingIdent, AssignPat, RestPat}
+use Rattle.fast_check_syntax.specs.declared.kind.Kind.TheVariants.{EmptyStmt, BindingIdent, RestPat}
 use Rattle.fast_check_syntax.specs.declared.kind.Word.TheVariants.{Setter}
 use Rattle.fast_check_syntax.specs.declared.source.SourceRange.{SourceRange}
 use Rattle.fast_check_syntax.specs.declared.tree.Tree.{Tree}
@@ -19,28 +19,25 @@ use Rattle.fast_check_class_forms.specs.Classes.{Constructor-ctxt, Constructor-k
 use Rattle.fast_check_class_forms.specs.Classes.{Constructor-body, Constructor-accessibility, Constructor-is_optional}
 use Rattle.fast_check_class_forms.specs.Classes.{TsParamProp-span, TsParamProp-accessibility, TsParamProp-readonly}
 use Rattle.fast_check_class_forms.specs.Classes.{TsParamProp-param}
-use Rattle.fast_check_class_forms.specs.Fields.{ClassProp-accessibility, ClassProp-readonly, ClassProp-is_override}
-use Rattle.fast_check_class_forms.specs.Fields.{ClassProp-type_ann, ClassProp-value, AutoAccessor-accessibility}
-use Rattle.fast_check_class_forms.specs.Fields.{AutoAccessor-type_ann, AutoAccessor-value}
+use Rattle.fast_check_class_forms.specs.Fields.{ClassProp-is_override, ClassProp-value}
 use Rattle.fast_check_class_forms.specs.Functions.{Function-params, Param-pat}
 use Rattle.fast_check_class_forms.specs.Methods.{ClassMethod-span, ClassMethod-function, ClassMethod-kind}
 use Rattle.fast_check_class_forms.specs.Methods.{ClassMethod-accessibility, ClassMethod-is_override}
 use Rattle.fast_check_expression_forms.specs.Calls.{CallExpr-span, CallExpr-ctxt, CallExpr-callee, CallExpr-args}
 use Rattle.fast_check_expression_forms.specs.Calls.{CallExpr-type_args}
 use Rattle.fast_check_expression_forms.specs.Expressions.{ExprOrSpread-spread}
-use Rattle.fast_check_expression_forms.specs.Patterns.{AssignPat-right}
-use Rattle.fast_check_program_forms.specs.Names.{BindingIdent-id, BindingIdent-type_ann}
+use Rattle.fast_check_program_forms.specs.Names.{BindingIdent-id}
 use Rattle.fast_check_statement_forms.specs.Statements.{BlockStmt-stmts, ExprStmt-span, ExprStmt-expr}
-use Rattle.fast_check_swc_helpers.specs.declared.literal_type.DeclMutabilityKind.TheVariants.{Mutable}
 use Rattle.fast_check_signatures.specs.Bindings.{Bindings}
 use Rattle.fast_check_signatures.specs.Seen.{PropertyHead}
 use Rattle.fast_check_signatures.specs.Members.{is_private, is_hash_named, is_private_method_of}
 use Rattle.fast_check_signatures.specs.Members.{is_private_implementation, is_private_computed}
-use Rattle.fast_check_signatures.specs.Classes.{mutability_of_property, property_head, accessor_head}
-use Rattle.fast_check_signatures.specs.Classes.{private_method_head, plain_param, param_target, param_properties}
+use Rattle.fast_check_signatures.specs.Classes.{property_head, accessor_head, property_typing, accessor_typing}
+use Rattle.fast_check_signatures.specs.Classes.{param_typing, private_method_head, plain_param, param_target}
+use Rattle.fast_check_signatures.specs.Classes.{param_properties}
 use Rattle.fast_check_signatures.specs.Classes.{patterns_among, is_super_call, is_reference}
-use Rattle.fast_check_skeleton.specs.SameValues.{Both, Neither, SameExpr, SameFunction, SameFunctionHead, SameReturn}
-use Rattle.fast_check_skeleton.specs.SameValues.{SameParams, SameImplementation, SameShown, NoneShown}
+use Rattle.fast_check_skeleton.specs.SameValues.{Both, SameFunction, SameFunctionHead, SameReturn, SameParams}
+use Rattle.fast_check_skeleton.specs.SameValues.{SameImplementation, SameGiven, NoneGiven, SameTyping, SameValue}
 
 -- a has no partner; b is the partner of none
 abbrev pub HasNoPartner : Pairs → ℕ → Type 0
@@ -84,58 +81,13 @@ module _ (r : Renaming) (c d : Bindings) (f g : SourceRange → Bool) where
 
   -- the type and the value of a property
   pub data SameProperty (t u : Tree) : Type 0 where
-    -- any types and values of private ones, their presence too
-    any : is_private (ClassProp-accessibility t) ≡ true → SameProperty t u
-    -- any values behind a written type, their presence too
-    typed : SameTree r (ClassProp-type_ann t) (ClassProp-type_ann u) → is_absent (ClassProp-type_ann t) ≡ false →
-        SameProperty t u
-    -- any values of the same inferred type
-    inferred : SameTree r (ClassProp-type_ann t) (ClassProp-type_ann u) →
-        SameShown r c d (mutability_of_property (ClassProp-readonly t)) (ClassProp-value t) (ClassProp-value u) →
-        SameProperty t u
-    -- no values
-    absent : SameTree r (ClassProp-type_ann t) (ClassProp-type_ann u) →
-        ClassProp-is_override t ≡ ClassProp-is_override u →
-        is_absent (ClassProp-value t) ≡ true → is_absent (ClassProp-value u) ≡ true → SameProperty t u
-    -- values that show no type and are to stay
-    kept : SameTree r (ClassProp-type_ann t) (ClassProp-type_ann u) →
-        (ClassProp-is_override t ≡ ClassProp-is_override u) →
-        NoneShown r c d (mutability_of_property (ClassProp-readonly t)) (ClassProp-value t) (ClassProp-value u) →
-        SameExpr r c d (ClassProp-value t) (ClassProp-value u) → SameProperty t u
-
-  -- the type and the value of an accessor, which is taken for one that changes
-  pub data SameAccessor (t u : Tree) : Type 0 where
-    any : is_private (AutoAccessor-accessibility t) ≡ true → SameAccessor t u
-    typed : SameTree r (AutoAccessor-type_ann t) (AutoAccessor-type_ann u) →
-        is_absent (AutoAccessor-type_ann t) ≡ false → SameAccessor t u
-    inferred : SameTree r (AutoAccessor-type_ann t) (AutoAccessor-type_ann u) →
-        SameShown r c d Mutable (AutoAccessor-value t) (AutoAccessor-value u) → SameAccessor t u
-    -- any values that show no type, their presence too
-    untyped : SameTree r (AutoAccessor-type_ann t) (AutoAccessor-type_ann u) →
-        NoneShown r c d Mutable (AutoAccessor-value t) (AutoAccessor-value u) →
-        SameAccessor t u
+    -- any values, their presence too
+    given : SameGiven r c d (property_typing t) (property_typing u) → SameProperty t u
+    -- values that are to stay, or none
+    kept : NoneGiven r c d (property_typing t) (property_typing u) → ClassProp-is_override t ≡ ClassProp-is_override u →
+        SameValue r c d (ClassProp-value t) (ClassProp-value u) → SameProperty t u
 
   -- ---- constructors
-
-  -- the type of a parameter property
-  pub data SameParamType (t u : Tree) : Type 0 where
-    any : is_private (TsParamProp-accessibility t) ≡ true → SameParamType t u
-    typed : SameTree r (BindingIdent-type_ann (param_target t)) (BindingIdent-type_ann (param_target u)) →
-        is_absent (BindingIdent-type_ann (param_target t)) ≡ false → SameParamType t u
-    -- defaults of the same inferred type, behind no written type
-    inferred : SameTree r (BindingIdent-type_ann (param_target t)) (BindingIdent-type_ann (param_target u)) →
-        Both AssignPat (TsParamProp-param t) (TsParamProp-param u) →
-        SameShown r c d (mutability_of_property (TsParamProp-readonly t)) (AssignPat-right (TsParamProp-param t))
-        (AssignPat-right (TsParamProp-param u)) → SameParamType t u
-    -- defaults that show no type
-    untyped : SameTree r (BindingIdent-type_ann (param_target t)) (BindingIdent-type_ann (param_target u)) →
-        Both AssignPat (TsParamProp-param t) (TsParamProp-param u) →
-        NoneShown r c d (mutability_of_property (TsParamProp-readonly t))
-        (AssignPat-right (TsParamProp-param t)) (AssignPat-right (TsParamProp-param u)) →
-        SameParamType t u
-    -- no defaults
-    bare : SameTree r (BindingIdent-type_ann (param_target t)) (BindingIdent-type_ann (param_target u)) →
-        Neither AssignPat (TsParamProp-param t) (TsParamProp-param u) → SameParamType t u
 
   -- parameter properties, as properties
   pub record SameParamProperty (t u : Tree) : Type 0 where
@@ -145,7 +97,8 @@ module _ (r : Renaming) (c d : Bindings) (f g : SourceRange → Bool) where
     pub names : Both BindingIdent (param_target t) (param_target u)
     pub ident : SameTree r (BindingIdent-id (param_target t)) (BindingIdent-id (param_target u))
     pub is_default : kind_of (TsParamProp-param t) is BindingIdent ≡ kind_of (TsParamProp-param u) is BindingIdent
-    pub type : SameParamType t u
+    -- any defaults
+    pub type : SameTyping r c d (param_typing t) (param_typing u)
 
   -- calls of the superclass's constructor, whatever their arguments are, but for how many these are and which are
   -- spread
@@ -239,8 +192,9 @@ module _ (r : Renaming) (c d : Bindings) (f g : SourceRange → Bool) where
         SameSigned t u → SameMember t u
     property : {t u : Tree} → Both ClassProp t u → SamePropertyHead (property_head t) (property_head u) →
         SameProperty t u → SameMember t u
+    -- any values
     accessor : {t u : Tree} → Both AutoAccessor t u → SamePropertyHead (accessor_head t) (accessor_head u) →
-        SameAccessor t u → SameMember t u
+        SameTyping r c d (accessor_typing t) (accessor_typing u) → SameMember t u
     index_signature : {t u : Tree} → Both TsIndexSignature t u → SameTree r t u → SameMember t u
 
   -- Members one by one, the silent ones aside; where a silent one begins has no partner. Of each class the members

@@ -1,6 +1,6 @@
 -- Agreement of values, functions and parameters but for what is hidden: one rule for each part that may differ. All
 -- else agrees under a renaming of positions and scope numbers.
-use Rattle.std.specs.Prelude.{◌≡◌, Bool, true, false, Some, None, List, [], ◌∷◌, map, if◌then◌else◌}
+use Rattle.std.specs.Prelude.{◌≡◌, Bool, true, false, Option, Some, None, List, [], ◌∷◌, map, if◌then◌else◌}
 use Rattle.fast_check_syntax.specs.declared.kind.Kind.{Kind}
 use Rattle.fast_check_syntax.specs.declared.kind.Kind.TheVariants.{AssignPat, ArrayPat, ObjectPat, RestPat}
 use Rattle.fast_check_syntax.specs.declared.kind.Kind.TheVariants.{BindingIdent, PatExpr, BlockStmt, TsSatisfiesExpr}
@@ -26,7 +26,6 @@ use Rattle.fast_check_expression_forms.specs.Patterns.{ArrayPat-span, ArrayPat-o
 use Rattle.fast_check_expression_forms.specs.Patterns.{ObjectPat-span, ObjectPat-optional, ObjectPat-type_ann}
 use Rattle.fast_check_expression_forms.specs.Patterns.{RestPat-span, RestPat-dot3_token, RestPat-arg, RestPat-type_ann}
 use Rattle.fast_check_expression_forms.specs.Patterns.{AssignPat-span, AssignPat-left, AssignPat-right}
-use Rattle.fast_check_program_forms.specs.Names.{BindingIdent-type_ann}
 use Rattle.fast_check_swc_helpers.specs.ranges.Ranges.{range_of_node}
 use Rattle.fast_check_swc_helpers.specs.declared.literal_type.DeclMutabilityKind.{DeclMutabilityKind}
 use Rattle.fast_check_swc_helpers.specs.declared.literal_type.DeclMutabilityKind.TheVariants.{Mutable}
@@ -35,6 +34,8 @@ use Rattle.fast_check_swc_helpers.specs.NamedBodies.{named_return}
 use Rattle.fast_check_swc_helpers.specs.ReturnClass.{return_class}
 use Rattle.fast_check_signatures.specs.Bindings.{Bindings}
 use Rattle.fast_check_signatures.specs.Expressions.{is_plain, is_compound, is_frozen, is_made, is_refused}
+use Rattle.fast_check_signatures.specs.Parameters.{default_typing}
+use Rattle.fast_check_signatures.specs.Typing.{Typing, type_of}
 
 -- both are of a kind
 pub record Both (k : Kind) (t u : Tree) : Type 0 where
@@ -84,20 +85,42 @@ pub record SameBindings (r : Renaming) (c d : Bindings) : Type 0 where
   -- what nothing in the first module binds is what nothing in the second binds
   pub unresolved : IsPair r.scopes c.unresolved.0 d.unresolved.0
 
+-- two types that agree
+pub record SameTypes (r : Renaming) (x y : Option Tree) : Type 0 where
+  pub left : Tree
+  pub right : Tree
+  pub left_is : x ≡ Some left
+  pub right_is : y ≡ Some right
+  pub types : SameTree r left right
+
+-- no type on either side
+pub record NoTypes (x y : Option Tree) : Type 0 where
+  pub left : x ≡ None
+  pub right : y ≡ None
+
 -- `c` and `d` are what is known of the names of either source
 module _ (r : Renaming) (c d : Bindings) where
   -- values that show types which agree
-  pub record SameShown (mutability : DeclMutabilityKind) (t u : Tree) : Type 0 where
-    pub left : Tree
-    pub right : Tree
-    pub left_is : inferred_type mutability c.unresolved t ≡ Some left
-    pub right_is : inferred_type mutability d.unresolved u ≡ Some right
-    pub types : SameTree r left right
+  abbrev pub SameShown : DeclMutabilityKind → Tree → Tree → Type 0
+  SameShown mutability t u = SameTypes r (inferred_type mutability c.unresolved t) (inferred_type mutability d.unresolved u)
 
   -- values that show none
-  pub record NoneShown (mutability : DeclMutabilityKind) (t u : Tree) : Type 0 where
-    pub left : inferred_type mutability c.unresolved t ≡ None
-    pub right : inferred_type mutability d.unresolved u ≡ None
+  abbrev pub NoneShown : DeclMutabilityKind → Tree → Tree → Type 0
+  NoneShown mutability t u = NoTypes (inferred_type mutability c.unresolved t) (inferred_type mutability d.unresolved u)
+
+  -- declarations of types that agree, whatever gives these: any two private ones, those of the same written type with any
+  -- values, and those whose values show the same type
+  abbrev pub SameGiven : Typing → Typing → Type 0
+  SameGiven t u = SameTypes r (type_of c.unresolved t) (type_of d.unresolved u)
+
+  -- declarations whose types nothing gives
+  abbrev pub NoneGiven : Typing → Typing → Type 0
+  NoneGiven t u = NoTypes (type_of c.unresolved t) (type_of d.unresolved u)
+
+  -- declarations of either sort, whose values do not stay
+  pub data SameTyping (t u : Typing) : Type 0 where
+    given : SameGiven t u → SameTyping t u
+    not_given : NoneGiven t u → SameTyping t u
 
   -- bodies of which neither names a return type, or both do, and the types agree
   pub data SameNamed (is_generator : Bool) (t u : Tree) : Type 0 where
@@ -250,18 +273,13 @@ module _ (r : Renaming) (c d : Bindings) where
       default_taken_apart : {t u : Tree} → Both AssignPat t u → takes_default (kind_of (AssignPat-left t)) ≡ false →
           takes_default (kind_of (AssignPat-left u)) ≡ false → SameRange r (AssignPat-span t) (AssignPat-span u) →
           SamePat t u
-      -- any defaults of identifiers with a written type
-      typed_default : {t u : Tree} → Both AssignPat t u → Both BindingIdent (AssignPat-left t) (AssignPat-left u) →
-          SameTree r (AssignPat-left t) (AssignPat-left u) →
-          is_absent (BindingIdent-type_ann (AssignPat-left t)) ≡ false → SamePat t u
-      -- any defaults of the same inferred type
-      shown_default : {t u : Tree} → Both AssignPat t u → Both BindingIdent (AssignPat-left t) (AssignPat-left u) →
-          SameTree r (AssignPat-left t) (AssignPat-left u) → SameShown Mutable (AssignPat-right t) (AssignPat-right u) →
-          SamePat t u
+      -- any defaults of identifiers, behind the same written type or of the same inferred type
+      given_default : {t u : Tree} → Both AssignPat t u → Both BindingIdent (AssignPat-left t) (AssignPat-left u) →
+          SameTree r (AssignPat-left t) (AssignPat-left u) → SameGiven (default_typing t) (default_typing u) → SamePat t u
       -- defaults that are to stay
       kept_default : {t u : Tree} → Both AssignPat t u → Both BindingIdent (AssignPat-left t) (AssignPat-left u) →
           SameRange r (AssignPat-span t) (AssignPat-span u) →
-          SameTree r (AssignPat-left t) (AssignPat-left u) → NoneShown Mutable (AssignPat-right t) (AssignPat-right u) →
+          SameTree r (AssignPat-left t) (AssignPat-left u) → NoneGiven (default_typing t) (default_typing u) →
           SameExpr (AssignPat-right t) (AssignPat-right u) → SamePat t u
       -- any defaults of patterns with a written type
       typed_pattern : {t u : Tree} → Both AssignPat t u → SameRange r (AssignPat-span t) (AssignPat-span u) →
@@ -271,3 +289,8 @@ module _ (r : Renaming) (c d : Bindings) where
       kept_pattern : {t u : Tree} → Both AssignPat t u →
           SameRange r (AssignPat-span t) (AssignPat-span u) → SameEmptied (AssignPat-left t) (AssignPat-left u) →
           SameExpr (AssignPat-right t) (AssignPat-right u) → SamePat t u
+
+  -- values that are to stay, or none on either side
+  pub data SameValue (t u : Tree) : Type 0 where
+    no_values : is_absent t ≡ true → is_absent u ≡ true → SameValue t u
+    kept : SameExpr t u → SameValue t u

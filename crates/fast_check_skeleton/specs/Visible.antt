@@ -1,6 +1,6 @@
 -- Stage 1 of the meaning of a transform: what is seen of a module.
 -- All that is asked outside the tree is asked here. What follows sees nothing that is hidden.
-use Rattle.std.specs.Prelude.{Bool, ◌||◌, if◌then◌else◌, Option, Some, None, List, [], ◌∷◌, ◌++◌}
+use Rattle.std.specs.Prelude.{Bool, false, ◌||◌, if◌then◌else◌, Some, List, [], ◌∷◌, ◌++◌}
 use Rattle.std.specs.List.{flat_map, list_any}
 use Rattle.fast_check_syntax.specs.declared.kind.Kind.TheVariants.{BindingIdent, VarDecl, FnDecl, ClassDecl, ExportDecl}
 use Rattle.fast_check_syntax.specs.declared.source.SourceRange.{SourceRange}
@@ -8,8 +8,7 @@ use Rattle.fast_check_syntax.specs.declared.tree.Tree.{Tree}
 use Rattle.fast_check_syntax.specs.Shape.{◌is◌, kind_of, parts, is_absent}
 use Rattle.fast_check_syntax.specs.Descent.{by_descent}
 use Rattle.fast_check_swc_helpers.specs.declared.literal_type.DeclMutabilityKind.{DeclMutabilityKind}
-use Rattle.fast_check_swc_helpers.specs.Builders.{type_ann, never_value}
-use Rattle.fast_check_swc_helpers.specs.InferredType.{inferred_type}
+use Rattle.fast_check_swc_helpers.specs.Builders.{never_value}
 use Rattle.fast_check_swc_helpers.specs.ranges.Ranges.{range_of_node}
 use Rattle.fast_check_program_forms.specs.Names.{Ident-span, BindingIdent-id, BindingIdent-type_ann, binding_ident}
 use Rattle.fast_check_program_forms.specs.Programs.{Module-body}
@@ -30,6 +29,7 @@ use Rattle.fast_check_signatures.specs.Expressions.{expr_seen}
 use Rattle.fast_check_signatures.specs.Functions.{function_seen, implementation_seen}
 use Rattle.fast_check_signatures.specs.Seen.{DeclaratorHead, Seen, written, range, scope, flag, round, listed}
 use Rattle.fast_check_signatures.specs.Seen.{declarator, faulty, refused, seens}
+use Rattle.fast_check_signatures.specs.Typing.{Typing, type_of, seen_by}
 use Rattle.fast_check_skeleton.specs.declared.rules.DeclRule.{DeclRule}
 use Rattle.fast_check_skeleton.specs.declared.rules.DeclRule.TheVariants.{Variables, Function, Class, Standing}
 use Rattle.fast_check_skeleton.specs.declared.rules.DeclRule.TheVariants.{Namespace, Using, NoDeclaration}
@@ -68,18 +68,16 @@ typed_declarator d type = var_declarator d.span (binding_ident d.ident type) nev
 abbrev pub value_seen : ModuleFacts → SourceRange → Tree → Seen
 value_seen facts place value = if is_absent value then refused else expr_seen facts.bindings value (Some place)
 
--- a declarator without a written type, by the type that its value shows, or else with the value as it may stay
-abbrev pub untyped_seen : ModuleFacts → Tree → Option Tree → Seen
-untyped_seen facts d (Some type) = written (typed_declarator (declarator_head d) (type_ann type))
-untyped_seen facts d None = declarator (declarator_head d)
-    (value_seen facts (Ident-span (declared_ident d)) (VarDeclarator-init d))
+abbrev pub declarator_typing : DeclMutabilityKind → Tree → Typing
+declarator_typing mutability d =
+    record { is_private = false; type = declared_type d; value = VarDeclarator-init d; mutability = mutability }
 
--- a declarator of an identifier
+-- a declarator of an identifier, with its type, or else with its value as it may stay
 abbrev pub ident_declarator_seen : ModuleFacts → DeclMutabilityKind → Tree → Seen
 ident_declarator_seen facts mutability d =
-    if is_absent (declared_type d) then untyped_seen facts d
-    (inferred_type mutability facts.bindings.unresolved (VarDeclarator-init d))
-    else written (typed_declarator (declarator_head d) (declared_type d))
+    let head = declarator_head d in
+    seen_by (type_of facts.bindings.unresolved (declarator_typing mutability d)) (λ type. written (typed_declarator head type))
+    (declarator head (value_seen facts (Ident-span (declared_ident d)) (VarDeclarator-init d)))
 
 -- a declarator that is not ambient; a pattern can't be one
 abbrev pub declarator_seen : ModuleFacts → DeclMutabilityKind → Tree → Seen

@@ -1,28 +1,23 @@
 -- Inner: no contract of a public call cites what stands here.
 -- The parts of classes: what is answered to properties and accessors, and the nodes of members.
-use Rattle.std.specs.Prelude.{Bool, false, Option, Some, None, List, [], ◌∷◌, map, option_map, if◌then◌else◌}
+use Rattle.std.specs.Prelude.{Bool, false, Option, Some, None, List, [], ◌∷◌, map}
 use Rattle.std.specs.List.{filter}
 use Rattle.fast_check_syntax.specs.declared.source.SourceRange.{SourceRange}
 use Rattle.fast_check_syntax.specs.declared.source.SyntaxContext.{SyntaxContext}
 use Rattle.fast_check_syntax.specs.declared.tree.Tree.{Tree}
-use Rattle.fast_check_syntax.specs.Shape.{is_absent, list}
+use Rattle.fast_check_syntax.specs.Shape.{list}
 use Rattle.fast_check_class_forms.specs.Classes.{Constructor-span, Constructor-ctxt, Constructor-key, Constructor-body}
 use Rattle.fast_check_class_forms.specs.Classes.{Constructor-accessibility, Constructor-is_optional, constructor}
-use Rattle.fast_check_class_forms.specs.Fields.{ClassProp-key, ClassProp-value, ClassProp-readonly}
-use Rattle.fast_check_class_forms.specs.Fields.{AutoAccessor-value, AutoAccessor-type_ann, AutoAccessor-accessibility}
+use Rattle.fast_check_class_forms.specs.Fields.{ClassProp-key, ClassProp-value}
 use Rattle.fast_check_class_forms.specs.Methods.{ClassMethod-span, ClassMethod-key, ClassMethod-kind}
 use Rattle.fast_check_class_forms.specs.Methods.{ClassMethod-is_static, ClassMethod-accessibility}
 use Rattle.fast_check_class_forms.specs.Methods.{ClassMethod-is_abstract, ClassMethod-is_optional}
 use Rattle.fast_check_class_forms.specs.Methods.{ClassMethod-is_override, class_method}
-use Rattle.fast_check_swc_helpers.specs.declared.literal_type.DeclMutabilityKind.TheVariants.{Mutable}
-use Rattle.fast_check_swc_helpers.specs.Builders.{type_ann, any_type_ann}
-use Rattle.fast_check_swc_helpers.specs.InferredType.{inferred_type}
 use Rattle.fast_check_swc_helpers.specs.ranges.Ranges.{range_of_node}
 use Rattle.fast_check_signatures.specs.declared.fault.FaultKind.TheVariants.{MissingExplicitType}
 use Rattle.fast_check_signatures.specs.Answers.{Answer, fault_at, demanded, answer_to, answer_of}
 use Rattle.fast_check_signatures.specs.Bindings.{Bindings}
 use Rattle.fast_check_signatures.specs.Classes as classes
-use Rattle.fast_check_signatures.specs.Members.{is_private}
 
 -- no implementations are asked of properties and accessors
 abbrev pub no_implementations : SourceRange → Bool
@@ -35,22 +30,9 @@ value_answer bindings m =
     demanded (fault_at MissingExplicitType place)
     (answer_to (classes.member_value_seen bindings no_implementations place (ClassProp-value m)))
 
--- to a property without a written type, and to a property
-unfoldable pub untyped_answer : Bindings → Tree → Answer (Option Tree)
-untyped_answer bindings m =
-    answer_to (classes.untyped_property_seen bindings no_implementations (classes.property_head m) (ClassProp-value m)
-    (inferred_type (classes.mutability_of_property (ClassProp-readonly m)) bindings.unresolved (ClassProp-value m)))
-
+-- to a property
 unfoldable pub property_answer : Bindings → Tree → Answer (Option Tree)
 property_answer bindings m = answer_to (classes.property_seen bindings no_implementations m)
-
--- the type of an accessor: written, or shown by its value; a private one is of any type
-abbrev pub accessor_type : SyntaxContext → Tree → Option Tree
-accessor_type unresolved m =
-    if is_private (AutoAccessor-accessibility m) then Some any_type_ann
-    else (if is_absent (AutoAccessor-type_ann m) then option_map type_ann
-    (inferred_type Mutable unresolved (AutoAccessor-value m))
-    else Some (AutoAccessor-type_ann m))
 
 -- to an accessor
 unfoldable pub accessor_answer : Bindings → Tree → Answer (Option Tree)

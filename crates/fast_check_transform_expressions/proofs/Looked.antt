@@ -1,5 +1,5 @@
 -- What is seen of expressions and of defaults, by what the code asks of them.
-use Rattle.std.specs.Prelude.{◌≡◌, ℕ, ◌+◌, ◌<◌, Bool, true, false, Option, Some, None, List, map, drop, length, option_map, refl}
+use Rattle.std.specs.Prelude.{◌≡◌, ℕ, ◌+◌, ◌<◌, Bool, true, false, Option, Some, None, List, map, drop, length, refl}
 use Rattle.std.specs.Prelude.{if◌then◌else◌}
 use Rattle.std.proofs.Common.{ap, ◌∙◌, sym, get_or, add-one}
 use Rattle.std.proofs.Math.Seq.{drop-cons}
@@ -11,10 +11,7 @@ use Rattle.fast_check_syntax.specs.declared.tree.Tree.{Tree}
 use Rattle.fast_check_syntax.specs.Shape.{◌is◌, kind_of, part, parts, is_absent}
 use Rattle.fast_check_expression_forms.specs.Patterns.{AssignPat-span, AssignPat-left, AssignPat-right}
 use Rattle.fast_check_expression_forms.specs.Patterns.{ArrayPat-span, ArrayPat-type_ann, ObjectPat-span, ObjectPat-type_ann}
-use Rattle.fast_check_program_forms.specs.Names.{BindingIdent-id, BindingIdent-type_ann}
-use Rattle.fast_check_swc_helpers.specs.declared.literal_type.DeclMutabilityKind.TheVariants.{Mutable}
-use Rattle.fast_check_swc_helpers.specs.Builders.{type_ann}
-use Rattle.fast_check_swc_helpers.specs.InferredType.{inferred_type}
+use Rattle.fast_check_program_forms.specs.Names.{Ident-span, BindingIdent-id}
 use Rattle.fast_check_swc_helpers.specs.OptionalParams.{is_optional_param}
 use Rattle.fast_check_signatures.specs.declared.rules.Slot.{Slot}
 use Rattle.fast_check_signatures.specs.Bindings.{Bindings}
@@ -23,13 +20,13 @@ use Rattle.fast_check_signatures.specs.Functions.{arrow_seen, param_seen}
 use Rattle.fast_check_signatures.specs.Expressions.{is_compound, is_plain, is_known, Rule, whole, parted, slotted, arrow, not_at_all}
 use Rattle.fast_check_signatures.specs.Expressions.{other_rule, rule, by_rule, slot_seen, slots_seen, expr_seen}
 use Rattle.fast_check_signatures.specs.Answers.{answer_to, answer_of, joined, parts_answer, visited, with_tree}
-use Rattle.fast_check_signatures.specs.Parameters.{emptied_array, emptied_object, default_seen, without_default, by_shown}
+use Rattle.fast_check_signatures.specs.Parameters.{emptied_array, emptied_object, default_seen, default_typing, without_default}
 use Rattle.fast_check_signatures.specs.Parameters.{assign_seen, pat_by_kind, pat_seen, pats_seen}
 use Rattle.fast_check_signatures.specs.declared.fault.FaultKind.TheVariants.{UnsupportedDestructuring}
 use Rattle.fast_check_swc_helpers.specs.ranges.Ranges.{range_of_node}
 use Rattle.fast_check_signatures.proofs.Looks.{expr_seen_is}
 use Rattle.fast_check_bindings.specs.Rows.{row_in, row_of}
-use Rattle.fast_check_transform_nodes.specs.Shown.{default_type}
+use Rattle.fast_check_signatures.specs.Typing.{type_of, seen_by}
 use Rattle.fast_check_class_forms.specs.Functions.{Param-pat}
 use Rattle.fast_check_transform_expressions.specs.Looked.{patterns, params_looked}
 
@@ -130,32 +127,19 @@ module _ (bindings : Bindings) (b : Bool) (t : Tree) where
   abbrev typed_ident : Tree → Seen
   typed_ident type = written (without_default b (BindingIdent-id (AssignPat-left t)) type)
 
-  ident_typed : (type : Tree) (absent : Bool) (shown : Option Tree) →
-      (if absent then option_map type_ann shown else Some (BindingIdent-type_ann (AssignPat-left t))) ≡ Some type →
-      (if absent then by_shown bindings (expr_seen bindings) b t shown else typed_ident (BindingIdent-type_ann (AssignPat-left t))) ≡
-      typed_ident type
-  ident_typed type true (Some shown) d = ap typed_ident cc
-  ident_typed type true None d = cc
-  ident_typed type false shown d = ap typed_ident cc
+  abbrev ident_by : Option Tree → Seen
+  ident_by o = seen_by o typed_ident (default_seen (AssignPat-span t) (Ident-span (BindingIdent-id (AssignPat-left t))) (AssignPat-left t)
+      (expr_seen bindings (AssignPat-right t) (Some (Ident-span (BindingIdent-id (AssignPat-left t))))))
 
-  pub seen_known : (type : Tree) → kind_of (AssignPat-left t) ≡ kinds.BindingIdent → default_type bindings.unresolved t ≡ Some type →
+  pub seen_known : (type : Tree) → kind_of (AssignPat-left t) ≡ kinds.BindingIdent →
+      type_of bindings.unresolved (default_typing t) ≡ Some type →
       assign_seen bindings (expr_seen bindings) b t ≡ written (without_default b (BindingIdent-id (AssignPat-left t)) type)
-  seen_known type e d = rw e (ident_typed type (is_absent (BindingIdent-type_ann (AssignPat-left t)))
-      (inferred_type Mutable bindings.unresolved (AssignPat-right t)) d)
-
-  ident_untyped : (absent : Bool) (shown : Option Tree) →
-      (if absent then option_map type_ann shown else Some (BindingIdent-type_ann (AssignPat-left t))) ≡ None →
-      (if absent then by_shown bindings (expr_seen bindings) b t shown else typed_ident (BindingIdent-type_ann (AssignPat-left t))) ≡
-      by_shown bindings (expr_seen bindings) b t None
-  ident_untyped true (Some shown) d = cc
-  ident_untyped true None d = refl
-  ident_untyped false shown d = cc
+  seen_known type e d = rw e (ap ident_by d)
 
   -- an identifier whose default is left out of what is known
-  pub seen_left_out : kind_of (AssignPat-left t) ≡ kinds.BindingIdent → default_type bindings.unresolved t ≡ None →
-      assign_seen bindings (expr_seen bindings) b t ≡ by_shown bindings (expr_seen bindings) b t None
-  seen_left_out e d = rw e (ident_untyped (is_absent (BindingIdent-type_ann (AssignPat-left t)))
-      (inferred_type Mutable bindings.unresolved (AssignPat-right t)) d)
+  pub seen_left_out : kind_of (AssignPat-left t) ≡ kinds.BindingIdent → type_of bindings.unresolved (default_typing t) ≡ None →
+      assign_seen bindings (expr_seen bindings) b t ≡ ident_by None
+  seen_left_out e d = rw e (ap ident_by d)
 
   abbrev left : Tree
   left = AssignPat-left t

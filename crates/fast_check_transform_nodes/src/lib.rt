@@ -4,6 +4,7 @@
 mod nodes;
 mod patterns;
 mod signed;
+mod typing;
 
 pub use nodes::{
     any_param, arrow_body, empty_object_pat, function_body, never_array, never_in_parens,
@@ -14,3 +15,4 @@ pub use patterns::{
     without_default,
 };
 pub use signed::{kept_arrow, signed_arrow, signed_function};
+pub use typing::Typing;

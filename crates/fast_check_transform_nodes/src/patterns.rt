@@ -5,14 +5,15 @@ ghost use Rattle.fast_check_syntax.specs.Shape.{list};
 ghost use Rattle.fast_check_class_forms.specs.Functions.{param, Param-span};
 ghost use Rattle.fast_check_expression_forms.specs.Patterns.{AssignPat-span, assign_pat};
 ghost use Rattle.fast_check_program_forms.specs.Names.{BindingIdent-id, Ident-span, Ident-ctxt, Ident-sym, ident};
-ghost use Rattle.fast_check_signatures.specs.Parameters.{emptied_array, emptied_object, rest_arg, without_default};
-ghost use Rattle.fast_check_transform_nodes.specs.Shown.{default_type};
+ghost use Rattle.fast_check_signatures.specs.Parameters.{emptied_array, emptied_object, rest_arg, without_default, default_typing};
+ghost use Rattle.fast_check_signatures.specs.Typing.{type_of};
 
 use crate::nodes::{empty_object_pat, or_undefined};
+use crate::typing::Typing;
 use fast_check_class_forms::Param;
 use fast_check_expression_forms::{ArrayPat, AssignPat, ObjectPat};
 use fast_check_program_forms::{BindingIdent, Ident};
-use fast_check_swc_helpers::{DeclMutabilityKind, maybe_infer_type, type_ann};
+use fast_check_swc_helpers::DeclMutabilityKind;
 use fast_check_syntax::{Atom, Items, Kind, Part, SyntaxContext, Tree};
 use std::alloc::{AllocError, Global};
 
@@ -103,17 +104,16 @@ pub fn default_type(
     unresolved: SyntaxContext,
     pat: Part<'_>,
 ) -> Result<Option<Tree>, AllocError>
-    ensures { IfOk result (λ ty. ty ≡ default_type unresolved (seen pat.entry)) }
+    ensures { IfOk result (λ ty. ty ≡ type_of unresolved (default_typing (seen pat.entry))) }
 {
     let AssignPat { left, right, .. } = AssignPat::of(pat);
-    let written = BindingIdent::of(left).type_ann;
-    if !written.is_absent() {
-        return Ok(Some(written.to_tree(alloc)?));
+    Typing {
+        is_private: false,
+        type_ann: BindingIdent::of(left).type_ann,
+        value: right,
+        mutability: DeclMutabilityKind::Mutable,
     }
-    match maybe_infer_type(alloc, right, DeclMutabilityKind::Mutable, unresolved)? {
-        Some(ty) => Ok(Some(type_ann(alloc, ty)?)),
-        None => Ok(None),
-    }
+    .type_of(alloc, unresolved)
 }
 
 /// A parameter with this pattern, and without decorators.

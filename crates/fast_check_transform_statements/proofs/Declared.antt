@@ -12,8 +12,7 @@ use Rattle.fast_check_program_forms.specs.Names.{Ident-span}
 use Rattle.fast_check_statement_forms.specs.Declarations.{FnDecl-ident, FnDecl-declare, FnDecl-function, fn_decl, VarDecl-span}
 use Rattle.fast_check_statement_forms.specs.Declarations.{VarDecl-ctxt, VarDecl-kind, VarDecl-declare, VarDecl-decls, var_decl}
 use Rattle.fast_check_statement_forms.specs.Declarations.{VarDeclarator-name, VarDeclarator-init}
-use Rattle.fast_check_swc_helpers.specs.Builders.{type_ann, never_value}
-use Rattle.fast_check_swc_helpers.specs.InferredType.{inferred_type}
+use Rattle.fast_check_swc_helpers.specs.Builders.{never_value}
 use Rattle.fast_check_swc_helpers.specs.declared.literal_type.DeclMutabilityKind.{DeclMutabilityKind}
 use Rattle.fast_check_swc_helpers.specs.ranges.Ranges.{range_of_node}
 use Rattle.fast_check_signatures.specs.declared.fault.Fault.{Fault}
@@ -21,6 +20,7 @@ use Rattle.fast_check_signatures.specs.declared.fault.FaultKind.TheVariants.{Mis
 use Rattle.fast_check_signatures.specs.declared.fault.FaultKind.TheVariants.{UnsupportedUsing}
 use Rattle.fast_check_signatures.specs.declared.function_kind.FunctionKind.TheVariants.{DeclarationLike}
 use Rattle.fast_check_signatures.specs.Seen.{Seen, written, range, scope, flag, round, listed, declarator, faulty, refused, seens}
+use Rattle.fast_check_signatures.specs.Typing.{type_of, seen_by}
 use Rattle.fast_check_signatures.specs.Answers.{Adds, fault_at, faultless, with_tree, valued_declarator, answer_to, answer_of}
 use Rattle.fast_check_signatures.specs.Expressions.{expr_seen}
 use Rattle.fast_check_signatures.specs.Functions.{function_seen, implementation_seen}
@@ -28,8 +28,8 @@ use Rattle.fast_check_signatures.proofs.Choices.{of_choice}
 use Rattle.fast_check_signatures.proofs.Adding.{adds_nothing, adds_fault, adds_same, adds_made, adds_demanded, adds_missing, adds_visited}
 use Rattle.fast_check_transform_imports.specs.module_facts.skeleton.Mutability.{mutability_of}
 use Rattle.fast_check_transform_imports.specs.module_facts.skeleton.ModuleFacts.{ModuleFacts}
-use Rattle.fast_check_transform_imports.specs.module_facts.skeleton.Visible.{declared_ident, declared_type, declarator_head, typed_declarator, value_seen}
-use Rattle.fast_check_transform_imports.specs.module_facts.skeleton.Visible.{untyped_seen, ident_declarator_seen, declarator_seen, is_ambient_statement}
+use Rattle.fast_check_transform_imports.specs.module_facts.skeleton.Visible.{declared_ident, declarator_head, typed_declarator, value_seen}
+use Rattle.fast_check_transform_imports.specs.module_facts.skeleton.Visible.{declarator_typing, ident_declarator_seen, declarator_seen, is_ambient_statement}
 use Rattle.fast_check_transform_imports.specs.module_facts.skeleton.Visible.{is_public_declarator, public_declarator, public_declarators, statement_seen}
 use Rattle.fast_check_transform_imports.specs.module_facts.skeleton.Visible.{signature_of, function_decl_seen, is_public_using, using_place, using_seen}
 use Rattle.fast_check_transform_imports.proofs.module_facts.skeleton_proofs.Standing.{declarator_one, statement_is}
@@ -82,26 +82,20 @@ module _ (facts : ModuleFacts) (d : Tree) where
       (adds_same (λ i. answer_to (value_seen facts (sym p i) (sym q i))) h))))
 
 module _ (facts : ModuleFacts) (mutability : DeclMutabilityKind) (d : Tree) where
-  abbrev shown : Option Tree
-  shown = inferred_type mutability facts.bindings.unresolved (VarDeclarator-init d)
+  abbrev ident_by : Option Tree → Seen
+  ident_by o =
+      seen_by o (λ type. written (typed_declarator (declarator_head d) type))
+      (declarator (declarator_head d) (value_seen facts (Ident-span (declared_ident d)) (VarDeclarator-init d)))
 
-  abbrev ident_if : Bool → Option Tree → Seen
-  ident_if absent o = if absent then untyped_seen facts d o else written (typed_declarator (declarator_head d) (declared_type d))
-
-  pub written_ident : is_absent (declared_type d) ≡ false → (old : List Fault) →
-      Adds (ident_answer facts mutability d) (Some (retyped d (declared_type d) never_value)) old old
+  pub given_ident : (type : Tree) → type_of facts.bindings.unresolved (declarator_typing mutability d) ≡ Some type → (old : List Fault) →
+      Adds (ident_answer facts mutability d) (Some (retyped d type never_value)) old old
   unfolding ident_answer
-  written_ident e old = adds_same (ap (λ b. answer_to (ident_if b shown)) e) (adds_nothing _ old)
+  given_ident type e old = adds_same (ap (λ o. answer_to (ident_by o)) e) (adds_nothing _ old)
 
-  pub shown_ident : (type : Tree) → is_absent (declared_type d) ≡ true → shown ≡ Some type → (old : List Fault) →
-      Adds (ident_answer facts mutability d) (Some (retyped d (type_ann type) never_value)) old old
-  unfolding ident_answer
-  shown_ident type e f old = adds_same (λ i. answer_to (ident_if (e i) (f i))) (adds_nothing _ old)
-
-  pub valued_ident : is_absent (declared_type d) ≡ true → shown ≡ None → {t : Tree} {old new : List Fault} →
+  pub valued_ident : type_of facts.bindings.unresolved (declarator_typing mutability d) ≡ None → {t : Tree} {old new : List Fault} →
       Adds (valued_answer facts d) (Some t) old new → Adds (ident_answer facts mutability d) (Some t) old new
   unfolding ident_answer valued_answer
-  valued_ident e f h = adds_same (λ i. answer_to (ident_if (e i) (f i))) h
+  valued_ident e h = adds_same (ap (λ o. answer_to (ident_by o)) e) h
 
   abbrev typed_if : Bool → Seen
   typed_if b = if b then ident_declarator_seen facts mutability d else faulty UnsupportedDestructuring

@@ -6,8 +6,9 @@ ghost use Rattle.fast_check_syntax.specs.Shape.{parts};
 ghost use Rattle.fast_check_statement_forms.specs.Declarations.{VarDecl-decls};
 ghost use Rattle.fast_check_swc_helpers.specs.Builders.{never_value};
 ghost use Rattle.fast_check_signatures.specs.Answers.{Adds, faultless};
+ghost use Rattle.fast_check_signatures.specs.Typing.{type_of};
 ghost use Rattle.fast_check_transform_imports.specs.module_facts.skeleton.Mutability.{mutability_of};
-ghost use Rattle.fast_check_transform_imports.specs.module_facts.skeleton.Visible.{is_ambient_statement, is_public_declarator, is_public_using, using_place};
+ghost use Rattle.fast_check_transform_imports.specs.module_facts.skeleton.Visible.{declarator_typing, is_ambient_statement, is_public_declarator, is_public_using, using_place};
 ghost use Rattle.fast_check_transform_imports.specs.module_facts.ModuleFacts.{facts_of};
 ghost use Rattle.fast_check_transform_imports.specs.module_facts.Kept.{as_list};
 ghost use Rattle.fast_check_transform_statements.specs.PartAnswers.{retyped, value_answer, valued_answer, ident_answer};
@@ -18,8 +19,9 @@ use fast_check_program_forms::{BindingIdent, Ident};
 use fast_check_signatures::{Fault, FaultKind};
 use fast_check_statement_forms::{UsingDecl, VarDecl, VarDeclarator};
 use fast_check_swc_helpers::ranges::range_of_node;
-use fast_check_swc_helpers::{DeclMutabilityKind, maybe_infer_type, never_value, type_ann};
+use fast_check_swc_helpers::{DeclMutabilityKind, never_value};
 use fast_check_syntax::{Items, Kind, Part, SourceRange, Tree, Word};
+use fast_check_transform_expressions::nodes::Typing;
 use fast_check_transform_expressions::transform_expr;
 use fast_check_transform_imports::module_facts::ModuleFacts;
 use fast_check_transform_imports::module_facts::bindings::unresolved_context;
@@ -109,8 +111,27 @@ fn valued_declarator(
     }
 }
 
-/// A declarator of an identifier, with the type that is written or that its value shows, or else with a value that may
-/// stay.
+/// The type of a declarator of an identifier, as `: type`, if it is written or the value shows it.
+fn declarator_type(
+    alloc: Global,
+    facts: ModuleFacts<'_>,
+    mutability: DeclMutabilityKind,
+    declarator: Part<'_>,
+) -> Result<Option<Tree>, AllocError>
+    ensures { IfOk result (λ ty.
+        ty ≡ type_of (facts_of facts.entry).bindings.unresolved (declarator_typing mutability (seen declarator.entry))) }
+{
+    let VarDeclarator { name, init, .. } = VarDeclarator::of(declarator);
+    Typing {
+        is_private: false,
+        type_ann: BindingIdent::of(name).type_ann,
+        value: init,
+        mutability,
+    }
+    .type_of(alloc, unresolved_context(facts.es_module_info))
+}
+
+/// A declarator of an identifier, with its type, or else with a value that may stay.
 fn ident_declarator(
     alloc: Global,
     facts: ModuleFacts<'_>,
@@ -121,18 +142,8 @@ fn ident_declarator(
     ensures { IfOk result (λ tree.
         Adds (ident_answer (facts_of facts.entry) mutability (seen declarator.entry)) (Some tree) faults.old.items faults.new.items) }
 {
-    let VarDeclarator { name, init, .. } = VarDeclarator::of(declarator);
-    let ty = BindingIdent::of(name).type_ann;
-    if !ty.is_absent() {
-        return declared(alloc, declarator, ty.to_tree(alloc)?);
-    }
-    match maybe_infer_type(
-        alloc,
-        init,
-        mutability,
-        unresolved_context(facts.es_module_info),
-    )? {
-        Some(ty) => declared(alloc, declarator, type_ann(alloc, ty)?),
+    match declarator_type(alloc, facts, mutability, declarator)? {
+        Some(ty) => declared(alloc, declarator, ty),
         None => valued_declarator(alloc, facts, declarator, faults),
     }
 }

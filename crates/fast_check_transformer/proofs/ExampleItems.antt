@@ -32,6 +32,8 @@ use Rattle.fast_check_skeleton.specs.SameValues.{SameExpr, SameFunction, SamePar
 use Rattle.fast_check_skeleton.specs.SameValues as v
 use Rattle.fast_check_skeleton.specs.ModuleFacts.{ModuleFacts}
 use Rattle.fast_check_skeleton.specs.Mutability.{mutability_of}
+use Rattle.fast_check_skeleton.specs.Visible.{declarator_typing}
+use Rattle.fast_check_skeleton.proofs.GivenTypes.{given_written}
 use Rattle.fast_check_skeleton.specs.Hidden.{SameHead, SameDeclarator, SameDeclarators, SameStatement, SameFunctionDecl}
 use Rattle.fast_check_skeleton.specs.Hidden.{SameClassDecl, SameDecl, SameItem}
 use Rattle.fast_check_skeleton.specs.Hidden as h
@@ -192,7 +194,6 @@ module _ (public : SourceRange → Bool) (c d : Bindings) (x y : List ℕ → Op
     names = record { left = simp (part_node, kind_of_node); right = simp (part_node, kind_of_node) };
     ident = are_same _ _ (new_ident (120 ∷ [])) (simp part_node) (simp part_node) (same_ident (120 ∷ []));
     definite = refl;
-    type = are_same _ _ (type_ann number_type) (simp part_node) (simp part_node) same_annotation;
   }
 
   statements : SameStatement no_places a b (statement_x one) (statement_x one)
@@ -208,7 +209,11 @@ module _ (public : SourceRange → Bool) (c d : Bindings) (x y : List ℕ → Op
   Declarators = SameDeclarators no_places a b (SameDeclarator no_places a b (mutability_of (VarDecl-kind (statement_x one))))
 
   declarators : Declarators (declarator_x one ∷ []) (declarator_x one ∷ [])
-  declarators = l.SamePublic.next refl (h.SameDeclarator.typed heads (simp (part_node, is_absent_node))) l.SamePublic.end
+  declarators = l.SamePublic.next refl (h.SameDeclarator.given heads (given_written no_places a.bindings b.bindings
+      (declarator_typing (mutability_of (VarDecl-kind (statement_x one))) (declarator_x one))
+      (declarator_typing (mutability_of (VarDecl-kind (statement_x one))) (declarator_x one)) refl refl
+      (simp (part_node, is_absent_node)) (simp (part_node, is_absent_node))
+      (are_same _ _ (type_ann number_type) (simp part_node) (simp part_node) same_annotation))) l.SamePublic.end
 
   decls_made : parts (VarDecl-decls (statement_x one)) ≡ declarator_x one ∷ []
   decls_made = simp parts_node

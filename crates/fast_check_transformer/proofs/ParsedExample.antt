@@ -46,6 +46,9 @@ use Rattle.fast_check_skeleton.specs.SameAssignments.{SameAssignment}
 use Rattle.fast_check_skeleton.specs.SameAssignments as forms
 use Rattle.fast_check_skeleton.specs.Visible.{items_of}
 use Rattle.fast_check_skeleton.specs.Example.{at}
+use Rattle.fast_check_skeleton.specs.signatures.Parameters.{default_typing}
+use Rattle.fast_check_skeleton.proofs.GivenTypes.{given_written, given_shown}
+use Rattle.fast_check_skeleton.proofs.TypedFunctions.{absent as nothing_there}
 use Rattle.fast_check_skeleton.proofs.ClassExample.{word_read}
 use Rattle.fast_check_skeleton.proofs.Example.{context_of_context as context_read}
 use Rattle.fast_check_skeleton.proofs.ModuleExample.{text_of_text}
@@ -166,11 +169,13 @@ module _ (c d : Bindings) where
   typed_n start = binding_ident (letter (codes "n") start) (typed_number (start + 1))
 
   typed_defaults : (x y : List ℕ) → Pats (typed_default 27 40 x) (typed_default 26 40 y)
-  typed_defaults x y = v.SamePat.typed_default (record { left = kind_of_node _ _; right = kind_of_node _ _ })
+  typed_defaults x y = v.SamePat.given_default (record { left = kind_of_node _ _; right = kind_of_node _ _ })
       (record { left = simp (part_node, kind_of_node); right = simp (part_node, kind_of_node) })
       (trees _ _ (typed_n 27) (typed_n 26) (part_node _ _ _) (part_node _ _ _)
       (simp (node_moved, range_moved, context_moved, text_moved, flag_moved, word_moved)))
-      (simp (part_node, is_absent_node))
+      (given_written renaming c d (default_typing (typed_default 27 40 x)) (default_typing (typed_default 26 40 y)) refl refl
+      (simp (part_node, is_absent_node)) (simp (part_node, is_absent_node))
+      (trees _ _ (typed_number 28) (typed_number 27) (simp part_node) (simp part_node) (simp (node_moved, range_moved, word_moved))))
 
   abbrev shown_type : Tree
   shown_type = builders.ts_keyword_type words.TsNumberKeyword
@@ -180,17 +185,18 @@ module _ (c d : Bindings) where
   shows scope start end x = ap (inferred_type Mutable scope) (part_node _ _ _) ∙ (inferred_out Mutable scope (number _ x) ∙ simp kind_of_node)
 
   shown_defaults : (x y : List ℕ) → Pats (shown_default 42 47 x) (shown_default 42 48 y)
-  shown_defaults x y = v.SamePat.shown_default (record { left = kind_of_node _ _; right = kind_of_node _ _ })
+  shown_defaults x y = v.SamePat.given_default (record { left = kind_of_node _ _; right = kind_of_node _ _ })
       (record { left = simp (part_node, kind_of_node); right = simp (part_node, kind_of_node) })
       (trees _ _ (letter_pat (codes "p") 42) (letter_pat (codes "p") 42) (part_node _ _ _) (part_node _ _ _)
       (simp (node_moved, range_moved, context_moved, text_moved, flag_moved, absent_moved)))
-      (record {
+      (given_shown renaming c d (default_typing (shown_default 42 47 x)) (default_typing (shown_default 42 48 y)) is_renaming
+      ((refl, refl), (simp part_node nothing_there, simp part_node nothing_there)) (record {
         left = shown_type;
         right = shown_type;
         left_is = shows c.unresolved 42 47 x;
         right_is = shows d.unresolved 42 48 y;
         types = trees _ _ shown_type shown_type refl refl (simp (node_moved, range_moved, word_moved));
-      })
+      }))
 
   params : SameParams renaming c d first_params second_params
   params =

@@ -1,7 +1,9 @@
 //! The properties that stand in a class: declared ones, those with a value, and `#private!: unknown`.
-ghost use Rattle.std.specs.Prelude.{◌≡◌, IfOk, codes};
+ghost use Rattle.std.specs.Prelude.{◌≡◌, IfOk, codes, if◌then◌else◌};
 ghost use Rattle.fast_check_syntax.specs.Part.{seen};
-ghost use Rattle.fast_check_syntax.specs.Shape.{none_range};
+ghost use Rattle.fast_check_syntax.specs.Shape.{none_range, ◌is◌, kind_of};
+ghost use Rattle.fast_check_syntax.specs.declared.kind.Kind.TheVariants as kinds;
+ghost use Rattle.fast_check_expression_forms.specs.Patterns.{AssignPat-right};
 ghost use Rattle.fast_check_program_forms.specs.Names.{Ident-span, Ident-sym};
 ghost use Rattle.fast_check_program_forms.specs.Names as names;
 ghost use Rattle.fast_check_swc_helpers.specs.Builders as builders;
@@ -9,6 +11,7 @@ ghost use Rattle.fast_check_syntax.specs.declared.kind.Word.TheVariants.{TsUnkno
 ghost use Rattle.fast_check_signatures.specs.Answers.{declared_property, valued_property};
 ghost use Rattle.fast_check_signatures.specs.Classes as classes;
 ghost use Rattle.fast_check_signatures.specs.NewNodes as new;
+ghost use Rattle.fast_check_signatures.specs.Typing.{type_of};
 ghost use Rattle.fast_check_transform_classes.specs.class_nodes.Heads.{head_of};
 
 use crate::class_nodes::copies::two_trees;
@@ -16,13 +19,11 @@ use crate::class_nodes::keys::is_private;
 use fast_check_class_forms::{AutoAccessor, ClassMethod, ClassProp, PrivateProp, TsParamProp};
 use fast_check_expression_forms::AssignPat;
 use fast_check_program_forms::{BindingIdent, Ident, PrivateName};
-use fast_check_swc_helpers::{
-    DeclMutabilityKind, TsKeywordTypeKind, any_type_ann, maybe_infer_type, ts_keyword_type,
-    type_ann,
-};
+use fast_check_swc_helpers::{DeclMutabilityKind, TsKeywordTypeKind, ts_keyword_type, type_ann};
 use fast_check_syntax::{
     Atom, DUMMY_SP, Items, Kind, Part, SourceRange, SyntaxContext, Tree, Word,
 };
+use fast_check_transform_expressions::nodes::Typing;
 use std::alloc::{AllocError, Global};
 
 /// A property of a class, but for its type and its value, and for `declare` and `!`, which go by these.
@@ -261,43 +262,35 @@ pub fn mutability_of_property(readonly: bool) -> DeclMutabilityKind
     }
 }
 
-/// The type that the default of a parameter shows, if it has one.
-fn default_type(
-    alloc: Global,
-    unresolved: SyntaxContext,
-    mutability: DeclMutabilityKind,
-    pat: Part<'_>,
-) -> Result<Option<Tree>, AllocError>
-    ensures { IfOk result (λ ty. ty ≡ classes.default_type unresolved mutability (seen pat.entry)) }
+/// The default of a parameter, or else this part.
+fn default_or<'a>(pat: Part<'a>, other: Part<'a>) -> Part<'a>
+    ensures { seen result ≡ (if kind_of (seen pat.entry) is kinds.AssignPat then AssignPat-right (seen pat.entry) else seen other.entry) }
 {
     if pat.kind() == Kind::AssignPat {
-        return maybe_infer_type(alloc, AssignPat::of(pat).right, mutability, unresolved);
+        AssignPat::of(pat).right
+    } else {
+        other
     }
-    Ok(None)
 }
 
-/// The type of a parameter property, as `: type`, or absent: a private one is of any type, and else it is the written type, or
-/// that the default shows. `unresolved` is the scope number of the names that nothing in the module binds.
+/// The type of a parameter property, as `: type`, if it is private, or if what is written or the default gives it. `unresolved`
+/// is the scope number of the names that nothing in the module binds.
 fn param_property_type(
     alloc: Global,
     unresolved: SyntaxContext,
     param: Part<'_>,
-) -> Result<Tree, AllocError>
-    ensures { IfOk result (λ ty. ty ≡ classes.param_property_type unresolved (seen param.entry)) }
+) -> Result<Option<Tree>, AllocError>
+    ensures { IfOk result (λ ty. ty ≡ type_of unresolved (classes.param_typing (seen param.entry))) }
 {
     let prop = TsParamProp::of(param);
-    if is_private(prop.accessibility) {
-        return any_type_ann(alloc);
+    let absent = Tree::Absent;
+    Typing {
+        is_private: is_private(prop.accessibility),
+        type_ann: BindingIdent::of(param_target(param)).type_ann,
+        value: default_or(prop.param, absent.read()),
+        mutability: mutability_of_property(prop.readonly),
     }
-    let written = BindingIdent::of(param_target(param)).type_ann;
-    if !written.is_absent() {
-        return written.to_tree(alloc);
-    }
-    let mutability = mutability_of_property(prop.readonly);
-    match default_type(alloc, unresolved, mutability, prop.param)? {
-        Some(ty) => type_ann(alloc, ty),
-        None => Ok(Tree::Absent),
-    }
+    .type_of(alloc, unresolved)
 }
 
 /// `declare name: type;` for a parameter property.
@@ -308,7 +301,7 @@ pub fn param_property(
 ) -> Result<Tree, AllocError>
     ensures { IfOk result (λ tree. tree ≡ classes.param_property unresolved (seen param.entry)) }
 {
-    let type_ann = param_property_type(alloc, unresolved, param)?;
+    let type_ann = param_property_type(alloc, unresolved, param)?.unwrap_or(Tree::Absent);
     let head = param_property_head(alloc, param)?;
     head.declared(alloc, type_ann)
 }

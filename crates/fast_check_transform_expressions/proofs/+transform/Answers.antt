@@ -23,10 +23,10 @@ use Rattle.fast_check_signatures.specs.declared.fault.FaultKind.TheVariants.{Uns
 use Rattle.fast_check_signatures.specs.Answers.{fault_at, answer_to, answer_of, parts_answer, demanded, faultless, signed_function}
 use Rattle.fast_check_signatures.specs.Expressions.{is_plain, is_compound, expr_seen, slot_seen}
 use Rattle.fast_check_signatures.specs.Functions.{or_own, return_type_missing, function_head, function_seen}
-use Rattle.fast_check_signatures.specs.Parameters.{typed, emptied_array, emptied_object, without_default, default_seen, assign_seen, pat_seen}
+use Rattle.fast_check_signatures.specs.Parameters.{default_typing, typed, emptied_array, emptied_object, without_default, default_seen, assign_seen, pat_seen}
 use Rattle.fast_check_signatures.specs.Parameters.{pats_seen}
 use Rattle.fast_check_signatures.proofs.Adding.{adds_same, adds_nothing, adds_made, adds_joined, adds_settled, adds_demanded}
-use Rattle.fast_check_transform_nodes.specs.Shown.{default_type}
+use Rattle.fast_check_signatures.specs.Typing.{type_of}
 use Rattle.fast_check_transform_expressions.specs.Looked.{known_type, known_answer, patterns, params_looked}
 use Rattle.fast_check_swc_helpers.specs.OptionalParams.{is_optional_param}
 use Rattle.std.specs.List.{list_all}
@@ -369,8 +369,8 @@ parameters::transform_assign_pat-returns-in-Some t c =
     let pat = seen c.args.pat in
     let ident : kind_of (AssignPat-left pat) ≡ kinds.BindingIdent = sym (c.kind.ensures ∙ ap kind_of c.of.ensures.left) ∙
     c.in-BindingIdent.is in
-    let scope = ap (λ (x : SyntaxContext). default_type x pat) c.unresolved_context.ensures in
-    let known : default_type u.unresolved pat ≡ Some c.in-Some.ty = sym (c.in_ok-ty-in-BindingIdent.ensures ∙ scope) ∙ c.in-Some.is in
+    let scope = ap (λ (x : SyntaxContext). type_of x (default_typing pat)) c.unresolved_context.ensures in
+    let known : type_of u.unresolved (default_typing pat) ≡ Some c.in-Some.ty = sym (c.in_ok-ty-in-BindingIdent.ensures ∙ scope) ∙ c.in-Some.is in
     IfOk-weaker c.without_default.result _ _
     (λ tree e. adds_same (ap answer_to (seen_known u b pat c.in-Some.ty ident known) ∙
     ap (λ (x : Tree). faultless (Some x))
@@ -394,8 +394,8 @@ parameters::transform_assign_pat-returns t c =
       | parameters::transform_assign_pat-in-BindingIdent+in_ok-ty-in-BindingIdent+in_default-2+in_ok-to_tree-in-BindingIdent w ↦
           let ident : kind_of (AssignPat-left pat) ≡ kinds.BindingIdent =
           sym (c.kind.ensures ∙ ap kind_of left) ∙ w.in-BindingIdent.is in
-          let scope = ap (λ (x : SyntaxContext). default_type x pat) w.unresolved_context.ensures in
-          let unknown : default_type u.unresolved pat ≡ None = none_of (default_type u.unresolved pat)
+          let scope = ap (λ (x : SyntaxContext). type_of x (default_typing pat)) w.unresolved_context.ensures in
+          let unknown : type_of u.unresolved (default_typing pat) ≡ None = none_of (type_of u.unresolved (default_typing pat))
           (λ type e. w.in_default-2.not-Some type (w.in_ok-ty-in-BindingIdent.ensures ∙ (scope ∙ e))) in
           let at = w.of-in-BindingIdent-2.ensures.span ∙ ap Ident-span (w.of-in-BindingIdent.ensures.id ∙ ap BindingIdent-id left) in
           seen_left_out u b pat ident unknown
