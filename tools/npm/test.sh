@@ -2,7 +2,8 @@
 # Tests of the npm package: builds it, installs it into an empty folder without a network, and uses it there as its README says. Prints what fails, and
 # `N passed, M failed` at the end.
 #
-#   tools/npm/test.sh
+#   tools/npm/test.sh            in a folder of this machine
+#   tools/npm/test.sh --fresh    and in a new Debian 12, which debootstrap fetches, by the steps of examples/ci/Dockerfile: some minutes, as root
 #
 # The program is that of the variable FAST_CHECK, else the proved one of this repository, else the one that tools/unproved compiles. The compiler is that of the
 # variable TYPESCRIPT, else Debian's. Needs npm.
@@ -118,6 +119,17 @@ hooks_work() {
   grep -q 'slow(n: number): number' other.ts && ! grep -q ': number {' index.ts || { cat "$made/said-fix" other.ts index.ts; return 1; }
 }
 
+# Whether the steps of the Dockerfile, with Debian's Node and TypeScript in place of those of its image, give a tool that answers.
+answers_afresh() {
+  local fresh="$made/fresh" mirror
+  mirror=$(apt-get indextargets --format '$(REPO_URI)' 'Identifier: Packages' 'Origin: Debian' 'Component: main' | grep -v security | sort -u | head -n 1)
+  debootstrap --variant=minbase --include=nodejs,npm,node-typescript bookworm "$fresh" "$mirror" && cp "$made/nagdrez.tgz" "$fresh/tmp" && mkdir "$fresh/package" &&
+    printf 'export function twice(n: number) { return 2 * n; }\n' > "$fresh/package/index.ts" &&
+    chroot "$fresh" npm install --global --offline --no-audit --no-fund /tmp/nagdrez.tgz &&
+    ends_with 1 "index.ts:1:17" chroot "$fresh" sh -c 'cd /package && nagdrez check' && ends_with 0 "1 type written" chroot "$fresh" sh -c 'cd /package && nagdrez fix' &&
+    ends_with 0 "0 messages" chroot "$fresh" sh -c 'cd /package && nagdrez check'
+}
+
 test_that "the package is built" builds
 test_that "it is installed without a network" installs
 cd "$made/it" 2> /dev/null || { echo "$passed passed, $failed failed"; exit 1; }
@@ -129,5 +141,6 @@ test_that "it is complete" is_complete
 test_that "another platform is told" says_its_platform
 test_that "it speaks to editors" speaks_to_editors
 if command -v pre-commit > /dev/null; then test_that "its hooks work" hooks_work; else echo "not tried: pre-commit is not there (Debian: pre-commit)"; fi
+[ "${1-}" != --fresh ] || test_that "it answers in a new Debian" answers_afresh
 echo "$passed passed, $failed failed"
 [ $failed = 0 ]
