@@ -45,7 +45,7 @@ ends_with() {
 # A copy of what the package is made from, as a repository with one commit.
 copy_to() {
   mkdir -p "$1"
-  (cd "$top" && git ls-files -z -co --exclude-standard .gitignore VERSION LICENSE fast-check-ts tools docs examples | tar --null -T - -c) | tar -x -C "$1"
+  (cd "$top" && git ls-files -z -co --exclude-standard .gitignore VERSION LICENSE SECURITY.md action.yml .pre-commit-hooks.yaml fast-check-ts tools docs examples | tar --null -T - -c) | tar -x -C "$1"
   (cd "$1" && git init -q && git add . && git -c user.name=N -c user.email=n@n.example commit -q -m "A copy") || exit 1
 }
 
@@ -104,6 +104,11 @@ pages_are_right() {
   done
 }
 
+# Whether each link of the pages leads to something in the package.
+links_are_right() {
+  "$top/tools/repo/links.py" "$made/root/usr/share/doc/nagdrez"
+}
+
 # What is offered behind words, the last of which is begun.
 offered() {
   within bash -c 'source /usr/share/bash-completion/completions/"$1"; COMP_WORDS=("$@") COMP_CWORD=$(($# - 1)); _fast_check "$1"; echo ${COMPREPLY[*]}' - "$@"
@@ -155,6 +160,7 @@ test_that "the version has a suffix" [ "$(field_of "$made/first" Version)" = "$(
 test_that "it depends on Node and TypeScript" grep -q "^nodejs .*node-typescript .*libc6" <(field_of "$made/first" Depends)
 test_that "the changelog has the hashes" changelog_is_right
 test_that "the pages" pages_are_right
+test_that "links of the pages" links_are_right
 test_that "completion" completes
 
 package=tools/typescript/test/packages

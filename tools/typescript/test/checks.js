@@ -298,17 +298,18 @@ function examplesOf(text) {
   return found;
 }
 
-/** Tests of the examples of docs/TYPESCRIPT.md. */
+/** Tests of the examples of the pages for users. */
 function examples({ run, same, holds }) {
   const untimed = (text) => text.replace(/, \d+\.\d\d s(?=\n|;)/g, ', 0.00 s');
-  const page = fs.readFileSync(path.join(TOP, 'docs/TYPESCRIPT.md'), 'utf8');
-  const all = examplesOf(page).map(({ words, lines }) => [`the example ${words.join(' ')}`, async () => {
+  const [guide, ...pages] = ['guide', 'cli', 'ci', 'limits'].map((name) => fs.readFileSync(path.join(TOP, 'docs', `${name}.md`), 'utf8'));
+  const all = examplesOf([guide, ...pages].join('\n')).map(({ words, lines }) => [`the example ${words.join(' ')}`, async () => {
     same((await run(words, { cwd: TOP })).out, untimed(lines.join('')));
   }]);
   return [...all, ['the example of a message', async () => {
     const { out } = await run(['check', 'examples/package'], { cwd: TOP });
-    holds(untimed(page).includes(`\`\`\`\n${out}\`\`\`\n`), `the page has not\n${out}`);
-    holds(all.length > 2, 'the page has examples');
+    const [, message] = /```\n(error\[[^]*?)```/.exec(guide);
+    holds(out.startsWith(message), `the page has not\n${out}`);
+    holds(all.length > 2, 'the pages have examples');
   }]];
 }
 

@@ -451,7 +451,8 @@ const TOP = path.resolve(__dirname, '../../..');
 
 /** The examples of the page for many packages and for the package to install, where what they need is there. */
 async function others() {
-  const page = readOr(PAGE, '');
+  const page = readOr(path.join(DOCS, 'registry.md'), '');
+  const guide = readOr(path.join(DOCS, 'guide.md'), '');
   if (!isThere('/usr/bin/python3', ['-c', 'import dask, distributed, psutil'])) console.log('not tried, since Dask is not there: many packages');
   else {
     await test('the example of many packages', () => withFolder((folder) => {
@@ -471,7 +472,7 @@ async function others() {
       same(status, 0, `the status of\n${stderr}\nthat`);
       childProcess.execFileSync('dpkg-deb', ['-x', stdout.trim(), folder]);
       const example = '/usr/share/doc/nagdrez/examples/package';
-      holds(page.includes(`    fast-check-ts check ${example}\n`), 'the page has it');
+      holds(guide.includes(`    fast-check-ts check ${example}\n`), 'the page has it');
       const environment = { ...process.env, FAST_CHECK: path.join(folder, 'usr/lib/nagdrez/fast-check'), XDG_CACHE_HOME: folder };
       const said = childProcess.spawnSync(path.join(folder, 'usr/lib/nagdrez/fast-check-ts'), ['check', path.join(folder, example)], { env: environment, encoding: 'utf8', input: '' });
       holds(/\n4 files, 1 message, .* s\n$/.test(said.stdout), `${said.stdout}${said.stderr}`);
@@ -528,7 +529,7 @@ async function declarationFiles() {
     same(text('c'), text('a'), 'the declaration file of a declaration file');
   }));
   await test('the examples of the page', () => {
-    const page = readOr(PAGE, '');
+    const page = readOr(path.join(DOCS, 'guide.md'), '');
     for (const [title, name] of [['Declaration files', 'dts'], ['A preview', 'preview']]) {
       const [, example] = /```ts\n([^]*?)```/.exec(page.slice(page.indexOf(`\n## ${title}\n`)));
       holds(readOr(expectedOf(name), '').includes(example), `the example of ${title} is what comes of ${name}`);
@@ -584,11 +585,11 @@ async function compilers() {
   }));
 }
 
-const PAGE = path.resolve(__dirname, '../../../docs/TYPESCRIPT.md');
+const DOCS = path.resolve(__dirname, '../../../docs');
 
 /** Whether the page shows what comes: each line of the change that stands below a title, in its order. */
 function isShown(title, place, out) {
-  const page = readOr(PAGE, '');
+  const page = readOr(path.join(DOCS, 'guide.md'), '');
   const section = page.slice(page.indexOf(`\n## ${title}\n`));
   const shown = [...section.matchAll(/```diff\n([^]*?)```/g)][place][1].trimEnd().split('\n');
   let at = 0;

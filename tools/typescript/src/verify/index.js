@@ -13,7 +13,7 @@ const { told: toldWay, ways } = require('../skeleton/reasons.js');
 /** What is to be done about errors that come of a reference which the skeletons do not answer. */
 const LOST = new Set([2304, 2305, 2307, 2339, 2503, 2552, 2614, 2694, 2724, 4023, 4033]);
 // The npm package has no pages.
-const more = (text) => (isNpm ? '' : `; docs/TYPESCRIPT.md ${text} where the rules part from TypeScript`);
+const more = (text) => (isNpm ? '' : `; docs/limits.md ${text} where the rules part from TypeScript`);
 const HINT = `refer to what is meant by a name of its own${more('lists')}`;
 const TYPE_HINT = `write the type${more('says what to write')}`;
 const LONGEST = 200;
