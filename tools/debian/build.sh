@@ -45,16 +45,21 @@ write_changelog() {
 # Lays out the files as they are installed. Below /usr/lib/nagdrez they lie as in the repository.
 lay_out() {
   local lib="$root/usr/lib/nagdrez" doc="$root/usr/share/doc/nagdrez" man="$root/usr/share/man/man1" completions="$root/usr/share/bash-completion/completions"
-  install -d "$root/DEBIAN" "$root/usr/bin" "$lib/tools/typescript" "$doc/examples" "$man" "$completions"
+  local zsh="$root/usr/share/zsh/vendor-completions" fish="$root/usr/share/fish/vendor_completions.d"
+  install -d "$root/DEBIAN" "$root/usr/bin" "$lib/tools/typescript" "$doc/examples" "$man" "$completions" "$zsh" "$fish"
   install "$here"/bin/* "$root/usr/bin"
   install "$program" "$lib/fast-check"
   strip --remove-section=.comment --remove-section=.note "$lib/fast-check"
   install "$top/fast-check-ts" "$lib"
   echo "$version" > "$lib/VERSION"
   cp -r "$top/tools/typescript/src" "$top/tools/typescript/bin" "$top/tools/typescript/newest.sh" "$lib/tools/typescript"
+  sed "s/\"version\": \"[^\"]*\"/\"version\": \"$version\"/" "$top/tools/typescript/package.json" > "$lib/tools/typescript/package.json"
   find "$lib/tools/typescript/src" -type f -exec chmod 644 {} +
   install -m 644 "$here/completion.bash" "$completions/fast-check-ts"
   ln -s fast-check-ts "$completions/fast-check"
+  install -m 644 "$here/completion.zsh" "$zsh/_fast-check-ts"
+  install -m 644 "$here/completion.fish" "$fish/fast-check-ts.fish"
+  cp -r "$top/docs/errors" "$lib/tools/typescript/errors"
   install -m 644 "$top/LICENSE" "$doc/copyright"
   install -m 644 "$top"/docs/{FORMATS,HIDDEN,RULES,TYPESCRIPT}.md "$doc"
   cp -r "$top"/examples/{package,first.json,build_hello.json,pair.json} "$doc/examples"

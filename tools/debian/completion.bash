@@ -7,7 +7,7 @@ _fast_check_offer() {
 
 # The words of `--help`, or of the help of a command, that a pattern of sed finds at the start of its lines.
 _fast_check_help() {
-  "$1" ${3:+"$3"} --help 2> /dev/null | sed -n "s/^  \($2\) .*/\1/p"
+  "$1" ${3:+"$3"} --help 2> /dev/null | sed -n "s/^  \(-[a-z], \)\?\($2\) .*/\2/p"
 }
 
 # Offers the values of the option before the word; fails where it takes none that are known.

@@ -3,7 +3,7 @@
 //
 //   node tools/debian/manual.js PAGE VERSION DATE
 const fs = require('fs');
-const { USAGE } = require('../typescript/options.js');
+const { USAGE } = require('../typescript/src/cli/options.js');
 
 // What the package does not have: a program without proof beside its own.
 const LEFT_OUT = ['--unproved'];

@@ -113,7 +113,7 @@ completes() {
   [ "$(offered fast-check-ts che)" = check ] && [ "$(offered fast-check-ts --no-color ske)" = skeleton ] && [ -z "$(offered fast-check-ts check che)" ] &&
     [[ $(offered fast-check-ts --) == "--name "*" --help" ]] && [ "$(offered fast-check "")" = "transform build pair" ] &&
     [ "$(offered fast-check-ts check --w)" = --watch ] && [ -z "$(offered fast-check-ts fix --w)" ] && [ "$(offered fast-check-ts fix --d)" = --dry ] &&
-    [ "$(offered fast-check-ts check --format "")" = "text json github sarif junit" ] && [ "$(offered fast-check-ts check --allow missing-m)" = missing-module ] &&
+    [ "$(offered fast-check-ts check --format "")" = "text json github sarif junit badge" ] && [ "$(offered fast-check-ts check --allow missing-m)" = missing-module ] &&
     [ "$(offered fast-check-ts check --baseline VER)" = VERSION ] && [ -z "$(offered fast-check-ts check --max-warnings "")" ]
 }
 

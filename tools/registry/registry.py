@@ -146,7 +146,7 @@ class Server:
     def __init__(self, program, limits):
         self.key, self.group = (program["top"], program["path"]), cgroups.Group.of(limits)
         environment = {**os.environ, **({"FAST_CHECK": program["path"]} if program["path"] else {})}
-        words = self.group.words(["node", f"{program['top']}/tools/typescript/src/commands/serve.js"])
+        words = self.group.words(["node", f"{program['top']}/tools/typescript/bin/fast-check-ts.js", "serve"])
         self.child = subprocess.Popen(words, stdin=subprocess.PIPE, stdout=subprocess.PIPE, stderr=subprocess.DEVNULL, text=True, env=environment)
 
     @classmethod
@@ -166,11 +166,11 @@ class Server:
         self.child.wait()
         Server.one = None
 
-    def check(self, package, limits):
-        """What is said of a folder."""
+    def check(self, package, want, limits):
+        """What is said of a folder, with its skeletons or declaration files where these are wanted."""
         try:
             with within(self.child, limits, self.group):
-                self.child.stdin.write(json.dumps({"dir": package}) + "\n")
+                self.child.stdin.write(json.dumps({"dir": package, **({"want": want} if want else {})}) + "\n")
                 self.child.stdin.flush()
                 line = self.child.stdout.readline()
         except BrokenPipeError:
@@ -188,12 +188,12 @@ class Server:
 NOT_THERE = {"level": "error", "code": "no-package", "message": "there is no folder and no file of this name", "file": None}
 
 
-def run_package(package, program, limits):
+def run_package(package, program, limits, want=None):
     """What one package is answered."""
     begun = time.monotonic()
     if not os.path.exists(package):
         return {"status": 2, "messages": [{**NOT_THERE, "file": package}], "seconds": 0}
-    answer = Server.of(program, limits).check(package, limits) if os.path.isdir(package) else run_build(package, program, limits)
+    answer = Server.of(program, limits).check(package, want, limits) if os.path.isdir(package) else run_build(package, program, limits)
     if answer["status"] == 3:
         raise Lost("out of memory")
     said = answer.pop("said")
@@ -228,17 +228,35 @@ def kind_of(result):
     return KINDS[min(result["status"], 3)] if "status" in result else "lost"
 
 
+class Texts:
+    """Where skeletons (`skeletons`) or declaration files (`declarations`) of the packages go: below a folder, each package by its own path."""
+
+    def __init__(self, want, folder):
+        self.want, self.folder = want, Path(folder)
+
+    def write(self, package, modules):
+        """Writes what a package was answered, but for previews, which are none of its skeletons. A name that leads out of the folder of the package is passed over."""
+        below = (self.folder / os.path.relpath(os.path.normpath("/" + package), "/")).resolve()
+        for module in modules:
+            file = (below / module["path"]).resolve()
+            if module["isPreview"] or below not in file.parents:
+                continue
+            file.parent.mkdir(parents=True, exist_ok=True)
+            file.write_text(module["text"])
+
+
 class Registry:
     """Packages and the tasks for them on a cluster."""
 
-    def __init__(self, client, packages, program, limits, tries):
-        self.client, self.packages, self.program, self.limits, self.tries = client, packages, program, limits, tries
+    def __init__(self, client, packages, program, limits, tries, texts=None):
+        self.client, self.packages, self.program, self.limits, self.tries, self.texts = client, packages, program, limits, tries, texts
         self.left = [tries - 1] * len(packages)
 
     def submit(self, place):
         """A task, under a key of its own: a package that stands twice is two tasks."""
         key = f"package-{place}-{self.left[place]}-{os.getpid()}-{id(self)}"
-        return self.client.submit(run_package, self.packages[place], self.program, self.limits, key=key, pure=False)
+        want = self.texts.want if self.texts else None
+        return self.client.submit(run_package, self.packages[place], self.program, self.limits, want, key=key, pure=False)
 
     def run(self, out, on_done=lambda done: None):
         """Writes each result as it comes, and answers how many there are of each kind, and what was lost."""
@@ -255,6 +273,9 @@ class Registry:
                 waiting.add(again)
                 continue
             done += 1
+            modules = result.pop("modules", [])
+            if self.texts:
+                self.texts.write(self.packages[place], modules)
             counts[kind_of(result)] += 1
             if "error" in result:
                 lost.append((self.packages[place], result["error"]))
@@ -319,6 +340,9 @@ def words():
     made.add_argument("--seconds", type=float, default=600, metavar="N", help="the most time of a task (600)")
     made.add_argument("--tries", type=int, default=3, metavar="N", help="how often a task that is lost is tried (3)")
     made.add_argument("--out", metavar="FILE", help="where the results go (standard output)")
+    texts = made.add_mutually_exclusive_group()
+    texts.add_argument("--skeletons", metavar="FOLDER", help="also write the skeletons of packages that are folders, each package below its own path in FOLDER")
+    texts.add_argument("--dts", metavar="FOLDER", help="also write their declaration files")
     made.add_argument("--resume", action="store_true", help="go on with the results in FILE: packages that it has are passed over")
     return made
 
@@ -340,7 +364,8 @@ def run(asked, packages, out):
         if asked.scheduler:
             for name in ("cgroups.py", "registry.py"):
                 client.upload_file(str(TOP / "tools" / "registry" / name))
-        counts, lost = Registry(client, packages, program, limits, max(asked.tries, 1)).run(out)
+        texts = Texts("skeletons", asked.skeletons) if asked.skeletons else Texts("declarations", asked.dts) if asked.dts else None
+        counts, lost = Registry(client, packages, program, limits, max(asked.tries, 1), texts).run(out)
     if cluster:
         cluster.close()
     return counts, lost

@@ -133,6 +133,23 @@ def folders_are_checked_in_one_process(client, room):
     assert "status 9" in results[3]["said"], results[3]
 
 
+def texts_are_written(client, room):
+    """By the program of the variable FAST_CHECK: the one of these tests answers no skeletons."""
+    if "FAST_CHECK" not in os.environ:
+        print("    not tried: FAST_CHECK names no program")
+        return
+    folders = [room.folder_of("good", "export const a: number = Math.max(1, 2);"), room.folder_of("slow", "export const a = Math.max(1, 2);")]
+    program, limits = {"top": str(registry.TOP), "path": os.environ["FAST_CHECK"]}, {"memory": 2_000_000_000, "seconds": 60, "cgroup": "none"}
+    for want, name, text in (("skeletons", "mod.ts", "export const a: number = {} as never;"), ("declarations", "mod.d.ts", "export declare const a: number;")):
+        out, texts = io.StringIO(), room.folder / want
+        registry.Registry(client, folders, program, limits, 1, registry.Texts(want, texts)).run(out)
+        results = {it["package"]: it for it in map(json.loads, out.getvalue().splitlines())}
+        assert [results[it]["status"] for it in folders] == [0, 1] and "modules" not in results[folders[0]], results
+        assert [it["file"] for it in results[folders[1]]["messages"]] == ["mod.ts"]
+        written = [str(file) for file in texts.rglob("*") if file.is_file()]
+        assert written == [f"{texts}{folders[0]}/{name}"] and Path(written[0]).read_text().strip() == text, written
+
+
 def folders_are_quick(client, room):
     text = "export function f(n: number): number { return n; }\n" * 20
     packages = [room.folder_of(f"p{at}", text.replace("f(", f"f{at}(")) for at in range(60)]
@@ -235,7 +252,7 @@ def a_cluster_that_is_there_is_used(client, room):
     assert sorted(json.loads(line)["status"] for line in ran.stdout.splitlines()) == [0, 1]
 
 
-TESTS = [results_are_written_as_they_come, each_package_has_a_result, folders_are_checked_in_one_process, folders_are_quick, a_cgroup_is_made_where_it_may_be,
+TESTS = [results_are_written_as_they_come, each_package_has_a_result, folders_are_checked_in_one_process, texts_are_written, folders_are_quick, a_cgroup_is_made_where_it_may_be,
          where_no_cgroup_may_be_made_memory_is_looked_at, a_run_that_was_stopped_goes_on, a_killed_task_is_tried_again, a_task_that_is_always_killed_is_told_by_name, a_task_that_takes_too_much_memory_is_told_by_name,
          a_task_without_end_is_not_tried_again, nothing_is_lost_with_a_worker, a_package_that_stands_twice_is_answered_twice, the_command_says_what_is_lost,
          a_cluster_that_is_there_is_used]

@@ -62,14 +62,16 @@ const region = (value) => {
 };
 const level = oneOf('none', 'note', 'warning', 'error');
 const location = object({ physicalLocation: object({ artifactLocation: object({ uri }) }, { region }) });
-const result = object({ ruleId: text, ruleIndex: Number.isInteger, level, message }, { locations: list(location) });
-const rule = object({ id: text, shortDescription: message }, { helpUri: page });
-const driver = object({ name: text, version: text, rules: list(rule) });
+const partialFingerprints = object({ 'nagdrez/v1': text });
+const result = object({ ruleId: text, ruleIndex: Number.isInteger, level, message, partialFingerprints }, { locations: list(location) });
+const help = object({ text, markdown: text });
+const rule = object({ id: text, shortDescription: message }, { helpUri: page, help });
+const driver = object({ name: text, version: text, informationUri: page, rules: list(rule) });
 const invocation = object({ executionSuccessful: isBoolean, toolExecutionNotifications: list(object({ level, message })) });
 const run = object({
   tool: object({ driver }), invocations: list(invocation), columnKind: oneOf('utf16CodeUnits', 'unicodeCodePoints'), results: list(result),
 });
-const log = object({ version: oneOf('2.1.0'), runs: list(run) });
+const log = object({ $schema: page, version: oneOf('2.1.0'), runs: list(run) });
 
 /** The one run of a SARIF log. */
 function sarifRun(whole) {
@@ -78,6 +80,8 @@ function sarifRun(whole) {
   const [one] = made.runs;
   const { rules } = one.tool.driver;
   ensure(new Set(rules.map(({ id }) => id)).size === rules.length, 'a rule stands twice');
+  const prints = one.results.map((each) => each.partialFingerprints['nagdrez/v1']);
+  ensure(new Set(prints).size === prints.length, 'a fingerprint stands twice');
   for (const { ruleId, ruleIndex } of one.results) ensure(rules[ruleIndex].id === ruleId, `${ruleId} is not rule ${ruleIndex}`);
   return one;
 }

@@ -1,14 +1,14 @@
 'use strict';
 // The words of the command line.
-const { CODES, isCode } = require('../messages/codes.js');
+const { CODES, isCode, mayBeAllowed } = require('../messages/codes.js');
 const { COMMANDS, OPTIONS } = require('./options.js');
 
 /** @type {Map<string, import('./types').Option>} */
 const BY_WORD = new Map(OPTIONS.flatMap((it) => [it.word, ...(it.also || [])].map((word) => /** @type {const} */ ([word, it]))));
-const FORMATS = ['text', 'json', 'github', 'sarif', 'junit'];
+const FORMATS = ['text', 'json', 'github', 'sarif', 'junit', 'badge'];
 const RULES = ['deno'];
 // Those that are one document, which a run that goes on has no end of.
-const DOCUMENTS = ['sarif', 'junit'];
+const DOCUMENTS = ['sarif', 'junit', 'badge'];
 
 class UsageError extends Error {}
 
@@ -57,7 +57,7 @@ function rulesOf(name) {
 /** A code that may be allowed: of what keeps a folder from being read, there is nothing to go on with. */
 function allowed(code) {
   if (!isCode(code)) throw new UsageError(`there is no code ${code}: ${Object.keys(CODES).join(', ')}${meant(code, Object.keys(CODES))}`);
-  if (CODES[code] === 'refused') throw new UsageError(`${code} cannot be allowed, since the package is not read then`);
+  if (!mayBeAllowed(code)) throw new UsageError(`${code} cannot be allowed, since the package is not read then`);
   return code;
 }
 
@@ -110,6 +110,8 @@ function fit(command, options) {
   }
   const isOther = options.format !== undefined && options.format !== 'json';
   if (options.json && isOther) throw new UsageError(`--json is --format json, and --format ${options.format} is asked for too`);
+  if (options.only && options.exports !== undefined) throw new UsageError('--only goes by the entry points of the package, and --exports names others');
+  if (options.watch && options.fix) throw new UsageError('--watch does not go with --fix');
   if (options.watch && DOCUMENTS.includes(options.format)) throw new UsageError(`--watch does not go with --format ${options.format}, which is one document`);
 }
 
@@ -135,14 +137,14 @@ function parse(words) {
   if (command === undefined) throw new UsageError('no command is given');
   if (!Object.hasOwn(COMMANDS, command)) throw new UsageError(`there is no command ${command}${meant(command, Object.keys(COMMANDS))}`);
   const { least, most } = COMMANDS[command];
-  if (rest.length < least) throw new UsageError(`${command} wants two words`);
+  if (rest.length < least) throw new UsageError(`${command} wants ${least === 1 ? 'a word' : 'two words'}`);
   if (rest.length > most) throw new UsageError(`${command} does not take the word ${rest[most]}`);
   fit(command, options);
   for (const [key, read] of Object.entries(READ)) {
     if (options[key] !== undefined) options[key] = key === 'allow' ? options.allow.map(read) : read(options[key]);
   }
   if (options.json && command === 'check') options.format = 'json';
-  return { command, rest: rest.length ? rest : ['.'], options };
+  return { command, rest: rest.length || !most ? rest : ['.'], options };
 }
 
-module.exports = { UsageError, parse };
+module.exports = { UsageError, meant, parse };

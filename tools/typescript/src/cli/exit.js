@@ -1,6 +1,7 @@
 'use strict';
 // What goes wrong with the tool itself, which is no refusal: reported with its place, and a status of its own.
 const path = require('path');
+const { NAME } = require('./installed.js');
 
 /** The status of a run in which the tool itself is at fault. */
 const INTERNAL = 70;
@@ -18,7 +19,7 @@ function isTooDeep(error) {
 /** The file and the line that an error comes from, as `returns.js:77`. */
 function placeOf(error) {
   const frame = /\n\s+at (?:.*\()?(?:file:\/\/)?(\/[^\n]*?):(\d+):\d+\)?/.exec(error.stack || '');
-  return frame ? `${path.basename(frame[1])}:${frame[2]}` : 'fast-check-ts';
+  return frame ? `${path.basename(frame[1])}:${frame[2]}` : NAME;
 }
 
 /** What is reported of a fault of the tool, with the module that it was at, where that is known. */

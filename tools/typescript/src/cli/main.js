@@ -7,9 +7,9 @@ const { refusalOf } = require('./exit.js');
 const { keptFor } = require('../package/cache.js');
 const { COMMANDS, USAGE, helpOf } = require('./options.js');
 const { UsageError, parse } = require('./args.js');
+const { NAME, VERSION } = require('./installed.js');
 const { Progress } = require('./progress.js');
 const { targetsOf } = require('./targets.js');
-const { versionOfTool } = require('./version.js');
 
 /** What a command works with: where it was started, the streams, colours, progress. */
 function contextOf(io, options) {
@@ -28,6 +28,7 @@ function contextOf(io, options) {
  * @param {{ cwd: string }} io
  */
 function folderAsked({ command, rest, options }, { cwd }) {
+  if (!rest.length || command === 'explain') return cwd;
   if (command === 'check') return targetsOf(rest, options, cwd)[0].dir;
   return path.resolve(cwd, rest[command === 'diff' ? 1 : 0]);
 }
@@ -43,8 +44,8 @@ function refuse(thrown, { command, options }, context) {
   const isUsage = thrown instanceof UsageError;
   const { messages, status, message } = isUsage ? { messages: [], status: 2, message: thrown.message } : refusalOf(thrown);
   writeMessages(messages, options, options.json ? context : { out: context.err, paint: context.paintErrors });
-  context.err.write(`fast-check-ts: ${message}\n`);
-  if (isUsage && !command) context.err.write('fast-check-ts --help says what there is\n');
+  context.err.write(`${NAME}: ${message}\n`);
+  if (isUsage && !command) context.err.write(`${NAME} --help says what there is\n`);
   return status;
 }
 
@@ -58,7 +59,7 @@ async function main(words, io) {
     asked.options.kept = keptFor(asked.options, io.environment);
     context = contextOf(io, asked.options);
     if (asked.command === 'help') io.out.write(asked.rest.length ? helpOf(asked.rest[0]) : USAGE);
-    if (asked.command === 'version') io.out.write(`fast-check-ts ${versionOfTool()}\n`);
+    if (asked.command === 'version') io.out.write(`${NAME} ${VERSION}\n`);
     if (!COMMANDS[asked.command]) return 0;
     if (!asked.options.noOwnCompiler) lookIn(folderAsked(asked, io));
     const run = require(`../commands/${asked.command}.js`)[asked.command];

@@ -41,12 +41,23 @@ function exportsOf(dir, files) {
   return Object.fromEntries(named.map((it, at) => [at === 0 ? '.' : it, it]));
 }
 
+/** The packages of some files, each with its files. */
+function packagesOfFiles(places) {
+  const folders = new Map();
+  for (const { dir, file } of places) {
+    if (!file) throw new UsageError(`--only goes with files, and ${dir} is a folder`);
+    folders.set(dir, (folders.get(dir) || new Set()).add(file));
+  }
+  return [...folders].map(([dir, only]) => ({ dir, exports: undefined, only }));
+}
+
 /**
  * What is to be checked, in the order of the words: `{dir, exports}`, each folder once. `exports` are the entry points that files name; undefined where the
- * folder itself is named.
+ * folder itself is named. With `--only` files name their packages, whose messages are reported of `only` these files.
  */
 function targetsOf(words, options, cwd) {
   const places = words.map((word) => placeOf(word, cwd));
+  if (options.only) return packagesOfFiles(places);
   if (options.exports !== undefined && places.some(({ file }) => file)) throw new UsageError('--exports goes with a folder, and a file is named');
   const folders = new Map();
   for (const { dir, file } of places) {
@@ -60,4 +71,4 @@ function targetsOf(words, options, cwd) {
   return [...folders].map(([dir, files]) => ({ dir, exports: files ? exportsOf(dir, [...new Set(files)]) : options.exports }));
 }
 
-module.exports = { NAMES, targetsOf };
+module.exports = { NAMES, packageAround, targetsOf };

@@ -6,6 +6,8 @@ export interface Option {
   key: keyof Options;
   isList?: boolean;
   commands: string[];
+  /** Whether `--help` passes over it. */
+  isHidden?: boolean;
   text: string;
 }
 
@@ -21,6 +23,8 @@ export interface Options {
   noIgnore?: boolean;
   baseline?: string;
   rules?: string;
+  only?: boolean;
+  fix?: boolean;
   watch?: boolean;
   externals?: boolean;
   verify?: boolean;

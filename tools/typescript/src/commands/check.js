@@ -1,66 +1,11 @@
 'use strict';
 // Checks folders, one after another, and reports their errors and warnings in the format that is asked for.
-const { analyse, answersTo, part, statusOf } = require('../program/answer.js');
-const { Baseline, withoutAllowed } = require('../messages/allow.js');
-const { refusalOf } = require('../cli/exit.js');
-const { FORMATS } = require('../messages/formats.js');
+const { resultOf } = require('../api/check.js');
 const { targetsOf } = require('../cli/targets.js');
-const { withoutNamedReturns } = require('../tables/asserted-types.js');
-
-/** What is reported of a folder that was analysed: its messages without those that are allowed or known, and how many these are. */
-function toldOf(world, messages, options, baseline) {
-  const all = [...world.warnings, ...messages];
-  const found = options.quiet ? all.filter(({ level }) => level !== 'Warning') : all;
-  const wanted = withoutAllowed(world, found, options);
-  const told = new Set(baseline ? baseline.without(wanted) : wanted);
-  const left = (list) => list.filter((each) => told.has(each));
-  return {
-    messages: [...left(world.warnings), ...world.broken, ...left(messages)],
-    allowed: found.length - wanted.length,
-    known: wanted.length - told.size,
-  };
-}
-
-/** What the program and, where it is asked for, the compiler say of a folder. */
-async function messagesOf(world, options, context) {
-  if (!options.verify || !world.skeletons.size) return world.messages;
-  const { verified } = require('../compiler/thread.js');
-  context.progress.begin("TypeScript's compiler checks the skeletons");
-  return [...world.messages, ...await verified(world, context)];
-}
-
-/** How many return types of a folder single returns name: for so many more deno asks. */
-async function singleReturnsOf(world, options, context) {
-  const request = isCounted(options) ? withoutNamedReturns(world.request) : null;
-  if (!request) return 0;
-  const asked = (messages) => messages.filter(({ code }) => code === 'missing-explicit-return-type').map(({ file, start }) => `${file} ${start}`);
-  const known = new Set(asked(world.messages));
-  const { messages } = part(await answersTo(request, options, context), world, context.cwd);
-  return asked(messages).filter((each) => !known.has(each)).length;
-}
-
-/** Whether the last line of a check says how many return types single returns name. */
-function isCounted({ rules, format, quiet }) {
-  return rules !== 'deno' && (format === undefined || format === 'text') && !quiet;
-}
-
-/**
- * The result of a folder: `world`, null where it cannot be read, `thrown`, which says why, the messages that are reported, how many others are allowed and
- * known, how many return types single returns name, and the status.
- */
-async function resultOf({ dir, exports }, options, { context, baseline }) {
-  try {
-    const world = await analyse(dir, { ...options, exports }, context);
-    const told = toldOf(world, await messagesOf(world, options, context), options, baseline);
-    const singleReturns = await singleReturnsOf(world, options, context);
-    return { dir, world, thrown: null, status: statusOf(world.broken), singleReturns, ...told };
-  } catch (error) {
-    const thrown = refusalOf(error);
-    return { dir, world: null, thrown, status: thrown.status, messages: thrown.messages, singleReturns: 0, allowed: 0, known: 0 };
-  } finally {
-    context.progress.end();
-  }
-}
+const { Baseline } = require('../messages/allow.js');
+const { fixed } = require('../compiler/thread.js');
+const { FORMATS, count } = require('../messages/formats.js');
+const { rewriteTexts } = require('../package/files.js');
 
 /** The status of all results: the highest of what cannot be read, else 1 where there are errors, or more warnings than may be. */
 function statusOfAll(results, { maxWarnings = Infinity }) {
@@ -83,8 +28,20 @@ async function checkOnce(targets, options, view) {
   return { status: statusOfAll(results, options), results };
 }
 
+/** Writes the types that messages of some folders ask for. */
+async function fixAll(targets, options, context) {
+  for (const { dir, exports, only } of targets) {
+    const within = only && { files: only };
+    const { texts, count: types } = await fixed(dir, { ...options, exports, within }, context);
+    context.progress.end();
+    rewriteTexts(texts);
+    if (types) context.err.write(`${count(types, 'type')} written in ${count(texts.size, 'file')}\n`);
+  }
+}
+
 /** Checks folders, as `targetsOf` answers them, and answers the status. */
 async function checkAll(targets, options, context) {
+  if (options.fix) await fixAll(targets, options, context);
   const view = { context, baseline: options.baseline ? Baseline.of(options.baseline, context.cwd) : null };
   if (!options.watch) return (await checkOnce(targets, options, view)).status;
   const { watch } = require('./watch.js');

@@ -1,30 +1,42 @@
 'use strict';
-// Checks one folder after another in one process, which keeps the compiler: for tools/registry, whose packages are strangers'. So no compiler of theirs is run,
-// no comment of theirs allows anything, and nothing is kept of them.
+// The command `serve`: answers one folder after another in one process, which keeps the compiler. The packages may be strangers': no compiler of theirs is run, no
+// comment of theirs allows anything, and nothing is kept of them.
 //
-// A line in is `{"dir": FOLDER}`, and the line out for it `{"status", "messages", "said"}`; `said` is what stands on standard error.
+// A line in is `{"dir": FOLDER}`, with `"want": "skeletons"` or `"declarations"` where these are wanted too. The line out for it has `status` and `messages`, whose
+// files are named from FOLDER, `said`, which says why nothing is answered, and `modules`, where they were wanted: `path`, `text` and `isPreview` of each.
 const readline = require('readline');
-const { main } = require('../cli/main.js');
 
-/** A stream that keeps what is written. */
-function keeper() {
-  return { text: '', write(part) { this.text += part; return true; } };
-}
+const WANTS = [undefined, 'skeletons', 'declarations'];
+const REFUSED = { status: 2, messages: [], said: 'a line is {"dir": FOLDER}, with "want": "skeletons" or "declarations"' };
 
-/** What `check` says of a folder. */
-async function checked(dir) {
-  const [out, err] = [keeper(), keeper()];
-  const words = ['check', '--json', '--no-own-compiler', '--no-cache', '--no-ignore', dir];
-  const status = await main(words, { cwd: process.cwd(), environment: process.env, out, err });
-  const lines = out.text.split('\n').filter(Boolean).map((line) => JSON.parse(line));
-  return { status, messages: lines.filter((each) => each.code !== undefined), said: err.text.trim() };
-}
-
-async function serve() {
-  for await (const line of readline.createInterface({ input: process.stdin })) {
-    const { dir } = JSON.parse(line);
-    process.stdout.write(`${JSON.stringify(await checked(dir))}\n`);
+/** What a line asks for, or null. */
+function askedBy(line) {
+  try {
+    const { dir, want } = JSON.parse(line);
+    return typeof dir === 'string' && WANTS.includes(want) ? { dir, want } : null;
+  } catch {
+    return null;
   }
 }
 
-serve();
+async function answerTo({ dir, want }) {
+  const { INTERNAL } = require('../cli/exit.js');
+  const { check, skeleton } = require('../api/index.js');
+  const options = { ownCompiler: false, cache: false, comments: false, declarations: want === 'declarations' };
+  try {
+    const { status, reason, messages, modules } = /** @type {any} */ (await (want ? skeleton : check)(dir, options));
+    return { status, messages, said: reason || '', ...(want ? { modules } : {}) };
+  } catch (error) {
+    return { status: error.status || INTERNAL, messages: [], said: error.message };
+  }
+}
+
+async function serve(words, options, { out }) {
+  for await (const line of readline.createInterface({ input: process.stdin })) {
+    const asked = askedBy(line);
+    out.write(`${JSON.stringify(asked ? await answerTo(asked) : REFUSED)}\n`);
+  }
+  return 0;
+}
+
+module.exports = { serve };

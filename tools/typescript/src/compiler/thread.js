@@ -28,28 +28,40 @@ function memoryError(limit) {
   return Object.assign(new Error(`out of memory: TypeScript's compiler needs more than the ${limit} MB that Node has; ${more}`), { status: 3 });
 }
 
+/** Has nothing more asked of a thread that ends. */
+function forget(thread) {
+  for (const [key, each] of threads) if (each === thread) threads.delete(key);
+}
+
 /** The thread for the compiler that is chosen now. */
 function threadFor(limit) {
   const [key] = candidateFiles();
   if (!threads.has(key)) {
     const made = new Worker(__filename, { workerData: { own: chosen.own }, resourceLimits: { maxOldGenerationSizeMb: limit } });
-    made.on('exit', () => threads.delete(key));
+    made.on('exit', () => forget(made));
     made.unref();
     threads.set(key, made);
   }
   return threads.get(key);
 }
 
-/** What the thread says to something that is asked. What is at work there is reported meanwhile. */
-function ask(asked, progress) {
+/** What the thread says to something that is asked, one thing at a time. What is at work there is reported meanwhile; `signal` ends the thread early. */
+function askThread(asked, { progress, signal }) {
   const limit = Math.floor(v8.getHeapStatistics().heap_size_limit / MEGABYTE);
+  if (signal && signal.aborted) return Promise.reject(signal.reason);
   const thread = threadFor(limit);
   return new Promise((resolve, reject) => {
+    const stop = () => {
+      forget(thread);
+      thread.terminate();
+      failed({ error: signal.reason });
+    };
     const end = (call) => (value) => {
       thread.removeAllListeners('message').removeAllListeners('error').unref();
+      if (signal) signal.removeEventListener('abort', stop);
       call(value);
     };
-    const failed = end(({ error, more }) => reject(Object.assign(error, more, more.messages && { messages: withLines(more.messages) })));
+    const failed = end(({ error, more }) => reject(more ? Object.assign(error, more, more.messages && { messages: withLines(more.messages) }) : error));
     const answered = end(resolve);
     thread.on('message', ({ told, thrown, answer }) => {
       if (told) progress[told[0]](told[1]);
@@ -57,9 +69,19 @@ function ask(asked, progress) {
       else answered(answer);
     });
     thread.once('error', end((error) => reject(error.code === 'ERR_WORKER_OUT_OF_MEMORY' ? memoryError(limit) : error)));
+    if (signal) signal.addEventListener('abort', stop);
     thread.ref();
     thread.postMessage(asked);
   });
+}
+
+let last = Promise.resolve();
+
+/** As `askThread`, behind all that was asked before. */
+function ask(asked, context) {
+  const answer = last.then(() => askThread(asked, context));
+  last = answer.catch(() => {});
+  return answer;
 }
 
 /** Messages as a thread may be handed them, with the texts of their lines. */
@@ -67,20 +89,21 @@ const withTexts = (messages) => messages.map((each) => (each.lines ? { ...each, 
 const withLines = (messages) => messages.map((each) => (each.lines === undefined ? each : { ...each, lines: new Lines(each.lines) }));
 
 /** What the compiler finds in the skeletons of a folder, or declares for them, and not in and for the sources, as messages. */
-async function verified(world, { cwd, progress }) {
-  return withLines(await ask({ task: 'verify', world: handed(world), cwd }, progress));
+async function verified(world, context) {
+  return withLines(await ask({ task: 'verify', world: handed(world), cwd: context.cwd }, context));
 }
 
 /** What `compatibility` says of public names of two versions of a package. */
-async function compared(before, after, names, { progress }) {
-  return ask({ task: 'compare', before: handed(before), after: handed(after), names }, progress);
+async function compared(before, after, names, context) {
+  return ask({ task: 'compare', before: handed(before), after: handed(after), names }, context);
 }
 
 /** What `fix` makes of a folder: its messages, the texts that changed, and how many types were written. */
-async function fixed(dir, options, { cwd, environment, progress }) {
+async function fixed(dir, options, context) {
   const { kept, ...others } = options;
-  const { warnings, broken, messages, texts, count } = await ask({ task: 'fix', dir, options: others, cwd, environment: { ...environment } }, progress);
-  const world = { warnings: withLines(warnings), broken: withLines(broken), messages: withLines(messages) };
+  const { cwd, environment } = context;
+  const { packages, warnings, broken, messages, texts, count } = await ask({ task: 'fix', dir, options: others, cwd, environment: { ...environment } }, context);
+  const world = { info: { packages }, warnings: withLines(warnings), broken: withLines(broken), messages: withLines(messages) };
   return { world, texts, count };
 }
 
@@ -118,7 +141,8 @@ const TASKS = {
     const kept = keptFor(options, environment);
     const { world, texts, count } = await fix(dir, { ...options, kept }, { cwd, environment, progress: new ToldProgress((told) => parentPort.postMessage({ told })) });
     kept.end();
-    return { warnings: withTexts(world.warnings), broken: withTexts(world.broken), messages: withTexts(world.messages), texts, count };
+    const packages = world.info.packages.map(({ name, version }) => ({ name, version }));
+    return { packages, warnings: withTexts(world.warnings), broken: withTexts(world.broken), messages: withTexts(world.messages), texts, count };
   },
 };
 

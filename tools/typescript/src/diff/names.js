@@ -6,6 +6,7 @@ function lineDifference(before, after) {
   return differenceOf(before.split('\n'), after.split('\n'));
 }
 
+/** As `lineDifference`, of lists of lines. */
 function differenceOf(a, b) {
   let head = 0;
   while (head < a.length && head < b.length && a[head] === b[head]) head++;
@@ -126,4 +127,4 @@ function changesOf(before, after) {
   return [...only(before, after, 'removed'), ...changed, ...only(after, before, 'added')];
 }
 
-module.exports = { nameChanges, unified };
+module.exports = { differenceOf, nameChanges, unified };

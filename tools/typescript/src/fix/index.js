@@ -193,12 +193,13 @@ function changedTexts(made) {
   return [...editsByFile(made)].map(([file, edits]) => [file.fileName, applied(file.text, edits)]);
 }
 
-/** The messages that a type may answer, by the paths of their files. */
-function fixable(world) {
+/** The messages that a type may answer, by the paths of their files: those of some files, or at one place in one, where `within` says so. */
+function fixable(world, within) {
   const found = new Map();
+  const isAsked = (file, { start }) => !within || (within.files.has(file.path) && (within.start === undefined || start === within.start));
   for (const message of world.messages) {
     const file = world.files.get(message.specifier);
-    if (!file || !message.lines || !FIXABLE.has(message.code)) continue;
+    if (!file || !message.lines || !FIXABLE.has(message.code) || !isAsked(file, message)) continue;
     found.set(file.path, [...(found.get(file.path) || []), message]);
   }
   return found;
@@ -236,7 +237,7 @@ class Fixer {
 
   /** One round: the edits of all files that bring no error. Answers how many there are. */
   round(world) {
-    const messages = fixable(world);
+    const messages = fixable(world, this.options.within);
     if (!messages.size) return 0;
     const texts = this.textsOf(world);
     const names = [...texts.keys()];
@@ -275,7 +276,10 @@ class Fixer {
   async run() {
     let world = await this.analyse();
     let isRetried = false;
-    for (let round = 0; round < ROUNDS; round++) {
+    // A place is another one behind a round.
+    const { within } = this.options;
+    const rounds = within && within.start !== undefined ? 1 : ROUNDS;
+    for (let round = 0; round < rounds; round++) {
       this.context.progress.begin(`writing types, round ${round + 1}`);
       const written = this.round(world);
       // What was given up may be right beside the types of others.

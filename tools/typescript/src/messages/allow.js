@@ -39,10 +39,29 @@ function isIgnored(message, files) {
   return Boolean(file) && codesAt(file, message.start).has(message.code);
 }
 
-/** The messages of a folder without those that are allowed. */
+/** The messages of a folder without those that the command line, the settings of their package or a comment allows. */
 function withoutAllowed(world, messages, { allow: codes = [], noIgnore }) {
   const files = noIgnore ? [] : [...world.files.values()].filter(({ text }) => text.includes(WORD));
-  return messages.filter((each) => !codes.includes(each.code) && !(files.length && isIgnored(each, files)));
+  const isAllowed = (each) => codes.includes(each.code) || (packageOfMessage(world, each) || { allow: [] }).allow.includes(each.code);
+  return messages.filter((each) => !isAllowed(each) && !(files.length && isIgnored(each, files)));
+}
+
+/** The package that a message is about. */
+function packageOfMessage({ info, files }, { specifier }) {
+  const { packageOf } = require('../program/answer.js');
+  const file = files.get(specifier);
+  return file ? packageOf(info, file.path) : undefined;
+}
+
+/** The messages that no baseline of the settings has. The files of a baseline are named from its own folder. */
+function withoutSettledBaselines(world, messages, cwd) {
+  return world.info.packages.filter(({ baseline }) => baseline !== null).reduce((left, { dir, baseline }) => {
+    const from = path.dirname(baseline);
+    const renamed = new Map(left.map((each) => [{ ...each, file: each.file && path.relative(from, path.resolve(cwd, each.file)) }, each]));
+    const isOwn = ({ file }) => Boolean(file) && !path.relative(dir, path.resolve(from, file)).startsWith('..');
+    const kept = new Set(Baseline.of(baseline, from).without([...renamed.keys()].filter(isOwn)));
+    return [...renamed].filter(([each]) => !isOwn(each) || kept.has(each)).map(([, each]) => each);
+  }, messages);
 }
 
 /**
@@ -92,4 +111,4 @@ class Baseline {
   }
 }
 
-module.exports = { Baseline, withoutAllowed };
+module.exports = { Baseline, withoutAllowed, withoutSettledBaselines };

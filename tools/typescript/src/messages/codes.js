@@ -25,4 +25,9 @@ function isCode(code) {
   return Object.hasOwn(CODES, code) || OF_COMPILER.test(code);
 }
 
-module.exports = { CODES, FIXABLE, isCode };
+/** Whether messages of a code may be left out: of what keeps a folder from being read, there is nothing to go on with. */
+function mayBeAllowed(code) {
+  return isCode(code) && CODES[code] !== 'refused';
+}
+
+module.exports = { CODES, FIXABLE, isCode, mayBeAllowed };

@@ -1,11 +1,13 @@
 'use strict';
 // What `check` writes: text for a terminal, lines of JSON, commands of GitHub's workflows, SARIF 2.1.0, and JUnit's XML.
+const crypto = require('crypto');
 const path = require('path');
 const { shownName } = require('../program/answer.js');
 const { CODES, FIXABLE } = require('./codes.js');
+const { explanationOf } = require('./explanations.js');
 const { format: framed, plain } = require('./message.js');
 const { visible } = require('../tree/lines.js');
-const { versionOfTool } = require('../cli/version.js');
+const { NAME, VERSION } = require('../cli/installed.js');
 
 /** A number with its noun. */
 function count(number, noun) {
@@ -80,7 +82,7 @@ function closing(results) {
     '  3. its declaration files are made without a type checker.',
   ];
   const fixable = slow.find(({ code }) => FIXABLE.has(code));
-  return fixable ? [...why, '`fast-check-ts fix` writes those that the compiler infers; `fix --dry` shows them first.'] : why;
+  return fixable ? [...why, `\`${NAME} fix\` writes those that the compiler infers; \`fix --dry\` shows them first.`] : why;
 }
 
 /** How many return types single returns name, for which deno would ask, where there are some. */
@@ -106,13 +108,13 @@ const text = {
   result({ messages, world, thrown }, options, context) {
     const [stream, paint] = thrown ? [context.err, context.paintErrors] : [context.out, context.paint];
     for (const message of messages) stream.write(`${framed(message, paint).join('\n')}\n`);
-    if (thrown) context.err.write(`fast-check-ts: ${thrown.message}\n`);
+    if (thrown) context.err.write(`${NAME}: ${thrown.message}\n`);
     else if (!options.quiet) for (const line of notesOf(world, options, context.cwd)) context.out.write(`${line}\n`);
   },
 
   end(results, options, context) {
     if (options.quiet || results.every(({ thrown }) => thrown)) return;
-    const why = closing(results);
+    const why = options.watch ? [] : closing(results);
     for (const line of why) context.out.write(`${line}\n`);
     const { mayTellMore } = require('../skeleton/effects.js');
     const more = !options.verify && results.some(({ world }) => world && mayTellMore(world)) ? '; --verify may tell more' : '';
@@ -127,7 +129,7 @@ const json = {
   result({ messages, world, thrown }, options, context) {
     const notes = world ? [...(options.externals ? externalsOf(world, context.cwd) : []), ...takenOf(world, context.cwd)] : [];
     for (const each of [...messages.map(plain), ...notes]) context.out.write(`${JSON.stringify(each)}\n`);
-    if (thrown) context.err.write(`fast-check-ts: ${thrown.message}\n`);
+    if (thrown) context.err.write(`${NAME}: ${thrown.message}\n`);
   },
 
   end() {},
@@ -175,6 +177,8 @@ const github = {
 
 // ---- SARIF 2.1.0
 
+const SARIF_SCHEMA = 'https://json.schemastore.org/sarif-2.1.0.json';
+
 /** The name of a file as a URI: a relative one, or that of the file. */
 function uriOf(name) {
   const written = name.split(path.sep).map(encodeURIComponent).join('/');
@@ -186,18 +190,29 @@ function sarifLocation({ file, line, column, endLine, endColumn }) {
   return { physicalLocation: { artifactLocation: { uri: uriOf(file) }, ...region } };
 }
 
-function sarifResult(message, rules) {
+/** What a message is known by in later runs, wherever it stands in its file: as in a baseline, and by how many like it stand before it. */
+function fingerprintOf({ code, file, message }, seen) {
+  const key = JSON.stringify([code, file, message]);
+  seen.set(key, (seen.get(key) || 0) + 1);
+  return { 'nagdrez/v1': crypto.createHash('sha256').update(`${key} ${seen.get(key)}`).digest('hex').slice(0, 32) };
+}
+
+function sarifResult(message, rules, seen) {
   const { code, level, hint, info, file } = message;
   const lines = [message.message, ...(hint ? [`hint: ${hint}`] : []), ...info].map(visible);
   const place = file ? { locations: [sarifLocation(message)] } : {};
-  return { ruleId: code, ruleIndex: rules.findIndex(({ id }) => id === code), level, message: { text: lines.join('\n') }, ...place };
+  const ruleIndex = rules.findIndex(({ id }) => id === code);
+  return { ruleId: code, ruleIndex, level, message: { text: lines.join('\n') }, ...place, partialFingerprints: fingerprintOf(message, seen) };
 }
 
-/** The rules that messages have, each once, with its page where it has one. */
+/** The rules that messages have, each once, with its page where it has one, and the text of `explain` as its help. */
 function sarifRules(messages) {
   const first = new Map();
   for (const each of messages) if (!first.has(each.code)) first.set(each.code, each);
-  return [...first].map(([id, { docs }]) => ({ id, shortDescription: { text: id.replace(/-/g, ' ') }, ...(docs ? { helpUri: docs } : {}) }));
+  return [...first].map(([id, { docs }]) => {
+    const text = explanationOf(id);
+    return { id, shortDescription: { text: id.replace(/-/g, ' ') }, ...(docs ? { helpUri: docs } : {}), ...(text ? { help: { text, markdown: text } } : {}) };
+  });
 }
 
 const sarif = {
@@ -206,14 +221,15 @@ const sarif = {
   end(results, options, context) {
     const messages = results.flatMap((each) => each.messages).map(located);
     const rules = sarifRules(messages);
+    const seen = new Map();
     const notifications = results.filter(({ thrown }) => thrown).map(({ thrown }) => ({ level: 'error', message: { text: thrown.message } }));
     const run = {
-      tool: { driver: { name: 'fast-check-ts', version: versionOfTool(), rules } },
+      tool: { driver: { name: NAME, version: VERSION, informationUri: 'https://nagdrez.example', rules } },
       invocations: [{ executionSuccessful: !notifications.length, toolExecutionNotifications: notifications }],
       columnKind: 'unicodeCodePoints',
-      results: messages.map((each) => sarifResult(each, rules)),
+      results: messages.map((each) => sarifResult(each, rules, seen)),
     };
-    context.out.write(`${JSON.stringify({ version: '2.1.0', runs: [run] }, null, 2)}\n`);
+    context.out.write(`${JSON.stringify({ $schema: SARIF_SCHEMA, version: '2.1.0', runs: [run] }, null, 2)}\n`);
   },
 };
 
@@ -271,7 +287,20 @@ const junit = {
   },
 };
 
+// ---- a badge, as shields.io reads it from an endpoint
+
+const badge = {
+  result() {},
+
+  end(results, options, context) {
+    const number = sum(results.map(({ messages }) => messages.filter(({ level }) => level === 'Error').length));
+    const isUnread = results.some(({ thrown }) => thrown);
+    const [message, color] = isUnread ? ['not read', 'lightgrey'] : number ? [String(number), 'orange'] : ['none', 'brightgreen'];
+    context.out.write(`${JSON.stringify({ schemaVersion: 1, label: 'slow types', message, color })}\n`);
+  },
+};
+
 /** The formats by their names. Each has `result`, which is called for each folder as it is checked, and `end`, which is called with all. */
-const FORMATS = { text, json, github, sarif, junit };
+const FORMATS = { text, json, github, sarif, junit, badge };
 
 module.exports = { FORMATS, count, seconds, summary };

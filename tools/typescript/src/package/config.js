@@ -6,6 +6,7 @@ const path = require('path');
 const { isDeclarationFile, isInside, isJavaScript, mediaTypeOf, readJson, readText } = require('./files.js');
 const { placeAt } = require('../tree/lines.js');
 const { NAMES } = require('../cli/targets.js');
+const { mayBeAllowed } = require('../messages/codes.js');
 const typescript = require('../compiler/typescript.js');
 
 const USUAL = ['mod.ts', 'index.ts', 'src/index.ts', 'index.d.ts', 'mod.tsx', 'index.tsx', 'src/mod.ts'];
@@ -14,6 +15,11 @@ const CONDITIONS = ['types', 'deno', 'import', 'module', 'node', 'browser', 'def
 const isText = (value) => typeof value === 'string';
 const isMap = (value) => value !== null && typeof value === 'object' && !Array.isArray(value);
 const areTexts = (value) => Array.isArray(value) && value.every(isText);
+const areExports = (value) => isText(value) || value === null || typeof value === 'object';
+
+// The settings of this tool, as the member `nagdrez` of a configuration has them.
+const SETTINGS = { exports: areExports, allow: (value) => areTexts(value) && value.every(mayBeAllowed), baseline: isText };
+const areSettings = (value) => isMap(value) && Object.keys(value).every((it) => Object.hasOwn(SETTINGS, it) && SETTINGS[it](value[it]));
 
 /**
  * What the members that are read have to be.
@@ -23,8 +29,9 @@ const areTexts = (value) => Array.isArray(value) && value.every(isText);
 const WANTED = [
   ['name', 'a text', isText],
   ['version', 'a text', isText],
-  ['exports', 'a path or a map', (value) => isText(value) || value === null || typeof value === 'object'],
+  ['exports', 'a path or a map', areExports],
   ['imports', 'a map', isMap],
+  ['nagdrez', 'a map of `exports` (a path or a map), `allow` (a list of codes) and `baseline` (a path)', areSettings],
   ['workspace', 'a list of paths', (value) => areTexts(value) || (isMap(value) && (value.members === undefined || areTexts(value.members)))],
   ['workspaces', 'a list of paths', (value) => areTexts(value) || (isMap(value) && (value.packages === undefined || areTexts(value.packages)))],
 ];
@@ -359,7 +366,10 @@ function packagesOf(dir, options, context) {
   const folders = errors.length ? [] : foldersOf(dir, config, options, context);
   if (errors.length) return [];
   const found = folders.map((folder) => {
-    const own = folder === dir ? config : configOf(folder, files, errors);
+    const written = folder === dir ? config : configOf(folder, files, errors);
+    // Of packages of strangers no setting counts.
+    const settings = (!options.noIgnore && written.nagdrez) || {};
+    const own = settings.exports === undefined ? written : { ...written, exports: settings.exports };
     const given = folder === dir ? options : {};
     const version = given.version || own.version;
     return {
@@ -368,6 +378,8 @@ function packagesOf(dir, options, context) {
       isVersioned: VERSION.test(version),
       ranges: { ...rangesOf(config), ...rangesOf(own) },
       dir: folder,
+      allow: settings.allow || [],
+      baseline: settings.baseline === undefined ? null : path.resolve(folder, settings.baseline),
       imports: { ...importsOf(dir, config), ...importsOf(folder, own) },
       dependencies: new Set([...dependenciesOf(config), ...dependenciesOf(own)]),
       needed: [...new Set([...mappedOut(config), ...mappedOut(own), ...dependenciesOf(own, NEEDED)])],

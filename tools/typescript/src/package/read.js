@@ -262,6 +262,8 @@ function readPackage(dir, options = {}) {
     isVersioned: it.isVersioned,
     ranges: it.ranges,
     dir: it.dir,
+    allow: it.allow,
+    baseline: it.baseline,
     needed: it.needed,
     exports: reader.entriesOf(it).map(([key, file]) => [key, `./${urlPath(it.dir, file)}`]),
     entryPoints: reader.entriesOf(it).map(([, file]) => urlOf(reader.root, file)),

@@ -4,10 +4,12 @@ const fs = require('fs');
 const path = require('path');
 const { build } = require('./run.js');
 const { INTERNAL } = require('../cli/exit.js');
+const { NEWEST } = require('../cli/installed.js');
 const { isInside, readText } = require('../package/files.js');
 const { hintOf } = require('../messages/hints.js');
 const { inputOf } = require('./input.js');
 const { Lines } = require('../tree/lines.js');
+const { withTreesOf } = require('./request.js');
 const { previewOf } = require('./preview.js');
 const { skeletonMessages } = require('../skeleton/messages.js');
 const typescript = require('../compiler/typescript.js');
@@ -142,8 +144,6 @@ function unresolvedMessages(info, files, cwd) {
   });
 }
 
-// The script that fetches a newer compiler.
-const NEWEST = path.resolve(__dirname, '../../newest.sh');
 // Forms that compilers before 5.2 do not read.
 const NEWER_FORMS = new RegExp([
   '\\bsatisfies\\b', '\\baccessor\\b', '\\busing\\b', '[<,]\\s*const\\s+[\\w$]', '\\bwith\\s*\\{', '\\bimport\\s+defer\\b', '\\bexport\\s+type\\s*\\*',
@@ -162,8 +162,8 @@ function withNewer(messages, context) {
   if (context.isNewerNamed || !messages.some(hasNewerForm) || typescript.isFrom(5, 2)) return messages;
   context.isNewerNamed = true;
   const first = messages.find(hasNewerForm);
-  const script = shownName(NEWEST, context.cwd);
-  const more = `TypeScript ${typescript.version} reads this; a newer one reads newer forms: \`export TYPESCRIPT=$(${script} FOLDER)\` fetches it`;
+  const advice = NEWEST ? `\`export TYPESCRIPT=$(${shownName(NEWEST, context.cwd)} FOLDER)\` fetches it` : '`npm install --save-dev typescript` fetches it';
+  const more = `TypeScript ${typescript.version} reads this; a newer one reads newer forms: ${advice}`;
   return messages.map((each) => (each === first ? { ...each, info: [...each.info, more] } : each));
 }
 
@@ -207,13 +207,19 @@ function withoutFaulty({ info, files, skeletons }, paths) {
  * @param {import('../cli/types').Options} options
  * @param {any} context
  */
-function answersTo(request, { unproved }, { progress, environment }) {
+function answersTo(request, { unproved }, { progress, environment, isCommand, signal }) {
   const tell = (line) => progress.line(line);
-  return progress.during('the program is at work', build(request, { unproved, environment, tell }));
+  return progress.during('the program is at work', build(request, { unproved, environment, tell, isCommand, signal }));
+}
+
+/** The specifiers of some files. */
+function specifiersOf({ files }, paths) {
+  return new Set([...files].filter(([, file]) => paths.has(file.path)).map(([specifier]) => specifier));
 }
 
 /**
- * Reads a folder and runs the program on it. `broken` says why packages of it cannot be read; `messages` are of the others.
+ * Reads a folder and runs the program on it. `broken` says why packages of it cannot be read; `messages` are of the others. With `treesOf`, a
+ * set of paths, only messages of these files are complete (`withTreesOf`).
  *
  * @param {string} dir
  * @param {import('../cli/types').Options & Record<string, any>} options
@@ -223,6 +229,7 @@ function answersTo(request, { unproved }, { progress, environment }) {
 async function analyse(dir, options, context) {
   const { cwd } = context;
   const world = read(dir, options, context);
+  if (options.treesOf && world.request) world.request = withTreesOf(world.request, specifiersOf(world, options.treesOf));
   const ask = (request) => answersTo(request, options, context);
   const answers = await ask(world.request);
   const { skeletons, messages } = part(answers, world, cwd);
@@ -250,4 +257,4 @@ function statusOf(broken) {
   return broken.length ? 2 : 0;
 }
 
-module.exports = { analyse, answersTo, filesOf, part, read, shownName, statusOf };
+module.exports = { analyse, answersTo, filesOf, packageOf, part, read, shownName, statusOf };

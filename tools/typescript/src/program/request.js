@@ -37,4 +37,28 @@ function requestText(request) {
   return objectText(request, (value, name) => (name === 'modules' ? `[${value.map(moduleText).join(',')}]` : JSON.stringify(value)));
 }
 
-module.exports = { JsonText, requestText, textOf, valueOf };
+// The beginning of a source whose tree is a module's, as it is written here.
+const MODULE = /^(\{"media_type":"\w+","text":)"(?:[^"\\]|\\.)*","program":\{"Module":/;
+const CONTEXT = /"unresolved_context":\d+\}$/;
+
+/** A source without its text, its statements and its comments. */
+function emptied(source) {
+  const [, head] = MODULE.exec(source.text) || [];
+  const [context] = CONTEXT.exec(source.text) || [];
+  if (!head || !context) return source;
+  return new JsonText(`${head}"","program":{"Module":{"span":[0,0],"body":[],"shebang":null}},"comments":{"leading":[],"trailing":[]},${context}`);
+}
+
+/**
+ * A request in which only the modules of these specifiers have their trees. The program finds the same public ranges by it, since these follow from the tables of
+ * all modules, and answers the same of these modules; of the others it answers nothing of use.
+ */
+function withTreesOf(request, specifiers) {
+  const modules = request.modules.map(([specifier, module]) => {
+    if (!module.Esm || specifiers.has(specifier)) return [specifier, module];
+    return [specifier, { Esm: { ...module.Esm, source: emptied(module.Esm.source) } }];
+  });
+  return { ...request, modules };
+}
+
+module.exports = { withTreesOf, JsonText, requestText, textOf, valueOf };

@@ -4,13 +4,12 @@ const childProcess = require('child_process');
 const fs = require('fs');
 const os = require('os');
 const path = require('path');
+const { PROGRAM, isNpm } = require('../cli/installed.js');
 const { requestText } = require('./request.js');
 const { restored } = require('../skeleton/restored.js');
 
 // How the folder of the program's input is named, which is removed again.
 const FOLDER = 'fast-check-ts-';
-
-const TOP = path.resolve(__dirname, '../../../..');
 
 /** What the program refuses, or that it is not there. `status` is the status that the command ends with. */
 class ProgramError extends Error {
@@ -23,17 +22,19 @@ class ProgramError extends Error {
 /** The words that run `build`: the program of the variable FAST_CHECK, or the launcher, which proves and builds it first. */
 function command({ unproved, environment }) {
   if (environment.FAST_CHECK) return [environment.FAST_CHECK, 'build'];
-  return [path.join(TOP, 'fast-check'), ...(unproved ? ['--unproved'] : []), 'build'];
+  const platform = `${process.platform} ${process.arch}`;
+  if (isNpm && platform !== 'linux x64') throw new ProgramError(`the program of this package runs on Linux x86-64, and this is ${platform}`, 5);
+  return [PROGRAM, ...(unproved ? ['--unproved'] : []), 'build'];
 }
 
-/** Runs the words with a file, and answers the status and both streams; what is said meanwhile goes to `tell`, line by line. */
-function run(words, tell) {
+/** Runs the words with a file, and answers the status and both streams; what is said meanwhile goes to `tell`, line by line. `signal` may end it early. */
+function run(words, tell, signal) {
   return new Promise((resolve, reject) => {
-    const child = childProcess.spawn(words[0], words.slice(1), { stdio: ['ignore', 'pipe', 'pipe'] });
+    const child = childProcess.spawn(words[0], words.slice(1), { stdio: ['ignore', 'pipe', 'pipe'], signal });
     const out = [];
     let said = '';
     let rest = '';
-    child.on('error', (error) => reject(new ProgramError(`${words[0]} does not start: ${error.message}`, 5)));
+    child.on('error', (error) => reject(error.name === 'AbortError' ? error : new ProgramError(`${words[0]} does not start: ${error.message}`, 5)));
     child.stdout.on('data', (part) => out.push(part));
     child.stderr.setEncoding('utf8');
     child.stderr.on('data', (part) => {
@@ -61,31 +62,39 @@ function textOf(request) {
   }
 }
 
-/**
- * The answers of the program to a request: a list of `[specifier, {Ok | Err}]`.
- *
- * @param {any} request
- * @param {{ unproved?: boolean, environment: Record<string, string | undefined>, tell: (line: string) => void }} options
- */
-async function build(request, { unproved, environment, tell }) {
-  const folder = fs.mkdtempSync(path.join(os.tmpdir(), FOLDER));
-  const remove = () => fs.rmSync(folder, { recursive: true, force: true });
+/** Removes a folder where the command is ended by a signal; answers what no longer does. */
+function removedAtSignals(remove) {
   const stop = (signal) => {
     remove();
     process.exit(128 + os.constants.signals[signal]);
   };
-  for (const signal of ['SIGINT', 'SIGTERM', 'SIGHUP']) process.once(signal, stop);
+  const signals = ['SIGINT', 'SIGTERM', 'SIGHUP'];
+  for (const signal of signals) process.once(signal, stop);
+  return () => signals.forEach((signal) => process.removeListener(signal, stop));
+}
+
+/**
+ * The answers of the program to a request: a list of `[specifier, {Ok | Err}]`.
+ *
+ * @param {any} request
+ * @param {{ unproved?: boolean, environment: Record<string, string | undefined>, tell: (line: string) => void, isCommand?: boolean, signal?: AbortSignal }} options
+ *   of a command a signal of the system removes what was written; `signal` ends the program early, and is thrown
+ */
+async function build(request, { unproved, environment, tell, isCommand, signal: ended }) {
+  const folder = fs.mkdtempSync(path.join(os.tmpdir(), FOLDER));
+  const remove = () => fs.rmSync(folder, { recursive: true, force: true });
+  const free = isCommand ? removedAtSignals(remove) : () => {};
   try {
     const file = path.join(folder, 'input.json');
     fs.writeFileSync(file, textOf(request));
     const words = command({ unproved, environment });
-    const { status, out, said, signal } = await run([...words, file], tell);
+    const { status, out, said, signal } = await run([...words, file], tell, ended);
     if (status === 0 || status === 1) return restored(JSON.parse(out), request);
     const why = said || (signal ? `it was stopped by ${signal}` : `it ended with status ${status}`);
     throw new ProgramError(`the program did not answer: ${why.replace(/^error: /, '')}`, status <= 5 ? status : 5);
   } finally {
     remove();
-    for (const signal of ['SIGINT', 'SIGTERM', 'SIGHUP']) process.removeListener(signal, stop);
+    free();
   }
 }
 

@@ -1,6 +1,7 @@
 'use strict';
 // Has TypeScript's compiler check the skeletons beside the sources: what it finds wrong in the skeletons alone is reported, and each public declaration of which
 // it declares another type, module by module.
+const { isNpm } = require('../cli/installed.js');
 const { shownName } = require('../program/answer.js');
 const { programOf, resolverOf, declarationName, emitted, surfaceOf, compared, errorsIn, normalise, textOf } = require('./surface.js');
 const { Lines } = require('../tree/lines.js');
@@ -11,8 +12,10 @@ const { told: toldWay, ways } = require('../skeleton/reasons.js');
 
 /** What is to be done about errors that come of a reference which the skeletons do not answer. */
 const LOST = new Set([2304, 2305, 2307, 2339, 2503, 2552, 2614, 2694, 2724, 4023, 4033]);
-const HINT = 'refer to what is meant by a name of its own; docs/TYPESCRIPT.md lists where the rules part from TypeScript';
-const TYPE_HINT = 'write the type; docs/TYPESCRIPT.md says what to write where the rules part from TypeScript';
+// The npm package has no pages.
+const more = (text) => (isNpm ? '' : `; docs/TYPESCRIPT.md ${text} where the rules part from TypeScript`);
+const HINT = `refer to what is meant by a name of its own${more('lists')}`;
+const TYPE_HINT = `write the type${more('says what to write')}`;
 const LONGEST = 200;
 const { SyntaxKind: K } = ts;
 const SHOWN = new Set([K.StaticKeyword, K.AbstractKeyword, K.ReadonlyKeyword, K.ProtectedKeyword, K.AccessorKeyword]);

@@ -1,0 +1,54 @@
+#!/usr/bin/env bash
+# Makes the npm package of fast-check-ts, and prints its path:
+#
+#   tools/npm/build.sh [FOLDER]
+#
+# It is FOLDER/nagdrez-VERSION.tgz; FOLDER is tools/npm/out where none is given. The program is that of the variable FAST_CHECK, else the proved one, which
+# ./fast-check-build proves and builds first. A program that was not proved here makes a version that ends with `-unproved`. Needs npm, node and binutils; no
+# network.
+set -eu
+umask 022
+here=$(cd "$(dirname "$(readlink -f "${BASH_SOURCE[0]}")")" && pwd)
+top=$(cd "$here/../.." && pwd)
+built="$top/crates/fast_check_cli/out/fast_check_cli"
+version=$(< "$top/VERSION")
+
+fail() {
+  echo "build.sh: $2" >&2
+  exit "$1"
+}
+
+for tool in npm node strip sha256sum; do
+  command -v "$tool" > /dev/null || fail 5 "$tool is not there; on Debian: apt-get install -y npm nodejs binutils"
+done
+program=${FAST_CHECK-}
+if [ -z "$program" ]; then
+  program=$built
+  "$top/fast-check-build" fast_check_cli >&2 || fail 5 "the program is not built"
+elif [[ ! $program -ef $built || -n $(find "$top/crates.txt" "$top"/crates/*/{src,specs,proofs} -newer "$built" -print -quit 2> /dev/null) ]]; then
+  version+=-unproved
+fi
+[[ -f $program && -x $program ]] || fail 5 "there is no program $program"
+
+folder=${1:-$here/out}
+mkdir -p "$folder"
+made=$(mktemp -d)
+trap 'rm -rf "$made"' EXIT
+mkdir "$made/bin"
+cp -r "$top/tools/typescript/src" "$made/src"
+cp -r "$top/docs/errors" "$made/errors"
+cp -r "$top/tools/schemas" "$made/schemas"
+install -m 755 "$top/tools/typescript/bin/fast-check-ts.js" "$made/bin/nagdrez.js"
+install -m 755 "$program" "$made/bin/fast-check"
+strip --remove-section=.comment --remove-section=.note "$made/bin/fast-check"
+(cd "$made" && sha256sum bin/fast-check > SHA256)
+install -m 644 "$top/LICENSE" "$top/CHANGELOG.md" "$here/README.md" "$made"
+node "$here/manifest.js" "$top/tools/typescript/package.json" "$version" > "$made/package.json"
+# The types of the package are made by the package's own command.
+echo '{"name": "nagdrez-types", "version": "0.0.0", "exports": "./api.d.ts"}' > "$made/src/api/package.json"
+node "$made/bin/nagdrez.js" skeleton --no-cache "$made/src/api" "$made/types" >&2
+rm "$made/src/api/package.json"
+mv "$made/types/api.d.ts" "$made/index.d.ts"
+rmdir "$made/types"
+npm pack --silent --pack-destination "$folder" "$made" > /dev/null < /dev/null
+echo "$folder/nagdrez-$version.tgz"

@@ -1,0 +1,75 @@
+'use strict';
+// Checks one folder: what is reported of it, without what is allowed or known.
+const path = require('path');
+const { analyse, answersTo, part, statusOf } = require('../program/answer.js');
+const { withoutAllowed, withoutSettledBaselines } = require('../messages/allow.js');
+const { refusalOf } = require('../cli/exit.js');
+const { withoutNamedReturns } = require('../tables/asserted-types.js');
+
+/** What is reported of a folder that was analysed: its messages without those that are allowed or known, and how many these are. */
+function toldOf(world, messages, options, { baseline, context }) {
+  const all = [...world.warnings, ...messages];
+  const found = options.quiet ? all.filter(({ level }) => level !== 'Warning') : all;
+  const wanted = withoutAllowed(world, found, options);
+  const unsettled = withoutSettledBaselines(world, wanted, context.cwd);
+  const told = new Set(baseline ? baseline.without(unsettled) : unsettled);
+  const left = (list) => list.filter((each) => told.has(each));
+  return {
+    messages: [...left(world.warnings), ...world.broken, ...left(messages)],
+    allowed: found.length - wanted.length,
+    known: wanted.length - told.size,
+  };
+}
+
+/** What the program and, where it is asked for, the compiler say of a folder. */
+async function messagesOf(world, options, context) {
+  if (!options.verify || !world.skeletons.size) return world.messages;
+  const { verified } = require('../compiler/thread.js');
+  context.progress.begin("TypeScript's compiler checks the skeletons");
+  return [...world.messages, ...await verified(world, context)];
+}
+
+/** Whether a message is one of some files, where only these are asked for. */
+function isAsked(only, { cwd }) {
+  return ({ file }) => !only || (Boolean(file) && only.has(path.resolve(cwd, file)));
+}
+
+/** How many return types of a folder single returns name: for so many more deno asks. */
+async function singleReturnsOf(world, options, context) {
+  const request = isCounted(options) ? withoutNamedReturns(world.request) : null;
+  if (!request) return 0;
+  const asked = (messages) => messages.filter(({ code }) => code === 'missing-explicit-return-type').map(({ file, start }) => `${file} ${start}`);
+  const known = new Set(asked(world.messages));
+  const { messages } = part(await answersTo(request, options, context), world, context.cwd);
+  return asked(messages).filter((each) => !known.has(each)).length;
+}
+
+/** Whether the last line of a check says how many return types single returns name. */
+function isCounted({ rules, format, quiet }) {
+  return rules !== 'deno' && (format === undefined || format === 'text') && !quiet;
+}
+
+/**
+ * The result of a folder: `world`, null where it cannot be read, `thrown`, which says why, `error`, which was thrown, the messages that are reported, how many others are allowed and
+ * known, how many return types single returns name, and the status.
+ *
+ * @param {{ dir: string, exports?: any, only?: Set<string> }} target   `only` are the files whose messages are asked for, where not all are
+ * @param {any} options
+ * @param {{ context: any, baseline: import('../messages/allow.js').Baseline | null }} view
+ */
+async function resultOf({ dir, exports, only }, options, { context, baseline }) {
+  try {
+    const world = await analyse(dir, { ...options, exports }, context);
+    const found = (await messagesOf(world, options, context)).filter(isAsked(only, context));
+    const told = toldOf({ ...world, warnings: world.warnings.filter(isAsked(only, context)) }, found, options, { baseline, context });
+    const singleReturns = await singleReturnsOf(world, options, context);
+    return { dir, world, thrown: null, status: statusOf(world.broken), singleReturns, ...told };
+  } catch (error) {
+    const thrown = refusalOf(error);
+    return { dir, world: null, thrown, error, status: thrown.status, messages: thrown.messages, singleReturns: 0, allowed: 0, known: 0 };
+  } finally {
+    context.progress.end();
+  }
+}
+
+module.exports = { resultOf };

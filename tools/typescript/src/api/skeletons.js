@@ -1,0 +1,26 @@
+'use strict';
+// The skeletons of a folder as TypeScript, or its declaration files.
+
+/** Some skeletons of a folder and its declaration files. Why others have none is added to the folder's messages. */
+function declared(world, skeletons, { cwd }) {
+  const { shownName } = require('../program/answer.js');
+  const { declarationFiles } = require('../skeleton/declaration-files.js');
+  const { files, messages } = declarationFiles(world, (file) => shownName(file, cwd));
+  world.messages.push(...messages);
+  const names = new Set(files.map((it) => it.name));
+  return [...skeletons.filter((it) => !names.has(it.name)), ...files];
+}
+
+/** The folder that was analysed, and what is printed of it: `{specifier, name, text, isPreview}` of each skeleton, or of each declaration file. */
+async function skeletonsOf(dir, options, context) {
+  const { analyse } = require('../program/answer.js');
+  const { printed } = require('../skeleton/write.js');
+  const world = await analyse(dir, { ...options, preview: true }, context);
+  context.progress.begin('printing');
+  const skeletons = options.dts ? [] : printed(world);
+  const texts = options.dts || options.withDts ? declared(world, skeletons, context) : skeletons;
+  context.progress.end();
+  return { world, skeletons: texts };
+}
+
+module.exports = { skeletonsOf };

@@ -1,0 +1,60 @@
+'use strict';
+// Messages of a package as an editor shows them.
+const path = require('path');
+const { pathToFileURL } = require('url');
+const { rangeOf } = require('./documents.js');
+
+const SEVERITIES = { Error: 1, Warning: 2 };
+const START = { start: { line: 0, character: 0 }, end: { line: 0, character: 0 } };
+
+/** How a module is reached: for each specifier but those of entry points, the module that leads there first and the text by which it does. */
+function leadsOf({ request, info }) {
+  const leads = new Map();
+  const targets = new Map();
+  for (const [from, text, to] of request.graph.resolutions) targets.set(from, [...(targets.get(from) || []), { from, text, to }]);
+  const reached = new Set(info.entryPoints);
+  for (const specifier of reached) {
+    for (const lead of targets.get(specifier) || []) {
+      if (!reached.has(lead.to)) leads.set(lead.to, lead);
+      reached.add(lead.to);
+    }
+  }
+  return leads;
+}
+
+/** Where another module leads to the one of a message: a module behind an entry point is public by what leads there. */
+function relatedOf(world, leads, specifier) {
+  const lead = leads.get(specifier);
+  const file = lead && world.files.get(lead.from);
+  const module = file && world.info.modules.find((it) => it.specifier === lead.from);
+  const source = module && (module.tree.sources || []).find(({ text }) => text === lead.text);
+  if (!source) return [];
+  const range = rangeOf(file.lines, source.offset, source.offset + source.text.length + 2);
+  return [{ location: { uri: pathToFileURL(file.path).href, range }, message: `the public API leads to this module by '${lead.text}'` }];
+}
+
+/** A message as a diagnostic, with related places where the client shows them. */
+function diagnosticOf(message, related) {
+  const { level, code, docs, hint, info, lines, start, end } = message;
+  const text = [message.message, ...(hint ? [`hint: ${hint}`] : []), ...(info || [])].join('\n');
+  return {
+    range: lines ? rangeOf(lines, start, end) : START, severity: SEVERITIES[level], code, source: 'nagdrez', message: text,
+    ...(docs ? { codeDescription: { href: docs } } : {}),
+    ...(related.length ? { relatedInformation: related } : {}),
+  };
+}
+
+/** The diagnostics of a folder by the URIs of their files. A message without a file is shown at the folder's configuration, as `none` names it. */
+function diagnosticsOf({ dir, world, messages }, none) {
+  const found = new Map();
+  const leads = world ? leadsOf(world) : new Map();
+  for (const message of messages) {
+    const file = message.file ? path.resolve(dir, message.file) : none;
+    const uri = pathToFileURL(file).href;
+    const related = world && message.specifier ? relatedOf(world, leads, message.specifier) : [];
+    found.set(uri, [...(found.get(uri) || []), diagnosticOf(message, related)]);
+  }
+  return found;
+}
+
+module.exports = { diagnosticsOf };

@@ -1,0 +1,121 @@
+'use strict';
+// One package in the editor: checked behind each change, by the texts of open documents.
+const fs = require('fs');
+const path = require('path');
+const { resultOf } = require('../api/check.js');
+const { Progress } = require('../cli/progress.js');
+const { NAMES } = require('../cli/targets.js');
+const { FIXABLE } = require('../messages/codes.js');
+const { keptFor } = require('../package/cache.js');
+const { diagnosticsOf } = require('./diagnostics.js');
+const { editsBetween } = require('./documents.js');
+
+// How long nothing has to be typed before the edited documents are checked, and before the whole package is, in milliseconds.
+const QUIET = 30;
+const SETTLED = 300;
+
+class Project {
+  /**
+   * @param {string} dir
+   * @param {{ texts: Map<string, string>, settings: { allow?: string[], rules?: string }, publish: (dir: string, diagnostics: Map<string, any[]>) => void,
+   *   log: (text: string, type?: number) => void }} host   `texts` are those of open documents by their paths
+   */
+  constructor(dir, host) {
+    this.dir = dir;
+    this.host = host;
+    this.messages = [];
+    this.running = null;
+    // The result of the last check of the whole package, and the documents that were edited since the last check.
+    this.whole = null;
+    this.edited = new Set();
+    this.kept = keptFor(this.options, process.env);
+  }
+
+  get options() {
+    const { allow, rules } = this.host.settings;
+    return { allow, rules, format: 'json' };
+  }
+
+  context(signal) {
+    return { cwd: this.dir, environment: process.env, progress: new Progress({ write() {} }, false), signal };
+  }
+
+  /** Checks the package once nothing is typed for a moment. `file` is the document that changed; without one anything may have. */
+  checkSoon(file) {
+    if (file === undefined) this.whole = null;
+    else this.edited.add(file);
+    this.later(QUIET);
+  }
+
+  later(delay) {
+    clearTimeout(this.timer);
+    this.timer = setTimeout(() => this.check().catch((error) => this.host.log(`${this.dir}: ${error.stack}`, 1)), delay);
+  }
+
+  /**
+   * Checks the package; a check that is still at work is given up. Behind an edit the documents that were edited are looked at first, beside what the last
+   * whole check said of the others, and all of the package a moment later.
+   */
+  async check() {
+    if (this.running) this.running.abort();
+    const controller = new AbortController();
+    this.running = controller;
+    const begun = process.hrtime.bigint();
+    const treesOf = this.whole && this.edited.size ? new Set(this.edited) : undefined;
+    this.edited.clear();
+    this.kept.begin();
+    const asked = { ...this.options, texts: this.host.texts, kept: this.kept, treesOf };
+    const result = await resultOf({ dir: this.dir, exports: undefined }, asked, { context: this.context(controller.signal), baseline: null });
+    if (controller.signal.aborted) {
+      for (const file of treesOf || []) this.edited.add(file);
+      return;
+    }
+    this.running = null;
+    if (treesOf) this.later(SETTLED);
+    else this.whole = result;
+    this.show(treesOf ? this.merged(result, treesOf) : result, begun);
+  }
+
+  /** The messages of files that were looked at, and what was last said of the others. */
+  merged(result, files) {
+    const isOf = ({ file }) => Boolean(file) && files.has(path.resolve(this.dir, file));
+    return { ...result, messages: [...result.messages.filter(isOf), ...this.whole.messages.filter((it) => !isOf(it))] };
+  }
+
+  show(result, begun) {
+    const { thrown, messages } = result;
+    this.messages = messages;
+    this.host.publish(this.dir, diagnosticsOf(result, this.configuration()));
+    if (thrown) this.host.log(`${this.dir}: ${thrown.message}`, thrown.status === 2 ? 3 : 1);
+    this.host.log(`${this.dir}: ${messages.length} messages in ${Number((process.hrtime.bigint() - begun) / 1000000n)} ms`);
+  }
+
+  /** The configuration of the package, or the folder where it has none. */
+  configuration() {
+    const name = NAMES.find((each) => fs.existsSync(path.join(this.dir, each)));
+    return name ? path.join(this.dir, name) : this.dir;
+  }
+
+  /** The messages of a file that a written type may answer. */
+  fixable(file) {
+    return this.messages.filter((it) => it.file && it.lines && FIXABLE.has(it.code) && path.resolve(this.dir, it.file) === file);
+  }
+
+  /** The edits that write the missing types of a file, or of one place in it. The compiler runs in a thread of its own. */
+  async fixes(file, start, signal) {
+    const { fixed } = require('../compiler/thread.js');
+    const { texts } = this.host;
+    const { readText } = require('../package/files.js');
+    const before = texts.has(file) ? texts.get(file) : readText(file).text;
+    const { texts: made } = await fixed(this.dir, { ...this.options, texts, within: { files: new Set([file]), start } }, this.context(signal));
+    return made.has(file) ? editsBetween(before, made.get(file)) : [];
+  }
+
+  close() {
+    clearTimeout(this.timer);
+    if (this.running) this.running.abort();
+    this.host.publish(this.dir, new Map());
+  }
+}
+
+module.exports = { Project };

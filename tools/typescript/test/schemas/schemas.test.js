@@ -1,0 +1,84 @@
+'use strict';
+// Whether the schemas of tools/schemas say what goes in and out. Needs Debian's node-ajv, by NODE_PATH=/usr/share/nodejs.
+const assert = require('assert');
+const childProcess = require('child_process');
+const fs = require('fs');
+const path = require('path');
+const { describe, it } = require('node:test');
+
+const { inputOf } = require('../../src/program/input.js');
+const { requestText } = require('../../src/program/request.js');
+
+const TOP = path.resolve(__dirname, '../../../..');
+const PACKAGES = path.resolve(__dirname, '../packages');
+const TOOL = path.resolve(__dirname, '../../bin/fast-check-ts.js');
+let Ajv = null;
+try {
+  Ajv = require('ajv');
+} catch {
+  // It is not there: the tests are skipped.
+}
+
+const read = (file) => JSON.parse(fs.readFileSync(path.join(TOP, file), 'utf8'));
+
+/** The lines that a command prints, as JSON. */
+function linesOf(words, cwd, input = '') {
+  const { stdout } = childProcess.spawnSync(process.execPath, [TOOL, ...words], { cwd, input, encoding: 'utf8', maxBuffer: 1 << 28 });
+  return stdout.split('\n').filter(Boolean).map((line) => JSON.parse(line));
+}
+
+describe('schemas', { skip: Ajv ? false : "Debian's node-ajv is not there" }, () => {
+  const ajv = Ajv && new Ajv({ schemas: ['program', 'tool', 'settings'].map((name) => ({ $id: `${name}.json`, ...read(`tools/schemas/${name}.json`) })) });
+
+  /** What is wrong with a value by a definition; null where nothing is. */
+  function wrong(definition, value) {
+    const validate = ajv.getSchema(definition) || ajv.compile({ $ref: definition });
+    return validate(value) ? null : ajv.errorsText(validate.errors.slice(0, 3));
+  }
+
+  it('fit the examples', () => {
+    const inputs = { first: 'Transform', functions: 'Transform', classes: 'Transform', modules: 'Transform', namespaces: 'Transform', build_hello: 'Build', build_canvas: 'Build', pair: 'Pair' };
+    for (const [name, kind] of Object.entries(inputs)) {
+      assert.strictEqual(wrong(`program.json#/definitions/${kind}Input`, read(`examples/${name}.json`)), null, name);
+      assert.strictEqual(wrong(`program.json#/definitions/${kind}Answer`, read(`examples/${name}.answer.json`)), null, name);
+    }
+  });
+
+  it('fit the input of each stored package', () => {
+    for (const name of fs.readdirSync(PACKAGES)) {
+      const { request } = inputOf(path.join(PACKAGES, name));
+      const input = request && JSON.parse(requestText(request));
+      if (input) assert.strictEqual(wrong('program.json#/definitions/BuildInput', input), null, name);
+    }
+  });
+
+  it('refuse what is none', () => {
+    const input = read('examples/first.json');
+    const changes = [
+      (it) => delete it.module.specifier, (it) => { it.module.source.media_type = 'Text'; }, (it) => { it.ranges = [[1]]; }, (it) => { it.graph = null; },
+      (it) => { it.module.source.program = { Module: { span: [1, 2], body: [{ Stmt: { Nothing: {} } }] } }; }, (it) => { it.module.symbols[0].id = '0'; },
+    ];
+    for (const change of changes) {
+      const changed = structuredClone(input);
+      change(changed);
+      assert.notStrictEqual(wrong('program.json#/definitions/TransformInput', changed), null, String(change));
+    }
+  });
+
+  it('fit the lines of the tool', () => {
+    for (const name of ['several-messages', 'syntax-error', 'fixed-workspace', 'unresolved-import', 'workspace-messages']) {
+      for (const line of linesOf(['check', '--json', '--list-externals', '.'], path.join(PACKAGES, name))) assert.strictEqual(wrong('tool.json#/definitions/CheckLine', line), null, name);
+    }
+    for (const line of linesOf(['diff', '--json', 'instead-constant', 'apart-constant'], PACKAGES)) assert.strictEqual(wrong('tool.json#/definitions/DiffLine', line), null);
+    const asked = [{ dir: 'classes' }, { dir: 'several-messages', want: 'skeletons' }, { dir: 'dts', want: 'declarations' }, { dir: 'nowhere' }, { dir: 1 }];
+    const answers = linesOf(['serve'], PACKAGES, asked.map((it) => `${JSON.stringify(it)}\n`).join(''));
+    assert.deepStrictEqual(asked.map((it) => wrong('tool.json#/definitions/ServeRequest', it) === null), [true, true, true, true, false]);
+    for (const answer of answers) assert.strictEqual(wrong('tool.json#/definitions/ServeAnswer', answer), null);
+    assert.deepStrictEqual(answers.map(({ status }) => status), [0, 1, 0, 2, 2]);
+  });
+
+  it('fit settings', () => {
+    assert.strictEqual(wrong('settings.json', { exports: './mod.ts', allow: ['missing-module'], baseline: 'known.jsonl' }), null);
+    for (const settings of [{ export: './mod.ts' }, { allow: 'missing-module' }, { baseline: 1 }, []]) assert.notStrictEqual(wrong('settings.json', settings), null);
+  });
+});
