@@ -473,16 +473,17 @@ class Crate:
         self.is_whole = True
         room = self.rooms.get()
         try:
-            refused, said = RT.must_fail(self.crate, str(edit.path), ["--jobs", "1"], room)
+            came_to, said = RT.must_fail(self.crate, str(edit.path), ["--jobs", "1"], room)
         finally:
             self.rooms.put(room)
-        if "NOT REFUSED" in said:
-            refused, said = RT.must_fail(self.crate, str(edit.path), ["--jobs", "1"])
+        if came_to == RT.MISSED:
+            came_to, said = RT.must_fail(self.crate, str(edit.path), ["--jobs", "1"])
         why = said.partition(": ")[2]
-        if refused:
+        # (a run that was killed, or that met a limit of the prover, refuses nothing)
+        if came_to == RT.REFUSED:
             self.settle(edit, BY_NAME if "only because a proof file names" in said else REFUSED, why)
         else:
-            self.settle(edit, STANDING if "NOT REFUSED" in said else BAD, why)
+            self.settle(edit, STANDING if came_to == RT.MISSED else BAD, why)
 
     def try_all(self, paths, pool):
         """Tries the edits, and answers whether each was refused and the crate itself is proved over the kept work."""
