@@ -123,7 +123,8 @@ hooks_work() {
 answers_afresh() {
   local fresh="$made/fresh" mirror
   mirror=$(apt-get indextargets --format '$(REPO_URI)' 'Identifier: Packages' 'Origin: Debian' 'Component: main' | grep -v security | sort -u | head -n 1)
-  debootstrap --variant=minbase --include=nodejs,npm,node-typescript bookworm "$fresh" "$mirror" && cp "$made/nagdrez.tgz" "$fresh/tmp" && mkdir "$fresh/package" &&
+  debootstrap --variant=minbase bookworm "$fresh" "$mirror" > /dev/null &&
+    DEBIAN_FRONTEND=noninteractive chroot "$fresh" apt-get install -y -qq --no-install-recommends nodejs npm node-typescript < /dev/null > /dev/null && cp "$made/nagdrez.tgz" "$fresh/tmp" && mkdir "$fresh/package" &&
     printf 'export function twice(n: number) { return 2 * n; }\n' > "$fresh/package/index.ts" &&
     chroot "$fresh" npm install --global --offline --no-audit --no-fund /tmp/nagdrez.tgz &&
     ends_with 1 "index.ts:1:17" chroot "$fresh" sh -c 'cd /package && nagdrez check' && ends_with 0 "1 type written" chroot "$fresh" sh -c 'cd /package && nagdrez fix' &&
