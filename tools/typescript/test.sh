@@ -17,7 +17,7 @@ status=0
 node "$here/test/test.js" "$@" || status=$?
 [ $# = 0 ] || exit $status
 said=$(mktemp)
-for part in api lsp messages schemas; do
+for part in api lsp messages schemas settings; do
   NODE_PATH=${NODE_PATH-}:/usr/share/nodejs node --test "$here/test/$part" > "$said" 2>&1 || { status=1; cat "$said"; }
   echo "$part: $(sed -n 's/^# \(pass\|fail\|skipped\) \(.*\)/\2 \1,/p' "$said" | tr '\n' ' ')"
 done

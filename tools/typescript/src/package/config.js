@@ -15,10 +15,11 @@ const CONDITIONS = ['types', 'deno', 'import', 'module', 'node', 'browser', 'def
 const isText = (value) => typeof value === 'string';
 const isMap = (value) => value !== null && typeof value === 'object' && !Array.isArray(value);
 const areTexts = (value) => Array.isArray(value) && value.every(isText);
+const isPathBelow = (value) => isText(value) && !path.isAbsolute(value) && !value.split('/').includes('..');
 const areExports = (value) => isText(value) || value === null || typeof value === 'object';
 
 // The settings of this tool, as the member `nagdrez` of a configuration has them.
-const SETTINGS = { exports: areExports, allow: (value) => areTexts(value) && value.every(mayBeAllowed), baseline: isText };
+const SETTINGS = { exports: areExports, allow: (value) => areTexts(value) && value.every(mayBeAllowed), baseline: isPathBelow };
 const areSettings = (value) => isMap(value) && Object.keys(value).every((it) => Object.hasOwn(SETTINGS, it) && SETTINGS[it](value[it]));
 
 /**
@@ -31,7 +32,7 @@ const WANTED = [
   ['version', 'a text', isText],
   ['exports', 'a path or a map', areExports],
   ['imports', 'a map', isMap],
-  ['nagdrez', 'a map of `exports` (a path or a map), `allow` (a list of codes) and `baseline` (a path)', areSettings],
+  ['nagdrez', 'a map of `exports` (a path or a map), `allow` (a list of codes) and `baseline` (a path below)', areSettings],
   ['workspace', 'a list of paths', (value) => areTexts(value) || (isMap(value) && (value.members === undefined || areTexts(value.members)))],
   ['workspaces', 'a list of paths', (value) => areTexts(value) || (isMap(value) && (value.packages === undefined || areTexts(value.packages)))],
 ];
