@@ -172,8 +172,19 @@ def sources(key):
     return files
 
 
+def clauses(head):
+    """How many lines of the head of a function are of its clauses."""
+    lines, depth = 0, 0
+    for line in filter(str.strip, head.split("\n")):
+        if depth > 0 or re.match(r"\s*(?:requires|ensures)\b", line):
+            lines += 1
+            depth += line.count("{") - line.count("}")
+    return lines
+
+
 def contracts(key, names):
-    """The clauses of public functions, and the ghost members of traits and models but for laws, each with what its file brings in."""
+    """The clauses of public functions, and the ghost members of traits and models but for laws, each with what its file brings in, and with
+    its place, its lines of clauses and its ghost lines."""
     wanted = set(names or ())
     for file in sources(key):
         text = file.read_text()
@@ -181,11 +192,11 @@ def contracts(key, names):
         for found in re.finditer(r"^([ ]*)(?:pub )?(?:const )?fn (\w+)(.*?)(?:^\1\{\}?$|;$|\{$)", text, re.M | re.S):
             if (names is None or found[2] in names) and is_offered(text, found):
                 wanted.discard(found[2])
-                yield found[3], imports
+                yield found[3], imports, {(file, found.start()): (clauses(found[3]), 0)}
         if names is None:
             for found in re.finditer(r"^\s+ghost (\w+) = \{(.*?)\};?$", text, re.M | re.S):
                 if found[1] not in LAWS:
-                    yield found[2], imports
+                    yield found[2], imports, {(file, found.start()): (0, found[0].strip().count("\n") + 1)}
     if wanted:
         sys.exit(f"{Path(__file__).name}: CHAPTERS names {', '.join(sorted(wanted))} of {key}, and no such call is there")
 
@@ -194,7 +205,7 @@ def reached(calls):
     """All definitions that the contracts of calls stand on."""
     waiting, seen = [], set()
     for key, names in calls.items():
-        for text, imports in contracts(key, names):
+        for text, imports, _ in contracts(key, names):
             waiting += named_in(text, None, imports)
     while waiting:
         it = waiting.pop()
@@ -281,6 +292,11 @@ def main(words):
             print(f"{chapter:10} {len({f for f, _ in found}):4} files {len(found):5} definitions {size(found):6} lines")
         read = [it for it in every_file() if it in public]
         whole = sum(len(it.read_text().splitlines()) for it in read)
+        beside = {}
+        for calls in CHAPTERS.values():
+            for _, _, lines in (it for key, names in calls.items() for it in contracts(key, names)):
+                beside.update(lines)
+        print("beside them {} lines of clauses and {} ghost lines in src/".format(*map(sum, zip(*beside.values()))))
         print(f"{len(read)} of {len(every_file())} files that are not written from the table of forms are reached, {whole} lines by whole files")
     elif words[0] == "page":
         page(every)
