@@ -1,0 +1,144 @@
+//! Exports.
+ghost use Rattle.fast_check_source_grammar.specs.Nests.{Nests};
+
+use crate::statements::{Opening, Statements, sees_declaration};
+use fast_check_program_forms::{
+    ExportDecl, ExportDefaultDecl, ExportDefaultExpr, TsExportAssignment, TsNamespaceExportDecl,
+};
+use fast_check_source_grammar::{Cursor, ParseError, Rule, Tokens, ident};
+use fast_check_source_imports::{eat_type, export_names, export_star, import_equals};
+use fast_check_source_lexer::{Keyword, TokenKind};
+use fast_check_syntax::{SourcePos, Tree};
+use std::alloc::Global;
+
+fn is_function(at: Cursor<'_>) -> bool {
+    let next = at.second();
+    at.is_word(Keyword::Function)
+        || (at.is_word(Keyword::Async) && next.is_word(Keyword::Function) && !next.newline())
+}
+
+fn is_class(at: Cursor<'_>) -> bool {
+    let next = at.second();
+    at.is_word(Keyword::Class)
+        || (at.is_word(Keyword::Abstract) && next.is_word(Keyword::Class) && !next.newline())
+}
+
+impl<F: Fn(Global, &mut Tokens<'_>, usize, Rule) -> Result<Tree, ParseError>> Statements<F> {
+    /// An export.
+    pub fn export(&self, tokens: &mut Tokens<'_>) -> Result<Tree, ParseError>
+        requires { Nests self.now.expressions.values.types.grammar.depth (F.pre self.now.expressions.values.types.grammar.parse) }
+    {
+        let alloc = self.expressions.values.types.grammar.alloc;
+        let start = tokens.at.start();
+        tokens.at.advance();
+        let next = tokens.at.second();
+        let type_only = tokens.at.is_word(Keyword::Type)
+            && (next.is(TokenKind::LBrace) || next.is(TokenKind::Star));
+        if type_only {
+            tokens.at.advance();
+        }
+        match tokens.at.kind() {
+            TokenKind::LBrace => export_names(alloc, tokens, start, type_only),
+            TokenKind::Star => export_star(alloc, tokens, start, type_only),
+            TokenKind::Assign => self.assignment(tokens, start),
+            TokenKind::At => {
+                let decorators = self.expressions.values.decorators(tokens)?;
+                self.exported_class(tokens, start, decorators)
+            }
+            _ => self.worded_export(tokens, start),
+        }
+    }
+
+    fn worded_export(&self, tokens: &mut Tokens<'_>, start: SourcePos) -> Result<Tree, ParseError>
+        requires { Nests self.now.expressions.values.types.grammar.depth (F.pre self.now.expressions.values.types.grammar.parse) }
+    {
+        let alloc = self.expressions.values.types.grammar.alloc;
+        match tokens.at.word() {
+            Keyword::Default => self.default_export(tokens, start),
+            Keyword::As => {
+                tokens.at.advance();
+                tokens.at.expect_word(Keyword::Namespace)?;
+                let id = ident(alloc, tokens)?;
+                tokens.at.end_statement()?;
+                let span = tokens.at.from(start);
+                Ok(TsNamespaceExportDecl { span, id }.into_tree(alloc)?)
+            }
+            Keyword::Import => {
+                tokens.at.advance();
+                let type_only = eat_type(tokens);
+                import_equals(alloc, tokens, start, true, type_only)
+            }
+            _ => self.exported_declaration(tokens, start),
+        }
+    }
+
+    fn exported_declaration(
+        &self,
+        tokens: &mut Tokens<'_>,
+        start: SourcePos,
+    ) -> Result<Tree, ParseError>
+        requires { Nests self.now.expressions.values.types.grammar.depth (F.pre self.now.expressions.values.types.grammar.parse) }
+    {
+        let at = tokens.at.start();
+        let declare = tokens.at.eat_word(Keyword::Declare);
+        if !sees_declaration(tokens.at) {
+            return Err(tokens.at.refuse());
+        }
+        let decl = self.declaration(tokens, Opening { start: at, declare })?;
+        let span = tokens.at.from(start);
+        Ok(ExportDecl { span, decl }.into_tree(self.expressions.values.types.grammar.alloc)?)
+    }
+
+    // `= a` behind `export`.
+    fn assignment(&self, tokens: &mut Tokens<'_>, start: SourcePos) -> Result<Tree, ParseError>
+        requires { Nests self.now.expressions.values.types.grammar.depth (F.pre self.now.expressions.values.types.grammar.parse) }
+    {
+        tokens.at.advance();
+        let expr = self
+            .expressions
+            .values
+            .types
+            .grammar
+            .again(tokens, Rule::Assigned)?;
+        tokens.at.end_statement()?;
+        let span = tokens.at.from(start);
+        Ok(TsExportAssignment { span, expr }.into_tree(
+            self.expressions.values.types.grammar.alloc,
+        )?)
+    }
+
+    fn default_export(&self, tokens: &mut Tokens<'_>, start: SourcePos) -> Result<Tree, ParseError>
+        requires { Nests self.now.expressions.values.types.grammar.depth (F.pre self.now.expressions.values.types.grammar.parse) }
+    {
+        let alloc = self.expressions.values.types.grammar.alloc;
+        tokens.at.advance();
+        let at = tokens.at.start();
+        let decl = if is_function(tokens.at) {
+            self.expressions.values.function_value(tokens)?
+        } else if is_class(tokens.at) {
+            self.class_expr(tokens, at, Tree::list(self.none()))?
+        } else if tokens.at.is(TokenKind::At) {
+            let decorators = self.expressions.values.decorators(tokens)?;
+            let at = tokens.at.start();
+            self.class_expr(tokens, at, decorators)?
+        } else if tokens.at.is_word(Keyword::Interface) {
+            let opening = Opening {
+                start: at,
+                declare: false,
+            };
+            self.interface(tokens, opening)?
+        } else {
+            let expr = self
+                .expressions
+                .values
+                .types
+                .grammar
+                .again(tokens, Rule::Assigned)?;
+            tokens.at.end_statement()?;
+            let span = tokens.at.from(start);
+            return Ok(ExportDefaultExpr { span, expr }.into_tree(alloc)?);
+        };
+        let span = tokens.at.from(start);
+        Ok(ExportDefaultDecl { span, decl }.into_tree(alloc)?)
+    }
+}
