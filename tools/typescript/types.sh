@@ -32,4 +32,13 @@ if [ ! -d "$types/node" ]; then
     fi
   fi
 fi
-exec node "$tsc" -p "$here" --typeRoots "$types" --types node
+# What the configuration cannot say: where the types of the compiler and of Node lie.
+mkdir -p "$folder"
+cat > "$folder/tsconfig.json" <<END
+{
+  "extends": "$here/tsconfig.json",
+  "compilerOptions": { "typeRoots": ["$types"], "types": ["node"], "paths": { "typescript": ["$(dirname "$tsc")/typescript.d.ts"] } },
+  "include": ["$here/bin", "$here/src", "$here/dev", "$here/test/*.js", "$here/test/support"]
+}
+END
+exec node "$tsc" -p "$folder"

@@ -21,13 +21,24 @@ const GLOBALS = ['Promise', 'RegExp', 'Readonly', 'Array', 'Symbol'];
 
 /** Writes the modules of one package. */
 class FormWriter {
-  constructor(seed) {
+  constructor(/** @type {number} */ seed) {
     this.r = new Random(seed);
     this.count = 0;
+    /** @type {Set<string>} */
     this.hoisted = new Set();
+    // What the module at hand has.
+    /** @type {string[]} */
+    this.types = [];
+    /** @type {string[]} */
+    this.values = [];
+    /** @type {string[]} */
+    this.consts = [];
+    this.hasHoisted = false;
+    this.hasItself = false;
+    this.file = '';
   }
 
-  name(prefix) {
+  name(/** @type {string} */ prefix) {
     this.count += 1;
     return `${prefix}${this.count}`;
   }
@@ -44,13 +55,15 @@ class FormWriter {
     return 'load()';
   }
 
+  /** @returns {[string, string][]} */
   modules() {
     const amount = 1 + this.r.below(3);
     const names = Array.from({ length: amount }, (_, place) => `m${place}${this.r.of(KINDS)}`);
     return names.map((name, place) => [name, this.module(name, names[place - 1])]);
   }
 
-  module(name, before) {
+  /** @returns {string} */
+  module(/** @type {string} */ name, /** @type {string | undefined} */ before) {
     const { r } = this;
     this.types = [];
     this.values = [];
@@ -61,15 +74,15 @@ class FormWriter {
     this.before = before;
     const lines = ['declare function load(): any;', 'declare const flag: boolean;', 'declare const text: string;', 'const mark: unique symbol = Symbol();'];
     if (r.one(8)) lines.push(...this.shadow());
-    const forms = [
+    const forms = /** @type {const} */ ([
       'namespaces', 'namespaces', 'accessors', 'typeOf', 'typeOf', 'arrows', 'expando', 'hoisted', 'overloads', 'privates', 'literals', 'values', 'merged', 'later',
       'itself', 'functions', 'plain', 'defaults', 'enumBlocks', 'others',
-    ];
+    ]);
     for (let items = 2 + r.below(6); items > 0; items--) lines.push(...this[`${r.of(forms)}Of`]());
     return `${lines.join('\n')}\n`;
   }
 
-  declared(prefix, list) {
+  declared(/** @type {string} */ prefix, /** @type {'types' | 'values' | 'consts'} */ list) {
     const made = this.name(prefix);
     this[list].push(made);
     return made;
@@ -85,7 +98,7 @@ class FormWriter {
 
   // ---- namespaces in several blocks
 
-  part(names) {
+  part(/** @type {string[]} */ names) {
     const { r } = this;
     const name = () => r.of(names);
     return r.of([
@@ -135,7 +148,7 @@ class FormWriter {
 
   accessorsOf() {
     const { r } = this;
-    const inUnion = (type) => (type.includes('=>') ? `(${type})` : type);
+    const inUnion = (/** @type {string} */ type) => (type.includes('=>') ? `(${type})` : type);
     const pair = () => {
       const name = this.name('v');
       const [own, more] = [this.type(), r.one(2) ? this.type() : null].map((it) => it && inUnion(it));
@@ -238,12 +251,16 @@ class FormWriter {
     return [`${r.one(2) ? 'export ' : ''}const ${name} = ${r.of(['"x"', '1', 'true', '-1', '"x" as const'])};`, r.of(uses)];
   }
 
-  /** A value that may stay in a skeleton. */
+  /**
+   * A value that may stay in a skeleton.
+   *
+   * @returns {string}
+   */
   value(depth = 0) {
     const { r } = this;
-    const inner = (before, after) => (depth > 2 ? '1' : `${before}${this.value(depth + 1)}${after}`);
-    const found = r.of([LITERALS, ...VALUES.slice(0, 19), '[', '{', ...VALUES.slice(19)]);
-    if (found === LITERALS) return r.of(LITERALS);
+    const inner = (/** @type {string} */ before, /** @type {string} */ after) => (depth > 2 ? '1' : `${before}${this.value(depth + 1)}${after}`);
+    const found = r.of(['', ...VALUES.slice(0, 19), '[', '{', ...VALUES.slice(19)]);
+    if (!found) return r.of(LITERALS);
     return found === '[' ? inner('[', ']') : found === '{' ? inner('{ a: ', ' }') : found;
   }
 

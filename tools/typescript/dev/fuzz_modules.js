@@ -5,12 +5,12 @@ const { isFrom } = require('../src/compiler/typescript.js');
 
 /** Random numbers of a seed, the same everywhere. */
 class Random {
-  constructor(seed) {
+  constructor(/** @type {number} */ seed) {
     this.state = seed >>> 0;
   }
 
   /** A number from 0 to below `count`. */
-  below(count) {
+  below(/** @type {number} */ count) {
     this.state = (this.state + 0x6d2b79f5) >>> 0;
     let made = Math.imul(this.state ^ (this.state >>> 15), this.state | 1);
     made ^= made + Math.imul(made ^ (made >>> 7), made | 61);
@@ -18,16 +18,22 @@ class Random {
   }
 
   /** Whether one of so many chances comes. */
-  one(count) {
+  one(/** @type {number} */ count) {
     return this.below(count) === 0;
   }
 
+  /**
+   * One of a list.
+   *
+   * @template T
+   * @param {readonly T[]} list
+   */
   of(list) {
     return list[this.below(list.length)];
   }
 
   /** Up to `most` texts that a call makes. */
-  list(most, make) {
+  list(/** @type {number} */ most, /** @type {(place: number) => string} */ make) {
     return Array.from({ length: this.below(most + 1) }, (_, place) => make(place));
   }
 }
@@ -44,14 +50,14 @@ const COMMENTS = ['', '', '', '/** doc */ ', '// line\n', '/* block */ ', '// @t
 
 /** Writes one module. `depth` bounds how deep its forms go, `isDeclaration` says that it is a declaration file. */
 class ModuleWriter {
-  constructor(seed, isDeclaration = false) {
+  constructor(/** @type {number} */ seed, isDeclaration = false) {
     this.r = new Random(seed);
     this.isDeclaration = isDeclaration;
     this.depth = 0;
   }
 
   /** One of the makers, and of the plain ones alone where the text is deep. */
-  choose(plain, deep) {
+  choose(/** @type {(() => string)[]} */ plain, /** @type {(() => string)[]} */ deep) {
     const makers = this.depth > 3 ? plain : [...plain, ...deep];
     this.depth += 1;
     const made = this.r.of(makers)();
@@ -59,15 +65,23 @@ class ModuleWriter {
     return made;
   }
 
+  /**
+   * A text, or those of a list, or what makes either: by one of so many chances.
+   *
+   * @template {string | string[]} T
+   * @param {T | (() => T)} text
+   * @returns {T | ''}
+   */
   maybe(text, chances = 2) {
     return this.r.one(chances) ? (typeof text === 'function' ? text() : text) : '';
   }
 
   // ---- types
 
+  /** @returns {string} */
   type() {
     const { r } = this;
-    const list = (most) => r.list(most, () => this.type());
+    const list = (/** @type {number} */ most) => r.list(most, () => this.type());
     const wrapped = () => `(${this.type()})`;
     return this.choose([
       () => r.of(KEYWORDS), () => r.of(TYPES), () => r.of(['"x"', '1', '-2', '-3n', 'true']), () => `N.${r.of(TYPES)}`,
@@ -87,26 +101,31 @@ class ModuleWriter {
     ]);
   }
 
+  /** @returns {string} */
   mappedType() {
     const readonly = this.maybe(this.r.of(['readonly ', '-readonly ', '+readonly ']));
     const renamed = this.maybe(' as `x${K & string}`', 3);
     return `{ ${readonly}[K in ${this.type()}${renamed}]${this.r.of(['', '?', '-?', '+?'])}: ${this.type()} }`;
   }
 
+  /** @returns {string} */
   annotation(chances = 2) {
     return this.maybe(() => `: ${this.type()}`, chances);
   }
 
+  /** @returns {string} */
   returned() {
     return this.maybe(() => `: ${this.r.of([() => this.type(), () => 'p is string', () => 'asserts p', () => 'asserts p is 1'])()}`);
   }
 
+  /** @returns {string} */
   typeParameters() {
     const bound = () => `${this.maybe(() => ` extends ${this.type()}`, 3)}${this.maybe(() => ` = ${this.type()}`, 4)}`;
     const one = () => `${this.maybe('in ', 9)}${this.r.of(['T', 'U'])}${bound()}`;
     return this.maybe(() => `<${[one(), ...this.r.list(1, one)].join(', ')}>`, 4);
   }
 
+  /** @returns {string} */
   signatures() {
     const { r } = this;
     const key = () => r.of(KEYS);
@@ -122,6 +141,7 @@ class ModuleWriter {
 
   // ---- parameters and patterns
 
+  /** @returns {string} */
   pattern() {
     const { r } = this;
     const value = () => this.maybe(() => ` = ${this.value()}`, 3);
@@ -132,6 +152,7 @@ class ModuleWriter {
     ]);
   }
 
+  /** @returns {string} */
   parameters(isSignature = this.isDeclaration) {
     const { r } = this;
     const one = () => r.of([
@@ -141,13 +162,18 @@ class ModuleWriter {
     return [...this.maybe([`this: ${this.type()}`], 9), ...r.list(3, one), ...this.maybe(() => [`...rest${this.annotation()}`], 4)].join(', ');
   }
 
-  /** The type parameters, the parameters and the return type of a function. */
-  signature(isSignature) {
+  /**
+   * The type parameters, the parameters and the return type of a function.
+   *
+   * @returns {string}
+   */
+  signature(/** @type {boolean} */ isSignature) {
     return `${this.typeParameters()}(${this.parameters(isSignature)})${this.returned()}`;
   }
 
   // ---- values
 
+  /** @returns {string} */
   value() {
     const { r } = this;
     const operand = () => `(${this.value()})`;
@@ -174,6 +200,7 @@ class ModuleWriter {
     ]);
   }
 
+  /** @returns {string} */
   properties() {
     const { r } = this;
     const key = () => r.of(KEYS);
@@ -186,15 +213,18 @@ class ModuleWriter {
 
   // ---- statements
 
+  /** @returns {string} */
   block() {
     return this.r.of([() => '{}', () => '{ return; }', () => `{ return ${this.value()}; }`, () => `{ ${this.statements(2)} }`,
     () => `{ ${this.statements(2)} return ${this.value()}; }`])();
   }
 
-  statements(most) {
+  /** @returns {string} */
+  statements(/** @type {number} */ most) {
     return this.r.list(most, () => this.statement()).join(' ');
   }
 
+  /** @returns {string} */
   statement() {
     const { r } = this;
     const nested = () => `{ ${this.statements(1)} }`;
@@ -214,7 +244,8 @@ class ModuleWriter {
 
   // ---- declarations
 
-  declaration(words) {
+  /** @returns {string} */
+  declaration(/** @type {string} */ words) {
     const { r } = this;
     const isAmbient = this.isDeclaration || /declare/.test(words);
     const body = () => (isAmbient ? ';' : ` ${this.block()}`);
@@ -234,6 +265,7 @@ class ModuleWriter {
     ])}`;
   }
 
+  /** @returns {string} */
   classTail(isAmbient = false) {
     const { r } = this;
     const base = this.maybe(() => ` extends ${isAmbient ? 'B' : r.of(['B', 'N.B', `(${this.value()})`])}`, 3);
@@ -241,7 +273,8 @@ class ModuleWriter {
     () => `${r.of(COMMENTS)}${this.member(isAmbient)}`).join(' ')} }`;
   }
 
-  member(isAmbient) {
+  /** @returns {string} */
+  member(/** @type {boolean} */ isAmbient) {
     const { r } = this;
     const access = r.of(['', '', 'public ', 'protected ', 'private ']);
     const body = () => (isAmbient ? ';' : r.of([' {}', ` ${this.block()}`]));

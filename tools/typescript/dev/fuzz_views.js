@@ -19,9 +19,11 @@ const { Progress } = require('../src/cli/progress.js');
 const { printed } = require('../src/skeleton/write.js');
 const { differing, viewOf } = require('../src/verify/users-view.js');
 
+/** @typedef {import('../src/program/types').World} World */
+
 const TOGETHER = 25;
 
-function writePackage(folder, seed) {
+function writePackage(/** @type {string} */ folder, /** @type {number} */ seed) {
   const modules = new FormWriter(seed).modules();
   fs.mkdirSync(folder, { recursive: true });
   for (const [name, text] of modules) fs.writeFileSync(path.join(folder, name), text);
@@ -29,47 +31,48 @@ function writePackage(folder, seed) {
   fs.writeFileSync(path.join(folder, 'deno.json'), JSON.stringify({ name: `@test/${path.basename(folder)}`, version: '1.0.0', exports: exported }));
 }
 
-/** The texts of some modules by their paths, with those of data. */
-const byPath = (list) => new Map(list);
-
 /** What is wrong with the packages of a folder that was analysed: `{tried, withMessages, found}`. */
-function wrongViews(world, seedOf) {
+function wrongViews(/** @type {World} */ world, /** @type {(name: string) => string} */ seedOf) {
   const files = [...world.files.values()].filter((it) => world.skeletons.has(it.specifier));
   // What another module of the package shows may stand for one whose literals are wider.
-  const folderOf = (specifier) => specifier.slice(0, specifier.lastIndexOf('/'));
-  const warned = new Set(world.warnings.filter((it) => it.code === 'widened-literal').map((it) => folderOf(it.specifier)));
-  const pathOf = new Map(files.map((it) => [it.specifier, it.path]));
-  const sources = byPath(files.map((it) => [it.path, it.text]));
-  const skeletons = byPath(printed(world).map((it) => [pathOf.get(it.specifier), it.text]));
+  const folderOf = (/** @type {string} */ specifier) => specifier.slice(0, specifier.lastIndexOf('/'));
+  const warned = new Set(world.warnings.filter((it) => it.code === 'widened-literal').map((it) => folderOf(it.specifier || '')));
+  const paths = new Map(files.map((it) => [it.specifier, it.path]));
+  const pathOf = (/** @type {string} */ specifier) => paths.get(specifier) || specifier;
+  const named = (/** @type {string} */ name, /** @type {string} */ text) => /** @type {[string, string]} */ ([name, text]);
+  const sources = new Map(files.map((it) => named(it.path, it.text)));
+  const skeletons = new Map(printed(world).map((it) => named(pathOf(it.specifier), it.text)));
   const { files: made, messages } = declarationFiles(world, (file) => file);
-  const declarations = byPath(made.map((it) => [declarationName(pathOf.get(it.specifier)), it.text]));
-  const programs = new Map([sources, skeletons, declarations].map((texts) => [texts, programOf(texts, resolverOf(world, texts))]));
-  const written = emitted(programs.get(sources), sources);
+  const declarations = new Map(made.map((it) => named(declarationName(pathOf(it.specifier)), it.text)));
+  const [ofSources, ofSkeletons, ofDeclarations] = [sources, skeletons, declarations].map((it) => programOf(it, resolverOf(world, it)));
+  const written = emitted(ofSources, sources);
   const wanted = programOf(written, resolverOf(world, written));
+  /** @type {string[]} */
   const found = [];
   const wrongSources = new Set();
-  const texts = (program, name) => new Set(errorsIn(program, name).map((it) => `${it.code} ${it.text}`));
+  const texts = (/** @type {ts.Program} */ program, /** @type {string} */ name) => new Set(errorsIn(program, name).map((it) => `${it.code} ${it.text}`));
   for (const { path: name, specifier } of files) {
-    const known = texts(programs.get(sources), name);
+    const known = texts(ofSources, name);
     if (known.size) wrongSources.add(specifier);
     if (known.size || !written.has(declarationName(name))) continue;
-    const shown = [sources.get(name), skeletons.get(name), declarations.get(declarationName(name)) || ''];
-    const tell = (what) => found.push(`seed ${seedOf(name)}: ${path.basename(name)}: ${what}\n${shown.join('\n----\n')}`);
+    const [source, skeleton] = [sources.get(name) || '', skeletons.get(name) || ''];
+    const shown = [source, skeleton, declarations.get(declarationName(name)) || ''];
+    const tell = (/** @type {string} */ what) => found.push(`seed ${seedOf(name)}: ${path.basename(name)}: ${what}\n${shown.join('\n----\n')}`);
     // The compiler's declarations have no `var` of a block, though they export it: then the source says what it is.
-    const [view, own] = [viewOf(wanted, declarationName(name)), viewOf(programs.get(sources), name)];
-    const apart = (other) => differing(view, other).filter(([key]) => own.get(key) !== other.get(key));
-    for (const error of texts(programs.get(skeletons), name)) tell(`the skeleton has the error ${error}`);
-    if (!warned.has(folderOf(specifier))) for (const it of apart(viewOf(programs.get(skeletons), name))) tell(`the skeleton differs: ${it.join('\n  ')}`);
+    const [view, own] = [viewOf(wanted, declarationName(name)), viewOf(ofSources, name)];
+    const apart = (/** @type {Map<string, string>} */ other) => differing(view, other).filter(([key]) => own.get(key) !== other.get(key));
+    for (const error of texts(ofSkeletons, name)) tell(`the skeleton has the error ${error}`);
+    if (!warned.has(folderOf(specifier))) for (const it of apart(viewOf(ofSkeletons, name))) tell(`the skeleton differs: ${it.join('\n  ')}`);
     const file = declarationName(name);
     if (!declarations.has(file)) continue;
-    for (const error of texts(programs.get(declarations), file)) tell(`the declaration file has the error ${error}`);
-    for (const it of apart(viewOf(programs.get(declarations), file))) tell(`the declaration file differs: ${it.join('\n  ')}`);
+    for (const error of texts(ofDeclarations, file)) tell(`the declaration file has the error ${error}`);
+    for (const it of apart(viewOf(ofDeclarations, file))) tell(`the declaration file differs: ${it.join('\n  ')}`);
   }
   return { tried: files.length - wrongSources.size, wrongSources: wrongSources.size, untold: messages.length, found };
 }
 
 /** Tries packages of so many seeds, reports what is wrong, and counts. */
-async function fuzzViews(amount, first, tell = console.log) {
+async function fuzzViews(/** @type {number} */ amount, /** @type {number} */ first, tell = console.log) {
   const counts = { packages: 0, modules: 0, wrongSources: 0, withMessages: 0, untold: 0, failed: 0 };
   const work = fs.mkdtempSync(path.join(os.tmpdir(), 'fast-check-views-'));
   try {
@@ -80,7 +83,7 @@ async function fuzzViews(amount, first, tell = console.log) {
       fs.writeFileSync(path.join(folder, 'deno.json'), JSON.stringify({ workspace: seeds.map((seed) => `./s${seed}`) }));
       const context = { cwd: folder, environment: process.env, progress: new Progress({ write() {} }, false) };
       const world = await analyse(folder, {}, context);
-      const { tried, wrongSources, untold, found } = wrongViews(world, (name) => /s(\d+)$/.exec(path.dirname(name))[1]);
+      const { tried, wrongSources, untold, found } = wrongViews(world, (name) => path.basename(path.dirname(name)).slice(1));
       const all = [...world.files.keys()].length;
       counts.packages += seeds.length;
       counts.modules += tried;

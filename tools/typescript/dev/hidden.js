@@ -13,17 +13,22 @@ const path = require('path');
 const { main } = require('../src/cli/main.js');
 const { inputOf } = require('../src/program/input.js');
 const { copied, entryOf, typed } = require('./judge.js');
+const { hasModifier } = require('../src/compiler/modifiers.js');
 const { ts } = require('../src/compiler/typescript.js');
 
 const MOST = 10;
 const { SyntaxKind: K } = ts;
 
-const has = (node, kind) => Boolean(node.modifiers && node.modifiers.some((each) => each.kind === kind));
-
 /** An edit of a text: what stands between two offsets is replaced. */
-const edit = (start, end, text) => ({ start, end, text });
+const edit = (/** @type {number} */ start, /** @type {number} */ end, /** @type {string} */ text) => ({ start, end, text });
 
-/** For each kind the edits that a node gives. */
+/** @typedef {{ start: number, end: number, text: string }} Edit */
+
+/**
+ * For each kind the edits that a node gives.
+ *
+ * @type {Record<string, (node: ts.Node, file: ts.SourceFile) => Edit[]>}
+ */
 const KINDS = {
   body(node, file) {
     const isFunction = ts.isFunctionDeclaration(node) || ts.isMethodDeclaration(node) || ts.isGetAccessorDeclaration(node);
@@ -31,22 +36,23 @@ const KINDS = {
     return [edit(node.body.getStart(file) + 1, node.body.getStart(file) + 1, '\n  const hiddenEdit = [1, "a"]; // an edit\n  void hiddenEdit;\n')];
   },
   'private member'(node, file) {
-    if (!ts.isClassLike(node.parent) || !has(node, K.PrivateKeyword)) return [];
+    if (!ts.isClassLike(node.parent) || !hasModifier(node, K.PrivateKeyword)) return [];
     if (ts.isPropertyDeclaration(node) && node.type) return [edit(node.type.getStart(file), node.type.end, 'Map<string, "an edit">')];
     if (!ts.isMethodDeclaration(node) || !node.body) return [];
     return [edit(node.parameters.pos, node.parameters.pos, node.parameters.length ? 'hiddenEdit: number, ' : 'hiddenEdit: number')];
   },
   'value behind a type'(node, file) {
-    const isTyped = (ts.isVariableDeclaration(node) || ts.isPropertyDeclaration(node)) && node.type && node.initializer;
-    return isTyped ? [edit(node.initializer.getStart(file), node.initializer.end, '((["an edit"] as unknown) as never)')] : [];
+    const value = (ts.isVariableDeclaration(node) || ts.isPropertyDeclaration(node)) && node.type && node.initializer;
+    return value ? [edit(value.getStart(file), value.end, '((["an edit"] as unknown) as never)')] : [];
   },
 };
 
 /** The edits of a kind in a file, from the last to the first, none within another. */
-function editsOf(kind, file) {
+function editsOf(/** @type {string} */ kind, /** @type {ts.SourceFile} */ file) {
+  /** @type {Edit[]} */
   const found = [];
-  const walk = (node) => {
-    if (has(node, K.DeclareKeyword)) return;
+  const walk = (/** @type {ts.Node} */ node) => {
+    if (hasModifier(node, K.DeclareKeyword)) return;
     const own = KINDS[kind](node, file);
     found.push(...own);
     if (!own.length) ts.forEachChild(node, walk);
@@ -56,14 +62,14 @@ function editsOf(kind, file) {
 }
 
 /** Runs the command line in a folder. */
-async function run(folder, words) {
-  const out = { text: '', write(part) { this.text += part; } };
+async function run(/** @type {string} */ folder, /** @type {string[]} */ words) {
+  const out = { text: '', write(/** @type {string} */ part) { this.text += part; } };
   const status = await main(words, { cwd: folder, environment: process.env, out, err: { write() {} } });
   return { status, text: out.text };
 }
 
 /** What the commands say of a folder: its skeletons, or its messages without their places. */
-async function said(folder, words) {
+async function said(/** @type {string} */ folder, /** @type {string[]} */ words) {
   const shown = await run(folder, ['skeleton', '.', ...words]);
   if (shown.status === 0) return shown;
   const { status, text } = await run(folder, ['check', '--json', '.', ...words]);
@@ -72,7 +78,7 @@ async function said(folder, words) {
 }
 
 /** Edits up to ten of the modules that the package leads to, each in a copy of it, and answers how many were. */
-function editAll(kind, folder, names) {
+function editAll(/** @type {string} */ kind, /** @type {string} */ folder, /** @type {string[]} */ names) {
   let edited = 0;
   for (const name of names) {
     const file = path.join(folder, name);
@@ -85,8 +91,10 @@ function editAll(kind, folder, names) {
   return edited;
 }
 
+/** @typedef {{ folder: string, words: string[], names: string[], before: { status: number, text: string } }} Edited */
+
 /** Edits a copy of the package in one way, and reports whether all stays. */
-async function judgeKind(kind, { folder, words, names, before }, copy) {
+async function judgeKind(/** @type {string} */ kind, /** @type {Edited} */ { folder, words, names, before }, /** @type {string} */ copy) {
   fs.cpSync(folder, copy, { recursive: true });
   const edited = editAll(kind, copy, names);
   if (!edited) return { edited, line: `${kind} in no module`, isSame: true };
@@ -98,7 +106,7 @@ async function judgeKind(kind, { folder, words, names, before }, copy) {
   return { edited, line: `${kind} in ${edited} modules ${isSame ? 'stays' : 'DIFFERS'}`, isSame };
 }
 
-async function judge(dir, work) {
+async function judge(/** @type {string} */ dir, /** @type {string} */ work) {
   const entry = entryOf(dir);
   if (!entry) return { line: `${dir}: no entry point`, failed: 0, counts: {} };
   const { folder } = copied(dir, entry, work);
@@ -108,6 +116,7 @@ async function judge(dir, work) {
   const before = await said(folder, words);
   const names = inputOf(folder, { exports }).info.modules.map((module) => path.relative(folder, module.path));
   const told = [];
+  /** @type {Record<string, number>} */
   const counts = {};
   let failed = 0;
   for (const kind of Object.keys(KINDS)) {
@@ -120,7 +129,8 @@ async function judge(dir, work) {
   return { line: `${dir} (${what}): ${told.join(', ')}`, failed, counts };
 }
 
-async function judgeAll(folders) {
+async function judgeAll(/** @type {string[]} */ folders) {
+  /** @type {Record<string, number>} */
   const sums = {};
   let failed = 0;
   for (const folder of folders) {
@@ -131,7 +141,7 @@ async function judgeAll(folders) {
       failed += more;
       for (const [kind, count] of Object.entries(counts)) sums[kind] = (sums[kind] || 0) + count;
     } catch (error) {
-      console.log(`${folder}: cannot be read: ${error.message}`);
+      console.log(`${folder}: cannot be read: ${/** @type {Error} */ (error).message}`);
     } finally {
       fs.rmSync(work, { recursive: true, force: true });
     }

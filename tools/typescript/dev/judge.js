@@ -16,6 +16,7 @@ const path = require('path');
 const { ts } = require('../src/compiler/typescript.js');
 const { fix } = require('../src/fix/index.js');
 const { inputOf } = require('../src/program/input.js');
+const { filesOf, part } = require('../src/program/answer.js');
 const { print } = require('../src/tree/print/index.js');
 const { Progress } = require('../src/cli/progress.js');
 const { restored } = require('../src/skeleton/restored.js');
@@ -24,10 +25,15 @@ const { parse } = require('../src/tree/index.js');
 const { programOf, resolverOf, declarationName, emitted, surfaceOf, compared, errorsIn, takeLooseTypes } = require('../src/verify/surface.js');
 const { judgeDeclarations } = require('../src/verify/declarations.js');
 
+/** @typedef {import('../src/verify/surface.js').Surface} Surface */
+/** @typedef {import('../src/program/types').Info} Info */
+/** @typedef {import('../src/program/types').Answer} Answer */
+/** @typedef {import('../src/program/types').Request} Request */
+
 const TOP = path.resolve(__dirname, '../../..');
 let isDeclaring = false;
 
-function command(file) {
+function command(/** @type {string} */ file) {
   return process.env.FAST_CHECK ? [process.env.FAST_CHECK, 'build', file] : [path.join(TOP, 'fast-check'), 'build', file];
 }
 
@@ -39,19 +45,23 @@ function kept() {
 }
 
 /** Leaves out each Nth of the dependencies that the tables tell. */
-function drop(request) {
+function drop(/** @type {Request} */ request) {
   for (const [, module] of request.modules) {
-    for (const symbol of (module.Esm || module.Json).symbols) {
+    for (const symbol of (module.Esm || module.Json || { symbols: [] }).symbols) {
       for (const it of symbol.decls || []) {
         const node = it.kind.Definition;
-        if (node) node.deps = node.deps.filter(kept);
+        if (node && node.deps) node.deps = node.deps.filter(kept);
       }
     }
   }
 }
 
-/** The program's answers to a request, or its line of refusal. */
-function build(request, work) {
+/**
+ * The program's answers to a request, or its line of refusal.
+ *
+ * @returns {Answer[]}
+ */
+function build(/** @type {Request} */ request, /** @type {string} */ work) {
   if (dropped.each) drop(request);
   const file = path.join(work, 'input.json');
   fs.writeFileSync(file, JSON.stringify(request));
@@ -61,35 +71,39 @@ function build(request, work) {
   throw new Error(ran.stderr.toString().trim().split('\n').pop());
 }
 
-function writeTexts(texts) {
+function writeTexts(/** @type {Iterable<[string, string]>} */ texts) {
   for (const [file, text] of texts) {
     fs.mkdirSync(path.dirname(file), { recursive: true });
     fs.writeFileSync(file, text);
   }
 }
 
-function messagesOf(answers) {
+function messagesOf(/** @type {Answer[]} */ answers) {
+  /** @type {Map<string, import('../src/program/types').Diagnostic>} */
   const found = new Map();
   for (const [, answer] of answers) for (const it of answer.Err || []) found.set(JSON.stringify(it), it);
   return [...found.values()];
 }
 
+/** @typedef {ReturnType<typeof ask> & { written?: number }} AskedFolder */
+
 /** Reads a folder and runs the program. */
-function ask(dir, exports, work) {
+function ask(/** @type {string} */ dir, /** @type {Record<string, string>} */ exports, /** @type {string} */ work) {
   const { request, info } = inputOf(dir, { exports });
   if (!request) throw new Error(`${info.errors[0].path}: ${info.errors[0].message}`);
   const answers = build(request, work);
-  const world = { dir, request, info, files: new Map(info.modules.map((it) => [it.specifier, it])) };
-  const skeletons = new Map(answers.filter(([, answer]) => answer.Ok).map(([specifier, answer]) => [specifier, answer.Ok]));
-  return { world: { ...world, skeletons }, info, answers, messages: messagesOf(answers), programOf: (texts) => programOf(texts, resolverOf(world, texts)) };
+  const { skeletons } = part(answers, { dir, info, files: filesOf(info, dir) }, dir);
+  /** @type {import('../src/program/types').World} */
+  const world = { dir, request, info, files: filesOf(info, dir), skeletons, answers, warnings: [], broken: [], faults: [], lost: [], messages: [] };
+  return { world, info, answers, messages: messagesOf(answers), programOf: (/** @type {Map<string, string>} */ texts) => programOf(texts, resolverOf(world, texts)) };
 }
 
-function textsOf(info) {
+function textsOf(/** @type {Info} */ info) {
   return new Map([...info.modules, ...info.jsonModules].map((it) => [it.path, it.text]));
 }
 
 /** Writes missing types into the files of a folder, as `fix` does. */
-async function typed(dir, exports, work) {
+async function typed(/** @type {string} */ dir, /** @type {Record<string, string>} */ exports, /** @type {string} */ work) {
   const context = { cwd: dir, environment: process.env, progress: new Progress({ write() {} }, false) };
   const { texts, count } = await fix(dir, { exports }, context);
   writeTexts(texts);
@@ -97,21 +111,22 @@ async function typed(dir, exports, work) {
 }
 
 /** The package of the declarations that the compiler emits. */
-function declared(asked, exports, root, work) {
+function declared(/** @type {AskedFolder} */ asked, /** @type {Record<string, string>} */ exports, /** @type {string} */ root, /** @type {string} */ work) {
   const texts = textsOf(asked.info);
   const folder = path.join(work, 'declarations');
   writeTexts(configsOf(root, folder));
-  const made = [...emitted(asked.programOf(texts), texts)].map(([file, text]) => [path.join(folder, path.relative(root, file)), text]);
+  const made = [...emitted(asked.programOf(texts), texts)].map(([file, text]) => /** @type {[string, string]} */ ([path.join(folder, path.relative(root, file)), text]));
   writeTexts(made);
   const entries = Object.entries(exports).map(([key, it]) => [key, declarationName(it)]);
   return ask(folder, Object.fromEntries(entries), work);
 }
 
-function skeletonTexts(asked) {
+function skeletonTexts(/** @type {AskedFolder} */ asked) {
   const texts = new Map(asked.info.jsonModules.map((it) => [it.path, it.text]));
   const paths = new Map(asked.info.modules.map((it) => [it.specifier, it.path]));
   for (const [specifier, answer] of asked.answers) {
-    const file = paths.get(specifier);
+    const file = paths.get(specifier) || specifier;
+    if (!answer.Ok) continue;
     const isDeclaration = /\.d\.[cm]?ts$/.test(file);
     texts.set(file, print({ Module: answer.Ok.program }, answer.Ok.comments, { isDeclaration, name: file }));
   }
@@ -119,12 +134,12 @@ function skeletonTexts(asked) {
 }
 
 /** What the compiler finds wrong in the files of a program: `code message` by file. */
-function errorsOf(program, files) {
+function errorsOf(/** @type {ts.Program} */ program, /** @type {string[]} */ files) {
   return new Map(files.map((name) => [name, errorsIn(program, name).map((it) => `${it.code} ${it.text}`)]));
 }
 
 /** The compiler's errors in skeletons that the source does not have. */
-function newErrors(source, skeleton, names) {
+function newErrors(/** @type {ts.Program} */ source, /** @type {ts.Program} */ skeleton, /** @type {string[]} */ names) {
   const [before, after] = [errorsOf(source, names), errorsOf(skeleton, names)];
   const all = new Set([...before.values()].flat());
   const found = [];
@@ -133,7 +148,7 @@ function newErrors(source, skeleton, names) {
 }
 
 /** The differences of two surfaces. */
-function differences(before, after) {
+function differences(/** @type {Surface} */ before, /** @type {Surface} */ after) {
   return compared(before, after).map(({ key, missing, added, isLost, isNew }) => {
     const name = key.replace(/^.*\//, '');
     if (isLost) return { kind: 'lost', name, source: missing[0] };
@@ -143,9 +158,9 @@ function differences(before, after) {
 }
 
 /** Judges one package whose files lie in a folder of their own. */
-async function judge(dir, exports, work) {
+async function judge(/** @type {string} */ dir, /** @type {Record<string, string>} */ exports, /** @type {string} */ work) {
   const began = await typed(dir, exports, work);
-  /** @type {any} */
+  /** @type {AskedFolder} */
   let asked = began;
   let way = began.written ? `types written: ${began.written}` : 'as it is';
   if (asked.messages.length) {
@@ -160,8 +175,8 @@ async function judge(dir, exports, work) {
   const skeletons = skeletonTexts(asked);
   const [source, skeleton] = [asked.programOf(sourceTexts), asked.programOf(skeletons)];
   const entries = asked.info.packages.flatMap((it) => it.exports.map(([, file]) => path.resolve(it.dir, file)));
-  const made = (program, texts) => ([...texts.keys()].every((it) => /\.d\.[cm]?ts$/.test(it)) ? texts : emitted(program, texts));
-  const shown = (program, texts) => {
+  const made = (/** @type {ts.Program} */ program, /** @type {Map<string, string>} */ texts) => ([...texts.keys()].every((it) => /\.d\.[cm]?ts$/.test(it)) ? texts : emitted(program, texts));
+  const shown = (/** @type {ts.Program} */ program, /** @type {Map<string, string>} */ texts) => {
     const all = made(program, texts);
     return surfaceOf(all === texts ? program : asked.programOf(all), all, entries.map(declarationName));
   };
@@ -186,14 +201,14 @@ async function judge(dir, exports, work) {
 const SOURCES = ['src/index.ts', 'dist/deno/index.ts', 'index.ts', 'mod.ts', 'lib/index.ts', 'main.ts', 'src/main.ts'];
 
 /** The entry point of an npm package: its TypeScript, or else its declarations. */
-function entryOf(dir) {
+function entryOf(/** @type {string} */ dir) {
   const config = JSON.parse(fs.readFileSync(path.join(dir, 'package.json'), 'utf8'));
   const listed = [...SOURCES, config.types, config.typings, 'index.d.ts', 'lib/index.d.ts', 'dist/index.d.ts', 'build/index.d.ts'];
   return listed.find((it) => typeof it === 'string' && /\.ts$/.test(it) && fs.existsSync(path.join(dir, it)));
 }
 
 /** A text without its augmentations of the global scope, which are refused wherever they stand, and how many it had. */
-function withoutGlobals(file, text) {
+function withoutGlobals(/** @type {string} */ file, /** @type {string} */ text) {
   if (!/declare\s+global/.test(text)) return { text, count: 0 };
   const found = parse(file, text).statements.filter((it) => it.flags & ts.NodeFlags.GlobalAugmentation);
   let made = text;
@@ -202,13 +217,13 @@ function withoutGlobals(file, text) {
 }
 
 /** The configurations of a folder that say what its imports stand for, at their paths in another one. */
-function configsOf(dir, folder) {
+function configsOf(/** @type {string} */ dir, /** @type {string} */ folder) {
   const names = fs.readdirSync(dir).filter((it) => /^(package|deno|jsr|tsconfig.*)\.jsonc?$/.test(it));
-  return names.map((it) => [path.join(folder, it), fs.readFileSync(path.join(dir, it), 'utf8')]);
+  return names.map((it) => /** @type {[string, string]} */ ([path.join(folder, it), fs.readFileSync(path.join(dir, it), 'utf8')]));
 }
 
 /** A copy of the modules of a package, in a folder of its own, without augmentations of the global scope. */
-function copied(dir, entry, work) {
+function copied(/** @type {string} */ dir, /** @type {string} */ entry, /** @type {string} */ work) {
   const { info } = inputOf(dir, { exports: { '.': `./${entry.replace(/^\.\//, '')}` } });
   if (info.errors.length) throw new Error(`${info.errors[0].path}: ${info.errors[0].message}`);
   const folder = path.join(work, 'package');
@@ -222,6 +237,12 @@ function copied(dir, entry, work) {
   return { folder, count: info.modules.length, globals };
 }
 
+/**
+ * Calls back with a folder that is removed behind it.
+ *
+ * @template R
+ * @param {(work: string) => Promise<R>} call
+ */
 async function withWork(call) {
   const work = fs.mkdtempSync(path.join(os.tmpdir(), 'judge-'));
   try {
@@ -231,11 +252,11 @@ async function withWork(call) {
   }
 }
 
-function tell(name, result) {
+function tell(/** @type {string} */ name, /** @type {object} */ result) {
   console.log(JSON.stringify({ name, ...result }));
 }
 
-async function judgePackages(root) {
+async function judgePackages(/** @type {string} */ root) {
   for (const dir of packagesBelow(path.resolve(root))) {
     const entry = entryOf(dir);
     if (!entry) continue;
@@ -245,13 +266,13 @@ async function judgePackages(root) {
         const exports = { '.': `./${entry.replace(/^\.\//, '')}` };
         if (count >= 2) tell(path.relative(path.resolve(root), dir), { entry, globals, ...await judge(folder, exports, work) });
       } catch (error) {
-        tell(path.relative(path.resolve(root), dir), { entry, failed: error.message });
+        tell(path.relative(path.resolve(root), dir), { entry, failed: /** @type {Error} */ (error).message });
       }
     });
   }
 }
 
-function modulesBelow(root, found = []) {
+function modulesBelow(/** @type {string} */ root, /** @type {string[]} */ found = []) {
   for (const it of fs.readdirSync(root, { withFileTypes: true })) {
     const file = path.join(root, it.name);
     if (it.isDirectory()) modulesBelow(file, found);
@@ -260,7 +281,7 @@ function modulesBelow(root, found = []) {
   return found.sort();
 }
 
-async function judgeModules(root) {
+async function judgeModules(/** @type {string} */ root) {
   takeLooseTypes();
   for (const file of modulesBelow(root)) {
     await withWork(async (work) => {
@@ -270,7 +291,7 @@ async function judgeModules(root) {
         writeTexts([[path.join(folder, name), fs.readFileSync(file, 'utf8').replace(/^\ufeff/, '')]]);
         tell(path.relative(root, file), await judge(folder, { '.': `./${name}` }, work));
       } catch (error) {
-        tell(path.relative(root, file), { failed: error.message });
+        tell(path.relative(root, file), { failed: /** @type {Error} */ (error).message });
       }
     });
   }

@@ -10,15 +10,20 @@ const { print } = require('../src/tree/print/index.js');
 const PLACES = new Set(['span', 'dot3_token', 'spread']);
 
 /** The tree as text, without places; sources of their own text alone. */
-function shape(tree) {
+function shape(/** @type {unknown} */ tree) {
   return JSON.stringify(tree, (key, value) => (PLACES.has(key) ? Boolean(value) : value));
 }
 
-/** What went wrong with a file: null, or a word and a text. */
-function roundTrip(name, text) {
+/**
+ * What went wrong with a file: null, or a word and a text.
+ *
+ * @returns {string[] | null}
+ */
+function roundTrip(/** @type {string} */ name, /** @type {string} */ text) {
   const first = toTree(parse(name, text));
   const [wrong] = [...first.errors, ...first.faults];
   if (wrong) return ['refused', wrong.message];
+  if (!first.program) return ['refused', 'there is no tree'];
   const printed = print(first.program, first.comments, { asWritten: true, name });
   const second = toTree(parse(name, printed));
   if (second.errors.length) {
@@ -29,19 +34,21 @@ function roundTrip(name, text) {
   if (before === after) return null;
   let place = 0;
   while (before[place] === after[place]) place += 1;
-  const around = [Math.max(0, place - 160), place + 100];
-  return ['different', `\n  ${before.slice(...around)}\n  ${after.slice(...around)}`];
+  const [shown, other] = [before, after].map((it) => it.slice(Math.max(0, place - 160), place + 100));
+  return ['different', `\n  ${shown}\n  ${other}`];
 }
 
 /** Tries the files, and reports those that do not come back. */
-function main(files) {
+function main(/** @type {string[]} */ files) {
+  /** @type {Record<string, number>} */
   const counts = {};
   for (const file of files) {
-    let found;
+    /** @type {string[] | null} */
+    let found = null;
     try {
       found = roundTrip(file, fs.readFileSync(file, 'utf8').replace(/^\ufeff/, ''));
     } catch (error) {
-      found = ['failed', error.stack];
+      found = ['failed', String(/** @type {Error} */ (error).stack)];
     }
     const word = found ? found[0] : 'same';
     counts[word] = (counts[word] || 0) + 1;

@@ -1,27 +1,24 @@
+#!/usr/bin/env node
 'use strict';
-// Times `fast-check-ts check` and `skeleton --dts` beside `tsc` on packages of growing size: from nothing, with what both keep, once a module has changed, and watching. It says
-// where the time goes.
+// Times `fast-check-ts` on packages of one module and of many, and another version of it beside it:
 //
-//   node tools/typescript/dev/speed.js [MODULES ..]        (10 50 200 where nothing is given)
+//   FAST_CHECK=PROGRAM node tools/typescript/dev/speed.js [CLONE]
 //
-// The program is that of the variable FAST_CHECK, else the launcher's. Each figure is the best of three runs, in seconds, with
-// the seconds of processor beside it.
+// Each figure is the median of nine runs in seconds of the clock, with the seconds of processor behind it; where another clone is named, it runs in turn with this one
+// and has the first column. The last line is what the program is sent.
 const childProcess = require('child_process');
 const fs = require('fs');
 const os = require('os');
 const path = require('path');
-const { build } = require('../src/program/run.js');
-const { inputOf } = require('../src/program/input.js');
-const { printed } = require('../src/skeleton/write.js');
-const { filesOf, part } = require('../src/program/answer.js');
 
-const LAUNCHER = path.resolve(__dirname, '../../../fast-check-ts');
-const RUNS = 3;
+const RUNS = 9;
+// Those of a large package, of which the program's input is weighed.
+const [MANY, MOST] = [128, 762];
 
 /** A module like those of a library: types, a class and functions with bodies, and imports of two others. */
-function moduleText(at, count) {
+function moduleText(/** @type {number} */ at, /** @type {number} */ count) {
   const [first, second] = [(at + 1) % count, (at * 7 + 3) % count];
-  const body = (name) => `  const made = new Map<string, number>();
+  const body = (/** @type {string} */ name) => `  const made = new Map<string, number>();
   for (let each = 0; each < ${name}.length; each++) {
     const value = ${name}.charCodeAt(each) * ${at + 1};
     if (value % 2 === 0) made.set(${name}.slice(0, each), value);
@@ -29,13 +26,13 @@ function moduleText(at, count) {
   }
   const sum = [...made.values()].reduce((all, it) => all + it, 0);
 `;
-  const method = (each) => `
+  const method = (/** @type {number} */ each) => `
   /** What a name has at place ${each}. */
   step${each}(name: string, depth = ${each}): Shape${first} | undefined {
 ${body('name').replace(/^/gm, '  ')}    return sum > depth ? this.shapes.get(name) : undefined;
   }
 `;
-  const call = (each) => `
+  const call = (/** @type {number} */ each) => `
 /** Call ${each} of module ${at}. */
 export function call${at}_${each}(text: string, options: Options${at} = { depth: ${each} }): Shape${at} {
 ${body('text')}  return { name: text, size: sum + hidden${at}(options.depth), next: null };
@@ -69,100 +66,98 @@ ${[0, 1, 2, 3, 4].map(call).join('')}`;
 }
 
 /** Writes a package of so many modules, all of which its entry point exports. */
-function writePackage(folder, count) {
+function writePackage(/** @type {string} */ folder, /** @type {number} */ count) {
   fs.writeFileSync(path.join(folder, 'deno.json'), '{ "name": "@test/speed", "version": "1.0.0", "exports": "./mod.ts" }');
   const names = Array.from({ length: count }, (_, at) => at);
   for (const at of names) fs.writeFileSync(path.join(folder, `m${at}.ts`), moduleText(at, count));
   fs.writeFileSync(path.join(folder, 'mod.ts'), names.map((at) => `export * from "./m${at}";\n`).join(''));
 }
 
-const seconds = (since) => Number(process.hrtime.bigint() - since) / 1e9;
+/** A version of the tool: its launcher, and the folder of what it keeps. */
+/** @typedef {{ launcher: string, kept: string }} Version */
+/** @typedef {{ seconds: number, processor: number }} Times */
 
-/** The least seconds of some runs of a command, which has to end with status 0, and the least of its processor. `before(run)` is called before each. */
-function best(words, before = (run) => {}) {
-  const least = { seconds: Infinity, processor: Infinity };
-  for (let run = 0; run < RUNS; run++) {
-    before(run);
-    const begun = process.hrtime.bigint();
-    const timed = ['-c', 'TIMEFORMAT="%U %S"; time "$@"', 'bash', ...words];
-    const ran = childProcess.spawnSync('bash', timed, { stdio: ['ignore', 'pipe', 'pipe'], encoding: 'utf8' });
-    if (ran.status !== 0) throw new Error(`${words.join(' ')} ended with ${ran.status}: ${ran.stdout}${ran.stderr}`);
-    least.seconds = Math.min(least.seconds, seconds(begun));
-    const [user, system] = ran.stderr.trim().split('\n').pop().split(' ').map(Number);
-    least.processor = Math.min(least.processor, user + system);
-  }
-  return `${least.seconds.toFixed(2)} (processor ${least.processor.toFixed(2)})`;
-}
+/** What is timed: its name, the modules of the package, the words, and what is done before each run. */
+/** @typedef {{ name: string, modules: number, words: string[], environment?: NodeJS.ProcessEnv, before?: (folder: string, run: number) => void }} Row */
 
 /** Edits the body of a function of a module, another way each time. */
-function editOne(folder, run) {
+function editOne(/** @type {string} */ folder, /** @type {number} */ run) {
   const file = path.join(folder, 'm0.ts');
   fs.writeFileSync(file, fs.readFileSync(file, 'utf8').replace(/const sum = /, `void ${run};\n  const sum = `));
 }
 
-/** The least seconds from an edit until `check --watch` has reported it. */
-async function watched(folder) {
-  const child = childProcess.spawn(LAUNCHER, ['check', '--watch', folder], { stdio: ['ignore', 'pipe', 'ignore'] });
-  const ended = () => new Promise((resolve) => child.stdout.on('data', (part) => /\d s\n$|may tell more\n$/.test(part) && resolve()));
-  let least = Infinity;
-  await ended();
-  for (let run = 0; run < RUNS; run++) {
-    await new Promise((resolve) => setTimeout(resolve, 500));
-    const begun = process.hrtime.bigint();
-    editOne(folder, run);
-    await ended();
-    least = Math.min(least, seconds(begun));
+/** Where the compiler lies that the variable TYPESCRIPT names, or Debian's. */
+const COMPILER = process.env.TYPESCRIPT || '/usr/share/nodejs/typescript';
+
+/** @type {Row[]} */
+const ROWS = [
+  { name: 'check of one module, nothing changed', modules: 1, words: ['check'] },
+  { name: 'the same with TYPESCRIPT set', modules: 1, words: ['check'], environment: { TYPESCRIPT: COMPILER } },
+  { name: 'check of one module that changed', modules: 1, words: ['check'], before: editOne },
+  { name: 'the same with TYPESCRIPT set', modules: 1, words: ['check'], environment: { TYPESCRIPT: COMPILER }, before: editOne },
+  { name: 'check --no-cache of one module', modules: 1, words: ['check', '--no-cache'] },
+  { name: `check of ${MANY} modules, nothing changed`, modules: MANY, words: ['check'] },
+  { name: `check of ${MANY} modules, one changed`, modules: MANY, words: ['check'], before: editOne },
+  { name: `check --no-cache of ${MANY} modules`, modules: MANY, words: ['check', '--no-cache'] },
+  { name: `skeleton --dts --no-cache of ${MANY} modules`, modules: MANY, words: ['skeleton', '--dts', '--no-cache'] },
+  { name: `tsc --declaration of ${MANY} modules`, modules: MANY, words: ['tsc', '--declaration', '--emitDeclarationOnly', '--target', 'esnext', '--moduleResolution', 'node'] },
+];
+
+/** The times of one run, which has to end with status 0. */
+function timed(/** @type {Version} */ { launcher, kept }, /** @type {Row} */ row, /** @type {string} */ folder) {
+  /** @type {NodeJS.ProcessEnv} */
+  const env = { ...process.env, ...row.environment, XDG_CACHE_HOME: kept };
+  if (!row.environment) delete env.TYPESCRIPT;
+  const begun = process.hrtime.bigint();
+  const asked = [launcher, ...row.words, folder];
+  const compiled = [process.execPath, path.join(COMPILER, 'lib/tsc.js'), ...row.words.slice(1), '--outDir', path.join(kept, 'out'), path.join(folder, 'mod.ts')];
+  const words = ['-c', 'TIMEFORMAT="%U %S"; time "$@"', 'bash', ...(row.words[0] === 'tsc' ? compiled : asked)];
+  const { status, stdout, stderr } = childProcess.spawnSync('bash', words, { encoding: 'utf8', env, maxBuffer: 1 << 30, stdio: ['ignore', 'pipe', 'pipe'] });
+  const seconds = Number(process.hrtime.bigint() - begun) / 1e9;
+  if (status !== 0) throw new Error(`${launcher} ${row.words.join(' ')} ended with ${status}: ${stdout}${stderr}`);
+  const [user, system] = stderr.trim().split('\n').slice(-1)[0].split(' ').map(Number);
+  return { seconds, processor: user + system };
+}
+
+/** The middle one of some numbers. */
+const median = (/** @type {number[]} */ all) => all.sort((a, b) => a - b)[all.length >> 1].toFixed(2);
+
+/** The medians of a row, a text for each version. */
+function measured(/** @type {Row} */ row, /** @type {Version[]} */ versions, /** @type {string} */ folder) {
+  const all = versions.map(() => /** @type {Times[]} */ ([]));
+  for (let run = -1; run < RUNS; run++) {
+    for (const [at, version] of versions.entries()) {
+      if (row.before) row.before(folder, run * versions.length + at);
+      const times = timed(version, row, folder);
+      // The first run makes what is kept.
+      if (run >= 0) all[at].push(times);
+    }
   }
-  child.kill();
-  return least.toFixed(2);
+  return all.map((times) => `${median(times.map((it) => it.seconds))} (${median(times.map((it) => it.processor))})`);
 }
 
-/** The seconds of each part of one run, in this process. */
-async function parts(folder) {
-  const times = {};
-  let begun = process.hrtime.bigint();
-  const { request, info } = inputOf(folder, {});
-  for (const [name, milliseconds] of Object.entries(info.times)) times[name] = milliseconds / 1000;
-  begun = process.hrtime.bigint();
-  const answers = await build(request, { environment: process.env, tell: () => {} });
-  times.program = seconds(begun);
-  const files = filesOf(info, folder);
-  const world = { dir: folder, request, info, files, ...part(answers, { files, dir: folder, info }, folder) };
-  begun = process.hrtime.bigint();
-  printed(world);
-  times.print = seconds(begun);
-  return times;
+/** The megabytes of the program's input. */
+function inputOf(/** @type {Version} */ { launcher, kept }, /** @type {string} */ folder) {
+  const env = { ...process.env, XDG_CACHE_HOME: kept };
+  const { stdout } = childProcess.spawnSync(launcher, ['input', folder], { env, maxBuffer: 1 << 30, stdio: ['ignore', 'pipe', 'inherit'] });
+  return `${(stdout.length / 1e6).toFixed(1)} MB`;
 }
 
-/** Times a command from nothing, with what it keeps, and once a module has changed. `forget` takes away what it keeps. */
-function thrice(words, folder, forget) {
-  const cold = best(words, forget);
-  return `from nothing ${cold}, again ${best(words)}, one module changed ${best(words, (run) => editOne(folder, run))}`;
+const own = path.resolve(__dirname, '../../..');
+const top = fs.mkdtempSync(path.join(os.tmpdir(), 'fast-check-speed-'));
+const versions = [...process.argv.slice(2), own].map((clone, at) => ({ launcher: path.resolve(clone, 'fast-check-ts'), kept: path.join(top, `kept${at}`) }));
+try {
+  /** @type {(modules: number) => string} */
+  const packageOf = (modules) => {
+    const folder = path.join(top, String(modules));
+    if (!fs.existsSync(folder)) {
+      fs.mkdirSync(folder);
+      writePackage(folder, modules);
+    }
+    return folder;
+  };
+  for (const row of ROWS) console.log(`| ${[row.name, ...measured(row, versions, packageOf(row.modules))].join(' | ')} |`);
+  console.log(`| what is sent of ${MOST} modules | ${versions.map((it) => inputOf(it, packageOf(MOST))).join(' | ')} |`);
+} finally {
+  fs.rmSync(top, { recursive: true, force: true });
 }
-
-async function measure(count) {
-  const folder = fs.mkdtempSync(path.join(os.tmpdir(), 'fast-check-speed-'));
-  const [kept, info] = [path.join(folder, 'kept'), path.join(folder, 'info')];
-  process.env.XDG_CACHE_HOME = kept;
-  try {
-    writePackage(folder, count);
-    const options = ['--declaration', '--emitDeclarationOnly', '--target', 'esnext', '--module', 'esnext', '--moduleResolution', 'node'];
-    const tsc = ['tsc', ...options, '--outDir', path.join(folder, 'out'), path.join(folder, 'mod.ts')];
-    const forget = (folders) => () => folders.forEach((it) => fs.rmSync(it, { recursive: true, force: true }));
-    const lines = fs.readFileSync(path.join(folder, 'm0.ts'), 'utf8').split('\n').length;
-    console.log(`${count} modules of ${lines} lines`);
-    console.log(`  check --no-cache ${best([LAUNCHER, 'check', '--no-cache', folder])}; tsc --declaration ${best(tsc)}`);
-    console.log(`  skeleton --dts --no-cache ${best([LAUNCHER, 'skeleton', '--dts', '--no-cache', folder, path.join(folder, 'files')])}`);
-    console.log(`  check ${thrice([LAUNCHER, 'check', folder], folder, forget([kept]))}`);
-    console.log(`  tsc --incremental ${thrice([...tsc, '--incremental', '--tsBuildInfoFile', info], folder, forget([info]))}`);
-    console.log(`  check --watch, one module changed ${await watched(folder)}`);
-    console.log(`  of one run ${Object.entries(await parts(folder)).map(([name, each]) => `${name} ${each.toFixed(2)}`).join(', ')}`);
-  } finally {
-    fs.rmSync(folder, { recursive: true, force: true });
-  }
-}
-
-(async () => {
-  const counts = process.argv.slice(2).map(Number);
-  for (const count of counts.length ? counts : [10, 50, 200]) await measure(count);
-})();

@@ -15,10 +15,16 @@ const path = require('path');
 const { main } = require('../src/cli/main.js');
 const { Progress } = require('../src/cli/progress.js');
 
+/** @typedef {import('../src/messages/types').Message} Message */
+
 const PASSED_OVER = /^(node_modules|fixtures?|__fixtures__|__tests__|tests?|e2e|examples?)$/;
 
-/** Whether a folder has TypeScript, at most three levels down. */
-function hasTypes(dir, levels = 3) {
+/**
+ * Whether a folder has TypeScript, at most three levels down.
+ *
+ * @returns {boolean}
+ */
+function hasTypes(/** @type {string} */ dir, levels = 3) {
   return fs.readdirSync(dir, { withFileTypes: true }).some((it) => {
     if (it.isDirectory()) return levels > 0 && !PASSED_OVER.test(it.name) && hasTypes(path.join(dir, it.name), levels - 1);
     return it.isFile() && /\.[cm]?tsx?$/.test(it.name);
@@ -26,7 +32,7 @@ function hasTypes(dir, levels = 3) {
 }
 
 /** The folders of packages below a folder. */
-function packagesBelow(dir, found = []) {
+function packagesBelow(/** @type {string} */ dir, /** @type {string[]} */ found = []) {
   if (fs.existsSync(path.join(dir, 'package.json')) && hasTypes(dir)) found.push(dir);
   for (const it of fs.readdirSync(dir, { withFileTypes: true })) {
     if (it.isDirectory() && !PASSED_OVER.test(it.name)) packagesBelow(path.join(dir, it.name), found);
@@ -34,24 +40,24 @@ function packagesBelow(dir, found = []) {
   return found;
 }
 
-async function run(words, dir) {
-  const keeper = () => ({ text: '', write(part) { this.text += part; return true; } });
+async function run(/** @type {string[]} */ words, /** @type {string} */ dir) {
+  const keeper = () => ({ text: '', write(/** @type {string} */ part) { this.text += part; return true; } });
   const [out, err] = [keeper(), keeper()];
   const status = await main([...words, dir], { cwd: path.dirname(dir), environment: process.env, out, err });
   return { status, out: out.text, said: err.text.trim() };
 }
 
 /** The status of `check`, its messages, and what it says besides. */
-async function check(dir, more) {
+async function check(/** @type {string} */ dir, /** @type {string[]} */ more) {
   const { status, out, said } = await run(['check', '--json', ...more], dir);
   const lines = out.split('\n').filter(Boolean).map((line) => JSON.parse(line));
   return { status, messages: lines.filter((it) => it.code !== undefined), said };
 }
 
-const errorsIn = (messages) => messages.filter((it) => it.level === 'Error');
+const errorsIn = (/** @type {Message[]} */ messages) => messages.filter((it) => it.level === 'Error');
 
 /** Why a message is left, without the names and numbers of the one package. */
-function causeOf({ code, info = [] }) {
+function causeOf(/** @type {{ code: string, info?: string[] }} */ { code, info = [] }) {
   const [, note] = /^not fixed: (.*)$/.exec(info.find((it) => it.startsWith('not fixed: ')) || '') || [];
   if (!note) return code;
   return note.replace(/its type names \S+, which/, 'its type names N, which').replace(/has \d+ characters/, 'has N characters');
@@ -60,9 +66,9 @@ function causeOf({ code, info = [] }) {
 /**
  * Writes types into the texts of a package, and none of its files: what is left, and what a second run and the compiler find then. Null where it asks for none.
  *
- * @returns {Promise<any>}
+ * @returns {Promise<{ dir: string, before: number, count: number, left: Message[], others: Message[], isSame: boolean } | null>}
  */
-async function fixed(dir) {
+async function fixed(/** @type {string} */ dir) {
   const { analyse } = require('../src/program/answer.js');
   const { FIXABLE } = require('../src/messages/codes.js');
   const { fixed: fix, verified } = require('../src/compiler/thread.js');
@@ -77,15 +83,14 @@ async function fixed(dir) {
   return { dir, before: errorsIn(before.messages).length, count, left: errorsIn(world.messages), others: errorsIn(others), isSame };
 }
 
-async function sweepFixes(folders, words) {
+async function sweepFixes(/** @type {string[]} */ folders, /** @type {string[]} */ words) {
   const causes = new Counts();
   const sums = { packages: 0, clean: 0, messages: 0, types: 0, left: 0, changed: 0, wrong: 0, failed: 0 };
   for (const dir of folders.flatMap((it) => packagesBelow(path.resolve(it)))) {
-    const found = await fixed(dir).catch((error) => ({ dir, failed: error.message }));
     // What cannot be read is reported without `--fix`.
-    if (!found || (found.failed && !(await check(dir, [])).messages.length)) continue;
-    sums.packages += found.failed ? 0 : 1;
-    if (found.failed) continue;
+    const found = await fixed(dir).catch(() => null);
+    if (!found) continue;
+    sums.packages += 1;
     sums.messages += found.before;
     sums.types += found.count;
     sums.left += found.left.length;
@@ -93,7 +98,7 @@ async function sweepFixes(folders, words) {
     if (!found.isSame) sums.changed += 1;
     if (found.others.length) sums.wrong += 1;
     for (const each of found.left) causes.add(causeOf(each), dir);
-    const told = (it) => [it.code, it.message, it.file, ...(it.info || []).filter((line) => line.startsWith('not fixed'))];
+    const told = (/** @type {Message} */ it) => [it.code, it.message, it.file, ...(it.info || []).filter((line) => line.startsWith('not fixed'))];
     if (words.includes('--lines')) console.log(JSON.stringify({ ...found, left: found.left.map(told), others: found.others.map(told) }));
   }
   console.log(`${JSON.stringify(sums)}\n\n${causes.table('Left')}`);
@@ -102,24 +107,25 @@ async function sweepFixes(folders, words) {
 
 class Counts {
   constructor() {
+    /** @type {Map<string, { messages: number, dirs: Set<string> }>} */
     this.counts = new Map();
   }
 
-  add(key, dir) {
-    if (!this.counts.has(key)) this.counts.set(key, { messages: 0, dirs: new Set() });
-    const found = this.counts.get(key);
+  add(/** @type {string} */ key, /** @type {string} */ dir) {
+    const found = this.counts.get(key) || { messages: 0, dirs: new Set() };
+    this.counts.set(key, found);
     found.messages += 1;
     found.dirs.add(dir);
   }
 
-  table(head) {
+  table(/** @type {string} */ head) {
     const sorted = [...this.counts].sort(([, a], [, b]) => b.dirs.size - a.dirs.size);
     const rows = sorted.map(([key, { messages, dirs }]) => `| ${key} | ${dirs.size} | ${messages} |`);
     return [`| ${head} | Packages | Messages |`, '|---|---|---|', ...rows].join('\n');
   }
 }
 
-async function sweep(folders, words) {
+async function sweep(/** @type {string[]} */ folders, /** @type {string[]} */ words) {
   const [codes, refusals] = [new Counts(), new Counts()];
   const sums = { packages: 0, clean: 0, warned: 0, messages: 0, refused: 0, wrong: 0 };
   for (const dir of folders.flatMap((it) => packagesBelow(path.resolve(it)))) {
@@ -141,7 +147,7 @@ async function sweep(folders, words) {
 module.exports = { check, fixed, packagesBelow };
 if (require.main === module) {
   const words = process.argv.slice(2);
-  const isOption = (it) => it.startsWith('--');
+  const isOption = (/** @type {string} */ it) => it.startsWith('--');
   const call = words.includes('--fix') ? sweepFixes : sweep;
   call(words.filter((it) => !isOption(it)), words.filter(isOption)).then((status) => {
     process.exitCode = status;

@@ -97,8 +97,9 @@ export interface Change {
   /** The module that declares it. */
   module: string;
   change: "removed" | "added" | "changed";
-  advice: "major" | "minor" | "patch";
-  reason: string;
+  /** What the change asks of the version number, and why; neither where a package has messages. */
+  advice?: "major" | "minor" | "patch";
+  reason?: string;
 }
 
 export interface DiffResult {

@@ -6,14 +6,25 @@ const { withoutAllowed, withoutSettledBaselines } = require('../messages/allow.j
 const { refusalOf } = require('../cli/exit.js');
 const { withoutNamedReturns } = require('../tables/asserted-types.js');
 
+/** @typedef {import('../program/types').RunContext} RunContext */
+/** @typedef {import('../program/types').AnalyseOptions} AnalyseOptions */
+/** @typedef {import('../cli/types').Options} Options */
+/** @typedef {import('../cli/types').Target} Target */
+/** @typedef {import('../cli/types').Result} Result */
+/** @typedef {import('../messages/types').Message} Message */
+/** @typedef {import('../program/types').World} World */
+/** @typedef {RunContext & { progress: { end(): void } }} Context */
+/** @typedef {{ context: Context, baseline: import('../messages/allow.js').Baseline | null }} View */
+
 /** What is reported of a folder that was analysed: its messages without those that are allowed or known, and how many these are. */
-function toldOf(world, messages, options, { baseline, context }) {
+function toldOf(/** @type {World} */ world, /** @type {Message[]} */ messages, /** @type {Options} */ options, /** @type {View} */ { baseline, context }) {
   const all = [...world.warnings, ...messages];
   const found = options.quiet ? all.filter(({ level }) => level !== 'Warning') : all;
   const wanted = withoutAllowed(world, found, options);
-  const unsettled = withoutSettledBaselines(world, wanted, context.cwd);
+  const reading = context.reading || ((call) => call());
+  const unsettled = reading(() => withoutSettledBaselines(world, wanted, context.cwd));
   const told = new Set(baseline ? baseline.without(unsettled) : unsettled);
-  const left = (list) => list.filter((each) => told.has(each));
+  const left = (/** @type {Message[]} */ list) => list.filter((each) => told.has(each));
   return {
     messages: [...left(world.warnings), ...world.broken, ...left(messages)],
     allowed: found.length - wanted.length,
@@ -21,8 +32,12 @@ function toldOf(world, messages, options, { baseline, context }) {
   };
 }
 
-/** What the program and, where it is asked for, the compiler say of a folder. */
-async function messagesOf(world, options, context) {
+/**
+ * What the program and, where it is asked for, the compiler say of a folder.
+ *
+ * @returns {Promise<Message[]>}
+ */
+async function messagesOf(/** @type {World} */ world, /** @type {Options} */ options, /** @type {Context} */ context) {
   if (!options.verify || !world.skeletons.size) return world.messages;
   const { verified } = require('../compiler/thread.js');
   context.progress.begin("TypeScript's compiler checks the skeletons");
@@ -30,34 +45,36 @@ async function messagesOf(world, options, context) {
 }
 
 /** Whether a message is one of some files, where only these are asked for. */
-function isAsked(only, { cwd }) {
-  return ({ file }) => !only || (Boolean(file) && only.has(path.resolve(cwd, file)));
+function isAsked(/** @type {Set<string> | undefined} */ only, /** @type {{ cwd: string }} */ { cwd }) {
+  return (/** @type {Message} */ { file }) => !only || (file !== undefined && only.has(path.resolve(cwd, file)));
 }
 
-/** How many return types of a folder single returns name: for so many more deno asks. */
-async function singleReturnsOf(world, options, context) {
+/**
+ * How many return types of a folder single returns name: for so many more deno asks.
+ *
+ * @returns {Promise<number>}
+ */
+async function singleReturnsOf(/** @type {World} */ world, /** @type {Options} */ options, /** @type {Context} */ context) {
   const request = isCounted(options) ? withoutNamedReturns(world.request) : null;
   if (!request) return 0;
-  const asked = (messages) => messages.filter(({ code }) => code === 'missing-explicit-return-type').map(({ file, start }) => `${file} ${start}`);
+  const asked = (/** @type {Message[]} */ messages) => messages.filter(({ code }) => code === 'missing-explicit-return-type').map(({ file, start }) => `${file} ${start}`);
   const known = new Set(asked(world.messages));
   const { messages } = part(await answersTo(request, options, context), world, context.cwd);
   return asked(messages).filter((each) => !known.has(each)).length;
 }
 
 /** Whether the last line of a check says how many return types single returns name. */
-function isCounted({ rules, format, quiet }) {
+function isCounted(/** @type {Options} */ { rules, format, quiet }) {
   return rules !== 'deno' && (format === undefined || format === 'text') && !quiet;
 }
 
 /**
- * The result of a folder: `world`, null where it cannot be read, `thrown`, which says why, `error`, which was thrown, the messages that are reported, how many others are allowed and
- * known, how many return types single returns name, and the status.
+ * The result of a folder: `world`, null where it cannot be read, `thrown`, which says why, `error`, which was thrown, the messages that are reported, how many
+ * others are allowed and known, how many return types single returns name, and the status.
  *
- * @param {{ dir: string, exports?: any, only?: Set<string> }} target   `only` are the files whose messages are asked for, where not all are
- * @param {any} options
- * @param {{ context: any, baseline: import('../messages/allow.js').Baseline | null }} view
+ * @returns {Promise<Result>}
  */
-async function resultOf({ dir, exports, only }, options, { context, baseline }) {
+async function resultOf(/** @type {Target} */ { dir, exports, only }, /** @type {AnalyseOptions} */ options, /** @type {View} */ { context, baseline }) {
   try {
     const world = await analyse(dir, { ...options, exports }, context);
     const found = (await messagesOf(world, options, context)).filter(isAsked(only, context));
@@ -65,7 +82,7 @@ async function resultOf({ dir, exports, only }, options, { context, baseline }) 
     const singleReturns = await singleReturnsOf(world, options, context);
     return { dir, world, thrown: null, status: statusOf(world.broken), singleReturns, ...told };
   } catch (error) {
-    const thrown = refusalOf(error);
+    const thrown = refusalOf(/** @type {import('../cli/types').KnownError} */ (error));
     return { dir, world: null, thrown, error, status: thrown.status, messages: thrown.messages, singleReturns: 0, allowed: 0, known: 0 };
   } finally {
     context.progress.end();

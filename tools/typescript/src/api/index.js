@@ -12,12 +12,33 @@ const { plain } = require('../messages/message.js');
 const { rewriteTexts } = require('../package/files.js');
 const { analyse } = require('../program/answer.js');
 
-/** What the command line calls these options. */
-function optionsOf({ name, version, exports: entries, cache = true, ownCompiler = true, allow, comments = true, rules, verify, texts }) {
+/** @typedef {import('./api').Options} Options */
+/** @typedef {import('../messages/types').Message} Message */
+/** @typedef {import('../program/types').World} World */
+
+/** @typedef {import('../program/types').AnalyseOptions} AnalyseOptions */
+/** @typedef {import('../cli/types').KnownError} KnownError */
+/** @typedef {import('./check.js').Context} Context */
+/** @typedef {import('./api').CheckOptions & import('./api').SkeletonOptions & import('./api').FixOptions} Given */
+
+/**
+ * What the command line calls these options.
+ *
+ * @returns {AnalyseOptions}
+ */
+function optionsOf(/** @type {Given} */ { name, version, exports: entries, cache = true, ownCompiler = true, allow, comments = true, rules, verify, texts }) {
   return { name, version, exports: entries, noCache: !cache, noOwnCompiler: !ownCompiler, allow, noIgnore: !comments, rules, verify, texts };
 }
 
-/** Reads a folder by `call(folder, options, context)`. What is kept of sources is tidied behind it. */
+/**
+ * Reads a folder by `call(folder, options, context)`. What is kept of sources is tidied behind it.
+ *
+ * @template R
+ * @param {string} dir
+ * @param {Given} given
+ * @param {(folder: string, options: AnalyseOptions, context: Context) => Promise<R>} call
+ * @returns {Promise<R>}
+ */
 async function within(dir, given, call) {
   const { keptFor } = require('../package/cache.js');
   const { lookIn } = require('../compiler/find.js');
@@ -34,16 +55,22 @@ async function within(dir, given, call) {
 }
 
 /** A result: the status, the messages as plain data, the packages. */
-function resultOf(world, messages) {
+function resultOf(/** @type {Pick<World, 'broken'> & { info: { packages: { name: string, version: string }[] } }} */ world, /** @type {Message[]} */ messages) {
   const packages = world.info.packages.map(({ name, version }) => ({ name, version }));
   return { status: statusOf(world, messages), reason: null, messages: messages.map(plain), packages };
 }
 
-/** What `call` answers; of a folder that cannot be read, why. All else that is thrown goes on. */
+/**
+ * What `call` answers; of a folder that cannot be read, why. All else that is thrown goes on.
+ *
+ * @template R
+ * @param {() => Promise<R>} call
+ */
 async function orRefused(call) {
   try {
     return await call();
-  } catch (error) {
+  } catch (thrown) {
+    const error = /** @type {KnownError} */ (thrown);
     if (error.name === 'AbortError' || error.status !== 2) throw error;
     return { status: 2, reason: error.message, messages: (error.messages || []).map(plain), packages: [] };
   }
@@ -53,7 +80,7 @@ async function orRefused(call) {
 async function check(dir, options = {}) {
   return within(dir, options, (folder, asked, context) => orRefused(async () => {
     const { world, messages, error } = await checkedFolder({ dir: folder, exports: asked.exports }, { ...asked, format: 'json' }, { context, baseline: null });
-    if (error) throw error;
+    if (!world) throw error;
     return resultOf(world, messages);
   }));
 }
@@ -85,7 +112,7 @@ async function fix(dir, options = {}) {
 }
 
 /** A version of a package, as `comparison` takes it. */
-async function versionIn(dir, options) {
+async function versionIn(/** @type {string} */ dir, /** @type {Options} */ options) {
   return within(dir, options, async (folder, asked, context) => {
     const world = await analyse(folder, { ...asked, preview: true }, context);
     const version = versionOf(world);

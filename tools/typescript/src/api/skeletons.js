@@ -1,8 +1,13 @@
 'use strict';
 // The skeletons of a folder as TypeScript, or its declaration files.
 
+/** @typedef {import('../program/types').RunContext & { progress: { end(): void } }} Context */
+/** @typedef {import('../program/types').AnalyseOptions} Options */
+/** @typedef {import('../skeleton/types').Printed} Printed */
+/** @typedef {import('../program/types').World} World */
+
 /** Some skeletons of a folder and its declaration files. Why others have none is added to the folder's messages. */
-function declared(world, skeletons, { cwd }) {
+function declared(/** @type {World} */ world, /** @type {Printed[]} */ skeletons, /** @type {Context} */ { cwd }) {
   const { shownName } = require('../program/answer.js');
   const { declarationFiles } = require('../skeleton/declaration-files.js');
   const { files, messages } = declarationFiles(world, (file) => shownName(file, cwd));
@@ -12,7 +17,7 @@ function declared(world, skeletons, { cwd }) {
 }
 
 /** The folder that was analysed, and what is printed of it: `{specifier, name, text, isPreview}` of each skeleton, or of each declaration file. */
-async function skeletonsOf(dir, options, context) {
+async function skeletonsOf(/** @type {string} */ dir, /** @type {Options} */ options, /** @type {Context} */ context) {
   const { analyse } = require('../program/answer.js');
   const { printed } = require('../skeleton/write.js');
   const world = await analyse(dir, { ...options, preview: true }, context);

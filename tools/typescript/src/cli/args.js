@@ -3,6 +3,8 @@
 const { CODES, isCode, mayBeAllowed } = require('../messages/codes.js');
 const { COMMANDS, OPTIONS } = require('./options.js');
 
+/** @typedef {import('./types').Options} Options */
+
 /** @type {Map<string, import('./types').Option>} */
 const BY_WORD = new Map(OPTIONS.flatMap((it) => [it.word, ...(it.also || [])].map((word) => /** @type {const} */ ([word, it]))));
 const FORMATS = ['text', 'json', 'github', 'sarif', 'junit', 'badge'];
@@ -13,7 +15,7 @@ const DOCUMENTS = ['sarif', 'junit', 'badge'];
 class UsageError extends Error {}
 
 /** How many letters have to change, come or go between two words. */
-function distance(one, other) {
+function distance(/** @type {string} */ one, /** @type {string} */ other) {
   let row = Array.from({ length: other.length + 1 }, (_, at) => at);
   for (const [at, letter] of [...one].entries()) {
     const next = [at + 1];
@@ -24,44 +26,45 @@ function distance(one, other) {
 }
 
 /** What a wrong word may have been meant for, as the end of a sentence; nothing where no known word is near. */
-function meant(word, known) {
-  const [nearest] = known.map((it) => [distance(word, it), it]).filter(([count]) => count <= 2).sort(([a], [b]) => a - b);
-  return nearest ? `; did you mean ${nearest[1]}?` : '';
+function meant(/** @type {string} */ word, /** @type {string[]} */ known) {
+  const [nearest] = known.map((it) => ({ it, count: distance(word, it) })).filter(({ count }) => count <= 2).sort((a, b) => a.count - b.count);
+  return nearest ? `; did you mean ${nearest.it}?` : '';
 }
 
 /** Entry points as the option says them: a path, or a map of export names to paths. */
-function exportsOf(text) {
+function exportsOf(/** @type {string} */ text) {
   if (!text.trimStart().startsWith('{')) return text;
   try {
     return JSON.parse(text);
   } catch (error) {
-    throw new UsageError(`--exports is no JSON: ${error.message}`);
+    throw new UsageError(`--exports is no JSON: ${/** @type {Error} */ (error).message}`);
   }
 }
 
-function countOf(text) {
+function countOf(/** @type {string} */ text) {
   if (!/^\d{1,9}$/.test(text)) throw new UsageError(`--max-warnings wants a number, and ${text} is none`);
   return Number(text);
 }
 
-function formatOf(name) {
+function formatOf(/** @type {string} */ name) {
   if (!FORMATS.includes(name)) throw new UsageError(`there is no format ${name}: ${FORMATS.join(', ')}${meant(name, FORMATS)}`);
   return name;
 }
 
-function rulesOf(name) {
+function rulesOf(/** @type {string} */ name) {
   if (!RULES.includes(name)) throw new UsageError(`there are no rules ${name}: ${RULES.join(', ')}`);
   return name;
 }
 
 /** A code that may be allowed: of what keeps a folder from being read, there is nothing to go on with. */
-function allowed(code) {
+function allowed(/** @type {string} */ code) {
   if (!isCode(code)) throw new UsageError(`there is no code ${code}: ${Object.keys(CODES).join(', ')}${meant(code, Object.keys(CODES))}`);
   if (!mayBeAllowed(code)) throw new UsageError(`${code} cannot be allowed, since the package is not read then`);
   return code;
 }
 
 // How the values of options are read, those of a list each.
+/** @type {Record<string, (text: string) => unknown>} */
 const READ = { exports: exportsOf, maxWarnings: countOf, format: formatOf, rules: rulesOf, allow: allowed };
 
 /**
@@ -77,7 +80,7 @@ function put(options, { key, isList }, value) {
 }
 
 /** The words, parted into options and others. */
-function parted(words) {
+function parted(/** @type {string[]} */ words) {
   /** @type {import('./types').Options} */
   const options = {};
   const plain = [];
@@ -112,11 +115,11 @@ function fit(command, options) {
   if (options.json && isOther) throw new UsageError(`--json is --format json, and --format ${options.format} is asked for too`);
   if (options.only && options.exports !== undefined) throw new UsageError('--only goes by the entry points of the package, and --exports names others');
   if (options.watch && options.fix) throw new UsageError('--watch does not go with --fix');
-  if (options.watch && DOCUMENTS.includes(options.format)) throw new UsageError(`--watch does not go with --format ${options.format}, which is one document`);
+  if (options.watch && DOCUMENTS.includes(options.format || '')) throw new UsageError(`--watch does not go with --format ${options.format}, which is one document`);
 }
 
 /** The help of the program, or of a command. */
-function helpFor(rest, options) {
+function helpFor(/** @type {string[]} */ rest, /** @type {Options} */ options) {
   const [name] = rest;
   if (name !== undefined && !Object.hasOwn(COMMANDS, name)) throw new UsageError(`there is no command ${name}${meant(name, Object.keys(COMMANDS))}`);
   return { command: 'help', rest, options };
@@ -140,8 +143,10 @@ function parse(words) {
   if (rest.length < least) throw new UsageError(`${command} wants ${least === 1 ? 'a word' : 'two words'}`);
   if (rest.length > most) throw new UsageError(`${command} does not take the word ${rest[most]}`);
   fit(command, options);
+  const given = /** @type {Record<string, unknown>} */ (options);
   for (const [key, read] of Object.entries(READ)) {
-    if (options[key] !== undefined) options[key] = key === 'allow' ? options.allow.map(read) : read(options[key]);
+    const value = given[key];
+    if (value !== undefined) given[key] = Array.isArray(value) ? value.map(read) : read(String(value));
   }
   if (options.json && command === 'check') options.format = 'json';
   return { command, rest: rest.length || !most ? rest : ['.'], options };

@@ -11,14 +11,18 @@ const { NAME, VERSION } = require('./installed.js');
 const { Progress } = require('./progress.js');
 const { targetsOf } = require('./targets.js');
 
+/** @typedef {import('./types').Io} Io */
+/** @typedef {import('./types').Options} Options */
+
 /** What a command works with: where it was started, the streams, colours, progress. */
-function contextOf(io, options) {
+function contextOf(/** @type {Io} */ io, /** @type {Options} */ options) {
   const noColor = options.plain || io.environment.NO_COLOR || io.environment.TERM === 'dumb';
   const { painter } = require('../messages/message.js');
   const paint = painter(Boolean(io.out.isTTY) && !noColor);
   const paintErrors = painter(Boolean(io.err.isTTY) && !noColor);
+  /** @type {() => Omit<import('./types').Context, 'again'>} */
   const again = () => ({ ...io, kept: options.kept, paint, paintErrors, progress: new Progress(io.err, Boolean(io.err.isTTY)), begun: process.hrtime.bigint() });
-  return { ...again(), again };
+  return { ...again(), again: () => contextOf(io, options) };
 }
 
 /**
@@ -36,9 +40,9 @@ function folderAsked({ command, rest, options }, { cwd }) {
 /**
  * Tells why a command could not be done, and answers its status.
  *
- * @param {any} thrown
+ * @param {import('./types').KnownError} thrown
  * @param {import('./types').Asked} asked
- * @param {any} context
+ * @param {import('./types').Context} context
  */
 function refuse(thrown, { command, options }, context) {
   const isUsage = thrown instanceof UsageError;
@@ -50,9 +54,9 @@ function refuse(thrown, { command, options }, context) {
 }
 
 /** Runs a command line, and answers its status. `io` has `cwd`, `environment`, and the streams `out` and `err`. */
-async function main(words, io) {
+async function main(/** @type {string[]} */ words, /** @type {Io} */ io) {
   /** @type {import('./types').Asked} */
-  let asked = { options: {} };
+  let asked = { command: '', rest: [], options: {} };
   let context = contextOf(io, {});
   try {
     asked = parse(words);
@@ -68,7 +72,7 @@ async function main(words, io) {
     return status;
   } catch (error) {
     context.progress.end();
-    return refuse(error, asked, context);
+    return refuse(/** @type {import('./types').KnownError} */ (error), asked, context);
   }
 }
 

@@ -3,7 +3,13 @@
 const { CODES } = require('../messages/codes.js');
 const { NAME, isClone } = require('./installed.js');
 
-/** The commands: how their words are shown, the least and the most of them, what they do, what more `COMMAND --help` says, and the words of an example. */
+/** @typedef {import('./types').Option} Option */
+
+/**
+ * The commands: how their words are shown, the least and the most of them, what they do, what more `COMMAND --help` says, and the words of an example.
+ *
+ * @type {Record<string, { words: string, least: number, most: number, text: string, more: string[], example: string }>}
+ */
 const COMMANDS = {
   check: {
     words: '[DIR ..]', least: 0, most: Infinity, text: 'messages for the packages in the folders DIR',
@@ -100,7 +106,7 @@ const OPTIONS = [
 ];
 
 const WIDTH = 23;
-const entry = (words, text) => `  ${words.padEnd(WIDTH - 1)} ${text}`;
+const entry = (/** @type {string} */ words, /** @type {string} */ text) => `  ${words.padEnd(WIDTH - 1)} ${text}`;
 /** @param {import('./types').Option} option */
 const shown = ({ word, also = [], value }) => [...also.filter((it) => /^-[a-z]$/.test(it)), word].join(', ') + (value ? ` ${value}` : '');
 
@@ -122,12 +128,12 @@ The variable FAST_CHECK names a program to run in place of ${isClone ? './fast-c
 `;
 
 /** The text of an option for one command, without the name of the command before it. */
-function textFor({ text, commands }) {
+function textFor(/** @type {Option} */ { text, commands }) {
   return commands === ALL || commands === READING ? text : text.replace(/^[a-z]+(?: and [a-z]+)?: /, '');
 }
 
 /** Words in lines that a terminal holds. */
-function wrapped(words) {
+function wrapped(/** @type {string[]} */ words) {
   const lines = [''];
   for (const word of words) {
     if (lines[lines.length - 1].length + word.length > 98) lines.push('');
@@ -143,7 +149,7 @@ function codesText() {
 }
 
 /** What `COMMAND --help` says. */
-function helpOf(name) {
+function helpOf(/** @type {string} */ name) {
   const { words, text, more, example } = COMMANDS[name];
   const taken = OPTIONS.filter(({ commands, isHidden }) => commands.includes(name) && !isHidden).map((it) => entry(shown(it), textFor(it)));
   const about = [`${text[0].toUpperCase()}${text.slice(1)}.`, ...more].join('\n');

@@ -1,22 +1,27 @@
 'use strict';
 // What is at work, on standard error where it is a terminal, once a run takes more than a second.
 
+/** @typedef {import('./types').Output} Output */
+
 const AFTER = 1000;
 const EVERY = 100;
 
 class Progress {
-  constructor(stream, isOn) {
+  constructor(/** @type {Output} */ stream, /** @type {boolean} */ isOn) {
     this.stream = stream;
     this.isOn = isOn;
     this.begun = Date.now();
     this.shown = 0;
     this.text = '';
+    /** @type {Record<string, number>} */
     this.times = {};
+    /** @type {string | null} */
     this.stage = null;
+    this.since = process.hrtime.bigint();
   }
 
   /** Begins a stage of the work; the time until the next one counts for it. */
-  begin(stage) {
+  begin(/** @type {string | null} */ stage) {
     const now = process.hrtime.bigint();
     if (this.stage) this.times[this.stage] = (this.times[this.stage] || 0) + Number(now - this.since) / 1e6;
     this.stage = stage;
@@ -25,7 +30,7 @@ class Progress {
   }
 
   /** Says what is at work, if it is time to. */
-  tell(text) {
+  tell(/** @type {string} */ text) {
     const now = Date.now();
     this.text = text;
     if (!this.isOn || now - this.begun < AFTER || now - this.shown < EVERY) return;
@@ -34,7 +39,13 @@ class Progress {
     this.stream.write(`\r\x1b[K${text} .. ${seconds} s`.slice(0, (this.stream.columns || 80) + 4));
   }
 
-  /** Goes on saying it while something else is waited for. */
+  /**
+   * Goes on saying it while something else is waited for.
+   *
+   * @template T
+   * @param {string} stage
+   * @param {Promise<T>} promise
+   */
   async during(stage, promise) {
     this.begin(stage);
     const timer = this.isOn ? setInterval(() => this.tell(stage), 200) : null;
@@ -47,7 +58,7 @@ class Progress {
   }
 
   /** A line of its own on standard error. */
-  line(text) {
+  line(/** @type {string} */ text) {
     this.clear();
     this.stream.write(`${text}\n`);
   }
@@ -63,4 +74,9 @@ class Progress {
   }
 }
 
-module.exports = { Progress };
+/** The seconds since a command began, as they are printed. */
+function seconds(/** @type {Pick<import('./types').Context, 'clock' | 'begun'>} */ { clock, begun }) {
+  return clock || `${(Number(process.hrtime.bigint() - begun) / 1e9).toFixed(2)} s`;
+}
+
+module.exports = { seconds, Progress };

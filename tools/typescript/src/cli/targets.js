@@ -4,11 +4,13 @@ const fs = require('fs');
 const path = require('path');
 const { UsageError } = require('./args.js');
 
+/** @typedef {import('./types').Options} Options */
+
 // The names of configuration files, the first of which counts most.
 const NAMES = ['deno.json', 'deno.jsonc', 'jsr.json', 'jsr.jsonc', 'package.json'];
 
 /** The nearest folder above a file that has a configuration, else the file's own. */
-function packageAround(file) {
+function packageAround(/** @type {string} */ file) {
   const own = path.dirname(file);
   for (let folder = own; ; folder = path.dirname(folder)) {
     if (NAMES.some((name) => fs.existsSync(path.join(folder, name)))) return folder;
@@ -17,7 +19,7 @@ function packageAround(file) {
 }
 
 /** What stands at a path, or null. */
-function statOf(file) {
+function statOf(/** @type {string} */ file) {
   try {
     return fs.statSync(file);
   } catch {
@@ -26,7 +28,7 @@ function statOf(file) {
 }
 
 /** The folder and the file of a word; of a folder no file. */
-function placeOf(word, cwd) {
+function placeOf(/** @type {string} */ word, /** @type {string} */ cwd) {
   const at = path.resolve(cwd, word);
   const found = statOf(at);
   if (!found) throw new UsageError(`there is no folder and no file ${word}`);
@@ -36,13 +38,13 @@ function placeOf(word, cwd) {
 }
 
 /** The files of a folder as entry points. */
-function exportsOf(dir, files) {
+function exportsOf(/** @type {string} */ dir, /** @type {string[]} */ files) {
   const named = files.map((file) => `./${path.relative(dir, file).split(path.sep).join('/')}`);
   return Object.fromEntries(named.map((it, at) => [at === 0 ? '.' : it, it]));
 }
 
 /** The packages of some files, each with its files. */
-function packagesOfFiles(places) {
+function packagesOfFiles(/** @type {ReturnType<typeof placeOf>[]} */ places) {
   const folders = new Map();
   for (const { dir, file } of places) {
     if (!file) throw new UsageError(`--only goes with files, and ${dir} is a folder`);
@@ -55,7 +57,7 @@ function packagesOfFiles(places) {
  * What is to be checked, in the order of the words: `{dir, exports}`, each folder once. `exports` are the entry points that files name; undefined where the
  * folder itself is named. With `--only` files name their packages, whose messages are reported of `only` these files.
  */
-function targetsOf(words, options, cwd) {
+function targetsOf(/** @type {string[]} */ words, /** @type {Options} */ options, /** @type {string} */ cwd) {
   const places = words.map((word) => placeOf(word, cwd));
   if (options.only) return packagesOfFiles(places);
   if (options.exports !== undefined && places.some(({ file }) => file)) throw new UsageError('--exports goes with a folder, and a file is named');

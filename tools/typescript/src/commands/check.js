@@ -1,55 +1,21 @@
 'use strict';
-// Checks folders, one after another, and reports their errors and warnings in the format that is asked for.
-const { resultOf } = require('../api/check.js');
+// Checks folders, or tells again what is kept of a check that would read the same.
+const { Whole } = require('../program/whole.js');
 const { targetsOf } = require('../cli/targets.js');
-const { Baseline } = require('../messages/allow.js');
-const { fixed } = require('../compiler/thread.js');
-const { FORMATS, count } = require('../messages/formats.js');
-const { rewriteTexts } = require('../package/files.js');
 
-/** The status of all results: the highest of what cannot be read, else 1 where there are errors, or more warnings than may be. */
-function statusOfAll(results, { maxWarnings = Infinity }) {
-  const highest = Math.max(...results.map(({ status }) => status));
-  const levels = results.flatMap(({ messages }) => messages.map(({ level }) => level));
-  const warnings = levels.filter((it) => it === 'Warning').length;
-  return highest || (levels.length > warnings || warnings > maxWarnings ? 1 : 0);
-}
+/** @typedef {import('../cli/types').Context} Context */
+/** @typedef {import('../cli/types').Options} Options */
 
-/** Checks all folders once, and answers the status and the results. */
-async function checkOnce(targets, options, view) {
-  const format = FORMATS[options.format || 'text'];
-  const results = [];
-  for (const target of targets) {
-    const result = await resultOf(target, options, view);
-    format.result(result, options, view.context);
-    results.push(result);
-  }
-  format.end(results, options, view.context);
-  return { status: statusOfAll(results, options), results };
-}
-
-/** Writes the types that messages of some folders ask for. */
-async function fixAll(targets, options, context) {
-  for (const { dir, exports, only } of targets) {
-    const within = only && { files: only };
-    const { texts, count: types } = await fixed(dir, { ...options, exports, within }, context);
-    context.progress.end();
-    rewriteTexts(texts);
-    if (types) context.err.write(`${count(types, 'type')} written in ${count(texts.size, 'file')}\n`);
-  }
-}
-
-/** Checks folders, as `targetsOf` answers them, and answers the status. */
-async function checkAll(targets, options, context) {
-  if (options.fix) await fixAll(targets, options, context);
-  const view = { context, baseline: options.baseline ? Baseline.of(options.baseline, context.cwd) : null };
-  if (!options.watch) return (await checkOnce(targets, options, view)).status;
-  const { watch } = require('./watch.js');
-  return watch(targets, context, !options.format || options.format === 'text', (round) => checkOnce(targets, options, { ...view, context: round }));
-}
-
-async function check(words, options, context) {
-  return checkAll(targetsOf(words, options, context.cwd), options, context);
+async function check(/** @type {string[]} */ words, /** @type {Options} */ options, /** @type {Context} */ context) {
+  const targets = targetsOf(words, options, context.cwd);
+  const whole = Whole.of(targets, options, context);
+  const known = whole && whole.told();
+  if (known !== null) return known;
+  // It needs all of the reader, which takes as long as what is kept.
+  const { checkAll } = require('./check-all.js');
+  const status = await checkAll(targets, options, whole ? whole.listening : context);
+  if (whole) whole.keep(status);
+  return status;
 }
 
 module.exports = { check };

@@ -8,8 +8,24 @@ const { comparison, versionOf } = require('../diff/comparison.js');
 const { unpacked } = require('../package/revision.js');
 const { UsageError } = require('../cli/args.js');
 
-/** Calls back with the folder of a word, and the name under which its files are shown: a folder that is there, or a revision of the repository that the other folder lies in. */
-async function withFolder(word, beside, context, call) {
+/** @typedef {import('../cli/types').Context} Context */
+/** @typedef {import('../cli/types').Options} Options */
+/** @typedef {import('../diff/types').Version} Version */
+/** @typedef {import('../diff/types').Compared} Compared */
+/** @typedef {import('../diff/types').Change} Change */
+/** @typedef {import('../diff/types').Advised} Advised */
+/** @typedef {import('../skeleton/types').PublicName} PublicName */
+
+/**
+ * Calls back with the folder of a word, and the name under which its files are shown: a folder that is there, or a revision of the repository that the other folder lies in.
+ *
+ * @template R
+ * @param {string} word
+ * @param {string} beside
+ * @param {Context} context
+ * @param {(folder: string, revision: string | null) => Promise<R>} call
+ */
+async function withFolder(/** @type {string} */ word, /** @type {string} */ beside, /** @type {Context} */ context, call) {
   if (fs.existsSync(path.resolve(context.cwd, word))) return call(folderOf(word, context), null);
   const folder = unpacked(word, folderOf(beside, context));
   if (!folder) throw new UsageError(`there is no folder and no revision ${word}`);
@@ -21,7 +37,7 @@ async function withFolder(word, beside, context, call) {
 }
 
 /** A version that a word names, as `comparison` takes it. Its messages go to standard error. */
-async function readVersion(folder, revision, options, context) {
+async function readVersion(/** @type {string} */ folder, /** @type {string | null} */ revision, /** @type {Options} */ options, /** @type {Context} */ context) {
   const { analyse } = require('../program/answer.js');
   const world = await analyse(folder, { ...options, preview: true }, revision === null ? context : { ...context, cwd: folder });
   context.progress.end();
@@ -31,7 +47,7 @@ async function readVersion(folder, revision, options, context) {
 }
 
 /** One change as lines. */
-function writeChange({ name, module, change, parts, advice, reason }, { out, paint }) {
+function writeChange(/** @type {Change} */ { name, module, change, parts, advice, reason }, /** @type {Context} */ { out, paint }) {
   out.write(`${paint('bold', `${change} ${name}`)} (${module})\n`);
   for (const part of parts) {
     if (part.name !== null) out.write(`  by ${part.name} (${part.module})${part.lines.length ? '' : ', as above'}\n`);
@@ -41,7 +57,7 @@ function writeChange({ name, module, change, parts, advice, reason }, { out, pai
 }
 
 /** All that differs as a text for a pull request. */
-function writeMarkdown({ changes, advice, reason, hidden, versions }, { out }) {
+function writeMarkdown(/** @type {Compared} */ { changes, advice, reason, hidden, versions }, /** @type {Context} */ { out }) {
   out.write(`**${advice}**: ${reason}\n`);
   for (const text of [...hidden, ...versions]) out.write(`\n${text}\n`);
   for (const { name, module, change, parts, advice: own, reason: why } of changes) {
@@ -53,7 +69,7 @@ function writeMarkdown({ changes, advice, reason, hidden, versions }, { out }) {
   }
 }
 
-function writeText({ changes, advice, reason, hidden, limits: others, versions }, context) {
+function writeText(/** @type {Compared} */ { changes, advice, reason, hidden, limits: others, versions }, /** @type {Context} */ context) {
   for (const each of changes) writeChange(each, context);
   context.out.write(`${context.paint('bold', advice)}: ${reason}\n`);
   for (const text of hidden) context.out.write(`  ${text}\n`);
@@ -61,12 +77,12 @@ function writeText({ changes, advice, reason, hidden, limits: others, versions }
   for (const text of versions) context.out.write(`${text}\n`);
 }
 
-function writeJson({ changes, ...others }, { out }) {
+function writeJson(/** @type {Compared} */ { changes, ...others }, /** @type {Context} */ { out }) {
   const { advice, reason, hidden, limits: notCompared, versions } = others;
   for (const each of [...changes, { advice, reason, hidden, notCompared, versions }]) out.write(`${JSON.stringify(each)}\n`);
 }
 
-async function diff([old, now], options, context) {
+async function diff(/** @type {string[]} */ [old, now], /** @type {Options} */ options, /** @type {Context} */ context) {
   const before = await withFolder(old, now, context, (folder, revision) => readVersion(folder, revision, options, context));
   const after = await withFolder(now, old, context, (folder, revision) => readVersion(folder, revision, options, context));
   if (!before || !after) {

@@ -4,8 +4,11 @@ const fs = require('fs');
 const path = require('path');
 const { COLOURS, folderOf, messagesOf, statusOf, writeMessages } = require('./shared.js');
 
+/** @typedef {import('../cli/types').Context} Context */
+/** @typedef {import('../cli/types').Options} Options */
+
 /** The folder that the paths of a patch begin at, as git takes them: the repository around a package, else where the command was started, or the package itself. */
-function rootOfPatch(folder, cwd) {
+function rootOfPatch(/** @type {string} */ folder, /** @type {string} */ cwd) {
   const { isInside } = require('../package/files.js');
   for (let at = folder; ; at = path.dirname(at)) {
     if (fs.existsSync(path.join(at, '.git'))) return at;
@@ -14,7 +17,7 @@ function rootOfPatch(folder, cwd) {
 }
 
 /** The changes of texts as a unified diff. */
-function writeDiff(texts, folder, { out, paint, cwd }) {
+function writeDiff(/** @type {Map<string, string>} */ texts, /** @type {string} */ folder, /** @type {Context} */ { out, paint, cwd }) {
   const { unified } = require('../diff/names.js');
   const { markOf, readText } = require('../package/files.js');
   const root = rootOfPatch(folder, cwd);
@@ -24,7 +27,7 @@ function writeDiff(texts, folder, { out, paint, cwd }) {
   }
 }
 
-async function fix([word], options, context) {
+async function fix(/** @type {string[]} */ [word], /** @type {Options} */ options, /** @type {Context} */ context) {
   const { rewriteTexts } = require('../package/files.js');
   const { fixed } = require('../compiler/thread.js');
   const { world, texts, count: types } = await fixed(folderOf(word, context), options, context);
@@ -33,7 +36,8 @@ async function fix([word], options, context) {
   else rewriteTexts(texts);
   const told = messagesOf(world);
   writeMessages(told, options, options.dry ? { out: context.err, paint: context.paintErrors } : context);
-  const { count, seconds } = require('../messages/formats.js');
+  const { seconds } = require('../cli/progress.js');
+  const { count } = require('../messages/formats.js');
   const done = options.dry ? 'to write in' : 'written in';
   const summary = `${count(types, 'type')} ${done} ${count(texts.size, 'file')}, ${count(told.length, 'message')} left, ${seconds(context)}\n`;
   (options.dry ? context.err : context.out).write(summary);

@@ -2,7 +2,10 @@
 // The command `input`: what the program is asked of a package.
 const { folderOf, statusOf, writeMessages } = require('./shared.js');
 
-async function input([word], options, context) {
+/** @typedef {import('../cli/types').Context} Context */
+/** @typedef {import('../cli/types').Options} Options */
+
+async function input(/** @type {string[]} */ [word], /** @type {Options} */ options, /** @type {Context} */ context) {
   const { requestText } = require('../program/request.js');
   const { read } = require('../program/answer.js');
   const { request, broken } = read(folderOf(word, context), options, context);

@@ -4,7 +4,7 @@ const { Server } = require('../lsp/server.js');
 
 function lsp() {
   return new Promise((resolve) => {
-    const end = (status) => {
+    const end = (/** @type {number} */ status) => {
       process.stdin.destroy();
       resolve(status);
     };

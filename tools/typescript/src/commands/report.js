@@ -4,7 +4,10 @@ const fs = require('fs');
 const path = require('path');
 const { folderOf, messagesOf, statusOf } = require('./shared.js');
 
-async function report([word, file], options, context) {
+/** @typedef {import('../cli/types').Context} Context */
+/** @typedef {import('../cli/types').Options} Options */
+
+async function report(/** @type {string[]} */ [word, file], /** @type {Options} */ options, /** @type {Context} */ context) {
   const { analyse } = require('../program/answer.js');
   const { page } = require('../report/index.js');
   const { summary } = require('../messages/formats.js');

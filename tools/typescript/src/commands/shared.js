@@ -4,10 +4,18 @@ const fs = require('fs');
 const path = require('path');
 const { UsageError } = require('../cli/args.js');
 
+/** @typedef {import('../messages/types').Message} Message */
+/** @typedef {import('../program/types').World} World */
+/** @typedef {import('../cli/types').Output} Output */
+/** @typedef {import('../cli/types').Paint} Paint */
+/** @typedef {import('../cli/types').Options} Options */
+/** @typedef {import('../cli/types').Context} Context */
+
+/** @type {Record<string, string>} */
 const COLOURS = { ' ': 'gray', '-': 'red', '+': 'green' };
 
 /** The folder of a word, which has to be there. */
-function folderOf(word, context) {
+function folderOf(/** @type {string} */ word, /** @type {Context} */ context) {
   const folder = path.resolve(context.cwd, word);
   let found = null;
   try {
@@ -19,7 +27,7 @@ function folderOf(word, context) {
   return folder;
 }
 
-function writeMessages(messages, options, { out, paint }) {
+function writeMessages(/** @type {Message[]} */ messages, /** @type {Options} */ options, /** @type {{ out: Output, paint: Paint }} */ { out, paint }) {
   const { format, plain } = require('../messages/message.js');
   for (const message of messages) {
     out.write(options.json ? `${JSON.stringify(plain(message))}\n` : `${format(message, paint).join('\n')}\n`);
@@ -27,12 +35,12 @@ function writeMessages(messages, options, { out, paint }) {
 }
 
 /** All that is reported of a folder before its skeletons are looked at. */
-function messagesOf(world) {
+function messagesOf(/** @type {Pick<World, 'warnings' | 'broken' | 'messages'>} */ world) {
   return [...world.warnings, ...world.broken, ...world.messages];
 }
 
 /** The status of a folder that was analysed, by what is reported of it: warnings alone are none. */
-function statusOf(world, told) {
+function statusOf(/** @type {Pick<World, 'broken'>} */ world, /** @type {Message[]} */ told) {
   const { statusOf: statusOfBroken } = require('../program/answer.js');
   return statusOfBroken(world.broken) || (told.some(({ level }) => level !== 'Warning') ? 1 : 0);
 }

@@ -5,7 +5,10 @@ const { skeletonsOf } = require('../api/skeletons.js');
 const { UsageError } = require('../cli/args.js');
 const { folderOf, messagesOf, statusOf, writeMessages } = require('./shared.js');
 
-async function skeleton([word, out], options, context) {
+/** @typedef {import('../cli/types').Context} Context */
+/** @typedef {import('../cli/types').Options} Options */
+
+async function skeleton(/** @type {string[]} */ [word, out], /** @type {Options} */ options, /** @type {Context} */ context) {
   const { joined, write } = require('../skeleton/write.js');
   const folder = out === undefined ? null : path.resolve(context.cwd, out);
   if (folder !== null && folder === folderOf(word, context)) throw new UsageError(`${out} is the package itself: give another folder`);

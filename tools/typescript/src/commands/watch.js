@@ -6,19 +6,28 @@ const { shownName } = require('../program/answer.js');
 const { isInside, mediaTypeOf } = require('../package/files.js');
 const { FOLDER } = require('../program/run.js');
 
+/** @typedef {import('../cli/types').Context} Context */
+/** @typedef {import('../cli/types').Result} Result */
+/** @typedef {import('../cli/types').Target} Target */
+/** @typedef {import('fs').FSWatcher} FSWatcher */
+
 // How long nothing has to change before it is checked again, in milliseconds: an editor writes a file in several steps.
 const QUIET = 30;
 
-/** The nearest folder above a path that is there, within a folder. */
-function thereAbove(root, at) {
+/**
+ * The nearest folder above a path that is there, within a folder.
+ *
+ * @returns {string}
+ */
+function thereAbove(/** @type {string} */ root, /** @type {string} */ at) {
   if (!isInside(root, at)) return root;
   return fs.existsSync(at) ? at : thereAbove(root, path.dirname(at));
 }
 
 /** The folders that the answer for a folder depends on: of what was read, of what was looked for, and those between. */
-function foldersOf({ dir, world }) {
+function foldersOf(/** @type {Result} */ { dir, world }) {
   const found = new Set([dir]);
-  const add = (at) => {
+  const add = (/** @type {string} */ at) => {
     for (let folder = thereAbove(dir, at); isInside(dir, folder); folder = path.dirname(folder)) found.add(folder);
   };
   if (!world) return found;
@@ -30,13 +39,14 @@ function foldersOf({ dir, world }) {
 
 /** Watches folders, each by itself, and calls with the paths in which something changes. */
 class Watcher {
-  constructor(onChange) {
+  constructor(/** @type {(at: string) => unknown} */ onChange) {
     this.onChange = onChange;
+    /** @type {Map<string, fs.FSWatcher>} */
     this.watched = new Map();
   }
 
   /** Takes these folders in place of those before. */
-  take(folders) {
+  take(/** @type {Set<string>} */ folders) {
     for (const [folder, watch] of this.watched) {
       if (folders.has(folder)) continue;
       watch.close();
@@ -45,7 +55,7 @@ class Watcher {
     for (const folder of folders) if (!this.watched.has(folder)) this.add(folder);
   }
 
-  add(folder) {
+  add(/** @type {string} */ folder) {
     try {
       const watch = fs.watch(folder, (kind, name) => this.onChange(name === null ? folder : path.join(folder, String(name))));
       const forget = () => this.watched.delete(folder);
@@ -53,7 +63,7 @@ class Watcher {
       this.watched.set(folder, watch);
     } catch (error) {
       // A folder that went away is noticed by the one above it.
-      if (error.code !== 'ENOENT') throw error;
+      if (/** @type {NodeJS.ErrnoException} */ (error).code !== 'ENOENT') throw error;
     }
   }
 }
@@ -61,12 +71,15 @@ class Watcher {
 /** Waits until something changes and nothing has for a moment, and answers the paths. */
 class Changes {
   constructor() {
+    /** @type {Set<string>} */
     this.paths = new Set();
+    /** @type {NodeJS.Timeout | undefined} */
+    this.timer = undefined;
     /** @type {(value?: unknown) => void} */
     this.wake = () => {};
   }
 
-  add(at) {
+  add(/** @type {string} */ at) {
     this.paths.add(at);
     clearTimeout(this.timer);
     this.timer = setTimeout(() => this.wake(), QUIET);
@@ -81,28 +94,33 @@ class Changes {
 }
 
 /** Whether a change may change the answer: of a module, of a configuration, or of a folder. */
-function isRelevant(at, watched) {
+function isRelevant(/** @type {string} */ at, /** @type {Map<string, FSWatcher>} */ watched) {
   const name = path.basename(at);
   if (name.startsWith('.') || name.startsWith(FOLDER)) return false;
   if (watched.has(at) || mediaTypeOf(at) !== 'Unknown') return true;
   const found = fs.statSync(at, { throwIfNoEntry: false });
-  return Boolean(found) && found.isDirectory();
+  return Boolean(found && found.isDirectory());
 }
 
 /** What changed, as a line before what is reported. */
-function heading(paths, { cwd }) {
+function heading(/** @type {string[]} */ paths, /** @type {Context} */ { cwd }) {
   const names = paths.map((each) => shownName(each, cwd)).sort();
   const shown = names.length > 3 ? [...names.slice(0, 3), '..'] : names;
   return `${shown.join(', ')} changed`;
 }
 
-/** Checks by `round(context)` now and whenever something changes; it comes to no end. Of text a line says what changed. */
-async function watch(targets, context, isText, round) {
+/**
+ * Checks by `round(context)` now and whenever something changes; it comes to no end. Of text a line says what changed.
+ *
+ * @returns {Promise<number>}
+ */
+async function watch(/** @type {Target[]} */ targets, /** @type {Context} */ context, /** @type {boolean} */ isText, /** @type {(context: Context) => Promise<{ results: Result[] }>} */ round) {
   const changes = new Changes();
+  /** @type {Watcher} */
   const watcher = new Watcher((at) => isRelevant(at, watcher.watched) && changes.add(at));
   watcher.take(new Set(targets.map(({ dir }) => dir)));
   for (;;) {
-    context.kept.begin();
+    if (context.kept) context.kept.begin();
     const { results } = await round(context.again());
     watcher.take(new Set(results.flatMap((each) => [...foldersOf(each)])));
     const paths = await changes.next();

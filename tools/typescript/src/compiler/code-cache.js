@@ -6,14 +6,16 @@ const Module = require('module');
 const path = require('path');
 const vm = require('vm');
 
+/** @typedef {import('vm').Script} Script */
+
 /** The compiled code of a file in a folder, by what may change it: the file, and the version of Node. */
-function entryOf(folder, file) {
+function entryOf(/** @type {string} */ folder, /** @type {string} */ file) {
   const { mtimeMs, size } = fs.statSync(file);
   const key = crypto.createHash('sha256').update(`${file} ${mtimeMs} ${size} ${process.version} ${process.arch}`).digest('hex');
   return path.join(folder, 'code', key);
 }
 
-function readOr(file) {
+function readOr(/** @type {string} */ file) {
   try {
     return fs.readFileSync(file);
   } catch {
@@ -22,11 +24,11 @@ function readOr(file) {
 }
 
 /** Writes compiled code beside its place, and moves it there. Where that fails, the next run compiles anew. */
-function keep(entry, script) {
+function keep(/** @type {string} */ entry, /** @type {Script} */ script) {
   const beside = `${entry}.${process.pid}`;
   try {
     for (const folder of [path.dirname(path.dirname(entry)), path.dirname(entry)]) if (!fs.existsSync(folder)) fs.mkdirSync(folder);
-    fs.writeFileSync(beside, script.createCachedData(), { mode: 0o600 });
+    fs.writeFileSync(beside, /** @type {Uint8Array} */ (script.createCachedData()), { mode: 0o600 });
     fs.renameSync(beside, entry);
   } catch {
     fs.rmSync(beside, { force: true });
@@ -34,13 +36,13 @@ function keep(entry, script) {
 }
 
 /** What the module of a file exports, as `require` has it. `folder` is where compiled code is kept. */
-function requireCompiled(file, folder) {
+function requireCompiled(/** @type {string} */ file, /** @type {string} */ folder) {
   const known = require.cache[file];
   if (known) return known.exports;
   const entry = entryOf(folder, file);
   const cachedData = readOr(entry);
   const script = new vm.Script(Module.wrap(fs.readFileSync(file, 'utf8')), { filename: file, cachedData });
-  const module = new Module(file, null);
+  const module = new Module(file);
   module.filename = file;
   module.paths = Module.createRequire(file).resolve.paths('typescript') || [];
   require.cache[file] = module;

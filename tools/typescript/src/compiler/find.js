@@ -6,6 +6,7 @@ const { requireCompiled } = require('./code-cache.js');
 
 const DEBIAN = '/usr/share/nodejs/typescript';
 // The folder whose own compiler comes first, and the one where compiled code is kept; null where none is.
+/** @type {{ own: string | null, cache: string | null }} */
 const chosen = { own: null, cache: null };
 // From how many bytes on a file is loaded with compiled code.
 const LARGE = 1 << 20;
@@ -13,28 +14,28 @@ const LARGE = 1 << 20;
 const NO_COMPILER = 'NO_COMPILER';
 
 /** Has the compiler looked for in a folder's `node_modules` first. Its code is run. */
-function lookIn(folder) {
+function lookIn(/** @type {string} */ folder) {
   chosen.own = path.join(folder, 'node_modules', 'typescript');
 }
 
 /** Whether a compiler is of a version or a newer one. */
-function isVersionFrom(version, major, minor) {
+function isVersionFrom(/** @type {string} */ version, /** @type {number} */ major, /** @type {number} */ minor) {
   const [ownMajor, ownMinor] = version.split('.').map(Number);
   return ownMajor > major || (ownMajor === major && ownMinor >= minor);
 }
 
 /** Whether a compiler has what is asked of it here. */
-function isUsable(ts) {
+function isUsable(/** @type {{ version?: unknown, createSourceFile?: unknown }} */ ts) {
   return typeof ts.version === 'string' && typeof ts.createSourceFile === 'function' && isVersionFrom(ts.version, 4, 8);
 }
 
 /** Has compiled code of the compiler kept in a folder. */
-function keepIn(folder) {
+function keepIn(/** @type {string | null} */ folder) {
   chosen.cache = folder;
 }
 
 /** Whether a compiler can be found by a name. */
-function isThere(name) {
+function isThere(/** @type {string} */ name) {
   try {
     return Boolean(require.resolve(name));
   } catch {
@@ -42,12 +43,12 @@ function isThere(name) {
   }
 }
 
-function loaded(name) {
+function loaded(/** @type {string} */ name) {
   try {
     const file = require.resolve(name);
     return chosen.cache && fs.statSync(file).size > LARGE ? requireCompiled(file, chosen.cache) : require(file);
   } catch (error) {
-    if (error.code !== 'MODULE_NOT_FOUND') throw error;
+    if (/** @type {NodeJS.ErrnoException} */ (error).code !== 'MODULE_NOT_FOUND') throw error;
     return null;
   }
 }
@@ -64,7 +65,7 @@ function loadCompiler() {
   refuseWrongVariable();
   const own = chosen.own && loaded(chosen.own);
   if (own && isUsable(own)) return own;
-  const found = [process.env.TYPESCRIPT, 'typescript', DEBIAN].filter(Boolean).find(isThere);
+  const found = [process.env.TYPESCRIPT || [], 'typescript', DEBIAN].flat().find(isThere);
   const ts = found === undefined ? null : loaded(found);
   const lacks = !ts ? 'TypeScript is missing' : !isUsable(ts) ? `TypeScript ${ts.version} does not serve: 4.8 or newer is needed` : null;
   if (lacks) throw Object.assign(new Error(`${lacks}; on Debian: apt-get install -y node-typescript`), { status: 2, code: NO_COMPILER });
@@ -73,7 +74,7 @@ function loadCompiler() {
 
 /** The files of the compilers that are there, in the order in which they are looked at. */
 function candidateFiles() {
-  return [chosen.own, process.env.TYPESCRIPT, 'typescript', DEBIAN].filter(Boolean).filter(isThere).map((name) => require.resolve(name));
+  return [chosen.own || [], process.env.TYPESCRIPT || [], 'typescript', DEBIAN].flat().filter(isThere).map((name) => require.resolve(name));
 }
 
 module.exports = { NO_COMPILER, candidateFiles, chosen, isVersionFrom, keepIn, loadCompiler, lookIn };

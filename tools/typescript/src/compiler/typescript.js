@@ -3,15 +3,17 @@
 
 const { isVersionFrom, loadCompiler } = require('./find.js');
 
+/** @type {typeof ts | null} */
 let loaded = null;
 
+/** @returns {typeof ts} */
 function compiler() {
   loaded = loaded || loadCompiler();
-  return loaded;
+  return /** @type {typeof ts} */ (loaded);
 }
 
 /** Whether the compiler is of this version or a newer one. */
-function isFrom(major, minor) {
+function isFrom(/** @type {number} */ major, /** @type {number} */ minor) {
   return isVersionFrom(compiler().version, major, minor);
 }
 

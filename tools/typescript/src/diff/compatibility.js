@@ -7,7 +7,12 @@ const { STRICT, comparable } = require('./comparable.js');
 const { Externals, importsOf, mentionedIn } = require('./externals.js');
 const { declarationName, emitted, programOf, resolverOf } = require('../verify/surface.js');
 const { Narrowing, abstraction } = require('./narrowing.js');
+const { hasModifier } = require('../compiler/modifiers.js');
 const { ts } = require('../compiler/typescript.js');
+
+/** @typedef {import('./types').ComparedNames} ComparedNames */
+/** @typedef {import('../program/types').World} World */
+/** @typedef {import('../program/types').SourceFile} SourceFile */
 
 const { SymbolFlags: F, SyntaxKind: K } = ts;
 // What stands behind the name of a new declaration beside the old one.
@@ -18,126 +23,162 @@ export type IsTrue<T extends true> = T;
 export type IsUsableAs<A extends B, B> = A;
 `;
 const HELPERS = '/help.d.ts';
+/** @type {[word: string, flag: ts.SymbolFlags][]} */
+const MEANINGS = [['value', F.Value], ['type', F.Type], ['namespace', F.Namespace]];
 
-const parse = (name, text) => ts.createSourceFile(name, text, ts.ScriptTarget.ESNext, true);
-const isDefault = (node) => (node.modifiers || []).some((it) => it.kind === K.DefaultKeyword);
+const parse = (/** @type {string} */ name, /** @type {string} */ text) => ts.createSourceFile(name, text, ts.ScriptTarget.ESNext, true);
+const isDefault = (/** @type {ts.Node} */ node) => hasModifier(node, K.DefaultKeyword);
+
+/** @typedef {Exclude<ts.DeclarationStatement, ts.NamespaceExportDeclaration> | ts.VariableDeclaration} Named */
 
 /** The declaration files of a version below a root of their own, in the form that is compared. */
 class Version {
-  constructor(world, root) {
+  constructor(/** @type {World} */ world, /** @type {string} */ root) {
     this.world = world;
     this.root = root;
-    const isTypeScript = ({ path: file }) => !/\.[cm]?jsx?$/.test(file);
-    const sources = new Map([...world.files.values()].filter(isTypeScript).concat(world.info.jsonModules || []).map((it) => [it.path, it.text]));
-    const answered = new Set([...world.skeletons.keys()].map((it) => (world.files.get(it) || {}).path));
+    const isTypeScript = (/** @type {SourceFile} */ { path: file }) => !/\.[cm]?jsx?$/.test(file);
+    const sources = new Map([...[...world.files.values()].filter(isTypeScript), ...world.info.jsonModules].map((it) => [it.path, it.text]));
+    const answered = new Set([...world.skeletons.keys()].flatMap((it) => world.files.get(it) || []).map((it) => it.path));
     const made = emitted(programOf(sources, resolverOf(world, sources)), sources, (name) => answered.has(name));
     for (const [name, text] of sources) if (name.endsWith('.json')) made.set(name, text);
     this.resolveMade = resolverOf(world, made);
     this.paths = new Map([...made.keys()].map((name) => [this.at(name), name]));
     this.texts = new Map([...made].map(([name, text]) => [this.at(name), name.endsWith('.json') ? text : comparable(name, text)]));
+    /** @type {Map<string, Declarations>} */
     this.parsed = new Map();
   }
 
-  at(file) {
+  at(/** @type {string} */ file) {
     return path.join(this.root, path.relative(this.world.dir, file));
   }
 
-  resolve(from, text) {
-    const found = this.paths.has(from) && this.resolveMade(this.paths.get(from), text);
+  resolve(/** @type {string} */ from, /** @type {string} */ text) {
+    const own = this.paths.get(from);
+    const found = own !== undefined && this.resolveMade(own, text);
     return found ? this.at(found) : undefined;
   }
 
-  /** The declaration file of a module, parsed; undefined where there is none. */
-  module(specifier) {
+  /**
+   * The declaration file of a module, parsed; undefined where there is none.
+   *
+   * @returns {Declarations | undefined}
+   */
+  module(/** @type {string} */ specifier) {
     const file = this.world.files.get(specifier);
-    const name = file && this.at(declarationName(file.path));
-    if (!this.texts.has(name)) return undefined;
-    if (!this.parsed.has(name)) this.parsed.set(name, new Declarations(parse(name, this.texts.get(name))));
-    return this.parsed.get(name);
+    const name = file ? this.at(declarationName(file.path)) : '';
+    const text = this.texts.get(name);
+    if (text === undefined) return undefined;
+    const known = this.parsed.get(name) || new Declarations(parse(name, text));
+    this.parsed.set(name, known);
+    return known;
   }
 }
+
+/** @type {(it: ts.Statement) => it is Named & ts.Statement} */
+const isNamed = (it) => Boolean(/** @type {{ name?: ts.Node }} */ (/** @type {unknown} */ (it)).name) && !ts.isExportDeclaration(it);
 
 /** A declaration file by the names at its top. */
 class Declarations {
-  constructor(file) {
+  constructor(/** @type {ts.SourceFile} */ file) {
     this.file = file;
+    /** @type {Map<string, Named[]>} */
     this.declared = new Map();
-    const add = (name, node) => this.declared.set(name, [...(this.declared.get(name) || []), node]);
+    /** @type {ts.Statement | undefined} */
+    this.default = undefined;
+    const add = (/** @type {string} */ name, /** @type {Named} */ node) => this.declared.set(name, [...(this.declared.get(name) || []), node]);
     for (const it of file.statements) {
-      if (it.kind === K.VariableStatement) for (const each of it.declarationList.declarations) add(each.name.getText(), each);
-      else if (it.name && it.kind !== K.ExportDeclaration) add(it.name.text, it);
-      if (isDefault(it) || (it.kind === K.ExportAssignment && !it.isExportEquals)) this.default = it;
+      if (ts.isVariableStatement(it)) for (const each of it.declarationList.declarations) add(each.name.getText(), each);
+      else if (isNamed(it)) add(/** @type {ts.Identifier} */ (it.name).text, it);
+      if (isDefault(it) || (ts.isExportAssignment(it) && !it.isExportEquals)) this.default = it;
     }
-    this.imported = new Map(importsOf(file).filter(([local]) => local !== null).map((it) => [it[0], it]));
+    this.imported = new Map(importsOf(file).flatMap((it) => (it[0] === null ? [] : [[it[0], it]])));
   }
 
-  /** The name under which something is declared that a skeleton calls `name`. */
-  local(name) {
+  /**
+   * The name under which something is declared that a skeleton calls `name`.
+   *
+   * @returns {string | null}
+   */
+  local(/** @type {string} */ name) {
     if (name !== 'default' || this.declared.has(name)) return name;
     const found = this.default;
     if (!found) return name;
-    return found.kind === K.ExportAssignment ? found.expression.getText() : found.name ? found.name.text : null;
+    if (ts.isExportAssignment(found)) return found.expression.getText();
+    return isNamed(found) ? /** @type {ts.Identifier} */ (found.name).text : null;
   }
 }
 
+/** @type {Map<ts.SyntaxKind, string>} */
 const SPELT = new Map([
   [K.StringLiteral, 'string'], [K.NoSubstitutionTemplateLiteral, 'string'], [K.NumericLiteral, 'number'], [K.BigIntLiteral, 'bigint'], [K.TrueKeyword, 'boolean'], [K.FalseKeyword, 'boolean'],
 ]);
 
 /** The widened type of a constant whose type is that of a literal, or of a member of an enum; undefined of any other. */
-function widenedType([{ kind, initializer }]) {
-  if (kind !== K.VariableDeclaration || !initializer) return undefined;
-  const value = initializer.kind === K.PrefixUnaryExpression ? initializer.operand : initializer;
-  return SPELT.get(value.kind) || (value.expression && value.expression.getText());
+function widenedType(/** @type {ts.Symbol} */ { declarations = [] }) {
+  const [declaration] = declarations;
+  if (!declaration || !ts.isVariableDeclaration(declaration) || !declaration.initializer) return undefined;
+  const { initializer } = declaration;
+  const value = ts.isPrefixUnaryExpression(initializer) ? initializer.operand : initializer;
+  return SPELT.get(value.kind) || (ts.isPropertyAccessExpression(value) || ts.isElementAccessExpression(value) ? value.expression.getText() : undefined);
 }
 
 /** The text of a declaration under another name, without what exports it. */
-function renamed(node, name) {
-  const statement = node.kind === K.VariableDeclaration ? node.parent.parent : node;
+function renamed(/** @type {Named} */ node, /** @type {string} */ name) {
   const text = node.getText();
-  const from = node.name.getStart() - node.getStart();
-  const made = `${text.slice(0, from)}${name}${text.slice(node.name.end - node.getStart())}`;
-  if (node.kind === K.VariableDeclaration) return `export declare ${statement.declarationList.flags & ts.NodeFlags.Const ? 'const' : 'let'} ${made};`;
+  const own = /** @type {ts.Node} */ (node.name);
+  const from = own.getStart() - node.getStart();
+  const made = `${text.slice(0, from)}${name}${text.slice(own.end - node.getStart())}`;
+  if (ts.isVariableDeclaration(node)) return `export declare ${node.parent.flags & ts.NodeFlags.Const ? 'const' : 'let'} ${made};`;
   const plain = made.replace(/^(?:(?:export|default|declare)\s+)+/, '');
-  return `export ${node.kind === K.InterfaceDeclaration || node.kind === K.TypeAliasDeclaration ? '' : 'declare '}${plain}`;
+  return `export ${ts.isInterfaceDeclaration(node) || ts.isTypeAliasDeclaration(node) ? '' : 'declare '}${plain}`;
 }
 
+/** The type parameters of a declaration. */
+const parametersOf = (/** @type {ts.Node} */ node) => [...(/** @type {{ typeParameters?: ts.NodeArray<ts.TypeParameterDeclaration> }} */ (node).typeParameters || [])];
+
 /** The type parameters of some declarations of one name, as they are written. */
-const writtenParameters = (nodes) => nodes.flatMap((it) => [...(it.typeParameters || [])].map((each) => each.getText())).join();
+const writtenParameters = (/** @type {Named[]} */ nodes) => nodes.flatMap((it) => parametersOf(it).map((each) => each.getText())).join();
 
 /** Why one type is no other, as the compiler says it: its last two reasons, which are the innermost ones. */
-function reasonText(message) {
+function reasonText(/** @type {string | ts.DiagnosticMessageChain} */ message) {
   const lines = ts.flattenDiagnosticMessageText(message, '\n').split('\n').map((it) => it.trim().replace(/import\("[^"]*"\)\.|\$new\b|\$strict\b/g, '').replace(/[.:]$/, ''));
   const telling = lines.filter((it) => !/^Type '(.*)' (?:is not assignable to type|does not satisfy the constraint) '\1'/.test(it));
   return (telling.length ? telling : lines).slice(-2).map((it) => it[0].toLowerCase() + it.slice(1)).join(': ');
 }
 
-const isPlain = (name) => /^[\p{ID_Start}$_][\p{ID_Continue}$]*$/u.test(name);
+const isPlain = (/** @type {string} */ name) => /^[\p{ID_Start}$_][\p{ID_Continue}$]*$/u.test(name);
 
 /** The type parameters that a symbol is declared with. */
-function typeParametersOf(symbol) {
-  const found = (symbol.declarations || []).find((it) => it.typeParameters && it.typeParameters.length);
-  return found ? [...found.typeParameters] : [];
+function typeParametersOf(/** @type {ts.Symbol} */ symbol) {
+  return (symbol.declarations || []).map(parametersOf).find((it) => it.length) || [];
 }
 
 /** A declaration of both versions: what is asked of it, and the advice that follows from the answers. */
 class Pair {
-  constructor(key) {
+  constructor(/** @type {string} */ key) {
     this.key = key;
     // Where both stand, once they are found: the file and the name of the old one, and the nodes of each.
-    this.file = null;
-    this.name = null;
+    this.file = '';
+    this.name = '';
+    /** @type {Named[][]} */
     this.nodes = [];
+    /** @type {string[]} */
     this.breaks = [];
     this.isAddition = false;
     // Questions of which a no is a break, and those of which it is an addition.
+    /** @type {number[]} */
     this.needed = [];
+    /** @type {number[]} */
     this.sameness = [];
   }
 
-  /** The part of a version number that the change raises, and why. `answers` say what the compiler has against each question. */
-  advice(answers) {
-    const [reason] = [...this.breaks, ...this.needed.map((it) => answers[it]).filter(Boolean)];
+  /**
+   * The part of a version number that the change raises, and why. `answers` say what the compiler has against each question.
+   *
+   * @returns {import('./types').Advised}
+   */
+  advice(/** @type {(string | null)[]} */ answers) {
+    const [reason] = [...this.breaks, ...this.needed.flatMap((it) => answers[it] || [])];
     if (reason) return { advice: 'major', reason };
     return { advice: this.isAddition || this.sameness.some((it) => answers[it]) ? 'minor' : 'patch', reason: null };
   }
@@ -145,23 +186,28 @@ class Pair {
 
 /** Both versions of a package in one program of the compiler. */
 class Comparison {
-  constructor(before, after) {
+  constructor(/** @type {World} */ before, /** @type {World} */ after) {
     this.versions = [new Version(before, '/old'), new Version(after, '/new')];
     /** @type {Map<string, string>} */
     this.texts = new Map(this.versions.flatMap(({ texts }) => [...texts]));
     this.texts.set(HELPERS, HELP);
     this.externals = new Externals(this.texts, (from, text) => !this.inside(from, text));
+    /** @type {Pair[]} */
     this.pairs = [];
+    /** @type {Map<string, string[]>} */
     this.added = new Map();
+    /** @type {{ file: string, text: string }[]} */
     this.asked = [];
+    /** @type {ts.TypeChecker | null} */
+    this.known = null;
   }
 
-  inside(from, text) {
+  inside(/** @type {string} */ from, /** @type {string} */ text) {
     const version = this.versions.find(({ root }) => from.startsWith(`${root}/`));
     return version && version.resolve(from, text);
   }
 
-  resolve(from, text) {
+  resolve(/** @type {string} */ from, /** @type {string} */ text) {
     if (this.texts.has(text)) return text;
     return this.inside(from, text) || this.externals.fileOf(text);
   }
@@ -173,19 +219,19 @@ class Comparison {
     return programOf(texts, (from, text) => this.resolve(from, text));
   }
 
-  add(file, text) {
-    if (!this.added.has(file)) this.added.set(file, []);
-    if (!this.added.get(file).includes(text)) this.added.get(file).push(text);
+  add(/** @type {string} */ file, /** @type {string} */ text) {
+    const before = this.added.get(file) || [];
+    if (!before.includes(text)) this.added.set(file, [...before, text]);
   }
 
   /** Puts a new declaration beside the old one. */
-  take({ key, old, now }) {
+  take(/** @type {ComparedNames} */ { key, old, now }) {
     const [before, after] = [this.versions[0].module(old.specifier), this.versions[1].module(now.specifier)];
     const pair = new Pair(key);
     this.pairs.push(pair);
-    const names = [before && before.local(old.name), after && after.local(now.name)];
+    const names = [before && before.local(old.name), after && after.local(now.name)].map((it) => it || '');
     const nodes = [before, after].map((it, at) => (it && it.declared.get(names[at])) || []);
-    if (!nodes.every((it) => it.length)) {
+    if (!before || !after || !nodes.every((it) => it.length)) {
       pair.breaks.push('it is another declaration');
       return;
     }
@@ -193,17 +239,21 @@ class Comparison {
     const strict = after.declared.get(names[1] + STRICT) || [];
     // In a declaration with other type parameters its own name has these too.
     const isOther = writtenParameters(nodes[0]) !== writtenParameters(nodes[1]);
-    const own = (text) => (isOther ? text.replace(new RegExp(`(?<![.$\\w])${names[1].replace(/\$/g, '\\$&')}(?![$\\w])`, 'g'), () => names[0] + NEW) : text);
+    const own = (/** @type {string} */ text) => (isOther ? text.replace(new RegExp(`(?<![.$\\w])${names[1].replace(/\$/g, '\\$&')}(?![$\\w])`, 'g'), () => names[0] + NEW) : text);
     const texts = [...nodes[1].map((it) => own(renamed(it, names[0] + NEW))), ...strict.map((it) => own(renamed(it, names[0] + STRICT + NEW)))];
     const foreign = this.bind(pair, before, after, [...nodes[1], ...strict]);
     if (foreign) pair.breaks.push(`${foreign} is another declaration`);
     for (const text of texts) this.add(pair.file, text);
   }
 
-  /** Imports what a new declaration mentions and the old module lacks. Answers a name that means something else in both. */
-  bind(pair, before, after, nodes) {
+  /**
+   * Imports what a new declaration mentions and the old module lacks. Answers a name that means something else in both.
+   *
+   * @returns {string | null}
+   */
+  bind(/** @type {Pair} */ pair, /** @type {Declarations} */ before, /** @type {Declarations} */ after, /** @type {ts.Node[]} */ nodes) {
     const roots = new Set(nodes.flatMap((it) => mentionedIn(it)));
-    const has = (module, name) => module.declared.has(name) || module.imported.has(name);
+    const has = (/** @type {Declarations} */ module, /** @type {string} */ name) => module.declared.has(name) || module.imported.has(name);
     for (const name of roots) {
       if (has(before, name) && has(after, name)) {
         if (this.meaning(before, name) !== this.meaning(after, name)) return name;
@@ -213,15 +263,15 @@ class Comparison {
   }
 
   /** What a name stands for, as far as both versions are told apart by it: another package's name, or something of this package. */
-  meaning(module, name) {
-    const [, source, names] = module.imported.get(name) || [];
+  meaning(/** @type {Declarations} */ module, /** @type {string} */ name) {
+    const [, source, names] = module.imported.get(name) || [null, undefined, []];
     if (source === undefined || this.inside(module.file.fileName, source)) return 'own';
     return `${this.externals.fileOf(source)} ${names.join('.')}`;
   }
 
   /** The import by which another module has a name of a module. */
-  importOf(module, name) {
-    const isMain = module.default && module.default.name && module.default.name.text === name;
+  importOf(/** @type {Declarations} */ module, /** @type {string} */ name) {
+    const isMain = module.default && isNamed(module.default) && /** @type {ts.Identifier} */ (module.default.name).text === name;
     const [, source, names] = module.imported.get(name) || [null, null, [isMain ? 'default' : name]];
     const from = JSON.stringify(source === null ? module.file.fileName : this.inside(module.file.fileName, source) || source);
     return names.length ? `import { ${names[0]} as ${name} } from ${from};` : `import * as ${name} from ${from};`;
@@ -231,30 +281,40 @@ class Comparison {
   load() {
     const [any] = [...this.texts.keys()].filter((it) => !it.endsWith('.json'));
     const bare = programOf(new Map([[any, '']]), () => undefined);
-    const scope = bare.getTypeChecker().getSymbolsInScope(bare.getSourceFile(any), F.Type | F.Value | F.Namespace);
+    const scope = bare.getTypeChecker().getSymbolsInScope(/** @type {ts.SourceFile} */ (bare.getSourceFile(any)), F.Type | F.Value | F.Namespace);
     const known = new Set(scope.map((it) => it.name));
     this.externals.declareGlobals((name) => known.has(name));
     const program = this.program();
-    this.checker = program.getTypeChecker();
+    this.known = program.getTypeChecker();
     for (const pair of this.pairs.filter(({ name }) => name)) {
-      const { declared } = new Declarations(program.getSourceFile(pair.file));
-      const symbols = [pair.name, pair.name + NEW].map((name) => this.checker.getSymbolAtLocation(declared.get(name)[0].name));
-      this.compare(pair, ...symbols, []);
+      const { declared } = new Declarations(/** @type {ts.SourceFile} */ (program.getSourceFile(pair.file)));
+      const [old, now] = [pair.name, pair.name + NEW].map((name) => this.symbolOf(declared.get(name) || []));
+      if (old && now) this.compare(pair, old, now, []);
     }
   }
 
-  behind(symbol) {
+  /** The checker of the program with both versions. */
+  get checker() {
+    return /** @type {ts.TypeChecker} */ (this.known);
+  }
+
+  /** What some declarations of one name declare. */
+  symbolOf(/** @type {Named[]} */ [node]) {
+    return node && node.name ? this.checker.getSymbolAtLocation(node.name) : undefined;
+  }
+
+  behind(/** @type {ts.Symbol} */ symbol) {
     return symbol.flags & F.Alias ? this.checker.getAliasedSymbol(symbol) : symbol;
   }
 
   /** Asks of two symbols, which stand below the declarations of a pair by some names. */
-  compare(pair, old, now, below) {
+  compare(/** @type {Pair} */ pair, /** @type {ts.Symbol} */ old, /** @type {ts.Symbol} */ now, /** @type {string[]} */ below) {
     const shown = [pair.name, ...below].join('.');
-    for (const [word, flag] of [['value', F.Value], ['type', F.Type], ['namespace', F.Namespace]]) {
+    for (const [word, flag] of MEANINGS) {
       if (old.flags & flag && !(now.flags & flag)) pair.breaks.push(`${shown} is no ${word} any more`);
       else if (!(old.flags & flag) && now.flags & flag) pair.isAddition = true;
     }
-    const has = (flag) => Boolean(old.flags & now.flags & flag);
+    const has = (/** @type {ts.SymbolFlags} */ flag) => Boolean(old.flags & now.flags & flag);
     if (has(F.Enum)) this.compareEnums(pair, old, now, shown);
     else {
       if (has(F.Function | F.Class | F.Variable)) this.compareValues(pair, old, now, below, shown);
@@ -264,15 +324,15 @@ class Comparison {
   }
 
   /** Asks whether a type alias is right in the module of a pair. */
-  ask(pair, text, list = '') {
+  ask(/** @type {Pair} */ pair, /** @type {string} */ text, list = '') {
     const number = this.asked.length;
     this.add(pair.file, `import { IsSame, IsTrue, IsUsableAs } from ${JSON.stringify(HELPERS)};`);
     this.asked.push({ file: pair.file, text: `type It${number}$${list} = ${text};` });
     return number;
   }
 
-  compareEnums(pair, old, now, shown) {
-    const [before, after] = [old, now].map((it) => new Map(it.declarations.flatMap(({ members = [] }) => [...members]).map((each) => [each.name.getText(), each.initializer && each.initializer.getText()])));
+  compareEnums(/** @type {Pair} */ pair, /** @type {ts.Symbol} */ old, /** @type {ts.Symbol} */ now, /** @type {string} */ shown) {
+    const [before, after] = [old, now].map((it) => new Map((it.declarations || []).flatMap((each) => (ts.isEnumDeclaration(each) ? [...each.members] : [])).map((each) => [each.name.getText(), each.initializer && each.initializer.getText()])));
     for (const [name, value] of before) {
       if (!after.has(name)) pair.breaks.push(`${shown}.${name} is gone`);
       else if (old.flags & F.ConstEnum && after.get(name) !== value) pair.breaks.push(`${shown}.${name} has another value, which users have in their code`);
@@ -282,13 +342,13 @@ class Comparison {
   }
 
   /** How a probe writes the declarations of both versions. */
-  access(pair, below) {
+  access(/** @type {Pair} */ pair, /** @type {string[]} */ below) {
     const path = below.map((name) => (isPlain(name) ? `.${name}` : `[${JSON.stringify(name)}]`)).join('');
     return [pair.name + path, pair.name + NEW + path];
   }
 
-  compareValues(pair, old, now, below, shown) {
-    const widened = [old, now].map((it) => widenedType(it.declarations));
+  compareValues(/** @type {Pair} */ pair, /** @type {ts.Symbol} */ old, /** @type {ts.Symbol} */ now, /** @type {string[]} */ below, /** @type {string} */ shown) {
+    const widened = [old, now].map(widenedType);
     if (widened.every(Boolean)) {
       if (widened[0] !== widened[1]) pair.breaks.push(`${shown} is of type ${widened[1]}, and was of type ${widened[0]}`);
       return;
@@ -296,16 +356,17 @@ class Comparison {
     const [before, after] = this.access(pair, below).map((it) => `typeof ${it}`);
     pair.needed.push(this.ask(pair, `IsUsableAs<${after}, ${before}>`));
     pair.sameness.push(this.ask(pair, `IsTrue<IsSame<${before}, ${after}>>`));
-    const narrower = this.narrowing().of(...[old, now].map((it) => this.checker.getTypeOfSymbolAtLocation(it, it.declarations[0])), shown);
+    const typeOf = (/** @type {ts.Symbol} */ it) => this.checker.getTypeOfSymbolAtLocation(it, (it.declarations || [])[0]);
+    const narrower = this.narrowing().of(typeOf(old), typeOf(now), shown);
     if (narrower) pair.breaks.push(narrower);
   }
 
-  compareTypes(pair, old, now, below, shown) {
+  compareTypes(/** @type {Pair} */ pair, /** @type {ts.Symbol} */ old, /** @type {ts.Symbol} */ now, /** @type {string[]} */ below, /** @type {string} */ shown) {
     const isClass = Boolean(old.flags & now.flags & F.Class);
     const parameters = typeParametersOf(old);
     const list = parameters.map((it) => it.getText().replace(/=[^>].*$/s, '').trim()).join(', ');
     const given = parameters.length ? `<${parameters.map((it) => it.name.text).join(', ')}>` : '';
-    const ask = (text) => this.ask(pair, text, list && `<${list}>`);
+    const ask = (/** @type {string} */ text) => this.ask(pair, text, list && `<${list}>`);
     const [before, after] = this.access(pair, below).map((it) => it + given);
     pair.needed.push(ask(`IsUsableAs<${after}, ${before}>`));
     if (!isClass) pair.needed.push(ask(`IsUsableAs<${before}, ${after}>`));
@@ -318,18 +379,19 @@ class Comparison {
   }
 
   /** Whether both declarations of a pair have methods of their own, or could have. */
-  hasStrict({ nodes }) {
-    const isOne = (it) => [K.ClassDeclaration, K.InterfaceDeclaration].includes(it.kind) || (it.kind === K.TypeAliasDeclaration && it.type.kind === K.TypeLiteral);
+  hasStrict(/** @type {Pair} */ { nodes }) {
+    const isOne = (/** @type {ts.Node} */ it) => ts.isClassDeclaration(it) || ts.isInterfaceDeclaration(it) || (ts.isTypeAliasDeclaration(it) && ts.isTypeLiteralNode(it.type));
     return nodes.every((all) => all.some(isOne));
   }
 
-  compareNamespaces(pair, old, now, below, shown) {
+  compareNamespaces(/** @type {Pair} */ pair, /** @type {ts.Symbol} */ old, /** @type {ts.Symbol} */ now, /** @type {string[]} */ below, /** @type {string} */ shown) {
     const [before, after] = [old, now].map((it) => new Map(this.checker.getExportsOfModule(it).map((each) => [each.name, this.behind(each)])));
-    const isOurs = (name) => name !== 'prototype' && !name.endsWith(STRICT);
+    const isOurs = (/** @type {string} */ name) => name !== 'prototype' && !name.endsWith(STRICT);
     for (const [name, symbol] of before) {
       if (!isOurs(name)) continue;
-      if (!after.has(name)) pair.breaks.push(`${shown}.${name} is gone`);
-      else if ((symbol.declarations || []).length) this.compare(pair, symbol, after.get(name), [...below, name]);
+      const other = after.get(name);
+      if (!other) pair.breaks.push(`${shown}.${name} is gone`);
+      else if ((symbol.declarations || []).length) this.compare(pair, symbol, other, [...below, name]);
     }
     if ([...after.keys()].some((name) => isOurs(name) && !before.has(name))) pair.isAddition = true;
   }
@@ -340,12 +402,12 @@ class Comparison {
 
   /** What the compiler has against each question; null where it has nothing. */
   answers() {
-    for (const { file, text } of this.asked) this.added.get(file).push(text);
+    for (const { file, text } of this.asked) this.add(file, text);
     const program = this.program();
     const errors = new Map([...new Set(this.asked.map(({ file }) => file))].map((name) => [name, program.getSemanticDiagnostics(program.getSourceFile(name))]));
     return this.asked.map(({ file, text }) => {
-      const start = program.getSourceFile(file).text.indexOf(`\n${text}`) + 1;
-      const found = errors.get(file).find((it) => it.start >= start && it.start < start + text.length);
+      const start = /** @type {ts.SourceFile} */ (program.getSourceFile(file)).text.indexOf(`\n${text}`) + 1;
+      const found = (errors.get(file) || []).find((it) => it.start !== undefined && it.start >= start && it.start < start + text.length);
       return found ? reasonText(found.messageText) : null;
     });
   }
@@ -354,8 +416,10 @@ class Comparison {
 /**
  * The part of a version number that each of some declarations raises, with the reason where users cannot go on: `{advice, reason}` by their keys. A declaration is
  * `{key, old, now}`, where it stands in both versions: `{specifier, name}`.
+ *
+ * @returns {Map<string, import('./types').Advised>}
  */
-function compatibility(before, after, declarations) {
+function compatibility(/** @type {World} */ before, /** @type {World} */ after, /** @type {ComparedNames[]} */ declarations) {
   if (!declarations.length) return new Map();
   const comparison = new Comparison(before, after);
   for (const it of declarations) comparison.take(it);

@@ -1,26 +1,38 @@
 'use strict';
 // Which public modules of two folders have other skeletons.
 
+/** @typedef {import('../skeleton/types').PublicName} PublicName */
+/** @typedef {import('./types').DiffLine} DiffLine */
+/** @typedef {import('./types').Change} Change */
+
 /** The lines that two texts share in order, by the longest common subsequence: `[kind, line]` with kind ' ', '-' or '+'. */
-function lineDifference(before, after) {
+function lineDifference(/** @type {string} */ before, /** @type {string} */ after) {
   return differenceOf(before.split('\n'), after.split('\n'));
 }
 
-/** As `lineDifference`, of lists of lines. */
-function differenceOf(a, b) {
+/** @type {(kind: string, texts: string[]) => DiffLine[]} */
+const lines = (kind, texts) => texts.map((it) => [kind, it]);
+
+/**
+ * As `lineDifference`, of lists of lines.
+ *
+ * @returns {DiffLine[]}
+ */
+function differenceOf(/** @type {string[]} */ a, /** @type {string[]} */ b) {
   let head = 0;
   while (head < a.length && head < b.length && a[head] === b[head]) head++;
   let tail = 0;
   while (tail < a.length - head && tail < b.length - head && a[a.length - 1 - tail] === b[b.length - 1 - tail]) tail++;
   const middle = common(a.slice(head, a.length - tail), b.slice(head, b.length - tail));
-  return [...a.slice(0, head).map((it) => [' ', it]), ...middle, ...a.slice(a.length - tail).map((it) => [' ', it])];
+  return [...lines(' ', a.slice(0, head)), ...middle, ...lines(' ', a.slice(a.length - tail))];
 }
 
 // The most cells of the table of common lines; past that all lines are shown as replaced.
 const MOST_CELLS = 4_000_000;
 
-function common(a, b) {
-  if (a.length * b.length > MOST_CELLS) return [...a.map((it) => ['-', it]), ...b.map((it) => ['+', it])];
+/** @returns {DiffLine[]} */
+function common(/** @type {string[]} */ a, /** @type {string[]} */ b) {
+  if (a.length * b.length > MOST_CELLS) return [...lines('-', a), ...lines('+', b)];
   const width = b.length + 1;
   const lengths = new Uint32Array((a.length + 1) * width);
   for (let i = a.length - 1; i >= 0; i--) {
@@ -28,6 +40,7 @@ function common(a, b) {
       lengths[i * width + j] = a[i] === b[j] ? lengths[(i + 1) * width + j + 1] + 1 : Math.max(lengths[(i + 1) * width + j], lengths[i * width + j + 1]);
     }
   }
+  /** @type {DiffLine[]} */
   const out = [];
   let i = 0;
   let j = 0;
@@ -40,11 +53,13 @@ function common(a, b) {
 }
 
 /** The changed lines with two lines around each; `null` stands for lines that are left out. */
-function hunks(lines) {
+function hunks(/** @type {DiffLine[]} */ lines) {
+  /** @type {Set<number>} */
   const near = new Set();
   lines.forEach(([kind], at) => {
     if (kind !== ' ') for (let each = at - 2; each <= at + 2; each++) near.add(each);
   });
+  /** @type {(DiffLine | null)[]} */
   const out = [];
   lines.forEach((line, at) => {
     if (near.has(at)) out.push(line);
@@ -55,7 +70,8 @@ function hunks(lines) {
 }
 
 /** Where the changed parts of a list of lines begin and end, with three lines around each: parts that are near are one. */
-function parts(lines) {
+function parts(/** @type {DiffLine[]} */ lines) {
+  /** @type {{ start: number, end: number }[]} */
   const found = [];
   lines.forEach(([kind], at) => {
     if (kind === ' ') return;
@@ -67,16 +83,16 @@ function parts(lines) {
 }
 
 /** The lines of a text, of which the last one says where no line break stands behind it. */
-function endedLines(text) {
+function endedLines(/** @type {string} */ text) {
   const lines = text.split('\n');
   const last = lines.pop();
   return last === '' ? lines : [...lines, `${last}\n\\ No newline at end of file`];
 }
 
 /** The lines of a unified diff of a file, as `git apply` takes it. */
-function unified(name, before, after) {
+function unified(/** @type {string} */ name, /** @type {string} */ before, /** @type {string} */ after) {
   const lines = differenceOf(endedLines(before), endedLines(after));
-  const count = (part, kind) => part.filter(([each]) => each !== kind).length;
+  const count = (/** @type {DiffLine[]} */ part, /** @type {string} */ kind) => part.filter(([each]) => each !== kind).length;
   const out = [`--- a/${name}`, `+++ b/${name}`];
   for (const { start, end } of parts(lines)) {
     const [above, inside] = [lines.slice(0, start), lines.slice(start, end)];
@@ -86,14 +102,15 @@ function unified(name, before, after) {
   return out;
 }
 
-const textsIn = (closure) => [...closure.values()].sort().join('\n');
+const textsIn = (/** @type {Map<string, string>} */ closure) => [...closure.values()].sort().join('\n');
 
 /** The declarations of a name that differ: where each stands, and its lines. Of those that are shown already the lines are left out. */
-function changedParts(old, now, told) {
+function changedParts(/** @type {PublicName} */ old, /** @type {PublicName} */ now, /** @type {Set<string>} */ told) {
   const keys = [...new Set([...old.closure.keys(), ...now.closure.keys()])].filter((key) => old.closure.get(key) !== now.closure.get(key));
   return keys.map((key) => {
     const [specifier, name] = key.split('\n');
     const isOwn = key === now.target.join('\n');
+    /** @type {import('./types').ChangedPart} */
     const part = { name: isOwn ? null : name, module: specifier.replace(/^file:\/\/\//, ''), lines: [] };
     if (told.has(key)) return part;
     told.add(key);
@@ -103,27 +120,40 @@ function changedParts(old, now, told) {
 }
 
 /** Some public names without those that are or lead to a declaration of which something is wrong: `specifier\nname` in `unknown`. */
-function withoutUnknown(names, unknown) {
+function withoutUnknown(/** @type {Map<string, PublicName>} */ names, /** @type {Set<string>} */ unknown) {
   return unknown.size ? new Map([...names].filter(([, { closure }]) => ![...closure.keys()].some((it) => unknown.has(it)))) : names;
 }
+
+/** @typedef {Map<string, PublicName>} Names */
 
 /**
  * The public names that differ, each `{name, owner, module, change, parts}`: names that are gone first, then those that changed, then those that are new. Names that lead to a
  * declaration of which something is wrong in either are left out of both.
+ *
+ * @param {Names} old
+ * @param {Names} now
+ * @param {Set<string>} unknown
  */
 function nameChanges(old, now, unknown = new Set()) {
   const [known, others] = [old, now].map((it) => withoutUnknown(it, unknown));
-  const both = (names, others) => new Map([...names].filter(([name]) => known.has(name) || !old.has(name)).filter(([name]) => others.has(name) || !now.has(name)));
+  const both = (/** @type {Names} */ names, /** @type {Names} */ others) => new Map([...names].filter(([name]) => known.has(name) || !old.has(name)).filter(([name]) => others.has(name) || !now.has(name)));
   return changesOf(both(known, others), both(others, others));
 }
 
-function changesOf(before, after) {
+/** @returns {Change[]} */
+function changesOf(/** @type {Names} */ before, /** @type {Names} */ after) {
+  /** @type {Set<string>} */
   const told = new Set();
+  /** @type {(some: Names, others: Names, change: Change['change']) => Change[]} */
   const only = (some, others, change) => [...some].filter(([name]) => !others.has(name)).map(([name, { owner, module }]) => ({ name, owner, module, change, parts: [] }));
-  const differing = [...after].filter(([name, now]) => before.has(name) && textsIn(before.get(name).closure) !== textsIn(now.closure));
-  const isOwn = ([name, { target, closure }]) => before.get(name).closure.get(target.join('\n')) !== closure.get(target.join('\n'));
+  const differing = [...after].flatMap(([name, now]) => {
+    const old = before.get(name);
+    return old && textsIn(old.closure) !== textsIn(now.closure) ? { name, old, now } : [];
+  });
+  const isOwn = (/** @type {(typeof differing)[0]} */ { old, now: { target, closure } }) => old.closure.get(target.join('\n')) !== closure.get(target.join('\n'));
   const both = [...differing.filter(isOwn), ...differing.filter((it) => !isOwn(it))];
-  const changed = both.map(([name, now]) => ({ name, owner: now.owner, module: now.module, change: 'changed', parts: changedParts(before.get(name), now, told) }));
+  /** @type {Change[]} */
+  const changed = both.map(({ name, old, now }) => ({ name, owner: now.owner, module: now.module, change: 'changed', parts: changedParts(old, now, told) }));
   return [...only(before, after, 'removed'), ...changed, ...only(after, before, 'added')];
 }
 

@@ -1,44 +1,47 @@
 'use strict';
 // What users may do with one version of a value or a type and no longer with another, which assignability passes over: give as many arguments, write a property,
 // leave a member out of a subclass.
+const { hasModifier } = require('../compiler/modifiers.js');
 const { ts } = require('../compiler/typescript.js');
 
 const { SyntaxKind: K } = ts;
 // How deep properties are looked into.
 const DEEPEST = 4;
 
-const isMarked = (node, kind) => (node.modifiers || []).some((it) => it.kind === kind);
-
 /** Whether a property is one that no user writes. */
-function isReadonly(symbol) {
+function isReadonly(/** @type {ts.Symbol} */ symbol) {
   const declarations = symbol.declarations || [];
-  const isOne = (it) => isMarked(it, K.ReadonlyKeyword) || it.kind === K.EnumMember
-    || (it.kind === K.VariableDeclaration && Boolean(it.parent.flags & ts.NodeFlags.Const));
-  const isGetter = declarations.some((it) => it.kind === K.GetAccessor) && !declarations.some((it) => it.kind === K.SetAccessor);
+  const isOne = (/** @type {ts.Declaration} */ it) => hasModifier(it, K.ReadonlyKeyword) || ts.isEnumMember(it)
+    || (ts.isVariableDeclaration(it) && Boolean(it.parent.flags & ts.NodeFlags.Const));
+  const isGetter = declarations.some((it) => ts.isGetAccessorDeclaration(it)) && !declarations.some((it) => ts.isSetAccessorDeclaration(it));
   return isGetter || (declarations.length > 0 && declarations.every(isOne));
 }
 
 /** The most arguments that some signatures take; -1 where there are none. */
-function mostArguments(signatures) {
-  const isOpen = ({ declaration }) => !declaration || (declaration.parameters || []).some((it) => it.dotDotDotToken);
+function mostArguments(/** @type {readonly ts.Signature[]} */ signatures) {
+  const isOpen = (/** @type {ts.Signature} */ { declaration }) => !declaration || [...(declaration.parameters || [])].some((it) => 'dotDotDotToken' in it && it.dotDotDotToken);
   return Math.max(-1, ...signatures.map((it) => (isOpen(it) ? Infinity : it.parameters.length)));
 }
 
 /** The abstract members that a class has itself. */
-function abstractMembers(symbol) {
-  const all = (symbol.declarations || []).flatMap((it) => (it.kind === K.ClassDeclaration ? [...it.members] : []));
-  return all.filter((it) => isMarked(it, K.AbstractKeyword)).map((it) => it.name.getText());
+function abstractMembers(/** @type {ts.Symbol} */ symbol) {
+  const all = (symbol.declarations || []).flatMap((it) => (ts.isClassDeclaration(it) ? [...it.members] : []));
+  return all.filter((it) => hasModifier(it, K.AbstractKeyword)).map((it) => (it.name ? it.name.getText() : ''));
 }
 
 class Narrowing {
-  constructor(checker, isOurs) {
+  constructor(/** @type {ts.TypeChecker} */ checker, /** @type {(node: ts.Node) => boolean} */ isOurs) {
     this.checker = checker;
     this.isOurs = isOurs;
     this.seen = new Set();
   }
 
-  /** The first thing that is narrower in a type than it was, as a text; null where nothing is. */
-  of(old, now, name, depth = 0) {
+  /**
+   * The first thing that is narrower in a type than it was, as a text; null where nothing is.
+   *
+   * @returns {string | null}
+   */
+  of(/** @type {ts.Type} */ old, /** @type {ts.Type} */ now, /** @type {string} */ name, depth = 0) {
     if (old === now || depth > DEEPEST || this.seen.has(old)) return null;
     this.seen.add(old);
     for (const kind of [ts.SignatureKind.Call, ts.SignatureKind.Construct]) {
@@ -52,19 +55,20 @@ class Narrowing {
     return null;
   }
 
-  ofProperty(property, now, name, depth) {
+  /** @returns {string | null} */
+  ofProperty(/** @type {ts.Symbol} */ property, /** @type {ts.Type} */ now, /** @type {string} */ name, /** @type {number} */ depth) {
     const [declaration] = property.declarations || [];
     const other = this.checker.getPropertyOfType(now, property.name);
     if (!declaration || !other || !other.declarations || !this.isOurs(declaration)) return null;
     const shown = `${name}.${property.name}`;
     if (isReadonly(other) && !isReadonly(property)) return `${shown} can be written no more`;
-    const types = [property, other].map((it) => this.checker.getTypeOfSymbolAtLocation(it, it.declarations[0]));
-    return this.of(...types, shown, depth + 1);
+    const typeOf = (/** @type {ts.Symbol} */ it) => this.checker.getTypeOfSymbolAtLocation(it, (it.declarations || [])[0]);
+    return this.of(typeOf(property), typeOf(other), shown, depth + 1);
   }
 }
 
 /** What subclasses of a class lack since it has become abstract in more; null where it has not. */
-function abstraction(old, now) {
+function abstraction(/** @type {ts.Symbol} */ old, /** @type {ts.Symbol} */ now) {
   const before = new Set(abstractMembers(old));
   const added = abstractMembers(now).filter((it) => !before.has(it));
   return added.length ? `${added[0]} is a new abstract member` : null;

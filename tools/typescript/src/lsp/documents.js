@@ -4,8 +4,11 @@ const { fileURLToPath } = require('url');
 const { differenceOf } = require('../diff/names.js');
 const { Lines } = require('../tree/lines.js');
 
+/** @typedef {import('./types').Position} Position */
+/** @typedef {import('./types').TextChange} TextChange */
+
 /** The path of a document; null of one that is no file. */
-function pathOf(uri) {
+function pathOf(/** @type {string} */ uri) {
   try {
     return uri.startsWith('file:') ? fileURLToPath(uri) : null;
   } catch {
@@ -14,22 +17,22 @@ function pathOf(uri) {
 }
 
 /** The offset in a text of a position. One behind the end of a line is the end of the line. */
-function offsetAt(lines, { line, character }) {
+function offsetAt(/** @type {Lines} */ lines, /** @type {Position} */ { line, character }) {
   if (line >= lines.starts.length) return lines.text.length;
   return lines.starts[line] + Math.min(character, lines.line(line).length);
 }
 
-function positionAt(lines, offset) {
+function positionAt(/** @type {Lines} */ lines, /** @type {number} */ offset) {
   const { line, column } = lines.place(offset);
   return { line, character: column };
 }
 
-function rangeOf(lines, start, end) {
+function rangeOf(/** @type {Lines} */ lines, /** @type {number} */ start, /** @type {number} */ end) {
   return { start: positionAt(lines, start), end: positionAt(lines, Math.max(start, end)) };
 }
 
 /** A text behind the changes that an editor tells, one behind the other. */
-function changedText(text, changes) {
+function changedText(/** @type {string} */ text, /** @type {TextChange[]} */ changes) {
   return changes.reduce((before, { range, text: inserted }) => {
     if (!range) return inserted;
     const lines = new Lines(before);
@@ -38,11 +41,12 @@ function changedText(text, changes) {
 }
 
 /** The lines of a text, each with its end. */
-const wholeLines = (text) => text.match(/[^\n]*\n|[^\n]+$/g) || [];
+const wholeLines = (/** @type {string} */ text) => text.match(/[^\n]*\n|[^\n]+$/g) || [];
 
 /** The edits, of whole lines, that make one text of another. */
-function editsBetween(before, after) {
+function editsBetween(/** @type {string} */ before, /** @type {string} */ after) {
   const lines = new Lines(before);
+  /** @type {{ start: number, end: number, newText: string }[]} */
   const edits = [];
   let offset = 0;
   let isOpen = false;

@@ -10,24 +10,29 @@ const { keptFor } = require('../package/cache.js');
 const { diagnosticsOf } = require('./diagnostics.js');
 const { editsBetween } = require('./documents.js');
 
+/** @typedef {import('./types').Host} Host */
+/** @typedef {import('../cli/types').Result} Result */
+/** @typedef {import('../messages/types').Message} Message */
+
 // How long nothing has to be typed before the edited documents are checked, and before the whole package is, in milliseconds.
 const QUIET = 30;
 const SETTLED = 300;
 
 class Project {
-  /**
-   * @param {string} dir
-   * @param {{ texts: Map<string, string>, settings: { allow?: string[], rules?: string }, publish: (dir: string, diagnostics: Map<string, any[]>) => void,
-   *   log: (text: string, type?: number) => void }} host   `texts` are those of open documents by their paths
-   */
-  constructor(dir, host) {
+  constructor(/** @type {string} */ dir, /** @type {Host} */ host) {
     this.dir = dir;
     this.host = host;
+    /** @type {Message[]} */
     this.messages = [];
+    /** @type {AbortController | null} */
     this.running = null;
     // The result of the last check of the whole package, and the documents that were edited since the last check.
+    /** @type {Result | null} */
     this.whole = null;
+    /** @type {Set<string>} */
     this.edited = new Set();
+    /** @type {NodeJS.Timeout | undefined} */
+    this.timer = undefined;
     this.kept = keptFor(this.options, process.env);
   }
 
@@ -36,18 +41,18 @@ class Project {
     return { allow, rules, format: 'json' };
   }
 
-  context(signal) {
+  context(/** @type {AbortSignal} */ signal) {
     return { cwd: this.dir, environment: process.env, progress: new Progress({ write() {} }, false), signal };
   }
 
   /** Checks the package once nothing is typed for a moment. `file` is the document that changed; without one anything may have. */
-  checkSoon(file) {
+  checkSoon(/** @type {string | undefined} */ file = undefined) {
     if (file === undefined) this.whole = null;
     else this.edited.add(file);
     this.later(QUIET);
   }
 
-  later(delay) {
+  later(/** @type {number} */ delay) {
     clearTimeout(this.timer);
     this.timer = setTimeout(() => this.check().catch((error) => this.host.log(`${this.dir}: ${error.stack}`, 1)), delay);
   }
@@ -77,12 +82,13 @@ class Project {
   }
 
   /** The messages of files that were looked at, and what was last said of the others. */
-  merged(result, files) {
-    const isOf = ({ file }) => Boolean(file) && files.has(path.resolve(this.dir, file));
-    return { ...result, messages: [...result.messages.filter(isOf), ...this.whole.messages.filter((it) => !isOf(it))] };
+  merged(/** @type {Result} */ result, /** @type {Set<string>} */ files) {
+    const isOf = (/** @type {Message} */ { file }) => Boolean(file) && files.has(path.resolve(this.dir, file || ''));
+    const known = this.whole ? this.whole.messages : [];
+    return { ...result, messages: [...result.messages.filter(isOf), ...known.filter((it) => !isOf(it))] };
   }
 
-  show(result, begun) {
+  show(/** @type {Result} */ result, /** @type {bigint} */ begun) {
     const { thrown, messages } = result;
     this.messages = messages;
     this.host.publish(this.dir, diagnosticsOf(result, this.configuration()));
@@ -97,18 +103,23 @@ class Project {
   }
 
   /** The messages of a file that a written type may answer. */
-  fixable(file) {
-    return this.messages.filter((it) => it.file && it.lines && FIXABLE.has(it.code) && path.resolve(this.dir, it.file) === file);
+  fixable(/** @type {string} */ file) {
+    return this.messages.flatMap(({ lines, start, end, ...it }) => {
+      const isFixable = it.file && FIXABLE.has(it.code) && path.resolve(this.dir, it.file) === file;
+      return isFixable && lines && start !== undefined && end !== undefined ? { code: it.code, lines, start, end } : [];
+    });
   }
 
   /** The edits that write the missing types of a file, or of one place in it. The compiler runs in a thread of its own. */
-  async fixes(file, start, signal) {
+  async fixes(/** @type {string} */ file, /** @type {number | undefined} */ start, /** @type {AbortSignal} */ signal) {
     const { fixed } = require('../compiler/thread.js');
     const { texts } = this.host;
     const { readText } = require('../package/files.js');
-    const before = texts.has(file) ? texts.get(file) : readText(file).text;
+    const open = texts.get(file);
+    const before = open === undefined ? readText(file).text : open;
     const { texts: made } = await fixed(this.dir, { ...this.options, texts, within: { files: new Set([file]), start } }, this.context(signal));
-    return made.has(file) ? editsBetween(before, made.get(file)) : [];
+    const after = made.get(file);
+    return after === undefined ? [] : editsBetween(before, after);
   }
 
   close() {

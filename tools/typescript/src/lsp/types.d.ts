@@ -9,6 +9,12 @@ export interface Range {
   end: Position;
 }
 
+/** What an editor tells of a text: what stands in a range now, or all of it. */
+export interface TextChange {
+  range?: Range;
+  text: string;
+}
+
 export interface TextEdit {
   range: Range;
   newText: string;
@@ -52,5 +58,23 @@ export interface Settings {
   rules?: string;
 }
 
-/** What a method of the protocol does. */
+/** What a method of the protocol does. What it is handed may be anything. */
 export type Handler = (params: any, signal: AbortSignal) => unknown;
+
+/** A message of JSON-RPC. */
+export interface RpcMessage {
+  id?: number | string | null;
+  method?: string;
+  params?: unknown;
+  result?: unknown;
+  error?: { code: number; message: string };
+}
+
+/** What packages are checked with. */
+export interface Host {
+  /** The texts of open documents by their paths. */
+  texts: Map<string, string>;
+  settings: Settings;
+  publish(dir: string, diagnostics: Map<string, Diagnostic[]>): void;
+  log(text: string, type?: number): void;
+}

@@ -2,8 +2,14 @@
 // Messages as people know them from `deno publish`: code, message, place, a frame of the source, hint, info and page.
 const { blank, visible, width } = require('../tree/lines.js');
 
+/** @typedef {import('./types').Message} Message */
+/** @typedef {import('./types').PlainMessage} PlainMessage */
+/** @typedef {import('../cli/types').Paint} Paint */
+/** @typedef {import('../tree/lines.js').Lines} Lines */
+
 // What the range of a diagnostic is to a reader, by its code; of the others nothing is said.
 const REFERENCE = 'this is the reference';
+/** @type {Record<string, string>} */
 const LABELS = {
   'not-found-reference': REFERENCE,
   'unsupported-complex-reference': REFERENCE,
@@ -16,28 +22,29 @@ const LABELS = {
 const MOST_LINES = 6;
 const LONGEST = 160;
 
+/** @type {Record<string, string>} */
 const STYLES = { bold: '1', red: '1;31', yellow: '1;33', blue: '94', cyan: '36', plain_yellow: '33', gray: '90', green: '32' };
 
 /** A function that colours a text, or leaves it as it is where no colours are wanted. */
-function painter(isColoured) {
-  return (style, text) => (isColoured ? `\x1b[${STYLES[style]}m${text}\x1b[0m` : text);
+function painter(/** @type {boolean} */ isColoured) {
+  return (/** @type {string} */ style, /** @type {string} */ text) => (isColoured ? `\x1b[${STYLES[style]}m${text}\x1b[0m` : text);
 }
 
 /** The numbers of the lines that a frame shows; null stands for those that are left out. */
-function shownLines(first, last) {
+function shownLines(/** @type {number} */ first, /** @type {number} */ last) {
   const all = [];
   for (let line = first; line <= last; line++) all.push(line);
   return all.length <= MOST_LINES ? all : [...all.slice(0, 3), null, last];
 }
 
 /** The part of a line that is pointed at: its first and last column, in UTF-16 units. */
-function pointed(text, from, to) {
+function pointed(/** @type {string} */ text, /** @type {number} */ from, /** @type {number} */ to) {
   const start = from < 0 ? text.length - text.trimStart().length : from;
   return [start, Math.max(start, to < 0 ? text.trimEnd().length : to)];
 }
 
 /** A line with the carets under it; of a long one what stands around the carets. */
-function marked(text, range) {
+function marked(/** @type {string} */ text, /** @type {number[]} */ range) {
   const [from, to] = range;
   const first = text.length <= LONGEST ? 0 : Math.max(0, Math.min(from - 60, text.length - LONGEST));
   const last = Math.min(text.length, first + LONGEST);
@@ -47,10 +54,10 @@ function marked(text, range) {
 }
 
 /** The frame of a range: its lines with carets under them, and the label behind the last. */
-function frame(lines, start, end, { label, style, paint, margin }) {
+function frame(/** @type {Lines} */ lines, /** @type {number} */ start, /** @type {number} */ end, /** @type {{ label: string | undefined, style: string, paint: Paint, margin: number }} */ { label, style, paint, margin }) {
   const from = lines.place(start);
   const to = lines.place(Math.max(start, end));
-  const bar = (number) => paint('blue', `${String(number).padStart(margin)} | `);
+  const bar = (/** @type {number | string} */ number) => paint('blue', `${String(number).padStart(margin)} | `);
   const out = [paint('blue', `${' '.repeat(margin)} |`)];
   for (const line of shownLines(from.line, to.line)) {
     if (line === null) {
@@ -71,19 +78,19 @@ function frame(lines, start, end, { label, style, paint, margin }) {
  * One message, as lines. It has `level`, `code`, `message`, `hint`, `info`, `docs`, `file`, and where it has a place `lines`,
  * `start` and `end` as offsets in the text.
  */
-function format(message, paint) {
+function format(/** @type {Message} */ message, /** @type {Paint} */ paint) {
   const style = message.level === 'Warning' ? 'yellow' : 'red';
   const out = [`${paint(style, `${message.level.toLowerCase()}[${message.code}]`)}${paint('bold', `: ${visible(message.message)}`)}`];
-  const hasPlace = message.lines !== undefined;
-  const last = hasPlace ? message.lines.place(Math.max(message.start, message.end)).line + 1 : 1;
+  const last = message.lines ? message.lines.place(Math.max(message.start, message.end)).line + 1 : 1;
   const margin = String(last).length;
   const space = ' '.repeat(margin);
-  if (hasPlace) {
+  const shown = visible(message.file || '');
+  if (message.lines) {
     const { line, column } = message.lines.shown(message.start);
-    out.push(`${space}${paint('blue', '-->')} ${paint('cyan', visible(message.file))}${paint('plain_yellow', `:${line}:${column}`)}`);
+    out.push(`${space}${paint('blue', '-->')} ${paint('cyan', shown)}${paint('plain_yellow', `:${line}:${column}`)}`);
     out.push(...frame(message.lines, message.start, message.end, { label: LABELS[message.code], style, paint, margin }));
   } else if (message.file) {
-    out.push(`${space}${paint('blue', '-->')} ${paint('cyan', visible(message.file))}`);
+    out.push(`${space}${paint('blue', '-->')} ${paint('cyan', shown)}`);
   }
   if (message.hint) out.push(`${space} ${paint('blue', '=')} ${paint('bold', 'hint')}: ${visible(message.hint)}`);
   out.push('');
@@ -93,17 +100,20 @@ function format(message, paint) {
   return out.map((line) => line.trimEnd());
 }
 
-/** One message as an object for tools, with lines and columns from 1. */
-function plain(message) {
-  /** @type {import('./types').PlainMessage & { package?: string }} */
-  const made = { level: message.level.toLowerCase(), code: message.code, message: message.message, file: message.file || null };
-  if (message.package) made.package = message.package;
-  if (message.lines) {
-    const start = message.lines.shown(message.start);
-    const end = message.lines.shown(message.end);
-    Object.assign(made, { line: start.line, column: start.column, endLine: end.line, endColumn: end.column });
-  }
-  return { ...made, hint: message.hint || null, info: message.info || [], docs: message.docs || null };
+/**
+ * One message as an object for tools, with lines and columns from 1.
+ *
+ * @returns {PlainMessage}
+ */
+function plain(/** @type {Message} */ message) {
+  const level = message.level === 'Error' ? 'error' : 'warning';
+  const [start, end] = message.lines ? [message.lines.shown(message.start), message.lines.shown(message.end)] : [];
+  return {
+    level, code: message.code, message: message.message, file: message.file || null,
+    ...(message.package ? { package: message.package } : {}),
+    ...(start && end ? { line: start.line, column: start.column, endLine: end.line, endColumn: end.column } : {}),
+    hint: message.hint || null, info: message.info || [], docs: message.docs || null,
+  };
 }
 
 module.exports = { LABELS, format, frame, painter, plain };

@@ -8,6 +8,10 @@ const { makeFolder } = require('./files.js');
 const { Offsets } = require('../tree/offsets.js');
 const { JsonText } = require('../program/request.js');
 
+/** @typedef {import('./types').Module} Module */
+/** @typedef {import('./types').Parts} Parts */
+/** @typedef {import('./types').ReadText} ReadText */
+
 // How long a file has to be unchanged before it was read, in milliseconds, so that its time says whether it changed since.
 const SETTLED = 100;
 // How long what is not asked for stays in the folder, and how often this is looked at, in milliseconds.
@@ -17,22 +21,26 @@ const LONGEST = 30 * DAY;
 // How many rounds what is not asked for stays in memory, as while a configuration is broken.
 const ROUNDS = 10;
 
-const hashOf = (text) => crypto.createHash('sha256').update(text).digest('hex');
+const hashOf = (/** @type {string | Buffer} */ data) => crypto.createHash('sha256').update(/** @type {string} */ (data)).digest('hex');
 
 /** The tree of a module whose parts are kept: read from them where it is asked for. */
 class KeptTree {
-  constructor(text, { source, sources }) {
+  constructor(/** @type {string} */ text, /** @type {Parts} */ { source, sources }) {
     this.text = text;
     this.source = source;
     this.sources = sources;
+    /** @type {import('../tree/types').TreeError[]} */
     this.errors = [];
+    /** @type {import('../tree/types').TreeFault[]} */
     this.faults = [];
+    /** @type {import('../program/types').Source | null} */
     this.read = null;
   }
 
+  /** @returns {import('../program/types').Source} */
   get whole() {
     this.read = this.read || JSON.parse(this.source);
-    return this.read;
+    return /** @type {import('../program/types').Source} */ (this.read);
   }
 
   get program() {
@@ -54,23 +62,24 @@ class KeptTree {
 
 /** A folder of entries by their keys. Each is a line with the hash of what follows. What is damaged is dropped. */
 class Folder {
-  constructor(folder) {
+  constructor(/** @type {string} */ folder) {
     this.folder = folder;
     this.isWritable = true;
   }
 
-  fileOf(key) {
+  fileOf(/** @type {string} */ key) {
     return path.join(this.folder, key.slice(0, 2), key.slice(2));
   }
 
-  get(key) {
+  get(/** @type {string} */ key) {
     const file = this.fileOf(key);
     try {
-      const text = fs.readFileSync(file, 'utf8');
-      const at = text.indexOf('\n');
-      if (text.slice(0, at) === hashOf(text.slice(at + 1))) {
+      const bytes = fs.readFileSync(file);
+      const at = bytes.indexOf('\n');
+      const kept = bytes.subarray(at + 1);
+      if (bytes.toString('latin1', 0, at) === hashOf(kept)) {
         if (Date.now() - fs.statSync(file).mtimeMs > DAY) fs.utimesSync(file, new Date(), new Date());
-        return JSON.parse(text.slice(at + 1));
+        return JSON.parse(kept.toString());
       }
       this.remove(file);
     } catch {
@@ -80,7 +89,7 @@ class Folder {
   }
 
   /** Writes an entry beside its place and moves it there, so that another run reads it whole or not at all. Where that fails, nothing more is written. */
-  put(key, parts) {
+  put(/** @type {string} */ key, /** @type {object} */ parts) {
     if (!this.isWritable) return;
     const file = this.fileOf(key);
     const beside = `${file}.${process.pid}`;
@@ -95,7 +104,7 @@ class Folder {
     }
   }
 
-  remove(file) {
+  remove(/** @type {string} */ file) {
     try {
       fs.rmSync(file, { force: true });
     } catch {
@@ -116,7 +125,7 @@ class Folder {
     }
   }
 
-  tidyBelow(folder) {
+  tidyBelow(/** @type {string} */ folder) {
     for (const name of fs.readdirSync(folder)) {
       const file = path.join(folder, name);
       if (Date.now() - fs.statSync(file).mtimeMs > LONGEST) fs.rmSync(file, { force: true });
@@ -126,10 +135,12 @@ class Folder {
 
 /** What is kept of the sources that a run reads. `folder` is that of entries between runs, or null; `maker` says which compiler and tool make them. */
 class Kept {
-  constructor(folder, maker) {
+  constructor(/** @type {string | null} */ folder, /** @type {() => string} */ maker) {
     this.folder = folder && new Folder(folder);
     this.maker = maker;
+    /** @type {Map<string, { found: ReadText, stamp: string, isSettled: boolean, round: number }>} */
     this.texts = new Map();
+    /** @type {Map<string, { parts: Parts, round: number }>} */
     this.parts = new Map();
     this.round = 0;
     this.made = 0;
@@ -147,8 +158,12 @@ class Kept {
     if (this.folder && this.made) this.folder.tidy();
   }
 
-  /** The text of a file, read by `read(file)` where the file may have changed. */
-  textOf(file, read) {
+  /**
+   * The text of a file, read by `read(file)` where the file may have changed.
+   *
+   * @returns {ReadText}
+   */
+  textOf(/** @type {string} */ file, /** @type {(file: string) => ReadText} */ read) {
     const { mtimeMs, size, ino } = fs.statSync(file);
     const stamp = `${mtimeMs} ${size} ${ino}`;
     const known = this.texts.get(file);
@@ -162,12 +177,16 @@ class Kept {
     return found;
   }
 
-  keyOf(mediaType, text) {
+  keyOf(/** @type {string} */ mediaType, /** @type {string} */ text) {
     return hashOf(`${this.maker()}\n${mediaType}\n${text}`);
   }
 
-  /** The parts of a module, or null where none are kept. */
-  find(mediaType, text) {
+  /**
+   * The parts of a module, or null where none are kept.
+   *
+   * @returns {Parts | null}
+   */
+  find(/** @type {string} */ mediaType, /** @type {string} */ text) {
     const key = this.keyOf(mediaType, text);
     const known = this.parts.get(key);
     const parts = known ? known.parts : this.folder && this.folder.get(key);
@@ -177,13 +196,14 @@ class Kept {
   }
 
   /** A module of kept parts. */
-  static module(text, parts) {
+  static module(/** @type {string} */ text, /** @type {Parts} */ parts) {
     const tree = new KeptTree(text, parts);
     return { tree, source: new JsonText(parts.source), tables: parts.tables, hasEffects: parts.hasEffects };
   }
 
   /** Keeps the parts of a module that was made and is right. */
-  put({ mediaType, text, tree, source, tables, hasEffects }) {
+  put(/** @type {Module} */ { mediaType, text, tree, source, tables, hasEffects }) {
+    if (!source || !tables) return;
     const parts = { source: source.text, sources: tree.sources, tables, hasEffects };
     const key = this.keyOf(mediaType, text);
     this.made += 1;
@@ -204,6 +224,7 @@ function folderFor({ XDG_CACHE_HOME: own, HOME: home }) {
 
 /** A hash of the sources of this tool, which change what is made though its version stays. */
 function hashOfTool() {
+  /** @type {(folder: string) => string[]} */
   const below = (folder) => fs.readdirSync(folder, { withFileTypes: true }).flatMap((it) => {
     const name = path.join(folder, it.name);
     return it.isDirectory() ? below(name) : name.endsWith('.js') ? [name] : [];
@@ -213,7 +234,7 @@ function hashOfTool() {
 }
 
 /** Which compiler makes trees: its version, and how long its file is. It is loaded where the folder does not say it of the compilers that are there. */
-function compilerFor(folder) {
+function compilerFor(/** @type {Folder | null} */ folder) {
   const candidates = candidateFiles().map((file) => ({ file, ...fs.statSync(file) }));
   const key = hashOf(candidates.map(({ file, mtimeMs, size }) => `${file} ${mtimeMs} ${size}`).join('\n'));
   const known = folder && folder.get(key);
@@ -233,7 +254,9 @@ function compilerFor(folder) {
 function keptFor({ noCache, rules = '' }, environment) {
   const folder = noCache ? null : folderFor(environment);
   keepIn(folder);
+  /** @type {string | null} */
   let maker = null;
+  /** @type {Kept} */
   const kept = new Kept(folder, () => {
     if (!kept.folder) return '';
     maker = maker || `${hashOfTool()} ${compilerFor(kept.folder)} ${rules}`;

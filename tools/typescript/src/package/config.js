@@ -9,23 +9,35 @@ const { NAMES } = require('../cli/targets.js');
 const { mayBeAllowed } = require('../messages/codes.js');
 const typescript = require('../compiler/typescript.js');
 
+/** @typedef {import('./types').PackageContext} PackageContext */
+/** @typedef {import('./types').ReadOptions} ReadOptions */
+/** @typedef {import('./types').Config} Config */
+/** @typedef {import('./types').Exports} Exports */
+/** @typedef {import('./files.js').Files} Files */
+/** @typedef {import('./tsconfig.js').Projects} Projects */
+/** @typedef {import('./types').FileError} FileError */
+
 const USUAL = ['mod.ts', 'index.ts', 'src/index.ts', 'index.d.ts', 'mod.tsx', 'index.tsx', 'src/mod.ts'];
 const CONDITIONS = ['types', 'deno', 'import', 'module', 'node', 'browser', 'default', 'require'];
 
+/** @type {(value: unknown) => value is string} */
 const isText = (value) => typeof value === 'string';
+/** @type {(value: unknown) => value is Record<string, unknown>} */
 const isMap = (value) => value !== null && typeof value === 'object' && !Array.isArray(value);
+/** @type {(value: unknown) => value is string[]} */
 const areTexts = (value) => Array.isArray(value) && value.every(isText);
-const isPathBelow = (value) => isText(value) && !path.isAbsolute(value) && !value.split('/').includes('..');
-const areExports = (value) => isText(value) || value === null || typeof value === 'object';
+const isPathBelow = (/** @type {unknown} */ value) => isText(value) && !path.isAbsolute(value) && !value.split('/').includes('..');
+const areExports = (/** @type {unknown} */ value) => isText(value) || value === null || typeof value === 'object';
 
 // The settings of this tool, as the member `nagdrez` of a configuration has them.
-const SETTINGS = { exports: areExports, allow: (value) => areTexts(value) && value.every(mayBeAllowed), baseline: isPathBelow };
-const areSettings = (value) => isMap(value) && Object.keys(value).every((it) => Object.hasOwn(SETTINGS, it) && SETTINGS[it](value[it]));
+/** @type {Record<string, (value: unknown) => boolean>} */
+const SETTINGS = { exports: areExports, allow: (/** @type {unknown} */ value) => areTexts(value) && value.every(mayBeAllowed), baseline: isPathBelow };
+const areSettings = (/** @type {unknown} */ value) => isMap(value) && Object.keys(value).every((it) => Object.hasOwn(SETTINGS, it) && SETTINGS[it](value[it]));
 
 /**
  * What the members that are read have to be.
  *
- * @type {[name: string, wanted: string, isRight: (value: any) => boolean][]}
+ * @type {[name: string, wanted: string, isRight: (value: unknown) => boolean][]}
  */
 const WANTED = [
   ['name', 'a text', isText],
@@ -37,8 +49,12 @@ const WANTED = [
   ['workspaces', 'a list of paths', (value) => areTexts(value) || (isMap(value) && (value.packages === undefined || areTexts(value.packages)))],
 ];
 
-/** A configuration file, which may have comments; null where it is not there. */
-function readConfig(file, files, errors) {
+/**
+ * A configuration file, which may have comments; null where it is not there.
+ *
+ * @returns {Config | null}
+ */
+function readConfig(/** @type {string} */ file, /** @type {Files} */ files, /** @type {FileError[]} */ errors) {
   if (!files.isFile(file)) return null;
   const refusal = files.refusal(file);
   if (refusal) {
@@ -47,13 +63,13 @@ function readConfig(file, files, errors) {
   }
   const { text, wrong } = readText(file);
   const { config, error } = readJson(file, text);
-  const refuse = (offset, message) => {
+  const refuse = (/** @type {number} */ offset, /** @type {string} */ message) => {
     errors.push({ path: file, ...placeAt(text, offset), message });
     return null;
   };
   if (wrong >= 0) return refuse(wrong, 'the file is no UTF-8 from here on');
   if (!config || typeof config !== 'object' || Array.isArray(config) || text.trimStart().startsWith('[')) return refuse(0, 'this is no object');
-  if (error) return refuse(error.start, typescript.ts.flattenDiagnosticMessageText(error.messageText, ' '));
+  if (error) return refuse(error.start || 0, typescript.ts.flattenDiagnosticMessageText(error.messageText, ' '));
   const unfit = WANTED.find(([name, , isRight]) => config[name] !== undefined && !isRight(config[name]));
   if (!unfit) return config;
   const [key, wanted] = unfit;
@@ -61,7 +77,7 @@ function readConfig(file, files, errors) {
 }
 
 /** The paths that pnpm-workspace.yaml lists, a line for each or in brackets. */
-function listedByPnpm(folder, files) {
+function listedByPnpm(/** @type {string} */ folder, /** @type {Files} */ files) {
   const file = path.join(folder, 'pnpm-workspace.yaml');
   if (!files.isFile(file) || files.refusal(file)) return [];
   const text = `${readText(file).text.replace(/\r\n?/g, '\n')}\n`;
@@ -76,7 +92,7 @@ function listedByPnpm(folder, files) {
  * The configuration files of a folder in one: of each member that of the first file that has it, and of `imports` each name so. `read` are the files. The members
  * of a workspace that pnpm lists are those of npm's.
  */
-function configOf(dir, files, errors) {
+function configOf(/** @type {string} */ dir, /** @type {Files} */ files, /** @type {FileError[]} */ errors) {
   /** @type {Record<string, any>} */
   const merged = {};
   merged.read = [];
@@ -95,20 +111,26 @@ function configOf(dir, files, errors) {
 const NAMING_ENTRIES = new Set(['exports', 'types', 'typings']);
 
 /** Where the path of an entry point is written in a configuration file, as an offset of its text; undefined where it is not. */
-function placeOfPath(file, text, wanted) {
+function placeOfPath(/** @type {string} */ file, /** @type {string} */ text, /** @type {string} */ wanted) {
   const { ts } = typescript;
   const source = ts.parseJsonText(file, text);
-  const root = source.statements.length ? source.statements[0].expression : {};
-  const entries = (root.properties || []).filter((it) => it.name && NAMING_ENTRIES.has(it.name.text) && it.initializer);
+  const root = source.statements.length ? source.statements[0].expression : null;
+  const members = root && ts.isObjectLiteralExpression(root) ? root.properties.flatMap((it) => (ts.isPropertyAssignment(it) ? it : [])) : [];
+  const entries = members.filter(({ name }) => ts.isStringLiteral(name) && NAMING_ENTRIES.has(name.text));
+  /** @type {(node: ts.Node) => number | undefined} */
   const find = (node) => (ts.isStringLiteral(node) && node.text === wanted ? node.getStart(source) : ts.forEachChild(node, find));
   return entries.map((it) => find(it.initializer)).find((it) => it !== undefined);
 }
 
-/** The path that an entry of `exports` has: a text, or the first condition that leads to one. */
-function pathOf(entry) {
+/**
+ * The path that an entry of `exports` has: a text, or the first condition that leads to one.
+ *
+ * @returns {string | null}
+ */
+function pathOf(/** @type {unknown} */ entry) {
   if (typeof entry === 'string') return entry;
   if (Array.isArray(entry)) return entry.map(pathOf).find(Boolean) || null;
-  if (!entry || typeof entry !== 'object') return null;
+  if (!isMap(entry)) return null;
   for (const condition of CONDITIONS) {
     const found = pathOf(entry[condition]);
     if (found) return found;
@@ -116,18 +138,26 @@ function pathOf(entry) {
   return null;
 }
 
-function isKeyed(map) {
+function isKeyed(/** @type {object} */ map) {
   return Object.keys(map).some((key) => key.startsWith('.'));
 }
 
-/** `exports` as a list of `[key, path]`, as it is written. */
-function writtenExports(exports) {
+/**
+ * `exports` as a list of `[key, path]`, as it is written.
+ *
+ * @returns {[string, string][]}
+ */
+function writtenExports(/** @type {Exports} */ exports) {
   if (exports === undefined || exports === null) return [];
-  const entries = typeof exports === 'object' && !Array.isArray(exports) && isKeyed(exports) ? Object.entries(exports) : [['.', exports]];
-  return entries.map(([key, entry]) => [key, pathOf(entry)]).filter(([, found]) => found);
+  /** @type {[string, unknown][]} */
+  const entries = isMap(exports) && isKeyed(exports) ? Object.entries(exports) : [['.', exports]];
+  return entries.flatMap(([key, entry]) => {
+    const found = pathOf(entry);
+    return found ? [/** @type {[string, string]} */ ([key, found])] : [];
+  });
 }
 
-function filesBelow(dir, found = []) {
+function filesBelow(/** @type {string} */ dir, /** @type {string[]} */ found = []) {
   for (const it of fs.readdirSync(dir, { withFileTypes: true })) {
     if (it.name === 'node_modules' || it.name.startsWith('.')) continue;
     const file = path.join(dir, it.name);
@@ -137,28 +167,44 @@ function filesBelow(dir, found = []) {
   return found;
 }
 
-/** An entry with `*` in its path stands for each file that fits, and where there is none, for each that the compiler would write. */
-function expanded(dir, [key, written], projects) {
+/**
+ * An entry with `*` in its path stands for each file that fits, and where there is none, for each that the compiler would write.
+ *
+ * @returns {[string, string][]}
+ */
+function expanded(/** @type {string} */ dir, /** @type {[key: string, path: string]} */ [key, written], /** @type {Projects} */ projects) {
   if (!written.includes('*')) return [[key, written]];
   const [before, after] = written.replace(/^\.\//, '').split('*');
-  const isFitting = (it) => it.startsWith(before) && it.endsWith(after) && it.length > before.length + after.length && mediaTypeOf(it) !== 'Unknown';
-  const fitting = (files) => files.map((it) => path.relative(dir, it)).filter(isFitting).sort();
+  const isFitting = (/** @type {string} */ it) => it.startsWith(before) && it.endsWith(after) && it.length > before.length + after.length && mediaTypeOf(it) !== 'Unknown';
+  const fitting = (/** @type {string[]} */ files) => files.map((it) => path.relative(dir, it)).filter(isFitting).sort();
   const files = filesBelow(dir);
   const found = fitting(files);
   const all = found.length ? found : fitting([...projects.builtFiles(dir).keys()]);
-  return all.map((it) => [key.replace('*', () => it.slice(before.length, it.length - after.length)), `./${it}`]);
+  return all.map((it) => /** @type {[string, string]} */ ([key.replace('*', () => it.slice(before.length, it.length - after.length)), `./${it}`]));
 }
 
 const SOURCES = 'name the sources with `--exports`, as `--exports ./src/index.ts`';
+/** @typedef {import('./types').EntryContext} EntryContext */
+/** @typedef {import('./types').ConfiguredPackage} ConfiguredPackage */
+/** @typedef {import('./types').Wrong} Wrong */
+
+/** @type {Wrong} */
 const ABSENT = { message: 'is not there', more: { hint: `give the path of a file that is there, or ${SOURCES}` } };
+/** @type {Wrong} */
 const NO_FILE = { message: 'fits no file', more: { level: 'Warning' } };
+/** @type {Wrong} */
 const NO_MODULE = { message: 'is no module, and is passed over', more: { level: 'Warning' } };
+/** @type {Wrong} */
 const BUILT = { message: 'is a built file, and nothing of src/ is read', more: { code: 'built-entry-point', level: 'Warning', hint: SOURCES } };
 
-/** What is wrong with an entry point, where its path is written. */
-function faultOf(text, wrong, { dir, config, given, isQuiet }) {
+/**
+ * What is wrong with an entry point, where its path is written.
+ *
+ * @returns {FileError}
+ */
+function faultOf(/** @type {string} */ text, /** @type {Wrong} */ wrong, /** @type {{ dir: string } & Pick<EntryContext, 'config' | 'given' | 'isQuiet'>} */ { dir, config, given, isQuiet }) {
   const fault = { path: dir, code: 'no-entry-point', message: `the entry point ${text} ${wrong.message}`, ...wrong.more };
-  for (const file of given === undefined && !isQuiet ? config.read : []) {
+  for (const file of (given === undefined && !isQuiet && config.read) || []) {
     const source = readText(file).text;
     const offset = placeOfPath(file, source, text);
     if (offset !== undefined) return { ...fault, path: file, ...placeAt(source, offset), length: text.length + 2 };
@@ -171,7 +217,7 @@ const BUILDS = new Set(['dist', 'build', 'lib', 'out', 'output', 'es', 'esm', 'c
 const BUILT_FILE = /(?:\.d)?\.[cm]?[jt]s$/;
 
 /** The source in `src` that a file of a build has the name of; null where none has. A build may have folders of its own above, as `dist/esm`. */
-function namesake(dir, wanted, files) {
+function namesake(/** @type {string} */ dir, /** @type {string} */ wanted, /** @type {Files} */ files) {
   const parts = path.relative(dir, wanted).split(path.sep);
   const stems = parts.slice(1).map((_, at) => path.join(dir, 'src', ...parts.slice(at + 1)).replace(BUILT_FILE, ''));
   const names = stems.flatMap((it) => ['.ts', '.tsx', '.mts', '.cts'].map((ending) => it + ending));
@@ -179,7 +225,7 @@ function namesake(dir, wanted, files) {
 }
 
 /** Whether a file is one of a build: it lies in a folder for builds, or is not there, and no source stands in its place. */
-function isBuilt(dir, wanted, files) {
+function isBuilt(/** @type {string} */ dir, /** @type {string} */ wanted, /** @type {Files} */ files) {
   const [first, ...rest] = path.relative(dir, wanted).split(path.sep);
   const found = files.find(wanted);
   const isDeclared = !found || isDeclarationFile(mediaTypeOf(found)) || isJavaScript(mediaTypeOf(found));
@@ -190,19 +236,25 @@ function isBuilt(dir, wanted, files) {
  * The sources that stand for entry points of which all are files of a build, by their paths: those of the same names in `src`, and for a whole package in one
  * file `src/index.ts`. Null where they are none, or some have no source.
  */
-function sourcesOfBuild(dir, entries, files) {
+function sourcesOfBuild(/** @type {string} */ dir, /** @type {[key: string, path: string][]} */ entries, /** @type {Files} */ files) {
   const paths = entries.map(([, text]) => path.resolve(dir, text)).filter((it) => BUILT_FILE.test(it));
   if (!paths.length || !paths.every((it) => isBuilt(dir, it, files))) return null;
   const whole = ['index.ts', 'index.tsx', 'index.mts'].map((name) => path.join(dir, 'src', name)).find((it) => files.isFile(it));
-  const found = paths.map((it) => [it, namesake(dir, it, files) || (new Set(paths).size === 1 && whole) || null]);
-  return found.every(([, source]) => source) ? new Map(found) : null;
+  /** @type {Map<string, string>} */
+  const found = new Map();
+  for (const it of paths) {
+    const source = namesake(dir, it, files) || (new Set(paths).size === 1 && whole);
+    if (source) found.set(it, source);
+  }
+  return paths.every((it) => found.has(it)) ? found : null;
 }
 
 /** The written entry points that are modules, as `[key, path]`, what is wrong with the others, and which are taken in place of those that are written. */
-function modulesOf(dir, written, { config, given, files, projects, errors, isQuiet }) {
+function modulesOf(/** @type {string} */ dir, /** @type {[key: string, path: string][]} */ written, /** @type {EntryContext} */ { config, given, files, projects, errors, isQuiet }) {
+  /** @type {[[string, string][], FileError[], import('./types').Taken[]]} */
   const [found, wrong, taken] = [[], [], []];
-  const refuse = (text, how) => wrong.push(faultOf(text, how, { dir, config, given, isQuiet }));
-  const each = written.map((it) => [it, expanded(dir, it, projects)]);
+  const refuse = (/** @type {string} */ text, /** @type {Wrong} */ how) => wrong.push(faultOf(text, how, { dir, config, given, isQuiet }));
+  const each = written.map((it) => /** @type {const} */ ([it, expanded(dir, it, projects)]));
   for (const [[, text], some] of each) if (!some.length) refuse(text, NO_FILE);
   const entries = each.flatMap(([, some]) => some);
   const build = given === undefined ? sourcesOfBuild(dir, entries, files) : null;
@@ -210,7 +262,7 @@ function modulesOf(dir, written, { config, given, files, projects, errors, isQui
     const wanted = path.resolve(dir, text);
     const source = isInside(dir, wanted) && given === undefined ? projects.builtFiles(dir).get(wanted) || (build && build.get(wanted)) || null : null;
     const file = source || files.find(wanted);
-    if (source) taken.push({ written: text, dir, file });
+    if (source) taken.push({ written: text, dir, file: source });
     const isOutside = path.isAbsolute(text) || !isInside(dir, wanted);
     if (isOutside) errors.push({ path: dir, message: `the entry point ${text} lies outside of the package` });
     else if (!file) refuse(text, ABSENT);
@@ -222,21 +274,25 @@ function modulesOf(dir, written, { config, given, files, projects, errors, isQui
 }
 
 /** Whether an entry point is a declaration file of a build beside sources in `src`. */
-function isUnread(dir, wanted, { files, given }) {
+function isUnread(/** @type {string} */ dir, /** @type {string} */ wanted, /** @type {Pick<EntryContext, 'files' | 'given'>} */ { files, given }) {
   if (given !== undefined || !isInside(dir, wanted) || !isBuilt(dir, wanted, files)) return false;
   const src = path.join(dir, 'src');
   return files.kind(src) === 'folder' && filesBelow(src).some((it) => ['TypeScript', 'Tsx', 'Mts', 'Cts'].includes(mediaTypeOf(it)));
 }
 
 /** The entry point of a package in whose configuration none is there, or null. */
-function usualEntry(dir, config, files) {
+function usualEntry(/** @type {string} */ dir, /** @type {Config} */ config, /** @type {Files} */ files) {
   const written = [config.module, config.main].filter(isText);
   const usual = USUAL.find((it) => files.isFile(path.join(dir, it))) || written.find((it) => files.find(path.join(dir, it)));
   return usual ? files.find(path.join(dir, usual)) : null;
 }
 
-/** The entry points of a package: `[key, path]`. What is wrong with some of them goes to `faults` where others are there, else to `errors`. */
-function entryPoints(dir, config, given, context) {
+/**
+ * The entry points of a package: `[key, path]`. What is wrong with some of them goes to `faults` where others are there, else to `errors`.
+ *
+ * @returns {[string, string][]}
+ */
+function entryPoints(/** @type {string} */ dir, /** @type {Config} */ config, /** @type {Exports} */ given, /** @type {PackageContext} */ context) {
   const { files, errors, faults } = context;
   const written = writtenExports(given === undefined ? config.exports : given);
   const types = config.types || config.typings;
@@ -258,27 +314,31 @@ function entryPoints(dir, config, given, context) {
   return [];
 }
 
-/** A pattern for each choice of its braces, as `a/b` and `a/c` of `a/{b,c}`. */
-function withoutBraces(pattern) {
+/**
+ * A pattern for each choice of its braces, as `a/b` and `a/c` of `a/{b,c}`.
+ *
+ * @returns {string[]}
+ */
+function withoutBraces(/** @type {string} */ pattern) {
   const [all, inside] = /\{([^{}]*)\}/.exec(pattern) || [];
   return all === undefined ? [pattern] : inside.split(',').flatMap((it) => withoutBraces(pattern.replace(all, () => it)));
 }
 
 /** The folders below another one that have a configuration and fit one of some patterns, as the compiler matches paths. */
-function foldersThatFit(dir, patterns, without) {
+function foldersThatFit(/** @type {string} */ dir, /** @type {string[]} */ patterns, /** @type {string[]} */ without) {
   const { ts } = typescript;
   const wanted = patterns.flatMap((it) => NAMES.map((name) => `${it}/${name}`));
   const found = ts.sys.readDirectory(dir, ['.json', '.jsonc'], ['**/node_modules', ...without], wanted);
   return [...new Set(found.map((file) => path.dirname(path.resolve(file))))].filter((it) => it !== dir).sort();
 }
 
-const isPattern = (text) => /[*?]/.test(text);
+const isPattern = (/** @type {string} */ text) => /[*?]/.test(text);
 
 /** The folders of a workspace's members, of deno's (`workspace`) and of npm's (`workspaces`), in which a path behind `!` is left out. A pattern that fits nothing is a fault. */
-function membersOf(dir, config, faults = []) {
-  const listed = (value, name) => (Array.isArray(value) ? value : (value && value[name]) || []);
+function membersOf(/** @type {string} */ dir, /** @type {Config} */ config, /** @type {FileError[]} */ faults = []) {
+  const listed = (/** @type {unknown} */ value, /** @type {string} */ name) => /** @type {string[]} */ (Array.isArray(value) ? value : (isMap(value) && value[name]) || []);
   const texts = [...listed(config.workspace, 'members'), ...listed(config.workspaces, 'packages')];
-  const plain = (list) => list.flatMap(withoutBraces).map((it) => it.replace(/^\.\//, '').replace(/\/+$/, ''));
+  const plain = (/** @type {string[]} */ list) => list.flatMap(withoutBraces).map((it) => it.replace(/^\.\//, '').replace(/\/+$/, ''));
   const without = plain(texts.filter((it) => it.startsWith('!')).map((it) => it.slice(1)));
   const left = new Set(without.filter((it) => !isPattern(it)).map((it) => path.resolve(dir, it)));
   const folders = texts.filter((it) => !it.startsWith('!')).flatMap((text) => {
@@ -295,7 +355,8 @@ function membersOf(dir, config, faults = []) {
  * The map of imports of a folder: for each name the path of a file, which may have a `*`, or null where it leads elsewhere. A key that ends with `/` stands
  * for what begins so.
  */
-function importsOf(dir, config) {
+function importsOf(/** @type {string} */ dir, /** @type {Config} */ config) {
+  /** @type {Record<string, string | null>} */
   const made = {};
   for (const [key, entry] of Object.entries(config.imports || {})) {
     const target = pathOf(entry);
@@ -307,8 +368,11 @@ function importsOf(dir, config) {
 const DEPENDENCIES = ['dependencies', 'devDependencies', 'peerDependencies', 'optionalDependencies'];
 
 /** The names of the packages that a configuration depends on; those that have their types in a package of their own too. */
-function dependenciesOf(config, kinds = DEPENDENCIES) {
-  const names = kinds.flatMap((it) => (isMap(config[it]) ? Object.keys(config[it]) : []));
+function dependenciesOf(/** @type {Config} */ config, kinds = DEPENDENCIES) {
+  const names = kinds.flatMap((it) => {
+    const listed = config[it];
+    return isMap(listed) ? Object.keys(listed) : [];
+  });
   const typed = names.filter((it) => it.startsWith('@types/')).map((it) => it.slice('@types/'.length));
   return [...names, ...typed, ...typed.map((it) => it.replace(/^(.+)__/, '@$1/'))];
 }
@@ -317,26 +381,31 @@ function dependenciesOf(config, kinds = DEPENDENCIES) {
 const NEEDED = DEPENDENCIES.filter((it) => it !== 'devDependencies');
 
 /** The names of a map of imports that lead out of the folder. */
-function mappedOut(config) {
+function mappedOut(/** @type {Config} */ config) {
   return Object.entries(importsOf('/', config)).filter(([, target]) => target === null).map(([name]) => name.replace(/\/$/, ''));
 }
 
 /** The range of versions that a configuration names for each package outside, by the name that sources import. */
-function rangesOf(config) {
-  const isOut = ([, entry]) => isText(entry) && !/^\.{0,2}\//.test(entry);
-  const mapped = Object.entries(config.imports || {}).filter(isOut).map(([name, entry]) => [name.replace(/\/$/, ''), entry]);
-  return Object.fromEntries([...DEPENDENCIES.flatMap((it) => (isMap(config[it]) ? Object.entries(config[it]).filter(([, range]) => isText(range)) : [])), ...mapped]);
+function rangesOf(/** @type {Config} */ config) {
+  /** @type {Record<string, string>} */
+  const made = {};
+  for (const listed of DEPENDENCIES.map((it) => config[it])) {
+    for (const [name, range] of isMap(listed) ? Object.entries(listed) : []) if (isText(range)) made[name] = range;
+  }
+  for (const [name, entry] of Object.entries(config.imports || {})) if (isText(entry) && !/^\.{0,2}\//.test(entry)) made[name.replace(/\/$/, '')] = entry;
+  return made;
 }
 
 const VERSION = /^\d+\.\d+\.\d+(-[0-9A-Za-z.-]+)?(\+[0-9A-Za-z.-]+)?$/;
 
 /** The folders of a folder's packages: itself where it has entry points, and the members of its workspace, which have to lie within it. */
-function foldersOf(dir, config, options, { errors, faults }) {
+function foldersOf(/** @type {string} */ dir, /** @type {Config} */ config, /** @type {ReadOptions} */ options, /** @type {PackageContext} */ { errors, faults }) {
   const members = options.members || (options.exports === undefined ? membersOf(dir, config, faults) : []);
-  const isThere = (folder) => fs.existsSync(folder);
+  const isThere = (/** @type {string} */ folder) => fs.existsSync(folder);
   for (const folder of members) {
     if (!isInside(dir, folder)) errors.push({ path: folder, code: 'no-entry-point', message: 'this member of the workspace lies outside of the folder' });
     else if (!isThere(folder)) {
+      /** @type {FileError} */
       const absence = { path: folder, code: 'no-entry-point', message: 'this member of the workspace is not there' };
       if (config.workspace) errors.push(absence);
       else faults.push({ ...absence, level: 'Warning' });
@@ -347,7 +416,7 @@ function foldersOf(dir, config, options, { errors, faults }) {
 }
 
 /** Whether a member of npm's workspace, which may be anything, has no module to look at. */
-function isNoPackage({ dir, exports }, root, config, { errors, faults }) {
+function isNoPackage(/** @type {ConfiguredPackage} */ { dir, exports }, /** @type {string} */ root, /** @type {Config} */ config, /** @type {PackageContext} */ { errors, faults }) {
   if (exports.length || dir === root || !config.workspaces) return false;
   const own = errors.filter((it) => it.code === 'no-entry-point' || it.path === dir);
   for (const it of own.filter((each) => isInside(root, each.path) && (each.path === dir || path.dirname(each.path) === dir))) {
@@ -360,8 +429,10 @@ function isNoPackage({ dir, exports }, root, config, { errors, faults }) {
 /**
  * The packages of a folder. `context` has `files` and `projects`, and lists that are filled: what keeps a package from being read (`errors`), what is wrong with
  * one that is read (`faults`), and which entry points are taken in place of those that are written (`taken`). Where it `isQuiet`, no places are looked for.
+ *
+ * @returns {ConfiguredPackage[]}
  */
-function packagesOf(dir, options, context) {
+function packagesOf(/** @type {string} */ dir, /** @type {ReadOptions} */ options, /** @type {PackageContext} */ context) {
   const { files, errors } = context;
   const config = configOf(dir, files, errors);
   const folders = errors.length ? [] : foldersOf(dir, config, options, context);
@@ -375,8 +446,8 @@ function packagesOf(dir, options, context) {
     const version = given.version || own.version;
     return {
       name: given.name || own.name || path.basename(folder),
-      version: VERSION.test(version) ? version : '0.0.0',
-      isVersioned: VERSION.test(version),
+      version: version !== undefined && VERSION.test(version) ? version : '0.0.0',
+      isVersioned: version !== undefined && VERSION.test(version),
       ranges: { ...rangesOf(config), ...rangesOf(own) },
       dir: folder,
       allow: settings.allow || [],

@@ -5,13 +5,18 @@ const fs = require('fs');
 const path = require('path');
 const typescript = require('../compiler/typescript.js');
 
+/** @type {[string, import('./types').MediaType][]} */
 const MEDIA_TYPES = [
   ['.d.ts', 'Dts'], ['.d.mts', 'Dmts'], ['.d.cts', 'Dcts'], ['.ts', 'TypeScript'], ['.mts', 'Mts'], ['.cts', 'Cts'], ['.tsx', 'Tsx'],
   ['.js', 'JavaScript'], ['.mjs', 'Mjs'], ['.cjs', 'Cjs'], ['.jsx', 'Jsx'], ['.json', 'Json'],
 ];
 
-/** The media type of a file by its name. */
-function mediaTypeOf(name) {
+/**
+ * The media type of a file by its name.
+ *
+ * @returns {import('./types').MediaType}
+ */
+function mediaTypeOf(/** @type {string} */ name) {
   const found = MEDIA_TYPES.find(([ending]) => name.endsWith(ending));
   return found ? found[1] : 'Unknown';
 }
@@ -19,15 +24,16 @@ function mediaTypeOf(name) {
 const DECLARATIONS = new Set(['Dts', 'Dmts', 'Dcts']);
 const SCRIPTS = new Set(['JavaScript', 'Mjs', 'Cjs', 'Jsx']);
 
-function isDeclarationFile(mediaType) {
+function isDeclarationFile(/** @type {string} */ mediaType) {
   return DECLARATIONS.has(mediaType);
 }
 
-function isJavaScript(mediaType) {
+function isJavaScript(/** @type {string} */ mediaType) {
   return SCRIPTS.has(mediaType);
 }
 
 // What TypeScript looks for in place of the ending that is written, in this order.
+/** @type {[string, string[]][]} */
 const INSTEAD = [
   ['.js', ['.ts', '.tsx', '.d.ts', '.js', '.jsx']],
   ['.mjs', ['.mts', '.d.mts', '.mjs']],
@@ -37,7 +43,7 @@ const INSTEAD = [
 const ADDED = ['.ts', '.tsx', '.d.ts', '.mts', '.cts', '.js', '.jsx', '.mjs', '.json'];
 
 /** What stands at a path; null where there is nothing, as behind links that lead in a circle and names that are too long. */
-function statOf(file) {
+function statOf(/** @type {string} */ file) {
   try {
     return fs.statSync(file, { throwIfNoEntry: false }) || null;
   } catch {
@@ -46,16 +52,16 @@ function statOf(file) {
 }
 
 /** Where the text of some bytes is no UTF-8, as an offset in the text that Node makes of them; -1 where it is. */
-function firstWrong(bytes, text) {
+function firstWrong(/** @type {Buffer} */ bytes, /** @type {string} */ text) {
   const again = Buffer.from(text);
-  if (again.equals(bytes)) return -1;
+  if (again.equals(/** @type {Uint8Array} */ (bytes))) return -1;
   let at = 0;
   while (again[at] === bytes[at]) at += 1;
   return Math.min(again.subarray(0, at).toString().replace(/\ufffd$/, '').length, text.length);
 }
 
 /** The bytes of a regular file. What is none, as a pipe, is an error: it is not waited for. */
-function bytesOf(file) {
+function bytesOf(/** @type {string} */ file) {
   const opened = fs.openSync(file, fs.constants.O_RDONLY | fs.constants.O_NONBLOCK);
   try {
     if (!fs.fstatSync(opened).isFile()) throw Object.assign(new Error(`${file} is no regular file`), { code: 'EINVAL' });
@@ -76,13 +82,17 @@ function orderOf(bytes) {
   return { isBig: bytes[0] === 0xfe && bytes[1] === 0xff, isLittle: bytes[0] === 0xff && bytes[1] === 0xfe };
 }
 
-/** The text of a file without its mark of byte order, and where it is no text (`wrong`, else -1). Beside UTF-8 the compiler reads UTF-16 with its mark. */
-function readText(file) {
+/**
+ * The text of a file without its mark of byte order, and where it is no text (`wrong`, else -1). Beside UTF-8 the compiler reads UTF-16 with its mark.
+ *
+ * @returns {import('./types').ReadText}
+ */
+function readText(/** @type {string} */ file) {
   const bytes = bytesOf(file);
   const { isBig, isLittle } = orderOf(bytes);
   if (isBig || isLittle) {
     const even = bytes.subarray(2, bytes.length - (bytes.length % 2));
-    return { text: (isBig ? Buffer.from(even).swap16() : even).toString('utf16le'), wrong: -1 };
+    return { text: (isBig ? Buffer.from(/** @type {Uint8Array} */ (even)).swap16() : even).toString('utf16le'), wrong: -1 };
   }
   const text = bytes.toString();
   const mark = text.startsWith(MARK) ? 1 : 0;
@@ -91,12 +101,12 @@ function readText(file) {
 }
 
 /** The mark of byte order that a file of UTF-8 begins with, or nothing. */
-function markOf(file) {
+function markOf(/** @type {string} */ file) {
   return bytesOf(file).toString('utf8', 0, 3) === MARK ? MARK : '';
 }
 
 /** Another text for a file that is there, as bytes like those of the file: in UTF-8 or UTF-16, with their mark of byte order where they have one. */
-function bytesFor(file, text) {
+function bytesFor(/** @type {string} */ file, /** @type {string} */ text) {
   const { isBig, isLittle } = orderOf(bytesOf(file));
   const mark = isBig || isLittle ? MARK : markOf(file);
   const made = Buffer.from(mark + text, isBig || isLittle ? 'utf16le' : 'utf8');
@@ -104,12 +114,12 @@ function bytesFor(file, text) {
 }
 
 /** Writes the bytes that are to replace a file into a new one beside it, which has its rights, and its owner where that may be. */
-function writeBeside(file, beside, bytes) {
+function writeBeside(/** @type {string} */ file, /** @type {string} */ beside, /** @type {Buffer} */ bytes) {
   fs.accessSync(file, fs.constants.W_OK);
   const { mode, uid, gid } = fs.statSync(file);
   const opened = fs.openSync(beside, 'wx', 0o600);
   try {
-    fs.writeFileSync(opened, bytes);
+    fs.writeFileSync(opened, /** @type {Uint8Array} */ (bytes));
     try {
       fs.fchownSync(opened, uid, gid);
     } catch {
@@ -126,17 +136,17 @@ function writeBeside(file, beside, bytes) {
  * Writes other texts to files that are there. All are written beside the files before the first is moved to its place: where one cannot be written, as on a
  * full disk, no file changes.
  */
-function rewriteTexts(texts) {
+function rewriteTexts(/** @type {Map<string, string>} */ texts) {
   const mark = `${process.pid}-${Date.now()}`;
   const all = [...texts].map(([name, text], place) => {
     const file = fs.realpathSync(name);
     return { file, text, beside: path.join(path.dirname(file), `.fast-check-${mark}-${place}`) };
   });
-  const write = ({ file, text, beside }) => {
+  const write = (/** @type {{ file: string, text: string, beside: string }} */ { file, text, beside }) => {
     try {
       writeBeside(file, beside, bytesFor(file, text));
     } catch (error) {
-      throw Object.assign(new Error(`no file is changed, since ${file} cannot be written: ${error.message}`), { status: 2 });
+      throw Object.assign(new Error(`no file is changed, since ${file} cannot be written: ${/** @type {Error} */ (error).message}`), { status: 2 });
     }
   };
   try {
@@ -147,8 +157,12 @@ function rewriteTexts(texts) {
   }
 }
 
-/** The object in a text of JSON, which may have comments and commas that end a list: `{config, error}`, as the compiler reads it. */
-function readJson(file, text) {
+/**
+ * The object in a text of JSON, which may have comments and commas that end a list: `{config, error}`, as the compiler reads it.
+ *
+ * @returns {{ config?: Record<string, unknown>, error?: ts.Diagnostic }}
+ */
+function readJson(/** @type {string} */ file, /** @type {string} */ text) {
   try {
     const config = JSON.parse(text);
     if (config !== null && typeof config === 'object' && !Array.isArray(config)) return { config };
@@ -161,32 +175,43 @@ function readJson(file, text) {
 /**
  * Makes a folder and those above it. Node's own recursive call does not come back where a file system lets nothing be made, as `/proc`.
  */
-function makeFolder(folder) {
+function makeFolder(/** @type {string} */ folder) {
   try {
     fs.mkdirSync(folder);
   } catch (error) {
-    if (error.code === 'EEXIST' && fs.statSync(folder).isDirectory()) return;
-    if (error.code !== 'ENOENT' || path.dirname(folder) === folder) throw error;
+    const { code } = /** @type {NodeJS.ErrnoException} */ (error);
+    if (code === 'EEXIST' && fs.statSync(folder).isDirectory()) return;
+    if (code !== 'ENOENT' || path.dirname(folder) === folder) throw error;
     makeFolder(path.dirname(folder));
     fs.mkdirSync(folder);
   }
 }
 
 /** Whether a path lies below a folder. */
-function isInside(root, file) {
+function isInside(/** @type {string} */ root, /** @type {string} */ file) {
   const inside = path.relative(root, file);
   return inside !== '' && inside !== '..' && !inside.startsWith(`..${path.sep}`) && !path.isAbsolute(inside);
 }
 
 /** Looks files of a folder up, each once, and says which are not read. */
 class Files {
-  constructor(root) {
+  constructor(/** @type {string} */ root) {
     this.root = root;
     this.realRoot = fs.realpathSync(root);
+    /** @type {Map<string, string>} */
     this.kinds = new Map();
+    /** @type {Map<string, string>} */
+    this.reals = new Map();
   }
 
-  kind(file) {
+  /** The path of a file behind all links, which is asked for once. */
+  real(/** @type {string} */ file) {
+    const found = this.reals.get(file) || fs.realpathSync(file);
+    this.reals.set(file, found);
+    return found;
+  }
+
+  kind(/** @type {string} */ file) {
     let kind = this.kinds.get(file);
     if (kind === undefined) {
       const found = statOf(file);
@@ -197,24 +222,24 @@ class Files {
   }
 
   /** Whether a file stands there, whatever may be in it. */
-  isFile(file) {
+  isFile(/** @type {string} */ file) {
     return this.kind(file) === 'file' || this.kind(file) === 'other';
   }
 
   /** Why a file that is there is not read: it is no regular file, or lies elsewhere, as behind a link that leads out of the folder. Else null. */
-  refusal(file) {
+  refusal(/** @type {string} */ file) {
     if (this.kind(file) === 'other') return 'this is no regular file';
-    if (isInside(this.realRoot, fs.realpathSync(file))) return null;
+    if (isInside(this.realRoot, this.real(file))) return null;
     return isInside(this.root, file) ? 'this link leads out of the folder' : 'this file lies outside of the folder';
   }
 
-  firstOf(stem, endings) {
+  firstOf(/** @type {string} */ stem, /** @type {string[]} */ endings) {
     const ending = endings.find((it) => this.isFile(stem + it));
     return ending === undefined ? null : stem + ending;
   }
 
   /** The file that a path without or with an ending stands for, as TypeScript finds it, or null. */
-  find(wanted) {
+  find(/** @type {string} */ wanted) {
     const instead = INSTEAD.find(([ending]) => wanted.endsWith(ending));
     if (instead) {
       const found = this.firstOf(wanted.slice(0, -instead[0].length), instead[1]);
@@ -228,14 +253,22 @@ class Files {
 const BEFORE_IMPORT = /^\/[/*]\s*@(?:deno-types|ts-types)\s*=\s*["']?([^"'\s*]+)/i;
 const AT_START = /^(?:\/[/*]\s*@(?:ts-self-types|deno-types)\s*=\s*|\/\/\/\s*<reference\s+types\s*=\s*)["']?([^"'\s>*]+)/i;
 
-/** The declaration file that a comment names for an import: `// @deno-types="./a.d.ts"` or `// @ts-types="./a.d.ts"`. */
-function namedTypes(comment) {
+/**
+ * The declaration file that a comment names for an import: `// @deno-types="./a.d.ts"` or `// @ts-types="./a.d.ts"`.
+ *
+ * @returns {string | null}
+ */
+function namedTypes(/** @type {string} */ comment) {
   const found = BEFORE_IMPORT.exec(comment);
   return found ? found[1] : null;
 }
 
-/** The declaration file that JavaScript names for itself in the comments at its start, or null. */
-function selfTypes(text) {
+/**
+ * The declaration file that JavaScript names for itself in the comments at its start, or null.
+ *
+ * @returns {string | null}
+ */
+function selfTypes(/** @type {string} */ text) {
   for (const { pos, end } of typescript.ts.getLeadingCommentRanges(text, 0) || []) {
     const found = AT_START.exec(text.slice(pos, end));
     if (found) return found[1];

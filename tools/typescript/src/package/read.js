@@ -1,7 +1,6 @@
 'use strict';
 // Reads a package: its entry points, and all modules that they lead to inside of the folder.
 
-const fs = require('fs');
 const { builtinModules } = require('module');
 const path = require('path');
 const { Files, isInside, readText, mediaTypeOf, isDeclarationFile, isJavaScript, namedTypes, selfTypes } = require('./files.js');
@@ -14,22 +13,31 @@ const { Kept } = require('./cache.js');
 const { placeAt } = require('../tree/lines.js');
 const { Projects, bestKey } = require('./tsconfig.js');
 
+/** @typedef {import('../cli/types').KnownError} KnownError */
+/** @typedef {import('./types').ReadOptions} ReadOptions */
+/** @typedef {import('./types').MediaType} MediaType */
+/** @typedef {import('../tree/types').TreeSource} TreeSource */
+/** @typedef {import('./types').Module} Module */
+/** @typedef {import('./types').ConfiguredPackage} ConfiguredPackage */
+
 const RELATIVE = /^\.{1,2}(\/|$)/;
+/** @type {Pick<ConfiguredPackage, 'imports' | 'dependencies'>} */
+const NO_PACKAGE = { imports: {}, dependencies: new Set() };
 const SCHEME = /^[a-z][a-z0-9+.-]*:/i;
 
 /** The URL of a file: its path below the folder that was named. */
-function urlOf(root, file) {
+function urlOf(/** @type {string} */ root, /** @type {string} */ file) {
   return `file:///${urlPath(root, file)}`;
 }
 
 /** The path of a file below a folder, as a URL writes it. */
-function urlPath(folder, file) {
+function urlPath(/** @type {string} */ folder, /** @type {string} */ file) {
   return path.relative(folder, file).split(path.sep).map(encodeURIComponent).join('/').replace(/%40/g, '@');
 }
 
 /** The name of the package that a source text begins with, as `@scope/name` or `npm:name`; of `@/x` and `#x/y` the part before the stroke. */
-function packageName(text) {
-  const [, scheme, rest] = /^((?:npm|jsr):\/?|)(.*)$/s.exec(text);
+function packageName(/** @type {string} */ text) {
+  const [, scheme, rest] = /** @type {RegExpExecArray} */ (/^((?:npm|jsr):\/?|)(.*)$/s.exec(text));
   if (!scheme && SCHEME.test(text)) return text;
   const [first, second] = rest.split('/');
   const name = first.length > 1 && first.startsWith('@') && second ? `${first}/${second}` : first;
@@ -37,39 +45,53 @@ function packageName(text) {
 }
 
 class Reader {
-  constructor(dir, options) {
+  constructor(/** @type {string} */ dir, /** @type {ReadOptions} */ options) {
     this.root = path.resolve(dir);
     this.options = options;
     this.isQuiet = Boolean(options.isQuiet);
     this.files = new Files(this.root);
     this.projects = new Projects(this.root, this.files);
+    /** @type {import('./types').FileError[]} */
     this.errors = [];
+    /** @type {import('./types').FileError[]} */
     this.faults = [];
+    /** @type {import('./types').Taken[]} */
     this.taken = [];
+    /** @type {string[]} */
+    this.waiting = [];
     this.packages = packagesOf(this.root, options, this);
+    /** @type {Map<string, Module>} */
     this.modules = new Map();
+    /** @type {Map<string, import('./types').Script>} */
     this.scripts = new Map();
+    /** @type {Map<string, import('./types').PlainFile>} */
     this.jsonModules = new Map();
+    /** @type {Set<string>} */
     this.refused = new Set();
+    /** @type {import('./types').External[]} */
     this.externals = [];
+    /** @type {import('./types').Resolution[]} */
     this.resolutions = [];
+    /** @type {import('./types').Missing[]} */
     this.missing = [];
+    /** @type {import('./types').Times} */
     this.times = { parse: 0, tree: 0 };
   }
 
-  packageAt(file) {
+  /** @returns {ConfiguredPackage | null} */
+  packageAt(/** @type {string} */ file) {
     const inside = this.packages.filter((it) => it.dir === this.root || isInside(it.dir, file));
     return inside.sort((a, b) => b.dir.length - a.dir.length)[0] || null;
   }
 
   /** The file behind links, as the compiler finds it, if it lies in the folder; else the file as it is named. */
-  behindLinks(file) {
+  behindLinks(/** @type {string} */ file) {
     if (this.files.refusal(file)) return file;
-    return path.join(this.root, path.relative(this.files.realRoot, fs.realpathSync(file)));
+    return path.join(this.root, path.relative(this.files.realRoot, this.files.real(file)));
   }
 
   /** The declaration file of JavaScript, or the file itself. */
-  typed(file) {
+  typed(/** @type {string} */ file) {
     if (!isJavaScript(mediaTypeOf(file))) return file;
     const beside = this.files.find(file.replace(/\.jsx$/, '.js'));
     if (beside && isDeclarationFile(mediaTypeOf(beside))) return beside;
@@ -78,26 +100,36 @@ class Reader {
     return found || file;
   }
 
-  /** The entry points of a package: the key and the file of each. */
-  entriesOf(it) {
+  /**
+   * The entry points of a package: the key and the file of each.
+   *
+   * @returns {[string, string][]}
+   */
+  entriesOf(/** @type {ConfiguredPackage} */ it) {
     return it.exports.map(([key, file]) => {
       const behind = this.behindLinks(file);
       return [key, this.typed(isInside(it.dir, behind) ? behind : file)];
     });
   }
 
-  /** The paths that a text which is no relative path may stand for: by the map of imports, by an alias of tsconfig.json, or by a package's name. */
-  mapped(from, text) {
-    const { imports } = this.packageAt(from) || { imports: {} };
+  /**
+   * The paths that a text which is no relative path may stand for: by the map of imports, by an alias of tsconfig.json, or by a package's name.
+   *
+   * @returns {string[]}
+   */
+  mapped(/** @type {string} */ from, /** @type {string} */ text) {
+    const { imports } = this.packageAt(from) || NO_PACKAGE;
     const best = bestKey(imports, text);
-    if (best) return imports[best.key] === null ? [] : [imports[best.key].replace('*', () => best.rest)];
-    const folder = Object.keys(imports).filter((it) => it.endsWith('/') && text.startsWith(it)).sort((a, b) => b.length - a.length)[0];
-    if (folder !== undefined) return imports[folder] === null ? [] : [path.join(imports[folder], text.slice(folder.length))];
+    const target = best && imports[best.key];
+    if (best) return target === null ? [] : [target.replace('*', () => best.rest)];
+    const [folder] = Object.keys(imports).filter((it) => it.endsWith('/') && text.startsWith(it)).sort((a, b) => b.length - a.length);
+    const above = folder === undefined ? null : imports[folder];
+    if (folder !== undefined) return above === null ? [] : [path.join(above, text.slice(folder.length))];
     const own = this.ofPackage(text.replace(/^(jsr|npm):\/?/, ''));
     return [...this.projects.paths(from, text), ...(own ? [own] : [])];
   }
 
-  ofPackage(text) {
+  ofPackage(/** @type {string} */ text) {
     for (const it of this.packages) {
       if (text !== it.name && !text.startsWith(`${it.name}/`) && !text.startsWith(`${it.name}@`)) continue;
       const below = text.slice(it.name.length).replace(/^@[^/]*/, '');
@@ -107,14 +139,18 @@ class Reader {
     return null;
   }
 
-  /** The paths that a relative text may stand for. */
-  relative(from, text) {
+  /**
+   * The paths that a relative text may stand for.
+   *
+   * @returns {string[]}
+   */
+  relative(/** @type {string} */ from, /** @type {string} */ text) {
     const resolved = this.projects.resolved(from, text);
     return [...(resolved ? [resolved] : []), path.resolve(path.dirname(from), text)];
   }
 
   /** The file that a source text leads to, or null where it leads out of the folder. */
-  resolve(from, text, comment) {
+  resolve(/** @type {string} */ from, /** @type {string} */ text, /** @type {string | null} */ comment = null) {
     const named = comment && namedTypes(comment);
     if (named && named.startsWith('.')) {
       const found = this.files.find(path.resolve(path.dirname(from), named));
@@ -129,22 +165,26 @@ class Reader {
   }
 
   /** Whether a package, an import map or the system explains a text that leads out of the folder. */
-  isExplained(from, text) {
+  isExplained(/** @type {string} */ from, /** @type {string} */ text) {
     if (SCHEME.test(text) || builtinModules.includes(text)) return true;
-    const { imports, dependencies } = this.packageAt(from) || { imports: {}, dependencies: new Set() };
+    const { imports, dependencies } = this.packageAt(from) || NO_PACKAGE;
     const name = packageName(text);
     const isMapped = [text, name].some((it) => imports[it] === null) || Object.keys(imports).some((it) => imports[it] === null && bestKey({ [it]: 1 }, text));
     return isMapped || dependencies.has(name) || this.isInstalled(path.dirname(from), name);
   }
 
-  /** Whether a package lies in a `node_modules` of the folder, above a file. */
-  isInstalled(folder, name) {
+  /**
+   * Whether a package lies in a `node_modules` of the folder, above a file.
+   *
+   * @returns {boolean}
+   */
+  isInstalled(/** @type {string} */ folder, /** @type {string} */ name) {
     if (name === '' || name.startsWith('#')) return false;
     if (this.files.kind(path.join(folder, 'node_modules', name)) === 'folder') return true;
     return folder !== this.root && isInside(this.root, folder) && this.isInstalled(path.dirname(folder), name);
   }
 
-  follow(module, source) {
+  follow(/** @type {Module} */ module, /** @type {TreeSource} */ source) {
     const { text, offset } = source;
     const file = this.resolve(module.path, text, source.comment);
     if (file) {
@@ -172,15 +212,19 @@ class Reader {
   }
 
   /** What an exception at a file says: of a system call, of a stack that did not suffice, or of a fault of this tool. */
-  caught(file, error) {
+  caught(/** @type {string} */ file, /** @type {KnownError} */ error) {
     if (error.code === NO_COMPILER) throw error;
     if (isKnown(error)) this.errors.push({ path: file, code: 'refused-file', message: error.message });
     else if (isTooDeep(error)) this.errors.push({ path: file, code: 'nested-too-deep', message: 'this is nested deeper than can be read' });
     else this.errors.push({ path: file, code: 'internal-error', message: internalText(error, path.relative(this.root, file)) });
   }
 
-  /** A module's tree, and whether it has effects. */
-  parsed(file, mediaType, text) {
+  /**
+   * A module's tree, and whether it has effects.
+   *
+   * @returns {{ tree: import('../tree/types').Tree, hasEffects: boolean, sourceFile?: ts.SourceFile }}
+   */
+  parsed(/** @type {string} */ file, /** @type {MediaType} */ mediaType, /** @type {string} */ text) {
     const { toTree, parse } = require('../tree/index.js');
     const began = process.hrtime.bigint();
     const sourceFile = parse(file, text);
@@ -191,11 +235,11 @@ class Reader {
     for (const it of tree.errors) this.errorAt(file, text, it);
     for (const { offset, length, message } of tree.faults) this.faults.push({ path: file, ...placeAt(text, offset), length, message, code: 'syntax-error' });
     if (tree.program) writeExports(tree.program, isDeclarationFile(mediaType));
-    const made = { tree, hasEffects: Boolean(tree.program) && hasEffects(text, tree.program) };
+    const made = { tree, hasEffects: tree.program !== null && hasEffects(text, tree.program) };
     return this.options.keepSourceFiles ? { ...made, sourceFile } : made;
   }
 
-  readModule(file, mediaType, text) {
+  readModule(/** @type {string} */ file, /** @type {MediaType} */ mediaType, /** @type {string} */ text) {
     const specifier = urlOf(this.root, file);
     const kept = this.options.kept && this.options.kept.find(mediaType, text);
     const made = kept ? Kept.module(text, kept) : this.parsed(file, mediaType, text);
@@ -206,13 +250,13 @@ class Reader {
   }
 
   /** The text of a file, or the one that is given in its place. */
-  textOf(file) {
+  textOf(/** @type {string} */ file) {
     const given = this.options.texts && this.options.texts.get(file);
     if (given !== undefined) return { text: given, wrong: -1 };
     return this.options.kept ? this.options.kept.textOf(file, readText) : readText(file);
   }
 
-  readFile(file) {
+  readFile(/** @type {string} */ file) {
     const specifier = urlOf(this.root, file);
     if (this.modules.has(specifier) || this.scripts.has(specifier) || this.jsonModules.has(specifier) || this.refused.has(file)) return;
     const refusal = this.files.refusal(file);
@@ -232,13 +276,12 @@ class Reader {
   read() {
     const entries = this.packages.flatMap((it) => this.entriesOf(it).map(([, file]) => file));
     this.waiting = entries.reverse();
-    while (this.waiting.length) {
-      const file = this.waiting.pop();
+    for (let file = this.waiting.pop(); file !== undefined; file = this.waiting.pop()) {
       try {
         this.readFile(file);
       } catch (error) {
         this.refused.add(file);
-        this.caught(file, error);
+        this.caught(file, /** @type {KnownError} */ (error));
       }
     }
   }
@@ -252,8 +295,10 @@ class Reader {
  * `onModule(name, count)`.
  *
  * `errors` are what keeps a package from being read, `faults` what is wrong with one that is read; `caught(file, error)` adds the error of an exception.
+ *
+ * @returns {import('./types').Found}
  */
-function readPackage(dir, options = {}) {
+function readPackage(/** @type {string} */ dir, /** @type {ReadOptions} */ options = {}) {
   const reader = new Reader(dir, options);
   reader.read();
   const packages = reader.packages.map((it) => ({
@@ -265,7 +310,7 @@ function readPackage(dir, options = {}) {
     allow: it.allow,
     baseline: it.baseline,
     needed: it.needed,
-    exports: reader.entriesOf(it).map(([key, file]) => [key, `./${urlPath(it.dir, file)}`]),
+    exports: reader.entriesOf(it).map(([key, file]) => /** @type {[string, string]} */ ([key, `./${urlPath(it.dir, file)}`])),
     entryPoints: reader.entriesOf(it).map(([, file]) => urlOf(reader.root, file)),
     url: it.dir === reader.root ? 'file:///' : `${urlOf(reader.root, it.dir)}/`,
   }));
@@ -281,15 +326,15 @@ function readPackage(dir, options = {}) {
     faults: reader.faults,
     taken: reader.taken,
     times: reader.times,
-    dirOf: (file) => (reader.packageAt(file) || { dir: null }).dir,
-    caught: (file, error) => reader.caught(file, error),
+    dirOf: (/** @type {string} */ file) => (reader.packageAt(file) || { dir: null }).dir,
+    caught: (/** @type {string} */ file, /** @type {KnownError} */ error) => reader.caught(file, error),
   };
 }
 
 /** Where the texts of files of a workspace with these `members` lead inside of it, as `(from, text) -> path`, or null. */
-function resolverOf(dir, members) {
+function resolverOf(/** @type {string} */ dir, /** @type {string[]} */ members) {
   const reader = new Reader(dir, { isQuiet: true, members });
-  return (from, text) => reader.resolve(from, text);
+  return (/** @type {string} */ from, /** @type {string} */ text) => reader.resolve(from, text);
 }
 
 module.exports = { packageName, readPackage, resolverOf };

@@ -13,12 +13,12 @@ const RELATIVE = /^\.{1,2}(\/|$)/;
 const SYSTEM = ['/usr/share/nodejs', '/usr/lib/nodejs'];
 
 /** The folders of the members of a workspace. */
-function allMembers(folder) {
+function allMembers(/** @type {string} */ folder) {
   return membersOf(folder, configOf(folder, new Files(folder), []));
 }
 
 /** The innermost workspace that a folder, or one around it, is a member of: its folder, null where there is none, and those of its members. */
-function workspaceAround(dir) {
+function workspaceAround(/** @type {string} */ dir) {
   for (let at = path.dirname(dir); path.dirname(at) !== at; at = path.dirname(at)) {
     const members = allMembers(at);
     if (members.some((it) => it === dir || isInside(it, dir))) return { folder: at, members: members.filter((it) => isInside(at, it)) };
@@ -27,23 +27,26 @@ function workspaceAround(dir) {
 }
 
 /** What the compiler finds at a path, as it finds a package in `node_modules`. */
-function moduleAt(file, from, options) {
+function moduleAt(/** @type {string} */ file, /** @type {string} */ from, /** @type {ts.CompilerOptions} */ options) {
   const { resolvedModule } = ts.resolveModuleName(file, from, options, ts.sys);
   return resolvedModule && { ...resolvedModule, isExternalLibraryImport: true };
 }
 
-const isTyped = (found) => Boolean(found) && !isJavaScript(mediaTypeOf(found.resolvedFileName));
+const isTyped = (/** @type {ts.ResolvedModule | null | undefined} */ found) => Boolean(found && !isJavaScript(mediaTypeOf(found.resolvedFileName)));
 
+/** @type {Map<string | null, (from: string, text: string) => string | null>} */
 const workspaces = new Map();
 
 /** Where the texts of a workspace's files lead inside of it. */
-function inWorkspace({ folder, members }) {
-  if (!workspaces.has(folder)) workspaces.set(folder, folder === null ? () => null : resolverOf(folder, members));
-  return workspaces.get(folder);
+function inWorkspace(/** @type {{ folder: string | null, members: string[] }} */ { folder, members }) {
+  const known = workspaces.get(folder);
+  const made = known || (folder === null ? () => null : resolverOf(folder, members));
+  workspaces.set(folder, made);
+  return made;
 }
 
 class Surroundings {
-  constructor(dir) {
+  constructor(/** @type {string} */ dir) {
     this.dir = dir;
     const around = workspaceAround(dir);
     this.workspace = around.folder;
@@ -53,14 +56,14 @@ class Surroundings {
   }
 
   /** The module of another member of the workspace, or of an alias there. */
-  ofWorkspace(text, from) {
+  ofWorkspace(/** @type {string} */ text, /** @type {string} */ from) {
     const found = this.workspace !== null && isInside(this.workspace, from) ? this.inWorkspace(from, text) : null;
     if (found === null || mediaTypeOf(found) === 'Unknown' || isJavaScript(mediaTypeOf(found))) return undefined;
-    return { resolvedFileName: found, extension: /\.d\.[cm]?ts$|\.[a-z]+$/.exec(found)[0], isExternalLibraryImport: false };
+    return { resolvedFileName: found, extension: (/\.d\.[cm]?ts$|\.[a-z]+$/.exec(found) || [''])[0], isExternalLibraryImport: false };
   }
 
   /** The module of a package of the system that has types. */
-  ofSystem(text, from, options) {
+  ofSystem(/** @type {string} */ text, /** @type {string} */ from, /** @type {ts.CompilerOptions} */ options) {
     if (RELATIVE.test(text) || path.isAbsolute(text) || /^[a-z]+:/.test(text)) return undefined;
     const typed = `@types/${text.replace(/^@([^/]+)\//, '$1__')}`;
     const wanted = this.system.flatMap((it) => [path.join(it, text), path.join(it, typed)]);
@@ -68,7 +71,7 @@ class Surroundings {
   }
 
   /** Where a text of a file leads: into the workspace, into `node_modules` as the compiler finds it, or to a package of the system. */
-  resolve(text, from, options, host) {
+  resolve(/** @type {string} */ text, /** @type {string} */ from, /** @type {ts.CompilerOptions} */ options, /** @type {ts.ModuleResolutionHost} */ host) {
     const near = this.ofWorkspace(text, from);
     if (near) return near;
     const { resolvedModule } = ts.resolveModuleName(text, from, options, host);
@@ -76,7 +79,7 @@ class Surroundings {
   }
 
   /** The declarations of Node's own modules among the packages of the system, for a folder that uses some and has none in its `node_modules`. */
-  nodeTypes(texts) {
+  nodeTypes(/** @type {string[]} */ texts) {
     const isAsked = texts.some((it) => it.startsWith('node:') || builtinModules.includes(it));
     const own = ts.findConfigFile(this.dir, ts.sys.fileExists, 'node_modules/@types/node/index.d.ts');
     if (!isAsked || own) return [];

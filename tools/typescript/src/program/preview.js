@@ -2,8 +2,17 @@
 // Skeletons of the modules that nothing is wrong with, of packages of which something is wrong elsewhere: a preview. The program is asked again, without the
 // items that its messages point to. What these items refer to stays public, so far as a reference was found.
 
-const { valueOf } = require('./request.js');
-const { Names } = require('../skeleton/reasons.js');
+const { sourceOf } = require('./request.js');
+const { Names } = require('../skeleton/modules.js');
+const { partsOf, variantOf } = require('../tree/walk.js');
+
+/** @typedef {import('./types').World} World */
+/** @typedef {import('./types').Request} Request */
+/** @typedef {import('./types').Answer} Answer */
+/** @typedef {import('../tables/types').Symbol} Symbol */
+/** @typedef {import('./types').EsmModule} EsmModule */
+/** @typedef {import('./types').Diagnostic} Diagnostic */
+/** @typedef {import('../tables/types').Dep} Dep */
 
 const ROUNDS = 10;
 // What is wrong with a reference is reported by the tables; all else by the tree.
@@ -11,14 +20,17 @@ const REFERENCES = new Set(['not-found-reference', 'unsupported-complex-referenc
 const JAVASCRIPT = new Set(['unsupported-nested-javascript', 'unsupported-javascript-entrypoint']);
 
 /** The place of an item, and whether a place lies in it. */
-const spanOf = (item) => {
-  const [node] = Object.values(Object.values(item)[0]);
-  return node.span || (Object.values(node)[0].function || Object.values(node)[0].class || Object.values(node)[0]).span;
+const spanOf = (/** @type {forms.ModuleItem} */ item) => {
+  /** @type {forms.Part} */
+  const node = variantOf(variantOf(item)[1])[1];
+  const [inner] = partsOf(node);
+  return node.span || /** @type {forms.Span} */ ((inner.function || inner.class || inner).span);
 };
-const holds = ([start, end], [from, to]) => start <= from && to <= end;
+const holds = (/** @type {forms.Span} */ [start, end], /** @type {forms.Span} */ [from, to]) => start <= from && to <= end;
 
 /** A dependency of the tables as a name with dots. */
-function dependencyName(dep) {
+function dependencyName(/** @type {Dep} */ dep) {
+  /** @type {string[]} */
   const texts = [];
   JSON.stringify(dep, (_, it) => {
     if (typeof it === 'string') texts.push(it);
@@ -28,34 +40,37 @@ function dependencyName(dep) {
 }
 
 /** The name of the declaration at the top of a module that a symbol belongs to. */
-function topName(module, symbol) {
+function topName(/** @type {EsmModule} */ module, /** @type {Symbol} */ symbol) {
   const byId = new Map(module.symbols.map((it) => [it.id, it]));
+  const above = (/** @type {Symbol} */ it) => (it.parent_id ? byId.get(it.parent_id) : undefined);
   let at = symbol;
-  while (at.parent_id && byId.get(at.parent_id).parent_id !== undefined) at = byId.get(at.parent_id);
+  for (let next = above(at); next && next.parent_id !== undefined; next = above(at)) at = next;
   return at.maybe_name || '';
 }
 
 /** A request whose parts are taken away. The request that it is made of stays as it is. */
 class Lessened {
-  constructor(request) {
+  constructor(/** @type {Request} */ request) {
     this.request = { ...request, graph: { ...request.graph } };
+    /** @type {Set<string>} */
     this.unknown = new Set();
+    /** @type {Set<string>} */
     this.wrong = new Set();
   }
 
   /** Takes away what a diagnostic points to. Answers whether there was something. */
-  without({ code, specifier, range, message }) {
+  without(/** @type {Diagnostic} */ { code, specifier, range, message }) {
     if (JAVASCRIPT.has(code) || !range) return this.withoutModule(specifier);
     if (!REFERENCES.has(code)) return this.change((it) => it === specifier, (module) => this.withoutItem(module, range));
     // The message names what was asked for, and its place is where that was sought, in whatever module.
-    const [, name] = /'([^']+)'/.exec(message) || /\(([^()]*)\)$/.exec(message) || [null, ''];
-    const last = (text) => text.split('.').pop();
+    const [, name] = /'([^']+)'/.exec(message) || /\(([^()]*)\)$/.exec(message) || ['', ''];
+    const last = (/** @type {string} */ text) => text.split('.').pop();
     const all = () => true;
     return this.change(all, (module) => this.withoutReferences(module, (it) => it === name))
       || this.change(all, (module) => this.withoutReferences(module, (it) => last(it) === last(name)));
   }
 
-  change(isAsked, make) {
+  change(/** @type {(specifier: string) => boolean} */ isAsked, /** @type {(module: EsmModule) => EsmModule | null} */ make) {
     let isChanged = false;
     this.request.modules = this.request.modules.map(([name, module]) => {
       const made = isAsked(name) && module.Esm ? make(module.Esm) : null;
@@ -65,24 +80,35 @@ class Lessened {
     return isChanged;
   }
 
-  withoutItem(module, range) {
-    const source = valueOf(module.source);
-    const [[variant, program]] = Object.entries(source.program);
-    const asItem = (it) => (variant === 'Script' ? { Stmt: it } : it);
-    const found = (program.body || []).filter((it) => holds(spanOf(asItem(it)), range));
+  /** @returns {EsmModule | null} */
+  withoutItem(/** @type {EsmModule} */ module, /** @type {forms.Span} */ range) {
+    const source = sourceOf(module.source);
+    const { Module: own, Script: script } = source.program;
+    /** @type {forms.ModuleItem[]} */
+    const items = script ? (script.body || []).map((it) => ({ Stmt: it })) : own.body || [];
+    const isFound = items.map((it) => holds(spanOf(it), range));
+    const found = items.filter((_, at) => isFound[at]);
     if (!found.length) return null;
-    for (const name of new Names({ body: found.map(asItem) }).declared.keys()) this.unknown.add(`${module.specifier}\n${name}`);
-    const body = program.body.filter((it) => !found.includes(it));
-    return { ...module, source: { ...source, program: { [variant]: { ...program, body } } } };
+    for (const name of new Names({ body: found }).declared.keys()) this.unknown.add(`${module.specifier}\n${name}`);
+    const isLeft = (/** @type {unknown} */ _, /** @type {number} */ at) => !isFound[at];
+    /** @type {forms.Program} */
+    const program = script ? { Script: { ...script, body: (script.body || []).filter(isLeft) } } : { Module: { ...own, body: (own.body || []).filter(isLeft) } };
+    return { ...module, source: { ...source, program } };
   }
 
-  /** A module without the dependencies of some names. What has such a dependency is unknown. */
-  withoutReferences(module, isGone) {
+  /**
+   * A module without the dependencies of some names. What has such a dependency is unknown.
+   *
+   * @returns {EsmModule | null}
+   */
+  withoutReferences(/** @type {EsmModule} */ module, /** @type {(name: string) => boolean} */ isGone) {
+    /** @type {Set<string>} */
     const gone = new Set();
-    const less = (symbol) => (decl) => {
+    const less = (/** @type {Symbol} */ symbol) => (/** @type {import('../tables/types').Declaration} */ decl) => {
       const node = decl.kind.Definition;
-      const deps = node && (node.deps || []).filter(([dep]) => !isGone(dependencyName(dep)));
-      if (!node || deps.length === (node.deps || []).length) return decl;
+      if (!node || !node.deps) return decl;
+      const deps = node.deps.filter(([dep]) => !isGone(dependencyName(dep)));
+      if (deps.length === node.deps.length) return decl;
       gone.add(topName(module, symbol));
       return { ...decl, kind: { Definition: { ...node, deps } } };
     };
@@ -93,27 +119,29 @@ class Lessened {
   }
 
   /** A module that has no types leads out of the folder now, and is no entry point. */
-  withoutModule(specifier) {
+  withoutModule(/** @type {string} */ specifier) {
     const { graph, workspace_members: members } = this.request;
     const known = graph.modules.some(([name, kind]) => name === specifier && kind !== 'External');
     graph.modules = graph.modules.map(([name, kind]) => [name, name === specifier ? 'External' : kind]);
-    const isOther = (base) => ([, file]) => new URL(file, base).href !== specifier;
+    const isOther = (/** @type {string} */ base) => (/** @type {[string, string]} */ [, file]) => new URL(file, base).href !== specifier;
     this.request.workspace_members = members.map((it) => ({ ...it, exports: it.exports.filter(isOther(it.base)) }));
-    const count = (all) => all.reduce((sum, it) => sum + it.exports.length, 0);
+    const count = (/** @type {Request['workspace_members']} */ all) => all.reduce((sum, it) => sum + it.exports.length, 0);
     return known || count(members) !== count(this.request.workspace_members);
   }
 }
 
 /** The diagnostics of some answers, each once. */
-function diagnosticsOf(answers) {
+function diagnosticsOf(/** @type {Answer[]} */ answers) {
   return [...new Map(answers.flatMap(([, answer]) => answer.Err || []).map((it) => [JSON.stringify(it), it])).values()];
 }
 
 /**
  * What is right of a folder of which something is wrong: `skeletons` of the modules that nothing is wrong with, `partial` with those of the others, as far as
  * they go, and `unknown`, the declarations that are not in them, as `specifier\nname`. Null where that is not known. `ask(request)` answers for the program.
+ *
+ * @returns {Promise<import('./types').Preview | null>}
  */
-async function previewOf(request, answers, ask) {
+async function previewOf(/** @type {Request} */ request, /** @type {Answer[]} */ answers, /** @type {(request: Request) => Promise<Answer[]>} */ ask) {
   const less = new Lessened(request);
   const { wrong } = less;
   let now = answers;
@@ -125,12 +153,16 @@ async function previewOf(request, answers, ask) {
     now = await ask(less.request);
   }
   if (diagnosticsOf(now).length) return null;
-  const partial = new Map(now.map(([specifier, { Ok }]) => [specifier, Ok]));
+  const partial = new Map(now.map(([specifier, { Ok }]) => /** @type {const} */ ([specifier, /** @type {import('./types').Skeleton} */ (Ok)])));
   return { skeletons: new Map([...partial].filter(([specifier]) => !wrong.has(specifier))), partial, unknown: less.unknown };
 }
 
-/** A folder with the skeletons of its preview too, in place of which those with something wrong stand as far as they go. */
-function withPartial(world) {
+/**
+ * A folder with the skeletons of its preview too, in place of which those with something wrong stand as far as they go.
+ *
+ * @returns {World}
+ */
+function withPartial(/** @type {World} */ world) {
   return world.preview ? { ...world, skeletons: new Map([...world.preview.partial, ...world.skeletons]) } : world;
 }
 

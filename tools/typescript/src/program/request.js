@@ -1,40 +1,45 @@
 'use strict';
 // The request of `fast-check build` as JSON, whose parts may be JSON already.
 
+/** @typedef {import('./types').Request} Request */
+/** @typedef {import('./types').RequestModule} RequestModule */
+/** @typedef {import('./types').Source} Source */
+
 /** A value that is JSON already. */
 class JsonText {
-  constructor(text) {
+  constructor(/** @type {string} */ text) {
     this.text = text;
   }
 
+  /** @returns {unknown} */
   toJSON() {
     return JSON.parse(this.text);
   }
 }
 
-/** A value, of one that is JSON already what it says. */
-function valueOf(value) {
-  return value instanceof JsonText ? value.toJSON() : value;
+/** The source of a module, of one that is JSON already what it says. */
+function sourceOf(/** @type {Source | JsonText} */ value) {
+  return value instanceof JsonText ? /** @type {Source} */ (value.toJSON()) : value;
 }
 
-function textOf(value) {
+function textOf(/** @type {unknown} */ value) {
   return value instanceof JsonText ? value.text : JSON.stringify(value);
 }
 
 /** An object as JSON, each member by a call. */
-function objectText(object, memberText) {
+function objectText(/** @type {object} */ object, /** @type {(value: unknown, name: string) => string} */ memberText) {
   const members = Object.entries(object).filter(([, value]) => value !== undefined);
   return `{${members.map(([name, value]) => `${JSON.stringify(name)}:${memberText(value, name)}`).join(',')}}`;
 }
 
 /** A module of a request, `[specifier, {Esm: ..}]`, as JSON. */
-function moduleText([specifier, choice]) {
-  return `[${JSON.stringify(specifier)},${objectText(choice, (module) => objectText(module, textOf))}]`;
+function moduleText(/** @type {RequestModule} */ [specifier, choice]) {
+  return `[${JSON.stringify(specifier)},${objectText(choice, (module) => objectText(/** @type {object} */ (module), textOf))}]`;
 }
 
 /** A request as JSON. */
-function requestText(request) {
-  return objectText(request, (value, name) => (name === 'modules' ? `[${value.map(moduleText).join(',')}]` : JSON.stringify(value)));
+function requestText(/** @type {Request} */ request) {
+  return objectText(request, (value, name) => (name === 'modules' ? `[${request.modules.map(moduleText).join(',')}]` : JSON.stringify(value)));
 }
 
 // The beginning of a source whose tree is a module's, as it is written here.
@@ -42,9 +47,10 @@ const MODULE = /^(\{"media_type":"\w+","text":)"(?:[^"\\]|\\.)*","program":\{"Mo
 const CONTEXT = /"unresolved_context":\d+\}$/;
 
 /** A source without its text, its statements and its comments. */
-function emptied(source) {
-  const [, head] = MODULE.exec(source.text) || [];
-  const [context] = CONTEXT.exec(source.text) || [];
+function emptied(/** @type {Source | JsonText} */ source) {
+  const text = textOf(source);
+  const [, head] = MODULE.exec(text) || [];
+  const [context] = CONTEXT.exec(text) || [];
   if (!head || !context) return source;
   return new JsonText(`${head}"","program":{"Module":{"span":[0,0],"body":[],"shebang":null}},"comments":{"leading":[],"trailing":[]},${context}`);
 }
@@ -52,13 +58,17 @@ function emptied(source) {
 /**
  * A request in which only the modules of these specifiers have their trees. The program finds the same public ranges by it, since these follow from the tables of
  * all modules, and answers the same of these modules; of the others it answers nothing of use.
+ *
+ * @param {Request} request
+ * @param {Set<string>} specifiers
+ * @returns {Request}
  */
 function withTreesOf(request, specifiers) {
-  const modules = request.modules.map(([specifier, module]) => {
+  const modules = request.modules.map(/** @returns {RequestModule} */ ([specifier, module]) => {
     if (!module.Esm || specifiers.has(specifier)) return [specifier, module];
     return [specifier, { Esm: { ...module.Esm, source: emptied(module.Esm.source) } }];
   });
   return { ...request, modules };
 }
 
-module.exports = { withTreesOf, JsonText, requestText, textOf, valueOf };
+module.exports = { withTreesOf, JsonText, requestText, sourceOf, textOf };

@@ -8,19 +8,21 @@ const { PROGRAM, isNpm } = require('../cli/installed.js');
 const { requestText } = require('./request.js');
 const { restored } = require('../skeleton/restored.js');
 
+/** @typedef {import('./types').Request} Request */
+
 // How the folder of the program's input is named, which is removed again.
 const FOLDER = 'fast-check-ts-';
 
 /** What the program refuses, or that it is not there. `status` is the status that the command ends with. */
 class ProgramError extends Error {
-  constructor(message, status) {
+  constructor(/** @type {string} */ message, /** @type {number} */ status) {
     super(message);
     this.status = status;
   }
 }
 
 /** The words that run `build`: the program of the variable FAST_CHECK, or the launcher, which proves and builds it first. */
-function command({ unproved, environment }) {
+function command(/** @type {{ unproved?: boolean, environment: Record<string, string | undefined> }} */ { unproved, environment }) {
   if (environment.FAST_CHECK) return [environment.FAST_CHECK, 'build'];
   const platform = `${process.platform} ${process.arch}`;
   if (isNpm && platform !== 'linux x64') throw new ProgramError(`the program of this package runs on Linux x86-64, and this is ${platform}`, 5);
@@ -28,9 +30,10 @@ function command({ unproved, environment }) {
 }
 
 /** Runs the words with a file, and answers the status and both streams; what is said meanwhile goes to `tell`, line by line. `signal` may end it early. */
-function run(words, tell, signal) {
+function run(/** @type {string[]} */ words, /** @type {(line: string) => void} */ tell, /** @type {AbortSignal | undefined} */ signal) {
   return new Promise((resolve, reject) => {
     const child = childProcess.spawn(words[0], words.slice(1), { stdio: ['ignore', 'pipe', 'pipe'], signal });
+    /** @type {Buffer[]} */
     const out = [];
     let said = '';
     let rest = '';
@@ -39,7 +42,7 @@ function run(words, tell, signal) {
     child.stderr.setEncoding('utf8');
     child.stderr.on('data', (part) => {
       const lines = (rest + part).split('\n');
-      rest = lines.pop();
+      rest = lines.pop() || '';
       for (const line of lines) {
         if (line.startsWith('error: ')) said = line;
         else tell(line);
@@ -47,13 +50,13 @@ function run(words, tell, signal) {
     });
     child.on('close', (code, signal) => {
       if (rest.startsWith('error: ')) said = rest;
-      resolve({ status: signal ? 128 : code, out: Buffer.concat(out).toString(), said, signal });
+      resolve({ status: signal || code === null ? 128 : code, out: Buffer.concat(/** @type {Uint8Array[]} */ (out)).toString(), said, signal });
     });
   });
 }
 
 /** The request as JSON, which Node may not hold in one text. */
-function textOf(request) {
+function textOf(/** @type {Request} */ request) {
   try {
     return requestText(request);
   } catch (error) {
@@ -63,8 +66,8 @@ function textOf(request) {
 }
 
 /** Removes a folder where the command is ended by a signal; answers what no longer does. */
-function removedAtSignals(remove) {
-  const stop = (signal) => {
+function removedAtSignals(/** @type {() => void} */ remove) {
+  const stop = (/** @type {NodeJS.Signals} */ signal) => {
     remove();
     process.exit(128 + os.constants.signals[signal]);
   };
@@ -98,4 +101,4 @@ async function build(request, { unproved, environment, tell, isCommand, signal: 
   }
 }
 
-module.exports = { FOLDER, ProgramError, build };
+module.exports = { FOLDER, build };

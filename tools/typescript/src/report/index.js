@@ -9,20 +9,32 @@ const { printed } = require('../skeleton/write.js');
 const { parse, toTree } = require('../tree/index.js');
 const { told, ways } = require('../skeleton/reasons.js');
 
+/** @typedef {import('../program/types').World} World */
+/** @typedef {import('../program/types').SourceFile} SourceFile */
+/** @typedef {import('../skeleton/types').Printed} Printed */
+/** @typedef {import('../skeleton/types').Way} Way */
+/** @typedef {import('../skeleton/modules.js').Names} Names */
+/** @typedef {import('../messages/types').PlacedMessage} PlacedMessage */
+/** @typedef {import('../messages/types').Message} Message */
+
+/** @typedef {import('../tree/lines.js').Lines} Lines */
+/** @typedef {{ found: Map<string, import('../skeleton/types').Way>, names: Map<string, import('../skeleton/modules.js').Names> }} Known */
+
+/** @type {Record<string, string>} */
 const ESCAPES = { '&': '&amp;', '<': '&lt;', '>': '&gt;', '"': '&quot;' };
 const MARKS = ['', 'kept', 'gone'];
 
-function escape(text) {
+function escape(/** @type {unknown} */ text) {
   return String(text).replace(/[&<>"]/g, (each) => ESCAPES[each]);
 }
 
 /** The id of a module's section. */
-function idOf(name) {
+function idOf(/** @type {string} */ name) {
   return `module-${encodeURIComponent(name).replace(/%/g, '_')}`;
 }
 
 /** The class of each place of a text, in UTF-16 units: what stays and goes, and where messages point to. */
-function classesOf(file, marks, messages) {
+function classesOf(/** @type {SourceFile} */ file, /** @type {Uint8Array | null} */ marks, /** @type {PlacedMessage[]} */ messages) {
   const classes = new Array(file.text.length).fill('');
   if (marks) {
     let position = 1;
@@ -39,7 +51,7 @@ function classesOf(file, marks, messages) {
 }
 
 /** A line of text as runs of one class each. */
-function line(text, start, classes) {
+function line(/** @type {string} */ text, /** @type {number} */ start, /** @type {string[]} */ classes) {
   const indent = text.length - text.trimStart().length;
   let made = text.slice(0, indent);
   for (let at = indent; at < text.length;) {
@@ -54,19 +66,19 @@ function line(text, start, classes) {
 }
 
 /** What is said of a message besides its code and its text. */
-function more(each) {
+function more(/** @type {Message} */ each) {
   const page = each.docs && `<a href="${escape(each.docs)}">${escape(each.docs)}</a>`;
   return [each.hint && `hint: ${escape(each.hint)}`, ...(each.info || []).map(escape), page].filter(Boolean);
 }
 
-function message(each) {
+function message(/** @type {Message} */ each) {
   const label = LABELS[each.code] ? `: ${LABELS[each.code]}` : '';
   const lines = more(each).map((it) => `<div>${it}</div>`).join('');
   return `<div class="message${each.level === 'Warning' ? ' warning' : ''}"><b>${escape(each.code)}</b> ${escape(each.message)}${escape(label)}${lines}</div>`;
 }
 
 /** A text with its line numbers, and the messages behind the lines at which they end. */
-function listing(lines, classes, messages) {
+function listing(/** @type {Lines} */ lines, /** @type {string[]} */ classes, /** @type {PlacedMessage[]} */ messages) {
   const behind = new Map();
   for (const each of messages) {
     const at = lines.place(Math.max(each.start, each.end)).line;
@@ -82,7 +94,7 @@ function listing(lines, classes, messages) {
 }
 
 /** Why the declarations of a module are public. */
-function reasons(world, { found, names }, specifier) {
+function reasons(/** @type {World} */ world, /** @type {Known} */ { found, names }, /** @type {string} */ specifier) {
   const declared = names.get(specifier);
   if (!declared) return '';
   const items = [];
@@ -97,15 +109,15 @@ function reasons(world, { found, names }, specifier) {
 }
 
 /** The whole tree of a module's source: the program's input leaves out what no rule looks at. */
-function programOf(file) {
-  return toTree(parse(file.path, file.text)).program;
+function programOf(/** @type {SourceFile} */ file) {
+  return /** @type {forms.Program} */ (toTree(parse(file.path, file.text)).program);
 }
 
 /** A module's section: its source, its skeleton if it has one, its messages. */
-function section(world, known, file, skeleton) {
+function section(/** @type {World} */ world, /** @type {{ found: Map<string, Way>; names: Map<string, Names>; }} */ known, /** @type {SourceFile} */ file, /** @type {Printed | undefined} */ skeleton) {
   const messages = world.messages.filter((each) => each.specifier === file.specifier);
-  const placed = messages.filter((each) => each.lines);
-  const answer = world.skeletons.get(file.specifier) || (skeleton && world.preview.skeletons.get(file.specifier));
+  const placed = messages.flatMap((each) => (each.lines ? each : []));
+  const answer = world.skeletons.get(file.specifier) || (skeleton && world.preview && world.preview.skeletons.get(file.specifier));
   const marks = answer ? new Marks(programOf(file), answer.program, Buffer.byteLength(file.text) + 1).marks : null;
   const source = listing(file.lines, classesOf(file, marks, placed), placed);
   const { Lines } = require('../tree/lines.js');
@@ -116,7 +128,7 @@ ${messages.filter((each) => !each.lines).map(message).join('')}${skeleton ? reas
 }
 
 /** The list of all modules, the public ones as links. */
-function contents(world, shown) {
+function contents(/** @type {World} */ world, /** @type {SourceFile[]} */ shown) {
   const others = [...world.files.values()].filter((file) => !shown.includes(file)).map((file) => `<code>${escape(file.name)}</code>`);
   const links = shown.map((file) => {
     const count = world.messages.filter((each) => each.specifier === file.specifier).length;
@@ -131,7 +143,7 @@ function contents(world, shown) {
 const LEGEND = '<p class="legend"><span class="kept">public</span><span class="gone">goes</span></p>';
 
 /** The page of a folder that was analysed. */
-function page(analysed) {
+function page(/** @type {World} */ analysed) {
   const world = { ...analysed, messages: [...analysed.warnings, ...analysed.broken, ...analysed.messages] };
   const skeletons = new Map(printed(world).map((each) => [each.specifier, each]));
   const known = ways(withPartial(world));
@@ -142,7 +154,7 @@ function page(analysed) {
   const previewed = [...skeletons.values()].filter((each) => each.isPreview).length;
   const shows = !skeletons.size ? 'a package with messages has no skeletons' : previewed ? `${modules}, of which ${previewed} in a preview` : modules;
   const said = world.messages.length ? `${world.messages.length} message${world.messages.length === 1 ? '' : 's'}; ${shows}` : shows;
-  const elsewhere = world.messages.filter((each) => !world.files.has(each.specifier)).map(message).join('');
+  const elsewhere = world.messages.filter((each) => !world.files.has(each.specifier || '')).map(message).join('');
   return `<!DOCTYPE html>
 <html lang="en"><head><meta charset="utf-8"><meta name="viewport" content="width=device-width, initial-scale=1">
 <title>${escape(title)}</title><style>${fs.readFileSync(path.join(__dirname, 'report.css'), 'utf8')}</style></head>

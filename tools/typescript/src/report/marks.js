@@ -1,49 +1,50 @@
 'use strict';
 // Which parts of a source stay in its skeleton, by the places that the nodes of the skeleton keep.
+const { partsOf } = require('../tree/walk.js');
 
-/** The places of a tree's nodes, as `start,end`; a node that no text stands for has none. */
-function places(tree) {
+/** The place of a node, as `start,end`; of one that no text stands for null. */
+const placeOf = (/** @type {forms.Part} */ { span }) => (Array.isArray(span) && span[1] > 0 ? span.join() : null);
+
+/** The places of a tree's nodes. */
+function places(/** @type {forms.Part} */ tree) {
+  /** @type {Set<string>} */
   const found = new Set();
-  const walk = (at) => {
-    if (at === null || typeof at !== 'object') return;
-    if (Array.isArray(at.span) && at.span[1] > 0) found.add(at.span.join());
-    Object.values(at).forEach(walk);
+  const walk = (/** @type {forms.Part} */ at) => {
+    const place = placeOf(at);
+    if (place !== null) found.add(place);
+    partsOf(at).forEach(walk);
   };
-  walk(tree);
+  partsOf(tree).forEach(walk);
   return found;
 }
 
 /** Marks a source's positions: 1 where the skeleton keeps what stands there, 2 where it goes, 0 where nothing is known. */
 class Marks {
-  constructor(program, skeleton, length) {
-    this.kept = places(skeleton.body);
+  constructor(/** @type {forms.Program} */ program, /** @type {forms.Module} */ skeleton, /** @type {number} */ length) {
+    this.kept = places(skeleton);
     this.marks = new Uint8Array(length + 2);
-    const root = Object.values(program)[0];
-    for (const item of root.body || []) this.paint(item);
+    for (const item of (program.Module || program.Script).body || []) this.paint(item);
   }
 
-  paint(node) {
-    if (node === null || typeof node !== 'object') return;
-    const own = Array.isArray(node.span) && node.span[1] > 0 ? node.span : null;
-    if (own && this.kept.has(own.join())) this.fill(own, 1);
-    else if (own && !this.holdsKept(node)) {
-      this.fill(own, 2);
+  paint(/** @type {forms.Part} */ node) {
+    const place = placeOf(node);
+    const [start, end] = node.span || [0, 0];
+    if (place !== null && this.kept.has(place)) this.marks.fill(1, start, end);
+    else if (place !== null && !this.holdsKept(node)) {
+      this.marks.fill(2, start, end);
       return;
     }
-    for (const each of Object.values(node)) this.paint(each);
+    for (const each of partsOf(node)) this.paint(each);
   }
 
-  /** Whether something inside of a node stays. */
+  /**
+   * Whether something inside of a node stays.
+   *
+   * @param {forms.Part} node
+   * @returns {boolean}
+   */
   holdsKept(node) {
-    if (node === null || typeof node !== 'object') return false;
-    return Object.values(node).some((each) => {
-      if (each === null || typeof each !== 'object') return false;
-      return (Array.isArray(each.span) && each.span[1] > 0 && this.kept.has(each.span.join())) || this.holdsKept(each);
-    });
-  }
-
-  fill([start, end], mark) {
-    this.marks.fill(mark, start, end);
+    return partsOf(node).some((each) => this.kept.has(placeOf(each) || '') || this.holdsKept(each));
   }
 }
 

@@ -8,43 +8,63 @@ const { enumValues } = require('./enum-values.js');
 const { saysExports } = require('../tables/ambient.js');
 const { keyName } = require('../tables/members.js');
 const { withPartial } = require('../program/preview.js');
+const { variantOf } = require('../tree/walk.js');
 const { writable } = require('./reserved.js');
 const { byName, printedModule, shown } = require('./write.js');
 const { isFrom } = require('../compiler/typescript.js');
-const { mentioned } = require('./reasons.js');
+const { mentioned } = require('./modules.js');
+
+/** @typedef {import('../program/types').World} World */
+/** @typedef {import('../program/types').SourceFile} SourceFile */
+/** @typedef {import('./types').Holder} Holder */
+/** @typedef {import('./value-scopes.js').Scope} Scope */
 
 // Whether the compiler at hand declares a member under a key that may be any text.
 const INDEXED = isFrom(5, 7);
 const RELATIVE = /^\.{1,2}\//;
+/** @type {forms.Span} */
 const NONE = [0, 0];
+/** @type {{ body?: forms.ModuleItem[] }} */
+const NO_BLOCK = {};
+/** @type {forms.ModuleItem} */
 const EMPTY_LIST = { ModuleDecl: { ExportNamed: { span: NONE, specifiers: [] } } };
 
-/** The one variant of a choice, and its content. */
-const only = (choice) => Object.entries(choice)[0];
-
 /** How a declaration file names a module: by the name that its JavaScript has. */
-function sourceText(text) {
+function sourceText(/** @type {string} */ text) {
   return RELATIVE.test(text) ? text.replace(/(\.d)?\.([cm]?)tsx?$/, '.$2js') : text;
 }
 
-/** The sources of a tree, as a declaration file names them. */
+/**
+ * The sources of a tree, as a declaration file names them.
+ *
+ * @template T
+ * @param {T} node
+ * @returns {T}
+ */
 function withSources(node) {
   if (node === null || typeof node !== 'object') return node;
-  if (Array.isArray(node)) return node.map(withSources);
-  const made = Object.fromEntries(Object.entries(node).map(([key, it]) => [key, withSources(it)]));
-  const source = [made.src, made.arg].find((it) => it && typeof it.value === 'string');
-  if (source && sourceText(source.value) !== source.value) Object.assign(source, { value: sourceText(source.value), raw: null });
-  return made;
+  if (Array.isArray(node)) return /** @type {T} */ (/** @type {unknown} */ (node.map(withSources)));
+  const made = /** @type {forms.Part} */ (Object.fromEntries(Object.entries(node).map(([key, it]) => [key, withSources(it)])));
+  for (const source of [made.src, made.arg]) {
+    if (source && 'value' in source && sourceText(source.value) !== source.value) Object.assign(source, { value: sourceText(source.value), raw: null });
+  }
+  return /** @type {T} */ (made);
 }
 
 /** The name of a member or a function, with what tells it from others of that name. */
-function keyOf({ key, is_static, kind }) {
-  const name = keyName(key);
+function keyOf(/** @type {forms.Part} */ { key, is_static, kind }) {
+  const name = key ? keyName(/** @type {forms.Part} */ (key)) : null;
   const written = name === null ? JSON.stringify(key, (part, it) => (part === 'span' ? undefined : it)) : JSON.stringify(name);
   return `${written} ${Boolean(is_static)} ${kind}`;
 }
 
-/** A list without the implementations that stand behind overloads. `asked(it)` is a function's name with its node, or null of anything else. */
+/**
+ * A list without the implementations that stand behind overloads. `asked(it)` is a function's name with its node, or null of anything else.
+ *
+ * @template T
+ * @param {T[]} list
+ * @param {(it: T) => { name: string, body?: forms.BlockStmt | null } | null} asked
+ */
 function withoutImplementations(list, asked) {
   const overloaded = new Set();
   return list.filter((it) => {
@@ -56,28 +76,37 @@ function withoutImplementations(list, asked) {
 }
 
 /** The name and the body of a function that an item declares. */
-function functionOf(item) {
-  const { ExportDecl: exported, ExportDefaultDecl: asDefault } = item.ModuleDecl || {};
+function functionOf(/** @type {forms.ModuleItem} */ item) {
+  const { ExportDecl: exported, ExportDefaultDecl: asDefault } = /** @type {Partial<forms.ModuleDeclVariants>} */ (item.ModuleDecl || {});
   const decl = exported ? exported.decl : item.Stmt && item.Stmt.Decl;
   if (asDefault && asDefault.decl.Fn) return { name: 'export default', body: asDefault.decl.Fn.function.body };
   return decl && decl.Fn ? { name: decl.Fn.ident.sym, body: decl.Fn.function.body } : null;
 }
 
 /** The name and the body of a method or a constructor. */
-function methodOf({ Method: method, Constructor: made }) {
+function methodOf(/** @type {forms.ClassMember} */ { Method: method, Constructor: made }) {
   if (made) return { name: 'constructor', body: made.body };
   return method ? { name: keyOf(method), body: method.function.body } : null;
 }
 
 /** A type, which is `symbol` in place of a `unique symbol` that the program wrote for what may not have it. */
-function ownSymbol(type_ann, mayHave) {
+function ownSymbol(/** @type {forms.TsTypeAnn | null | undefined} */ type_ann, /** @type {boolean} */ mayHave) {
   const isMadeSymbol = type_ann && !type_ann.span[0] && isUnique(type_ann.type_ann);
   return isMadeSymbol && !mayHave ? annotated(keyword('Symbol')) : type_ann;
 }
 
+/**
+ * A member without the word `public`.
+ *
+ * @template {{ accessibility?: forms.Accessibility | null }} T
+ * @param {T} node
+ * @returns {T}
+ */
+const plain = (node) => (node.accessibility === 'Public' ? { ...node, accessibility: null } : node);
+
 /** Makes the declarations of one module. Those of a declaration file stand as they are written, but for a class that is exported by default. */
 class Declarations {
-  constructor(scope, { isWritten = false, isInside = false, untold = [] }) {
+  constructor(/** @type {Scope} */ scope, /** @type {{ isWritten?: boolean, isInside?: boolean, untold?: Untold[] }} */ { isWritten = false, isInside = false, untold = [] }) {
     this.scope = scope;
     this.isWritten = isWritten;
     this.isInside = isInside;
@@ -86,11 +115,16 @@ class Declarations {
   }
 
   /** The declarations in a namespace of these items, in all of its blocks, where `declare` is not written again. */
-  inside(items) {
+  inside(/** @type {forms.ModuleItem[]} */ items) {
     return new Declarations(this.scope.inside(items), { isInside: true, untold: this.untold });
   }
 
-  /** What a call makes; null where a value has no type here, which is kept. */
+  /**
+   * What a call makes; null where a value has no type here, which is kept.
+   *
+   * @template T
+   * @param {() => T} call
+   */
   attempt(call) {
     try {
       return call();
@@ -101,45 +135,66 @@ class Declarations {
     }
   }
 
-  items(list) {
-    return withoutImplementations(writable(list), functionOf).flatMap((it) => this.item(it)).filter(Boolean);
+  items(/** @type {forms.ModuleItem[]} */ list) {
+    return withoutImplementations(writable(list), functionOf).flatMap((it) => this.item(it));
   }
 
+  /**
+   * What a declaration file has of an item.
+   *
+   * @param {forms.ModuleItem} item
+   * @returns {forms.ModuleItem[]}
+   */
   item(item) {
     if (item.Stmt) {
-      const decl = this.declaration(item.Stmt.Decl);
-      return decl && { Stmt: { Decl: decl } };
+      const decl = item.Stmt.Decl && this.declaration(item.Stmt.Decl);
+      return decl ? [{ Stmt: { Decl: decl } }] : [];
     }
-    const [variant, node] = only(item.ModuleDecl);
-    if (variant === 'ExportDecl') {
-      const decl = this.declaration(node.decl);
-      return decl && { ModuleDecl: { ExportDecl: { ...node, decl } } };
+    const { ExportDecl: exported, ExportDefaultDecl: asDefault, ExportDefaultExpr: value } = item.ModuleDecl;
+    if (exported) {
+      const decl = this.declaration(exported.decl);
+      return decl ? [{ ModuleDecl: { ExportDecl: { ...exported, decl } } }] : [];
     }
-    if (variant === 'ExportDefaultDecl') return { ModuleDecl: { ExportDefaultDecl: { ...node, decl: this.defaultDeclaration(node.decl) } } };
-    return variant === 'ExportDefaultExpr' ? this.defaultValue(item, node) : item;
+    if (asDefault) return [{ ModuleDecl: { ExportDefaultDecl: { ...asDefault, decl: this.defaultDeclaration(asDefault.decl) } } }];
+    return value ? this.defaultValue(item, value) : [item];
   }
 
-  declaration(decl) {
-    const [variant, node] = only(decl);
-    return this[variant] ? this.attempt(() => ({ [variant]: this[variant](node) })) : decl;
+  declaration(/** @type {forms.Decl} */ decl) {
+    return this.attempt(() => this.declared(decl));
   }
 
-  defaultDeclaration(decl) {
-    const [variant, node] = only(decl);
-    if (variant === 'Fn') return { Fn: { ...node, function: this.signature(node.function) } };
-    return variant === 'Class' ? { Class: { ...node, class: this.classOf(node.class) } } : decl;
+  /** @returns {forms.Decl} */
+  declared(/** @type {forms.Decl} */ decl) {
+    if (decl.Var) return { Var: this.variable(decl.Var) };
+    if (decl.Fn) return { Fn: this.fn(decl.Fn) };
+    if (decl.Class) return { Class: this.class(decl.Class) };
+    if (decl.TsEnum) return { TsEnum: this.enum(decl.TsEnum) };
+    return decl.TsModule ? { TsModule: this.namespace(decl.TsModule) } : decl;
   }
 
-  /** A value that is exported by default: a name stays, another value has a constant of its own. */
-  defaultValue(item, { span, expr }) {
-    if (expr.Ident) return item;
+  /** @returns {forms.DefaultDecl} */
+  defaultDeclaration(/** @type {forms.DefaultDecl} */ decl) {
+    if (decl.Fn) return { Fn: { ...decl.Fn, function: this.signature(decl.Fn.function) } };
+    return decl.Class ? { Class: { ...decl.Class, class: this.classOf(decl.Class.class) } } : decl;
+  }
+
+  /**
+   * A value that is exported by default: a name stays, another value has a constant of its own.
+   *
+   * @returns {forms.ModuleItem[]}
+   */
+  defaultValue(/** @type {forms.ModuleItem} */ item, /** @type {forms.ExportDefaultExpr} */ { span, expr }) {
+    if (expr.Ident) return [item];
+    /** @type {forms.Ident} */
     const id = { span: NONE, ctxt: 0, sym: this.freeName('_default'), optional: false };
     const declarator = this.attempt(() => this.declarator({ span: NONE, name: { Ident: { id, type_ann: null } }, init: expr, definite: false }, CONSTANT));
+    if (!declarator) return [];
+    /** @type {forms.Decl} */
     const variable = { Var: { span, kind: 'Const', declare: true, decls: [declarator] } };
-    return declarator && [{ Stmt: { Decl: variable } }, { ModuleDecl: { ExportDefaultExpr: { span: NONE, expr: { Ident: id } } } }];
+    return [{ Stmt: { Decl: variable } }, { ModuleDecl: { ExportDefaultExpr: { span: NONE, expr: { Ident: id } } } }];
   }
 
-  freeName(name) {
+  freeName(/** @type {string} */ name) {
     let made = name;
     for (let count = 1; this.scope.isTaken(made); count++) made = `${name}_${count}`;
     return made;
@@ -147,143 +202,182 @@ class Declarations {
 
   // ---- declarations
 
-  Var(node) {
+  variable(/** @type {forms.VarDecl} */ node) {
     if (node.declare || this.isWritten) return node;
     const holder = node.kind === 'Const' ? CONSTANT : WIDE;
-    return { ...node, declare: !this.isInside, decls: node.decls.map((it) => this.attempt(() => this.declarator(it, holder))).filter(Boolean) };
+    return { ...node, declare: !this.isInside, decls: (node.decls || []).flatMap((it) => this.attempt(() => this.declarator(it, holder)) || []) };
   }
 
-  declarator(node, holder) {
-    const { Ident: name } = node.name;
-    const typed = (type_ann) => ({ name: { Ident: { ...name, type_ann } } });
-    return { ...node, definite: false, ...this.held(node.init, ownSymbol(name.type_ann, holder === CONSTANT), holder, typed, 'init') };
+  declarator(/** @type {forms.VarDeclarator} */ node, /** @type {Holder} */ holder) {
+    const name = /** @type {forms.BindingIdent} */ (node.name.Ident);
+    const { value, type_ann } = this.held(node.init, ownSymbol(name.type_ann, holder === CONSTANT), holder);
+    return { ...node, definite: false, name: { Ident: { ...name, type_ann } }, init: value };
   }
 
-  /** What holds a value, with the written type or that of the value; a constant keeps a literal, as the compiler's own declarations do. */
-  held(value, type_ann, holder, typed, field) {
+  /**
+   * What holds a value, with the written type or that of the value; a constant keeps a literal, as the compiler's own declarations do.
+   *
+   * @returns {{ type_ann: forms.TsTypeAnn | null, value: forms.Expr | null }}
+   */
+  held(/** @type {forms.Expr | null | undefined} */ value, /** @type {forms.TsTypeAnn | null | undefined} */ type_ann, /** @type {Holder} */ holder) {
     const literal = holder === CONSTANT && this.literal(value, type_ann);
-    if (literal) return { ...typed(null), [field]: { Lit: literal } };
-    if (type_ann) return { ...typed(type_ann), [field]: null };
-    if (value && holder === CONSTANT && this.types.isSymbol(value)) return { ...typed(annotated(keyword('Symbol'))), [field]: null };
-    if (!value) return { ...typed({ span: NONE, type_ann: { TsKeywordType: { span: NONE, kind: 'TsAnyKeyword' } } }), [field]: null };
-    if (holder === CONSTANT && this.isConstant(value)) return { ...typed(null), [field]: value };
-    return { ...typed(annotated(this.types.of(value, holder))), [field]: null };
+    if (literal) return { type_ann: null, value: { Lit: /** @type {forms.Lit} */ (literal) } };
+    if (type_ann) return { type_ann, value: null };
+    if (value && holder === CONSTANT && this.types.isSymbol(value)) return { type_ann: annotated(keyword('Symbol')), value: null };
+    if (!value) return { type_ann: annotated(keyword('Any')), value: null };
+    if (holder === CONSTANT && this.isConstant(value)) return { type_ann: null, value };
+    return { type_ann: annotated(this.types.of(value, holder)), value: null };
   }
 
-  /** The literal of a constant without a written type, which the compiler keeps; null of another one. */
-  literal(value, type_ann) {
-    if (type_ann) return isMade(type_ann) ? type_ann.type_ann.TsLitType.lit : null;
+  /**
+   * The literal of a constant without a written type, which the compiler keeps; null of another one.
+   *
+   * @returns {forms.TsLit | null}
+   */
+  literal(/** @type {forms.Expr | null | undefined} */ value, /** @type {forms.TsTypeAnn | null | undefined} */ type_ann) {
+    const written = type_ann && isMade(type_ann) && type_ann.type_ann.TsLitType;
+    if (type_ann) return written ? written.lit : null;
     return value && (value.Ident || value.Member) ? madeLiteral(this.scope.find(value)) : null;
   }
 
-  isConstant(value) {
+  isConstant(/** @type {forms.Expr} */ value) {
     return Boolean((value.Unary && literalOf(value)) || (value.Member && value.Member.obj.Ident && this.scope.find(value).form === 'member'));
   }
 
-  Fn(node) {
+  fn(/** @type {forms.FnDecl} */ node) {
     if (node.declare || this.isWritten) return node;
     return { ...node, declare: !this.isInside, function: this.signature(node.function) };
   }
 
-  signature(node) {
+  /** @returns {forms.Function} */
+  signature(/** @type {forms.Function} */ node) {
     return { ...node, params: this.types.parameters(node.params || []), body: null };
   }
 
-  Class(node) {
+  class(/** @type {forms.ClassDecl} */ node) {
     if (node.declare || this.isWritten) return node;
     return { ...node, declare: !this.isInside, class: this.classOf(node.class) };
   }
 
-  TsEnum(node) {
+  enum(/** @type {forms.TsEnumDecl} */ node) {
     if (node.declare || this.isWritten) return node;
     const values = enumValues(node, this.scope);
+    /** @type {(value: string | number) => forms.Lit} */
     const literal = (value) => (typeof value === 'number' ? { Num: { span: NONE, raw: String(value) } } : { Str: { span: NONE, value, raw: null } });
-    const init = (value) => (value === undefined ? null : { Lit: literal(value) });
-    return { ...node, declare: !this.isInside, members: node.members.map((it, place) => ({ ...it, init: init(values[place]) })) };
+    const init = (/** @type {string | number | undefined} */ value) => (value === undefined ? null : { Lit: literal(value) });
+    return { ...node, declare: !this.isInside, members: (node.members || []).map((it, place) => ({ ...it, init: init(values[place]) })) };
   }
 
-  TsModule(node) {
+  /** @returns {forms.TsModuleDecl} */
+  namespace(/** @type {forms.TsModuleDecl} */ node) {
     if (node.declare || this.isWritten) return { ...node, declare: node.declare && !this.isInside };
-    const { body: items = [] } = blockOf(node);
-    const all = node.id.Ident && !node.body.TsNamespaceDecl ? this.scope.blocks(node.id.Ident.sym) : items;
+    const { body: items = [] } = blockOf(node) || NO_BLOCK;
+    const whole = node.body;
+    if (!whole) return { ...node, declare: !this.isInside };
+    const all = node.id.Ident && !whole.TsNamespaceDecl ? this.scope.blocks(node.id.Ident.sym) : items;
     const inner = this.inside(all).items(items);
     const isPlain = inner.some((it) => it.Stmt);
     const body = isPlain && !saysExports(inner) ? [...inner, EMPTY_LIST] : inner;
+    /** @type {(body: forms.TsNamespaceBody) => forms.TsNamespaceBody} */
     const rebuilt = ({ TsNamespaceDecl: nested, TsModuleBlock: block }) => {
       return nested ? { TsNamespaceDecl: { ...nested, body: rebuilt(nested.body) } } : { TsModuleBlock: { ...block, body } };
     };
-    return { ...node, declare: !this.isInside, body: rebuilt(node.body) };
+    return { ...node, declare: !this.isInside, body: rebuilt(whole) };
   }
 
   // ---- classes
 
-  classOf(node) {
-    return { ...node, decorators: [], body: withoutImplementations(node.body || [], (it) => (this.isIndexed(it) ? null : methodOf(it))).map((it) => this.member(it)).filter(Boolean) };
+  /** @returns {forms.Class} */
+  classOf(/** @type {forms.Class} */ node) {
+    return { ...node, decorators: [], body: withoutImplementations(node.body || [], (it) => (this.isIndexed(it) ? null : methodOf(it))).flatMap((it) => this.member(it) || []) };
   }
 
-  isIndexed(choice) {
-    const { key } = only(choice)[1];
-    return Boolean(key && this.scope.isAnyKey(key));
+  isIndexed(/** @type {forms.ClassMember} */ choice) {
+    /** @type {forms.Part} */
+    const { key } = variantOf(choice)[1];
+    return Boolean(key && this.scope.isAnyKey(/** @type {{ Computed?: forms.ComputedPropName }} */ (key)));
   }
 
+  /**
+   * What a declaration file has of a member; null where it has nothing.
+   *
+   * @param {forms.ClassMember} choice
+   * @returns {forms.ClassMember | null}
+   */
   member(choice) {
-    const [variant, node] = only(choice);
-    if (this.isIndexed(choice)) return INDEXED ? this.attempt(() => this.indexed(variant, node)) : null;
-    const plain = node.accessibility === 'Public' ? { ...node, accessibility: null } : node;
-    const made = this.attempt(() => (this[`member${variant}`] ? this[`member${variant}`](plain) : plain));
-    return made && { [variant]: made };
+    if (this.isIndexed(choice)) return INDEXED ? this.attempt(() => this.indexed(choice)) : null;
+    return this.attempt(() => this.memberOf(choice));
   }
 
-  /** A member under a key that may be any text, as a property: the compiler takes it for an index signature. */
-  indexed(variant, node) {
-    if (variant === 'ClassProp') return { ClassProp: { ...this.memberClassProp(node), accessibility: null } };
-    const { key, is_static, is_optional, kind, span, function: { params, return_type, type_params } } = node;
-    const typed = kind === 'Setter' ? only(params[0].pat)[1].type_ann : return_type;
+  /** @returns {forms.ClassMember} */
+  memberOf(/** @type {forms.ClassMember} */ choice) {
+    if (choice.PrivateProp) return { PrivateProp: this.memberPrivateProp(plain(choice.PrivateProp)) };
+    if (choice.ClassProp) return { ClassProp: this.memberClassProp(plain(choice.ClassProp)) };
+    if (choice.Method) return { Method: this.memberMethod(plain(choice.Method)) };
+    if (choice.Constructor) return { Constructor: this.memberConstructor(plain(choice.Constructor)) };
+    if (choice.PrivateMethod) return { PrivateMethod: plain(choice.PrivateMethod) };
+    return choice.AutoAccessor ? { AutoAccessor: plain(choice.AutoAccessor) } : choice;
+  }
+
+  /**
+   * A member under a key that may be any text, as a property: the compiler takes it for an index signature.
+   *
+   * @param {forms.ClassMember} choice
+   * @returns {forms.ClassMember}
+   */
+  indexed(choice) {
+    if (choice.ClassProp) return { ClassProp: { ...this.memberClassProp(choice.ClassProp), accessibility: null } };
+    const { key, is_static, is_optional, kind, span, function: { params = [], return_type, type_params } } = /** @type {forms.ClassMethod} */ (choice.Method);
+    const typed = /** @type {forms.TsTypeAnn} */ (kind === 'Setter' ? /** @type {forms.Part} */ (variantOf(params[0].pat)[1]).type_ann : return_type);
     const type_ann = kind === 'Method' ? annotated(this.types.functionType({ params, type_params }, typed)) : typed;
     return { ClassProp: { span, key, is_static, is_optional, type_ann } };
   }
 
-  memberPrivateProp(node) {
+  memberPrivateProp(/** @type {forms.PrivateProp} */ node) {
     return { ...node, definite: false, type_ann: null };
   }
 
-  memberClassProp(node) {
+  memberClassProp(/** @type {forms.ClassProp} */ node) {
     const plain = { ...node, declare: false, definite: false, is_override: false };
     if (node.accessibility === 'Private') return { ...plain, type_ann: null, value: null };
-    return { ...plain, ...this.held(node.value, ownSymbol(node.type_ann, node.readonly && node.is_static), node.readonly ? CONSTANT : WIDE, (type_ann) => ({ type_ann }), 'value') };
+    return { ...plain, ...this.held(node.value, ownSymbol(node.type_ann, Boolean(node.readonly && node.is_static)), node.readonly ? CONSTANT : WIDE) };
   }
 
-  memberMethod(node) {
+  memberMethod(/** @type {forms.ClassMethod} */ node) {
     return { ...node, is_override: false, function: this.signature(node.function) };
   }
 
-  memberConstructor(node) {
-    return { ...node, body: null, params: this.types.parameters((node.params || []).map((it) => it.Param)).map((Param) => ({ Param })) };
+  memberConstructor(/** @type {forms.Constructor} */ node) {
+    return { ...node, body: null, params: this.types.parameters((node.params || []).flatMap((it) => it.Param || [])).map((Param) => ({ Param })) };
   }
 }
 
 /** The items of a module without imports of names that values alone mentioned. */
-function withoutUnused(items) {
-  const isImport = (it) => Boolean(it.ModuleDecl && it.ModuleDecl.Import);
+function withoutUnused(/** @type {forms.ModuleItem[]} */ items) {
+  const isImport = (/** @type {forms.ModuleItem} */ it) => Boolean(it.ModuleDecl && it.ModuleDecl.Import);
   const { names } = mentioned(items.filter((it) => !isImport(it)));
   return items.flatMap((it) => {
-    if (!isImport(it)) return [it];
-    const { Import: node } = it.ModuleDecl;
-    const specifiers = node.specifiers.filter((each) => names.has(only(each)[1].local.sym));
+    const node = it.ModuleDecl && it.ModuleDecl.Import;
+    if (!node) return [it];
+    const specifiers = (node.specifiers || []).filter((each) => names.has(variantOf(each)[1].local.sym));
     return specifiers.length ? [{ ModuleDecl: { Import: { ...node, specifiers } } }] : [];
   });
 }
 
 /** The name of the declaration file of a module. */
-function declarationName(name) {
+function declarationName(/** @type {string} */ name) {
   return name.replace(/(\.d)?\.([cm]?)tsx?$/, '.d.$2ts');
 }
 
-/** Why a module has no declaration file, as messages. */
-function untoldMessages(untold, file, shown) {
+/**
+ * Why a module has no declaration file, as messages.
+ *
+ * @returns {import('../messages/types').Message[]}
+ */
+function untoldMessages(/** @type {Untold[]} */ untold, /** @type {SourceFile} */ file, /** @type {string} */ shown) {
   return untold.map(({ span, message }) => ({
     level: 'Error', code: 'untold-type', message: `a declaration file wants a type here: ${message}`, hint: 'write its type', info: [],
-    specifier: file.specifier, file: shown, lines: file.lines, start: file.lines.offset(span[0]), end: file.lines.offset(span[1]),
+    specifier: file.specifier, file: shown, lines: file.lines, start: file.lines.offset((span || NONE)[0]), end: file.lines.offset((span || NONE)[1]),
   }));
 }
 
@@ -291,14 +385,18 @@ function untoldMessages(untold, file, shown) {
  * The declaration files of a folder that was analysed, in the order of their names, `{specifier, name, text}`, and messages of the modules that have none.
  * `shownName(path)` is how messages name a file.
  */
-function declarationFiles(world, shownName) {
+function declarationFiles(/** @type {World} */ world, /** @type {(file: string) => string} */ shownName) {
   const scopes = scopesOf(withPartial(world));
-  const [made, messages] = [[], []];
-  for (const [specifier, skeleton, mark] of shown(world)) {
+  /** @type {import('./types').Printed[]} */
+  const made = [];
+  /** @type {import('../messages/types').Message[]} */
+  const messages = [];
+  for (const { specifier, skeleton, mark } of shown(world)) {
     const file = world.files.get(specifier);
+    if (!file) continue;
     const isWritten = /\.d\.[cm]?ts$/.test(specifier);
     const declarations = new Declarations(scopes(specifier), { isWritten });
-    const body = withSources(withoutUnused(declarations.items(skeleton.program.body)));
+    const body = withSources(withoutUnused(declarations.items(skeleton.program.body || [])));
     const wrong = [...untoldMessages(declarations.untold, file, shownName(file.path)), ...shadowedMessages(body, placedIn(file, shownName(file.path)))];
     messages.push(...wrong);
     if (wrong.length) continue;

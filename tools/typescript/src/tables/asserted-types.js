@@ -1,10 +1,15 @@
 'use strict';
 // The type that the only return of a function asserts, in the program's tree. The compiler is not asked.
-const { JsonText } = require('../program/request.js');
+const { variantOf } = require('../tree/walk.js');
+const { JsonText, textOf } = require('../program/request.js');
+
+/** @typedef {import('../program/types').RequestModule} RequestModule */
+/** @typedef {import('../program/types').Request} Request */
 
 // An empty list is left out of a tree.
-const stmtsOf = (block) => (block && block.stmts) || [];
+const stmtsOf = (/** @type {forms.BlockStmt | null | undefined} */ block) => (block && block.stmts) || [];
 
+/** @type {{ [V in keyof forms.StmtVariants]?: (node: forms.StmtVariants[V]) => (forms.Stmt | null | undefined)[] }} */
 const STATEMENTS = {
   Block: stmtsOf,
   With: (node) => [node.body],
@@ -19,25 +24,33 @@ const STATEMENTS = {
   ForOf: (node) => [node.body],
 };
 
-function countReturns(stmts) {
-  return stmts.reduce((sum, choice) => {
-    if (!choice) return sum;
-    const [variant] = Object.keys(choice);
-    if (variant === 'Return') return sum + 1;
-    return sum + (STATEMENTS[variant] ? countReturns(STATEMENTS[variant](choice[variant])) : 0);
-  }, 0);
+/** @returns {number} */
+function countReturns(/** @type {(forms.Stmt | null | undefined)[]} */ stmts) {
+  let count = 0;
+  for (const choice of stmts) {
+    if (!choice) continue;
+    const [variant, node] = variantOf(choice);
+    const inside = /** @type {((node: object) => (forms.Stmt | null | undefined)[]) | undefined} */ (STATEMENTS[variant]);
+    count += variant === 'Return' ? 1 : inside ? countReturns(inside(node)) : 0;
+  }
+  return count;
 }
 
-/** The type that a value asserts, or null. */
-function assertedType(value) {
-  const [variant] = Object.keys(value);
-  if (variant === 'Paren' || variant === 'TsSatisfies') return assertedType(value[variant].expr);
-  return variant === 'TsAs' || variant === 'TsTypeAssertion' ? value[variant].type_ann : null;
+/**
+ * The type that a value asserts, or null.
+ *
+ * @returns {forms.TsType | null}
+ */
+function assertedType(/** @type {forms.Expr} */ value) {
+  const around = value.Paren || value.TsSatisfies;
+  const asserted = value.TsAs || value.TsTypeAssertion;
+  return around ? assertedType(around.expr) : asserted ? asserted.type_ann : null;
 }
 
 /** The type that the only return of a function or an arrow asserts, where that is its last statement; else null. */
-function typeNamedBy(node) {
-  const stmts = stmtsOf(node.body && (node.body.BlockStmt || node.body));
+function typeNamedBy(/** @type {forms.Part} */ node) {
+  const body = /** @type {forms.Part | null | undefined} */ (node.body);
+  const stmts = stmtsOf(body && /** @type {forms.BlockStmt} */ (body.BlockStmt || body));
   const last = stmts[stmts.length - 1];
   if (node.is_generator || !last || !last.Return || !last.Return.arg || countReturns(stmts) !== 1) return null;
   return assertedType(last.Return.arg);
@@ -47,17 +60,25 @@ function typeNamedBy(node) {
 
 const NAMING_RETURN = /"Return":\{"span":\[\d+,\d+\],"arg":\{"(?!This")/;
 
-const mayNameReturns = ({ Esm }) => Boolean(Esm) && NAMING_RETURN.test(Esm.source.text);
+const mayNameReturns = (/** @type {RequestModule[1]} */ { Esm }) => Boolean(Esm && NAMING_RETURN.test(textOf(Esm.source)));
 
 /** A tree whose returned values name no type. */
-function withoutNames(key, value) {
+function withoutNames(/** @type {string} */ key, /** @type {forms.Part & { span: forms.Span }} */ value) {
   return key === 'Return' && value.arg ? { ...value, arg: { This: { span: value.span } } } : value;
 }
 
-/** A request in which no body names its return type by its only return; null where none may. */
-function withoutNamedReturns(request) {
+/**
+ * A request in which no body names its return type by its only return; null where none may.
+ *
+ * @returns {Request | null}
+ */
+function withoutNamedReturns(/** @type {Request} */ request) {
   if (!request.modules.some(([, module]) => mayNameReturns(module))) return null;
-  const less = (module) => (mayNameReturns(module) ? { Esm: { ...module.Esm, source: new JsonText(JSON.stringify(JSON.parse(module.Esm.source.text, withoutNames))) } } : module);
+  /** @type {(module: RequestModule[1]) => RequestModule[1]} */
+  const less = (module) => {
+    const { Esm: it } = module;
+    return it && mayNameReturns(module) ? { Esm: { ...it, source: new JsonText(JSON.stringify(JSON.parse(textOf(it.source), withoutNames))) } } : module;
+  };
   return { ...request, modules: request.modules.map(([name, module]) => [name, less(module)]) };
 }
 

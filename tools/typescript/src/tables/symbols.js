@@ -6,64 +6,92 @@ const deps = require('./dependencies.js');
 const { saysExports } = require('./ambient.js');
 const { fillClass, fillInterface } = require('./members.js');
 
+/** @typedef {import('../package/types').Module} Module */
+/** @typedef {import('./types').OwnTables} OwnTables */
+/** @typedef {import('./types').GrowingSymbol} GrowingSymbol */
+/** @typedef {import('./types').Dep} Dep */
+/** @typedef {import('./types').Dependency} Dependency */
+/** @typedef {import('./types').Identifier} Identifier */
+/** @typedef {import('./types').Flags} Flags */
+/** @typedef {import('./types').Kind} Kind */
+/** @typedef {import('./dependencies.js').Dependencies} Dependencies */
+/** @typedef {import('./types').Binds} Binds */
+/** @typedef {import('./types').Bound} Bound */
+
 const { Dependencies } = deps;
+
+const { variantOf } = require('../tree/walk.js');
 
 const VALUE = { value: true };
 const TYPE = { type_: true };
 const BOTH = { value: true, type_: true };
+/** @type {forms.Span} */
+const NOWHERE = [0, 0];
 
 class Tables {
-  constructor(specifier, isAmbient, unresolved) {
+  constructor(/** @type {string} */ specifier, /** @type {boolean} */ isAmbient, /** @type {number} */ unresolved) {
     this.specifier = specifier;
     this.isAmbient = isAmbient;
     this.unresolved = unresolved;
+    /** @type {GrowingSymbol[]} */
     this.symbols = [{ id: 0, exports: new Map(), members: [], decls: [] }];
+    /** @type {Map<string, GrowingSymbol>} */
     this.byIdent = new Map();
+    /** @type {Map<string, Identifier>} */
     this.idents = new Map();
+    /** @type {[forms.Span, string][]} */
     this.reExportsOfAll = [];
+    /** @type {Set<GrowingSymbol>} */
     this.functions = new Set();
   }
 
-  newSymbol(parent, name, qualified) {
+  /** @returns {GrowingSymbol} */
+  newSymbol(/** @type {GrowingSymbol} */ parent, /** @type {string | undefined} */ name, /** @type {string | undefined} */ qualified) {
+    /** @type {GrowingSymbol} */
     const symbol = { id: this.symbols.length, parent_id: parent.id, maybe_name: name, exports: new Map(), members: [], decls: [] };
     symbol.qualified_name = qualified;
     this.symbols.push(symbol);
     return symbol;
   }
 
-  bind(ident, symbol) {
+  bind(/** @type {Bound} */ ident, /** @type {GrowingSymbol} */ symbol) {
     const key = `${ident.ctxt} ${ident.sym}`;
     this.byIdent.set(key, symbol);
-    this.idents.set(key, [ident.sym, ident.ctxt]);
+    this.idents.set(key, [ident.sym, ident.ctxt || 0]);
   }
 
-  /** The symbol that an identifier binds, made at its first declaration. */
-  symbolOf(ident, parent) {
+  /**
+   * The symbol that an identifier binds, made at its first declaration.
+   *
+   * @returns {GrowingSymbol}
+   */
+  symbolOf(/** @type {Bound} */ ident, /** @type {GrowingSymbol} */ parent) {
     let symbol = this.byIdent.get(`${ident.ctxt} ${ident.sym}`);
     if (!symbol) {
       symbol = this.newSymbol(parent, ident.sym, qualify(parent, ident.sym));
-      symbol.ident = [ident.sym, ident.ctxt];
+      symbol.ident = [ident.sym, ident.ctxt || 0];
       this.bind(ident, symbol);
     }
     return symbol;
   }
 
   /** An identifier that a namespace exports: one of that name which another block of the namespace exports has the same symbol. */
-  join(ident, namespace) {
+  join(/** @type {Bound} */ ident, /** @type {GrowingSymbol} */ namespace) {
     const before = namespace.exports.get(ident.sym);
     if (before !== undefined) this.bind(ident, this.symbols[before]);
   }
 
   /** The symbol of what is exported as default without a name, as overloads of a function. */
-  unnamedDefault(parent) {
+  unnamedDefault(/** @type {GrowingSymbol} */ parent) {
     if (!parent.unnamed) Object.defineProperty(parent, 'unnamed', { value: this.newSymbol(parent, 'default', qualify(parent, 'default')) });
-    return parent.unnamed;
+    return /** @type {GrowingSymbol} */ (parent.unnamed);
   }
 
   /** Exports a symbol as default. Beside another one, as a function beside an interface, both stand behind one symbol. */
-  exportDefault(parent, symbol) {
-    const before = this.symbols[parent.exports.get('default')];
-    if (!before || before === symbol) {
+  exportDefault(/** @type {GrowingSymbol} */ parent, /** @type {GrowingSymbol} */ symbol) {
+    const known = parent.exports.get('default');
+    const before = known === undefined ? symbol : this.symbols[known];
+    if (before === symbol) {
       parent.exports.set('default', symbol.id);
       return;
     }
@@ -77,7 +105,7 @@ class Tables {
   }
 
   /** A declaration with its own text, and what that refers to by a call. */
-  define(symbol, range, namespaces, flags, follow, marks = {}) {
+  define(/** @type {GrowingSymbol} */ symbol, /** @type {forms.Span} */ range, /** @type {Binds} */ namespaces, /** @type {Flags} */ flags, /** @type {(d: Dependencies) => void} */ follow, marks = {}) {
     const d = this.dependencies();
     follow(d);
     const node = { ...flags, deps: d.list() };
@@ -86,19 +114,22 @@ class Tables {
     return decl;
   }
 
-  alias(symbol, range, kind) {
+  alias(/** @type {GrowingSymbol} */ symbol, /** @type {forms.Span} */ range, /** @type {Kind} */ kind) {
     symbol.decls.push({ range, ...BOTH, kind });
   }
 }
 
-function qualify(parent, name) {
+function qualify(/** @type {GrowingSymbol} */ parent, /** @type {string} */ name) {
   return parent.qualified_name === undefined || parent.qualified_name === null ? name : `${parent.qualified_name}.${name}`;
 }
 
-/** The identifiers that a pattern binds. */
-function boundBy(choice) {
-  const [variant] = Object.keys(choice);
-  const node = choice[variant];
+/**
+ * The identifiers that a pattern binds.
+ *
+ * @returns {forms.Ident[]}
+ */
+function boundBy(/** @type {forms.Pat} */ choice) {
+  const [variant, node] = variantOf(choice);
   switch (variant) {
     case 'Ident':
       return [node.id];
@@ -115,38 +146,48 @@ function boundBy(choice) {
   }
 }
 
-/** The identifiers that a declaration declares. */
-function declaredBy(choice) {
-  const [node] = Object.values(choice);
+/**
+ * The identifiers that a declaration declares.
+ *
+ * @returns {forms.Ident[]}
+ */
+function declaredBy(/** @type {forms.Decl} */ choice) {
+  /** @type {forms.Part} */
+  const node = variantOf(choice)[1];
   if (node.decls) return node.decls.flatMap((it) => boundBy(it.name));
-  const ident = node.ident || (node.id && (node.id.Ident || node.id));
+  const ident = /** @type {forms.Ident | null | undefined} */ (node.ident || (node.id && ('Ident' in node.id ? node.id.Ident : node.id)));
   return ident && ident.ctxt ? [ident] : [];
 }
 
 // ---- declarations; each answers the symbols that it declares
 
-function isFunctionValue(choice) {
+function isFunctionValue(/** @type {forms.Expr | null | undefined} */ choice) {
   let at = choice;
   while (at && at.Paren) at = at.Paren.expr;
   return Boolean(at && (at.Arrow || at.Fn));
 }
 
-function variables(t, node, parent, flags) {
+/** @returns {GrowingSymbol[]} */
+function variables(/** @type {Tables} */ t, /** @type {forms.VarDecl | forms.UsingDecl} */ node, /** @type {GrowingSymbol} */ parent, /** @type {Flags} */ flags) {
   const made = [];
   for (const it of node.decls || []) {
-    const annotation = Object.values(it.name)[0].type_ann;
+    const { type_ann: annotation } = /** @type {{ type_ann?: forms.TsTypeAnn | null }} */ (variantOf(it.name)[1]);
     for (const ident of boundBy(it.name)) {
       const symbol = t.symbolOf(ident, parent);
       t.define(symbol, it.span, VALUE, flags, (d) => deps.typeOrValue(d, annotation, it.init));
-      if (!annotation && node.kind === 'Const' && isFunctionValue(it.init)) t.functions.add(symbol);
+      if (!annotation && 'kind' in node && node.kind === 'Const' && isFunctionValue(it.init)) t.functions.add(symbol);
       made.push(symbol);
     }
   }
   return made;
 }
 
-/** A declared function. Overloads are reported when all of them are known. */
-function functionDeclaration(t, ident, node, range, parent, flags) {
+/**
+ * A declared function. Overloads are reported when all of them are known.
+ *
+ * @returns {GrowingSymbol}
+ */
+function functionDeclaration(/** @type {Tables} */ t, /** @type {forms.Ident | null | undefined} */ ident, /** @type {forms.Function} */ node, /** @type {forms.Span} */ range, /** @type {GrowingSymbol} */ parent, /** @type {Flags} */ flags) {
   const symbol = ident ? t.symbolOf(ident, parent) : t.unnamedDefault(parent);
   const marks = { has_body: Boolean(node.body) };
   t.define(symbol, range, VALUE, { ...flags, is_function: true }, (d) => deps.signature(d, node), marks);
@@ -154,7 +195,8 @@ function functionDeclaration(t, ident, node, range, parent, flags) {
   return symbol;
 }
 
-function classDeclaration(t, ident, node, range, parent, flags, isAmbient) {
+/** @returns {GrowingSymbol} */
+function classDeclaration(/** @type {Tables} */ t, /** @type {forms.Ident | null | undefined} */ ident, /** @type {forms.Class} */ node, /** @type {forms.Span} */ range, /** @type {GrowingSymbol} */ parent, /** @type {Flags} */ flags, /** @type {boolean} */ isAmbient) {
   const symbol = ident ? t.symbolOf(ident, parent) : t.unnamedDefault(parent);
   const decl = t.define(symbol, range, BOTH, { ...flags, is_class: true }, (d) => {
     deps.walk(d, node.type_params);
@@ -165,7 +207,8 @@ function classDeclaration(t, ident, node, range, parent, flags, isAmbient) {
   return symbol;
 }
 
-function interfaceDeclaration(t, node, range, parent, flags) {
+/** @returns {GrowingSymbol} */
+function interfaceDeclaration(/** @type {Tables} */ t, /** @type {forms.TsInterfaceDecl} */ node, /** @type {forms.Span} */ range, /** @type {GrowingSymbol} */ parent, /** @type {Flags} */ flags) {
   const symbol = t.symbolOf(node.id, parent);
   t.define(symbol, range, TYPE, flags, (d) => {
     deps.walk(d, node.type_params);
@@ -175,7 +218,8 @@ function interfaceDeclaration(t, node, range, parent, flags) {
   return symbol;
 }
 
-function typeAlias(t, node, range, parent, flags) {
+/** @returns {GrowingSymbol} */
+function typeAlias(/** @type {Tables} */ t, /** @type {forms.TsTypeAliasDecl} */ node, /** @type {forms.Span} */ range, /** @type {GrowingSymbol} */ parent, /** @type {Flags} */ flags) {
   const symbol = t.symbolOf(node.id, parent);
   t.define(symbol, range, TYPE, flags, (d) => {
     deps.walk(d, node.type_params);
@@ -184,8 +228,12 @@ function typeAlias(t, node, range, parent, flags) {
   return symbol;
 }
 
-/** An enum, whose members are exports of it. */
-function enumDeclaration(t, node, range, parent, flags) {
+/**
+ * An enum, whose members are exports of it.
+ *
+ * @returns {GrowingSymbol}
+ */
+function enumDeclaration(/** @type {Tables} */ t, /** @type {forms.TsEnumDecl} */ node, /** @type {forms.Span} */ range, /** @type {GrowingSymbol} */ parent, /** @type {Flags} */ flags) {
   const symbol = t.symbolOf(node.id, parent);
   t.define(symbol, range, BOTH, flags, (d) => {
     for (const it of node.members || []) if (it.init) deps.walk(d, it.init);
@@ -201,7 +249,8 @@ function enumDeclaration(t, node, range, parent, flags) {
   return symbol;
 }
 
-function namespaceDeclaration(t, node, range, parent, flags, isAmbient) {
+/** @returns {GrowingSymbol | null} */
+function namespaceDeclaration(/** @type {Tables} */ t, /** @type {forms.TsModuleDecl} */ node, /** @type {forms.Span} */ range, /** @type {GrowingSymbol} */ parent, /** @type {Flags} */ flags, /** @type {boolean} */ isAmbient) {
   if (node.global || !node.id.Ident || !node.body) return null;
   const inside = isAmbient || Boolean(node.declare);
   const symbol = t.symbolOf(node.id.Ident, parent);
@@ -210,7 +259,7 @@ function namespaceDeclaration(t, node, range, parent, flags, isAmbient) {
   return symbol;
 }
 
-function namespaceBody(t, symbol, body, isAmbient) {
+function namespaceBody(/** @type {Tables} */ t, /** @type {GrowingSymbol} */ symbol, /** @type {forms.TsNamespaceBody} */ body, /** @type {boolean} */ isAmbient) {
   if (body.TsModuleBlock) {
     items(t, body.TsModuleBlock.body || [], symbol, isAmbient);
     return;
@@ -223,12 +272,15 @@ function namespaceBody(t, symbol, body, isAmbient) {
   namespaceBody(t, inner, node.body, isAmbient);
 }
 
-/** Fills in a declaration. `range` is that of its export, if it has one. */
-function declaration(t, choice, parent, isAmbient, exportRange) {
-  const [variant] = Object.keys(choice);
-  const node = choice[variant];
+/**
+ * Fills in a declaration. `range` is that of its export, if it has one.
+ *
+ * @returns {GrowingSymbol[]}
+ */
+function declaration(/** @type {Tables} */ t, /** @type {forms.Decl} */ choice, /** @type {GrowingSymbol} */ parent, /** @type {boolean} */ isAmbient, /** @type {forms.Span | undefined} */ exportRange) {
+  const [variant, node] = variantOf(choice);
   const flags = exportRange ? { has_export_keyword: true } : {};
-  const range = exportRange || node.span;
+  const range = exportRange || ('span' in node ? node.span : NOWHERE);
   switch (variant) {
     case 'Var':
     case 'Using':
@@ -256,57 +308,60 @@ function declaration(t, choice, parent, isAmbient, exportRange) {
 
 // ---- imports and exports
 
-function exportedText(choice) {
+function exportedText(/** @type {forms.ModuleExportName} */ choice) {
   return choice.Str ? choice.Str.value : choice.Ident.sym;
 }
 
-function fileRef(specifier, name) {
+/** @returns {Kind} */
+function fileRef(/** @type {string} */ specifier, /** @type {string | null} */ name) {
   return { FileRef: { specifier, name: name === null ? 'Star' : { Name: name } } };
 }
 
-function importDeclaration(t, node, parent) {
+function importDeclaration(/** @type {Tables} */ t, /** @type {forms.ImportDecl} */ node, /** @type {GrowingSymbol} */ parent) {
   for (const it of node.specifiers || []) {
-    const [variant] = Object.keys(it);
-    const { span, local, imported } = it[variant];
-    const names = { Default: 'default', Namespace: null, Named: imported ? exportedText(imported) : local.sym };
-    t.alias(t.symbolOf(local, parent), span, fileRef(node.src.value, names[variant]));
+    const { span, local } = variantOf(it)[1];
+    const named = it.Named && (it.Named.imported ? exportedText(it.Named.imported) : local.sym);
+    t.alias(t.symbolOf(local, parent), span, fileRef(node.src.value, it.Default ? 'default' : named || null));
   }
 }
 
-function exportNamed(t, node, parent) {
+function exportNamed(/** @type {Tables} */ t, /** @type {forms.NamedExport} */ node, /** @type {GrowingSymbol} */ parent) {
   for (const it of node.specifiers || []) {
-    const { span, name, orig, exported } = it.Namespace || it.Named;
-    const shown = exportedText(name || exported || orig);
+    const [whole, named] = [it.Namespace, it.Named];
+    const each = whole || named;
+    if (!each) continue;
+    const name = 'name' in each ? each.name : each.exported || each.orig;
+    const shown = exportedText(name);
     const symbol = t.newSymbol(parent, shown, qualify(parent, shown));
-    if (node.src) t.alias(symbol, span, fileRef(node.src.value, name ? null : exportedText(orig)));
-    else t.alias(symbol, span, { Target: [orig.Ident.sym, orig.Ident.ctxt || 0] });
+    const { span } = each;
+    if (node.src) t.alias(symbol, span, fileRef(node.src.value, named ? exportedText(named.orig) : null));
+    else if (named && named.orig.Ident) t.alias(symbol, span, { Target: [named.orig.Ident.sym, named.orig.Ident.ctxt || 0] });
     parent.exports.set(shown, symbol.id);
   }
 }
 
-function importEquals(t, node, parent) {
+function importEquals(/** @type {Tables} */ t, /** @type {forms.TsImportEqualsDecl} */ node, /** @type {GrowingSymbol} */ parent) {
   const symbol = t.symbolOf(node.id, parent);
   const { TsEntityName, TsExternalModuleRef } = node.module_ref;
   if (TsExternalModuleRef) {
     t.alias(symbol, node.span, fileRef(TsExternalModuleRef.expr.value, null));
   } else {
     const { first, parts } = deps.entityParts(TsEntityName);
+    /** @type {Identifier} */
     const id = [first.sym, first.ctxt || 0];
     t.alias(symbol, node.span, parts.length ? { QualifiedTarget: [id, parts] } : { Target: id });
   }
   if (node.is_export) parent.exports.set(node.id.sym, symbol.id);
 }
 
-function defaultDeclaration(t, node, parent) {
+function defaultDeclaration(/** @type {Tables} */ t, /** @type {forms.ExportDefaultDecl} */ node, /** @type {GrowingSymbol} */ parent) {
   const { Class, Fn, TsInterfaceDecl } = node.decl;
-  let symbol = null;
-  if (Class) symbol = classDeclaration(t, Class.ident, Class.class, node.span, parent, {}, false);
-  else if (Fn) symbol = functionDeclaration(t, Fn.ident, Fn.function, node.span, parent, {});
-  else symbol = interfaceDeclaration(t, TsInterfaceDecl, node.span, parent, {});
-  t.exportDefault(parent, symbol);
+  if (Class) t.exportDefault(parent, classDeclaration(t, Class.ident, Class.class, node.span, parent, {}, false));
+  else if (Fn) t.exportDefault(parent, functionDeclaration(t, Fn.ident, Fn.function, node.span, parent, {}));
+  else if (TsInterfaceDecl) t.exportDefault(parent, interfaceDeclaration(t, TsInterfaceDecl, node.span, parent, {}));
 }
 
-function defaultExpression(t, node, parent) {
+function defaultExpression(/** @type {Tables} */ t, /** @type {forms.ExportDefaultExpr} */ node, /** @type {GrowingSymbol} */ parent) {
   const symbol = t.unnamedDefault(parent);
   if (node.expr.Ident) t.alias(symbol, node.span, { Target: [node.expr.Ident.sym, node.expr.Ident.ctxt || 0] });
   else {
@@ -316,17 +371,18 @@ function defaultExpression(t, node, parent) {
   t.exportDefault(parent, symbol);
 }
 
+/** @type {{ [V in keyof forms.ModuleDeclVariants]?: (t: Tables, node: forms.ModuleDeclVariants[V], parent: GrowingSymbol) => unknown }} */
 const MODULE_DECLARATIONS = {
   Import: importDeclaration,
   ExportDecl: () => {},
   ExportNamed: exportNamed,
   ExportDefaultDecl: defaultDeclaration,
   ExportDefaultExpr: defaultExpression,
-  ExportAll: (t, node) => t.reExportsOfAll.push([node.span, node.src.value]),
+  ExportAll: (/** @type {Tables} */ t, node) => t.reExportsOfAll.push([node.span, node.src.value]),
   TsImportEquals: importEquals,
 };
 
-function items(t, list, parent, isAmbient) {
+function items(/** @type {Tables} */ t, /** @type {forms.ModuleItem[]} */ list, /** @type {GrowingSymbol} */ parent, /** @type {boolean} */ isAmbient) {
   const isAllExported = isAmbient && !saysExports(list);
   for (const it of list) {
     const exported = it.ModuleDecl && it.ModuleDecl.ExportDecl;
@@ -334,18 +390,18 @@ function items(t, list, parent, isAmbient) {
     if (decl) {
       if ((exported || isAllExported) && parent.id) for (const ident of declaredBy(decl)) t.join(ident, parent);
       const made = declaration(t, decl, parent, isAmbient, exported && exported.span);
-      if (exported || isAllExported) for (const symbol of made) parent.exports.set(symbol.maybe_name, symbol.id);
+      if (exported || isAllExported) for (const symbol of made) parent.exports.set(symbol.maybe_name || '', symbol.id);
     } else if (it.ModuleDecl) {
-      const [variant] = Object.keys(it.ModuleDecl);
-      const fill = MODULE_DECLARATIONS[variant];
-      if (fill) fill(t, it.ModuleDecl[variant], parent);
+      const [variant, node] = variantOf(it.ModuleDecl);
+      const fill = /** @type {((t: Tables, node: object, parent: GrowingSymbol) => unknown) | undefined} */ (MODULE_DECLARATIONS[variant]);
+      if (fill) fill(t, node, parent);
     }
   }
   for (const it of list) if (it.Stmt && it.Stmt.Expr) expando(t, it.Stmt.Expr.expr);
 }
 
 /** A property that is assigned to a function, `object.name = value;`, is an export of the function. */
-function expando(t, choice) {
+function expando(/** @type {Tables} */ t, /** @type {forms.Expr} */ choice) {
   const node = choice.Assign;
   if (!node || node.op !== '=') return;
   const target = node.left.Simple && node.left.Simple.Member;
@@ -361,27 +417,31 @@ function expando(t, choice) {
 
 // ---- the finished tables
 
-function markOverloads(symbol) {
+function markOverloads(/** @type {GrowingSymbol} */ symbol) {
   const functions = symbol.decls.filter((it) => it.has_body !== undefined);
   const isOverloaded = functions.length > 1;
   for (const it of functions) it.has_overloads = isOverloaded;
 }
 
 /** The symbol of an id, or undefined. */
-function symbolOfId(t, id) {
+function symbolOfId(/** @type {Tables} */ t, /** @type {Identifier} */ id) {
   return t.byIdent.get(`${id[1]} ${id[0]}`);
 }
 
-/** Whether whoever reaches a symbol by its value has its type too: a class, whose interface of the same name adds members to it, or an alias of one. */
-function isClass(t, symbol, seen = new Set()) {
+/**
+ * Whether whoever reaches a symbol by its value has its type too: a class, whose interface of the same name adds members to it, or an alias of one.
+ *
+ * @returns {boolean}
+ */
+function isClass(/** @type {Tables} */ t, /** @type {GrowingSymbol | undefined} */ symbol, seen = new Set()) {
   if (!symbol || seen.has(symbol)) return false;
   seen.add(symbol);
   return symbol.decls.some(({ kind }) => (kind.Definition ? kind.Definition.is_class : kind.Target && isClass(t, symbolOfId(t, kind.Target), seen)));
 }
 
 /** Dependencies on what has no symbol, as a type parameter, ask for nothing. Those on the value of a class ask for its type too. */
-function pruned(t, list) {
-  const idOf = (dep) => dep.Id || (dep.QualifiedId && dep.QualifiedId[0]);
+function pruned(/** @type {Tables} */ t, /** @type {Dependency[]} */ list) {
+  const idOf = (/** @type {Dep} */ dep) => dep.Id || (dep.QualifiedId && dep.QualifiedId[0]);
   const made = t.dependencies();
   for (const [dep, namespace] of list) {
     const id = idOf(dep);
@@ -392,26 +452,28 @@ function pruned(t, list) {
 }
 
 /** What the blocks of an enum refer to: whoever asks for a member has all of them. */
-function depsOfEnum(symbol) {
+function depsOfEnum(/** @type {GrowingSymbol} */ symbol) {
   return symbol.decls.flatMap((it) => (it.kind.Definition && it.kind.Definition.deps) || []);
 }
 
-function finished(t, symbol) {
+/** @returns {import('./types').Symbol} */
+function finished(/** @type {Tables} */ t, /** @type {GrowingSymbol} */ symbol) {
   markOverloads(symbol);
   for (const it of symbol.decls) {
     const node = it.kind.Definition;
-    if (node) node.deps = pruned(t, symbol.enum ? depsOfEnum(symbol.enum) : node.deps);
+    if (node) node.deps = pruned(t, symbol.enum ? depsOfEnum(symbol.enum) : node.deps || []);
   }
   const { ident, exports, enum: around, ...rest } = symbol;
+  /** @type {import('./types').Symbol} */
   const made = { ...rest, exports: [...exports] };
-  if (made.members.length === 0) delete made.members;
-  if (made.exports.length === 0) delete made.exports;
+  if (rest.members.length === 0) delete made.members;
+  if (exports.size === 0) delete made.exports;
   if (made.qualified_name === undefined) delete made.qualified_name;
   return made;
 }
 
 /** An alias of a name that nothing in the module binds leads nowhere. */
-function withoutTargets(t, symbol) {
+function withoutTargets(/** @type {Tables} */ t, /** @type {GrowingSymbol} */ symbol) {
   return symbol.decls.some((it) => {
     const id = it.kind.Target || (it.kind.QualifiedTarget && it.kind.QualifiedTarget[0]);
     return id && !symbolOfId(t, id);
@@ -422,24 +484,31 @@ function withoutTargets(t, symbol) {
  * The tables of a module without `resolved_exports`, which other modules decide: see `World`.
  *
  * `module` has `specifier`, `isDeclaration` and `tree`, as `toTree` makes it.
+ *
+ * @returns {OwnTables}
  */
-function ownTables(module, unresolved = 1) {
+function ownTables(/** @type {Module} */ module, unresolved = 1) {
   const t = new Tables(module.specifier, module.isDeclaration, unresolved);
-  const { Module, Script } = module.tree.program;
-  const body = Module ? Module.body || [] : (Script.body || []).map((Stmt) => ({ Stmt }));
+  const { Module, Script } = /** @type {forms.Program} */ (module.tree.program);
+  const body = Script ? (Script.body || []).map((Stmt) => ({ Stmt })) : Module.body || [];
   items(t, body, t.symbols[0], Boolean(Module) && module.isDeclaration);
   const symbols = t.symbols.map((it) => finished(t, it));
   return {
     module_symbol: 0,
     symbols,
-    swc_ids: [...t.byIdent].map(([key, it]) => [t.idents.get(key), it.id]),
+    swc_ids: [...t.byIdent].map(([key, it]) => [/** @type {Identifier} */ (t.idents.get(key)), it.id]),
     re_export_all_nodes: t.reExportsOfAll,
     unbound: t.symbols.filter((it) => withoutTargets(t, it)).map((it) => it.maybe_name),
   };
 }
 
-/** The tables of a module of JSON: its value is the default export. */
-function jsonTables(length) {
+/**
+ * The tables of a module of JSON: its value is the default export.
+ *
+ * @returns {OwnTables}
+ */
+function jsonTables(/** @type {number} */ length) {
+  /** @type {import('./types').Declaration} */
   const decl = { range: [1, length + 1], ...BOTH, kind: { Definition: null } };
   return {
     module_symbol: 0,
@@ -453,34 +522,35 @@ function jsonTables(length) {
 /** The modules around a module: which names each answers, also by its re-exports of all. */
 class World {
   /** `resolve` leads from a specifier and a source text to a specifier, or to nothing. */
-  constructor(resolve) {
+  constructor(/** @type {(from: string, text: string) => string | null | undefined} */ resolve) {
     this.resolve = resolve;
+    /** @type {Map<string, OwnTables>} */
     this.tables = new Map();
+    /** @type {Map<string, Set<string>>} */
     this.answered = new Map();
   }
 
-  add(specifier, tables) {
+  add(/** @type {string} */ specifier, /** @type {OwnTables} */ tables) {
     this.tables.set(specifier, tables);
   }
 
   /** The names that a module exports itself. */
-  ownNames(specifier) {
+  ownNames(/** @type {string} */ specifier) {
     const tables = this.tables.get(specifier);
     return tables ? (tables.symbols[0].exports || []).map(([name]) => name) : [];
   }
 
-  targets(specifier) {
+  targets(/** @type {string} */ specifier) {
     const tables = this.tables.get(specifier);
     const sources = tables ? (tables.re_export_all_nodes || []).map(([, source]) => source) : [];
-    return sources.map((it) => this.resolve(specifier, it)).filter(Boolean);
+    return sources.flatMap((it) => this.resolve(specifier, it) || []);
   }
 
   /** Whether re-exports of all lead from a module to another one. */
-  leads(from, to) {
+  leads(/** @type {string} */ from, /** @type {string} */ to) {
     const seen = new Set();
     const waiting = [from];
-    while (waiting.length) {
-      const next = waiting.pop();
+    for (let next = waiting.pop(); next !== undefined; next = waiting.pop()) {
       if (next === to) return true;
       if (seen.has(next)) continue;
       seen.add(next);
@@ -493,26 +563,26 @@ class World {
    * The re-exports of all of a module. Since the first one that answers a name is followed, those that lead back to the module
    * come last: else a name that stands outside of a circle might be looked for round and round in it.
    */
-  reExports(specifier) {
-    const { re_export_all_nodes: nodes } = this.tables.get(specifier);
-    const back = (it) => {
+  reExports(/** @type {string} */ specifier) {
+    const tables = this.tables.get(specifier);
+    const nodes = (tables && tables.re_export_all_nodes) || [];
+    const back = (/** @type {[forms.Span, string]} */ it) => {
       const target = this.resolve(specifier, it[1]);
-      return Boolean(target) && this.leads(target, specifier);
+      return Boolean(target && this.leads(target, specifier));
     };
     if (nodes.length < 2) return nodes;
-    const known = nodes.map((it) => [it, back(it)]);
-    return [...known.filter(([, isBack]) => !isBack), ...known.filter(([, isBack]) => isBack)].map(([it]) => it);
+    const isBack = nodes.map(back);
+    return [...nodes.filter((_, at) => !isBack[at]), ...nodes.filter((_, at) => isBack[at])];
   }
 
   /** All names that a module answers. */
-  names(specifier) {
+  names(/** @type {string} */ specifier) {
     const known = this.answered.get(specifier);
     if (known) return known;
     const found = new Set(this.ownNames(specifier));
     const seen = new Set([specifier]);
     const waiting = this.targets(specifier);
-    while (waiting.length) {
-      const next = waiting.pop();
+    for (let next = waiting.pop(); next !== undefined; next = waiting.pop()) {
       if (seen.has(next)) continue;
       seen.add(next);
       for (const name of this.ownNames(next)) if (name !== 'default') found.add(name);
@@ -523,11 +593,15 @@ class World {
   }
 }
 
-/** The tables of a module among the modules around it, all of which `world` knows. */
-function tablesOf(module, world) {
-  const { unbound, ...tables } = world.tables.get(module.specifier);
-  const resolved = [...world.names(module.specifier)].map((name) => [name, module.specifier]);
+/**
+ * The tables of a module among the modules around it, all of which `world` knows.
+ *
+ * @returns {import('./types').ModuleTables}
+ */
+function tablesOf(/** @type {Module} */ module, /** @type {World} */ world) {
+  const { unbound, ...tables } = /** @type {OwnTables} */ (world.tables.get(module.specifier));
+  const resolved = [...world.names(module.specifier)].map((name) => /** @type {[string, string]} */ ([name, module.specifier]));
   return { ...tables, re_export_all_nodes: world.reExports(module.specifier), resolved_exports: resolved };
 }
 
-module.exports = { ownTables, jsonTables, tablesOf, World };
+module.exports = { Tables, World, jsonTables, ownTables, tablesOf };

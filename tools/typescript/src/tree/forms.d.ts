@@ -1,5 +1,8 @@
 // Written by forms/write.py from forms/forms.txt.
 
+// JSDoc names these types as `forms.Ident`.
+export as namespace forms;
+
 /** A range: where it begins and ends, as swc's positions. */
 export type Span = [start: number, end: number];
 
@@ -1218,7 +1221,7 @@ export interface TsTypeAnn {
   type_ann: TsType;
 }
 
-export type Lit = OneOf<{
+export interface LitVariants {
   Str: Str;
   Bool: Bool;
   Null: Null;
@@ -1226,19 +1229,22 @@ export type Lit = OneOf<{
   BigInt: BigInt;
   Regex: Regex;
   JSXText: JSXText;
-}>;
+}
+export type Lit = OneOf<LitVariants>;
 
-export type Program = OneOf<{
+export interface ProgramVariants {
   Module: Module;
   Script: Script;
-}>;
+}
+export type Program = OneOf<ProgramVariants>;
 
-export type ModuleItem = OneOf<{
+export interface ModuleItemVariants {
   ModuleDecl: ModuleDecl;
   Stmt: Stmt;
-}>;
+}
+export type ModuleItem = OneOf<ModuleItemVariants>;
 
-export type ModuleDecl = OneOf<{
+export interface ModuleDeclVariants {
   Import: ImportDecl;
   ExportDecl: ExportDecl;
   ExportNamed: NamedExport;
@@ -1248,37 +1254,43 @@ export type ModuleDecl = OneOf<{
   TsImportEquals: TsImportEqualsDecl;
   TsExportAssignment: TsExportAssignment;
   TsNamespaceExport: TsNamespaceExportDecl;
-}>;
+}
+export type ModuleDecl = OneOf<ModuleDeclVariants>;
 
-export type ImportSpecifier = OneOf<{
+export interface ImportSpecifierVariants {
   Named: ImportNamedSpecifier;
   Default: ImportDefaultSpecifier;
   Namespace: ImportStarAsSpecifier;
-}>;
+}
+export type ImportSpecifier = OneOf<ImportSpecifierVariants>;
 
-export type ExportSpecifier = OneOf<{
+export interface ExportSpecifierVariants {
   Namespace: ExportNamespaceSpecifier;
   Default: ExportDefaultSpecifier;
   Named: ExportNamedSpecifier;
-}>;
+}
+export type ExportSpecifier = OneOf<ExportSpecifierVariants>;
 
-export type ModuleExportName = OneOf<{
+export interface ModuleExportNameVariants {
   Ident: Ident;
   Str: Str;
-}>;
+}
+export type ModuleExportName = OneOf<ModuleExportNameVariants>;
 
-export type DefaultDecl = OneOf<{
+export interface DefaultDeclVariants {
   Class: ClassExpr;
   Fn: FnExpr;
   TsInterfaceDecl: TsInterfaceDecl;
-}>;
+}
+export type DefaultDecl = OneOf<DefaultDeclVariants>;
 
-export type TsModuleRef = OneOf<{
+export interface TsModuleRefVariants {
   TsEntityName: TsEntityName;
   TsExternalModuleRef: TsExternalModuleRef;
-}>;
+}
+export type TsModuleRef = OneOf<TsModuleRefVariants>;
 
-export type Stmt = OneOf<{
+export interface StmtVariants {
   Block: BlockStmt;
   Empty: EmptyStmt;
   Debugger: DebuggerStmt;
@@ -1298,20 +1310,23 @@ export type Stmt = OneOf<{
   ForOf: ForOfStmt;
   Decl: Decl;
   Expr: ExprStmt;
-}>;
+}
+export type Stmt = OneOf<StmtVariants>;
 
-export type VarDeclOrExpr = OneOf<{
+export interface VarDeclOrExprVariants {
   VarDecl: VarDecl;
   Expr: Expr;
-}>;
+}
+export type VarDeclOrExpr = OneOf<VarDeclOrExprVariants>;
 
-export type ForHead = OneOf<{
+export interface ForHeadVariants {
   VarDecl: VarDecl;
   UsingDecl: UsingDecl;
   Pat: Pat;
-}>;
+}
+export type ForHead = OneOf<ForHeadVariants>;
 
-export type Decl = OneOf<{
+export interface DeclVariants {
   Class: ClassDecl;
   Fn: FnDecl;
   Var: VarDecl;
@@ -1320,24 +1335,28 @@ export type Decl = OneOf<{
   TsTypeAlias: TsTypeAliasDecl;
   TsEnum: TsEnumDecl;
   TsModule: TsModuleDecl;
-}>;
+}
+export type Decl = OneOf<DeclVariants>;
 
-export type TsEnumMemberId = OneOf<{
+export interface TsEnumMemberIdVariants {
   Ident: Ident;
   Str: Str;
-}>;
+}
+export type TsEnumMemberId = OneOf<TsEnumMemberIdVariants>;
 
-export type TsModuleName = OneOf<{
+export interface TsModuleNameVariants {
   Ident: Ident;
   Str: Str;
-}>;
+}
+export type TsModuleName = OneOf<TsModuleNameVariants>;
 
-export type TsNamespaceBody = OneOf<{
+export interface TsNamespaceBodyVariants {
   TsModuleBlock: TsModuleBlock;
   TsNamespaceDecl: TsNamespaceDecl;
-}>;
+}
+export type TsNamespaceBody = OneOf<TsNamespaceBodyVariants>;
 
-export type Expr = OneOf<{
+export interface ExprVariants {
   This: ThisExpr;
   Array: ArrayLit;
   Object: ObjectLit;
@@ -1376,58 +1395,67 @@ export type Expr = OneOf<{
   PrivateName: PrivateName;
   OptChain: OptChainExpr;
   Invalid: Invalid;
-}>;
+}
+export type Expr = OneOf<ExprVariants>;
 
-export type BlockStmtOrExpr = OneOf<{
+export interface BlockStmtOrExprVariants {
   BlockStmt: BlockStmt;
   Expr: Expr;
-}>;
+}
+export type BlockStmtOrExpr = OneOf<BlockStmtOrExprVariants>;
 
-export type OptChainBase = OneOf<{
+export interface OptChainBaseVariants {
   Member: MemberExpr;
   Call: OptCall;
-}>;
+}
+export type OptChainBase = OneOf<OptChainBaseVariants>;
 
-export type PropOrSpread = OneOf<{
+export interface PropOrSpreadVariants {
   Spread: SpreadElement;
   Prop: Prop;
-}>;
+}
+export type PropOrSpread = OneOf<PropOrSpreadVariants>;
 
-export type Prop = OneOf<{
+export interface PropVariants {
   Shorthand: Ident;
   KeyValue: KeyValueProp;
   Assign: AssignProp;
   Getter: GetterProp;
   Setter: SetterProp;
   Method: MethodProp;
-}>;
+}
+export type Prop = OneOf<PropVariants>;
 
-export type PropName = OneOf<{
+export interface PropNameVariants {
   Ident: IdentName;
   Str: Str;
   Num: Number;
   Computed: ComputedPropName;
   BigInt: BigInt;
-}>;
+}
+export type PropName = OneOf<PropNameVariants>;
 
-export type MemberProp = OneOf<{
+export interface MemberPropVariants {
   Ident: IdentName;
   PrivateName: PrivateName;
   Computed: ComputedPropName;
-}>;
+}
+export type MemberProp = OneOf<MemberPropVariants>;
 
-export type Callee = OneOf<{
+export interface CalleeVariants {
   Super: Super;
   Import: Import;
   Expr: Expr;
-}>;
+}
+export type Callee = OneOf<CalleeVariants>;
 
-export type AssignTarget = OneOf<{
+export interface AssignTargetVariants {
   Simple: Expr;
   Pat: Pat;
-}>;
+}
+export type AssignTarget = OneOf<AssignTargetVariants>;
 
-export type Pat = OneOf<{
+export interface PatVariants {
   Ident: BindingIdent;
   Array: ArrayPat;
   Rest: RestPat;
@@ -1435,15 +1463,17 @@ export type Pat = OneOf<{
   Assign: AssignPat;
   Invalid: Invalid;
   Expr: Expr;
-}>;
+}
+export type Pat = OneOf<PatVariants>;
 
-export type ObjectPatProp = OneOf<{
+export interface ObjectPatPropVariants {
   KeyValue: KeyValuePatProp;
   Assign: AssignPatProp;
   Rest: RestPat;
-}>;
+}
+export type ObjectPatProp = OneOf<ObjectPatPropVariants>;
 
-export type ClassMember = OneOf<{
+export interface ClassMemberVariants {
   Constructor: Constructor;
   Method: ClassMethod;
   PrivateMethod: PrivateMethod;
@@ -1453,24 +1483,28 @@ export type ClassMember = OneOf<{
   Empty: EmptyStmt;
   StaticBlock: StaticBlock;
   AutoAccessor: AutoAccessor;
-}>;
+}
+export type ClassMember = OneOf<ClassMemberVariants>;
 
-export type Key = OneOf<{
+export interface KeyVariants {
   Private: PrivateName;
   Public: PropName;
-}>;
+}
+export type Key = OneOf<KeyVariants>;
 
-export type ParamOrTsParamProp = OneOf<{
+export interface ParamOrTsParamPropVariants {
   Param: Param;
   TsParamProp: TsParamProp;
-}>;
+}
+export type ParamOrTsParamProp = OneOf<ParamOrTsParamPropVariants>;
 
-export type TsParamPropParam = OneOf<{
+export interface TsParamPropParamVariants {
   Ident: BindingIdent;
   Assign: AssignPat;
-}>;
+}
+export type TsParamPropParam = OneOf<TsParamPropParamVariants>;
 
-export type TsType = OneOf<{
+export interface TsTypeVariants {
   TsKeywordType: TsKeywordType;
   TsThisType: TsThisType;
   TsFnOrConstructorType: TsFnOrConstructorType;
@@ -1491,42 +1525,49 @@ export type TsType = OneOf<{
   TsLitType: TsLitType;
   TsTypePredicate: TsTypePredicate;
   TsImportType: TsImportType;
-}>;
+}
+export type TsType = OneOf<TsTypeVariants>;
 
-export type TsFnOrConstructorType = OneOf<{
+export interface TsFnOrConstructorTypeVariants {
   TsFnType: TsFnType;
   TsConstructorType: TsConstructorType;
-}>;
+}
+export type TsFnOrConstructorType = OneOf<TsFnOrConstructorTypeVariants>;
 
-export type TsTypeQueryExpr = OneOf<{
+export interface TsTypeQueryExprVariants {
   TsEntityName: TsEntityName;
   Import: TsImportType;
-}>;
+}
+export type TsTypeQueryExpr = OneOf<TsTypeQueryExprVariants>;
 
-export type TsUnionOrIntersectionType = OneOf<{
+export interface TsUnionOrIntersectionTypeVariants {
   TsUnionType: TsUnionType;
   TsIntersectionType: TsIntersectionType;
-}>;
+}
+export type TsUnionOrIntersectionType = OneOf<TsUnionOrIntersectionTypeVariants>;
 
-export type TsLit = OneOf<{
+export interface TsLitVariants {
   Number: Number;
   Str: Str;
   Bool: Bool;
   BigInt: BigInt;
   Tpl: TsTplLitType;
-}>;
+}
+export type TsLit = OneOf<TsLitVariants>;
 
-export type TsThisTypeOrIdent = OneOf<{
+export interface TsThisTypeOrIdentVariants {
   TsThisType: TsThisType;
   Ident: Ident;
-}>;
+}
+export type TsThisTypeOrIdent = OneOf<TsThisTypeOrIdentVariants>;
 
-export type TsEntityName = OneOf<{
+export interface TsEntityNameVariants {
   TsQualifiedName: TsQualifiedName;
   Ident: Ident;
-}>;
+}
+export type TsEntityName = OneOf<TsEntityNameVariants>;
 
-export type TsTypeElement = OneOf<{
+export interface TsTypeElementVariants {
   TsCallSignatureDecl: TsCallSignatureDecl;
   TsConstructSignatureDecl: TsConstructSignatureDecl;
   TsPropertySignature: TsPropertySignature;
@@ -1534,7 +1575,276 @@ export type TsTypeElement = OneOf<{
   TsSetterSignature: TsSetterSignature;
   TsMethodSignature: TsMethodSignature;
   TsIndexSignature: TsIndexSignature;
-}>;
+}
+export type TsTypeElement = OneOf<TsTypeElementVariants>;
+
+/** Any part of a tree, of which nothing more is known: each has some of these members. */
+export type Part = {
+  Array?: ArrayLit | ArrayPat;
+  Arrow?: ArrowExpr;
+  Assign?: AssignExpr | AssignProp | AssignPat | AssignPatProp;
+  AutoAccessor?: AutoAccessor;
+  Await?: AwaitExpr;
+  BigInt?: BigInt;
+  Bin?: BinExpr;
+  Block?: BlockStmt;
+  BlockStmt?: BlockStmt;
+  Bool?: Bool;
+  Break?: BreakStmt;
+  Call?: CallExpr | OptCall;
+  Class?: ClassExpr | ClassDecl;
+  ClassProp?: ClassProp;
+  Computed?: ComputedPropName;
+  Cond?: CondExpr;
+  Constructor?: Constructor;
+  Continue?: ContinueStmt;
+  Debugger?: DebuggerStmt;
+  Decl?: Decl;
+  Default?: ImportDefaultSpecifier | ExportDefaultSpecifier;
+  DoWhile?: DoWhileStmt;
+  Empty?: EmptyStmt;
+  ExportAll?: ExportAll;
+  ExportDecl?: ExportDecl;
+  ExportDefaultDecl?: ExportDefaultDecl;
+  ExportDefaultExpr?: ExportDefaultExpr;
+  ExportNamed?: NamedExport;
+  Expr?: ExprStmt | Expr;
+  Fn?: FnExpr | FnDecl;
+  For?: ForStmt;
+  ForIn?: ForInStmt;
+  ForOf?: ForOfStmt;
+  Getter?: GetterProp;
+  Ident?: Ident | IdentName | BindingIdent;
+  If?: IfStmt;
+  Import?: ImportDecl | Import | TsImportType;
+  Invalid?: Invalid;
+  JSXElement?: JSXElement;
+  JSXEmpty?: JSXEmpty;
+  JSXFragment?: JSXFragment;
+  JSXMember?: JSXMember;
+  JSXNamespacedName?: JSXNamespacedName;
+  JSXText?: JSXText;
+  KeyValue?: KeyValueProp | KeyValuePatProp;
+  Labeled?: LabeledStmt;
+  Lit?: Lit;
+  Member?: MemberExpr;
+  MetaProp?: MetaPropExpr;
+  Method?: MethodProp | ClassMethod;
+  Module?: Module;
+  ModuleDecl?: ModuleDecl;
+  Named?: ImportNamedSpecifier | ExportNamedSpecifier;
+  Namespace?: ImportStarAsSpecifier | ExportNamespaceSpecifier;
+  New?: NewExpr;
+  Null?: Null;
+  Num?: Number;
+  Number?: Number;
+  Object?: ObjectLit | ObjectPat;
+  OptChain?: OptChainExpr;
+  Param?: Param;
+  Paren?: ParenExpr;
+  Pat?: Pat;
+  Private?: PrivateName;
+  PrivateMethod?: PrivateMethod;
+  PrivateName?: PrivateName;
+  PrivateProp?: PrivateProp;
+  Prop?: Prop;
+  Public?: PropName;
+  Regex?: Regex;
+  Rest?: RestPat;
+  Return?: ReturnStmt;
+  Script?: Script;
+  Seq?: SeqExpr;
+  Setter?: SetterProp;
+  Shorthand?: Ident;
+  Simple?: Expr;
+  Spread?: SpreadElement;
+  StaticBlock?: StaticBlock;
+  Stmt?: Stmt;
+  Str?: Str;
+  Super?: Super;
+  SuperProp?: SuperPropExpr;
+  Switch?: SwitchStmt;
+  TaggedTpl?: TaggedTpl;
+  This?: ThisExpr;
+  Throw?: ThrowStmt;
+  Tpl?: Tpl | TsTplLitType;
+  Try?: TryStmt;
+  TsArrayType?: TsArrayType;
+  TsAs?: TsAsExpr;
+  TsCallSignatureDecl?: TsCallSignatureDecl;
+  TsConditionalType?: TsConditionalType;
+  TsConstAssertion?: TsConstAssertion;
+  TsConstructSignatureDecl?: TsConstructSignatureDecl;
+  TsConstructorType?: TsConstructorType;
+  TsEntityName?: TsEntityName;
+  TsEnum?: TsEnumDecl;
+  TsExportAssignment?: TsExportAssignment;
+  TsExternalModuleRef?: TsExternalModuleRef;
+  TsFnOrConstructorType?: TsFnOrConstructorType;
+  TsFnType?: TsFnType;
+  TsGetterSignature?: TsGetterSignature;
+  TsImportEquals?: TsImportEqualsDecl;
+  TsImportType?: TsImportType;
+  TsIndexSignature?: TsIndexSignature;
+  TsIndexedAccessType?: TsIndexedAccessType;
+  TsInferType?: TsInferType;
+  TsInstantiation?: TsInstantiation;
+  TsInterface?: TsInterfaceDecl;
+  TsInterfaceDecl?: TsInterfaceDecl;
+  TsIntersectionType?: TsIntersectionType;
+  TsKeywordType?: TsKeywordType;
+  TsLitType?: TsLitType;
+  TsMappedType?: TsMappedType;
+  TsMethodSignature?: TsMethodSignature;
+  TsModule?: TsModuleDecl;
+  TsModuleBlock?: TsModuleBlock;
+  TsNamespaceDecl?: TsNamespaceDecl;
+  TsNamespaceExport?: TsNamespaceExportDecl;
+  TsNonNull?: TsNonNullExpr;
+  TsOptionalType?: TsOptionalType;
+  TsParamProp?: TsParamProp;
+  TsParenthesizedType?: TsParenthesizedType;
+  TsPropertySignature?: TsPropertySignature;
+  TsQualifiedName?: TsQualifiedName;
+  TsRestType?: TsRestType;
+  TsSatisfies?: TsSatisfiesExpr;
+  TsSetterSignature?: TsSetterSignature;
+  TsThisType?: TsThisType;
+  TsTupleType?: TsTupleType;
+  TsTypeAlias?: TsTypeAliasDecl;
+  TsTypeAssertion?: TsTypeAssertion;
+  TsTypeLit?: TsTypeLit;
+  TsTypeOperator?: TsTypeOperator;
+  TsTypePredicate?: TsTypePredicate;
+  TsTypeQuery?: TsTypeQuery;
+  TsTypeRef?: TsTypeRef;
+  TsUnionOrIntersectionType?: TsUnionOrIntersectionType;
+  TsUnionType?: TsUnionType;
+  Unary?: UnaryExpr;
+  Update?: UpdateExpr;
+  Using?: UsingDecl;
+  UsingDecl?: UsingDecl;
+  Var?: VarDecl;
+  VarDecl?: VarDecl;
+  While?: WhileStmt;
+  With?: WithStmt;
+  Yield?: YieldExpr;
+  accessibility?: Accessibility | null;
+  alt?: Stmt | null | Expr;
+  arg?: Expr | null | Expr | Pat | Str;
+  args?: ExprOrSpread[] | ExprOrSpread[] | null;
+  asserts?: boolean;
+  base?: OptChainBase;
+  block?: BlockStmt;
+  body?: ModuleItem[] | Stmt[] | Stmt | BlockStmt | TsInterfaceBody | TsTypeElement[] | TsNamespaceBody | null | TsNamespaceBody | BlockStmtOrExpr | BlockStmt | null | ClassMember[];
+  callee?: Callee | Expr;
+  cases?: SwitchCase[];
+  check_type?: TsType;
+  class?: Class;
+  computed?: boolean;
+  cons?: Stmt | Stmt[] | Expr;
+  constraint?: TsType | null;
+  cooked?: string | null;
+  ctxt?: number;
+  decl?: Decl | DefaultDecl;
+  declare?: boolean;
+  decls?: VarDeclarator[];
+  decorators?: Decorator[];
+  default?: TsType | null;
+  definite?: boolean;
+  delegate?: boolean;
+  discriminant?: Expr;
+  dot3_token?: Span;
+  elem_type?: TsType;
+  elem_types?: TsTupleElement[];
+  elems?: (ExprOrSpread | null)[] | (Pat | null)[];
+  exp?: string;
+  exported?: Ident | ModuleExportName | null;
+  expr?: Expr | Str;
+  expr_name?: TsTypeQueryExpr;
+  exprs?: Expr[];
+  extends?: TsExprWithTypeArgs[];
+  extends_type?: TsType;
+  false_type?: TsType;
+  finalizer?: BlockStmt | null;
+  flags?: string;
+  function?: Function;
+  global?: boolean;
+  handler?: CatchClause | null;
+  id?: Ident | TsEnumMemberId | TsModuleName;
+  ident?: Ident | Ident | null;
+  implements?: TsExprWithTypeArgs[];
+  imported?: ModuleExportName | null;
+  index_type?: TsType;
+  init?: VarDeclOrExpr | null | Expr | null;
+  is_abstract?: boolean;
+  is_async?: boolean;
+  is_await?: boolean;
+  is_const?: boolean;
+  is_export?: boolean;
+  is_generator?: boolean;
+  is_in?: boolean;
+  is_optional?: boolean;
+  is_out?: boolean;
+  is_override?: boolean;
+  is_static?: boolean;
+  is_type_only?: boolean;
+  key?: PropName | Ident | BindingIdent | PrivateName | Key | Expr;
+  kind?: VarDeclKind | string | MethodKind | TsKeywordTypeKind;
+  label?: Ident | Ident | null | Pat | null;
+  left?: ForHead | Expr | AssignTarget | Pat | TsEntityName;
+  lit?: TsLit;
+  local?: Ident;
+  members?: TsEnumMember[] | TsTypeElement[];
+  module_ref?: TsModuleRef;
+  name?: string | ModuleExportName | Pat | Ident;
+  name_type?: TsType | null;
+  namespace?: boolean;
+  obj?: Expr;
+  obj_type?: TsType;
+  op?: string | TsTypeOperatorOp;
+  optional?: boolean | string | null;
+  orig?: ModuleExportName;
+  param?: Pat | null | Pat | TsParamPropParam;
+  param_name?: TsThisTypeOrIdent;
+  params?: Pat[] | Param[] | ParamOrTsParamProp[] | TsTypeParam[] | TsType[];
+  pat?: Pat;
+  phase?: string;
+  prefix?: boolean;
+  prop?: MemberProp;
+  props?: PropOrSpread[] | ObjectPatProp[];
+  qualifier?: TsEntityName | null;
+  quasis?: TplElement[];
+  raw?: string | null | string;
+  readonly?: boolean | string | null;
+  return_type?: TsTypeAnn | null;
+  right?: Expr | IdentName;
+  shebang?: string | null;
+  span?: Span;
+  specifiers?: ImportSpecifier[] | ExportSpecifier[];
+  spread?: Span | null;
+  src?: Str | Str | null;
+  stmts?: Stmt[];
+  super_class?: Expr | null;
+  super_type_params?: TsTypeParamInstantiation | null;
+  sym?: string;
+  tag?: Expr;
+  tail?: boolean;
+  test?: Expr | Expr | null;
+  tpl?: Tpl;
+  true_type?: TsType;
+  ty?: TsType;
+  type_ann?: TsTypeAnn | null | TsType | TsTypeAnn | TsType | null;
+  type_args?: TsTypeParamInstantiation | null | TsTypeParamInstantiation;
+  type_name?: TsEntityName;
+  type_only?: boolean;
+  type_param?: TsTypeParam;
+  type_params?: TsTypeParamDecl | null | TsTypeParamInstantiation | null;
+  types?: TsType[];
+  update?: Expr | null;
+  value?: string | boolean | Expr | Pat | Expr | null;
+  with?: ObjectLit | null;
+};
 
 export type VarDeclKind = 'Var' | 'Let' | 'Const';
 export type MethodKind = 'Method' | 'Getter' | 'Setter';

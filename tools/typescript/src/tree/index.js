@@ -6,26 +6,31 @@ const { Converter, form, TOP, UNRESOLVED } = require('./from-typescript/converte
 const { items } = require('./from-typescript/declarations.js');
 const { commentsOf } = require('./from-typescript/comments.js');
 
+/** @typedef {import('./types').TreeOptions} TreeOptions */
+/** @typedef {import('./offsets.js').Offsets} Offsets */
+
 const { SyntaxKind: K } = ts;
 
 /** Whether a file is a module: it imports, exports, is a namespace to others, or has `import.meta` or an `await` that stands in no function. */
-function isModule(sourceFile) {
+function isModule(/** @type {ts.SourceFile} */ sourceFile) {
   if (sourceFile.externalModuleIndicator) return true;
   if (sourceFile.statements.some((it) => it.kind === K.ImportEqualsDeclaration || it.kind === K.NamespaceExportDeclaration)) return true;
   return hasTopLevelAwait(sourceFile);
 }
 
-function hasTopLevelAwait(sourceFile) {
+function hasTopLevelAwait(/** @type {ts.SourceFile} */ sourceFile) {
   if (!/\bawait\b/.test(sourceFile.text)) return false;
+  /** @type {(node: ts.Node) => boolean} */
   const find = (node) => {
     if (ts.isFunctionLike(node) || ts.isClassLike(node)) return false;
-    if (node.kind === K.AwaitExpression || (node.kind === K.ForOfStatement && node.awaitModifier)) return true;
+    if (ts.isAwaitExpression(node) || (ts.isForOfStatement(node) && node.awaitModifier)) return true;
     return ts.forEachChild(node, find) || false;
   };
   return find(sourceFile);
 }
 
-function syntaxErrors(sourceFile, offsets) {
+/** @returns {import('./types').TreeError[]} */
+function syntaxErrors(/** @type {ts.SourceFile} */ sourceFile, /** @type {Offsets} */ offsets) {
   return (sourceFile.parseDiagnostics || []).map((it) => ({
     offset: it.start,
     position: offsets.of(it.start),
@@ -33,13 +38,15 @@ function syntaxErrors(sourceFile, offsets) {
   }));
 }
 
-function programOf(c, sourceFile) {
+/** @returns {forms.Program} */
+function programOf(/** @type {Converter} */ c, /** @type {ts.SourceFile} */ sourceFile) {
   const { statements, text } = sourceFile;
   const made = items(c, statements);
+  /** @type {forms.Span} */
   const span = statements.length ? c.range(c.start(statements[0]), statements[statements.length - 1].end) : [1, 1];
   const shebang = text.startsWith('#!') ? text.slice(2, text.search(/[\r\n]|$/)) : null;
   if (isModule(sourceFile)) return { Module: form({ span, body: made, shebang }) };
-  return { Script: form({ span, body: made.map((it) => it.Stmt), shebang }) };
+  return { Script: form({ span, body: made.flatMap((it) => it.Stmt || []), shebang }) };
 }
 
 /**
@@ -49,8 +56,10 @@ function programOf(c, sourceFile) {
  * statements that declare and assign nothing. Without it the tree holds the whole text. Under the `rules` of deno nothing names the type of a body.
  *
  * `errors` are the parser's, and the forms that the program's tree does not have, each with its place; `faults` what is wrong with forms that are read.
+ *
+ * @returns {import('./types').Tree}
  */
-function toTree(sourceFile, options = {}) {
+function toTree(/** @type {ts.SourceFile} */ sourceFile, /** @type {TreeOptions} */ options = {}) {
   const c = new Converter(sourceFile, options);
   const errors = syntaxErrors(sourceFile, c.offsets);
   const nothing = { program: null, comments: { leading: [], trailing: [] }, offsets: c.offsets, faults: [] };
@@ -74,9 +83,13 @@ function toTree(sourceFile, options = {}) {
   };
 }
 
+// No tree has what comments say by tags; a newer compiler does not read it then.
+const { JSDocParsingMode: MODES } = /** @type {{ JSDocParsingMode?: { ParseNone: number } }} */ (ts);
+const PARSED = { languageVersion: ts.ScriptTarget.ESNext, ...(MODES && { jsDocParsingMode: MODES.ParseNone }) };
+
 /** Parses a text as the compiler does a file of that name. */
-function parse(name, text) {
-  return ts.createSourceFile(name, text, ts.ScriptTarget.ESNext, true);
+function parse(/** @type {string} */ name, /** @type {string} */ text) {
+  return ts.createSourceFile(name, text, PARSED, true);
 }
 
 module.exports = { toTree, parse, isModule };

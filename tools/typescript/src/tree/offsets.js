@@ -2,7 +2,7 @@
 // Positions as the program counts them: the byte offset in the text's UTF-8, plus 1.
 
 /** How many bytes of UTF-8 the code unit at `at` brings; of a surrogate pair the first one brings all four. */
-function bytesOf(text, at) {
+function bytesOf(/** @type {string} */ text, /** @type {number} */ at) {
   const unit = text.charCodeAt(at);
   if (unit < 0x80) return 1;
   if (unit < 0x800) return 2;
@@ -16,7 +16,7 @@ function bytesOf(text, at) {
 
 /** Leads from offsets in a text (code units, as TypeScript counts) to positions, and back. */
 class Offsets {
-  constructor(text) {
+  constructor(/** @type {string} */ text) {
     this.text = text;
     this.places = null;
     // eslint-disable-next-line no-control-regex
@@ -32,12 +32,12 @@ class Offsets {
   }
 
   /** The position of an offset. */
-  of(offset) {
+  of(/** @type {number} */ offset) {
     return this.places ? this.places[offset] : offset + 1;
   }
 
   /** The offset of a position. */
-  offsetOf(position) {
+  offsetOf(/** @type {number} */ position) {
     if (!this.places) return position - 1;
     let low = 0;
     let high = this.text.length;

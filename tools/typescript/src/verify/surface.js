@@ -3,12 +3,16 @@
 // Nothing here knows a rule of fast check.
 
 const path = require('path');
+const { hasModifier, modifiersOf } = require('../compiler/modifiers.js');
 const { rewritten } = require('../compiler/rewrite.js');
 const { ts } = require('../compiler/typescript.js');
-const { resolver } = require('../skeleton/reasons.js');
+const { resolver } = require('../skeleton/modules.js');
 
 const { SyntaxKind: K } = ts;
 
+/** @typedef {Parameters<typeof resolver>[0] & { files: Map<string, { specifier: string, path: string }>, info: { jsonModules?: { specifier: string, path: string }[] } }} ResolvedWorld */
+
+/** @type {ts.CompilerOptions} */
 const OPTIONS = {
   declaration: true,
   emitDeclarationOnly: true,
@@ -30,11 +34,12 @@ const OPTIONS = {
 };
 
 const LIBRARIES = path.dirname(ts.getDefaultLibFilePath(OPTIONS));
+/** @type {Map<string, ts.SourceFile | undefined>} */
 const libraries = new Map();
 const ENDINGS = ['', '.ts', '.tsx', '.d.ts', '.mts', '.d.mts', '.cts', '.d.cts', '.json', '/index.ts', '/index.tsx', '/index.d.ts'];
 
 /** Where a relative text leads among the texts. */
-function resolveIn(texts, from, text) {
+function resolveIn(/** @type {Map<string, string>} */ texts, /** @type {string} */ from, /** @type {string} */ text) {
   if (!/^\.{1,2}(\/|$)/.test(text)) return undefined;
   const wanted = path.resolve(path.dirname(from), text);
   const stems = [wanted, wanted.replace(/\.[cm]?jsx?$/, ''), wanted.replace(/\.([cm]?)tsx?$/, '.d.$1ts'), wanted.replace(/\.[cm]?tsx?$/, '')];
@@ -45,11 +50,12 @@ function resolveIn(texts, from, text) {
   return undefined;
 }
 
-function extensionOf(name) {
-  return /\.d\.[cm]?ts$|\.[a-z]+$/.exec(name)[0];
+function extensionOf(/** @type {string} */ name) {
+  return (/\.d\.[cm]?ts$|\.[a-z]+$/.exec(name) || [''])[0];
 }
 
-function hostOf(texts, resolve) {
+/** @returns {ts.CompilerHost} */
+function hostOf(/** @type {Map<string, string>} */ texts, /** @type {(from: string, text: string) => string | undefined} */ resolve) {
   const base = ts.createCompilerHost(OPTIONS, true);
   return {
     ...base,
@@ -57,7 +63,8 @@ function hostOf(texts, resolve) {
     readFile: (name) => texts.get(name),
     directoryExists: () => true,
     getSourceFile(name, target) {
-      if (texts.has(name)) return ts.createSourceFile(name, texts.get(name), target, true);
+      const text = texts.get(name);
+      if (text !== undefined) return ts.createSourceFile(name, text, target, true);
       // What a comment refers to is not read.
       if (path.dirname(name) !== LIBRARIES) return undefined;
       if (!libraries.has(name)) libraries.set(name, base.getSourceFile(name, target));
@@ -65,14 +72,14 @@ function hostOf(texts, resolve) {
     },
     resolveModuleNames: (names, from) => names.map((text) => {
       const found = resolve(from, text);
-      return found && { resolvedFileName: found, extension: extensionOf(found), isExternalLibraryImport: false };
+      return found ? { resolvedFileName: found, extension: extensionOf(found), isExternalLibraryImport: false } : undefined;
     }),
     resolveTypeReferenceDirectives: (names) => names.map(() => undefined),
   };
 }
 
 /** A compiler's program over texts by their paths. */
-function programOf(texts, resolve) {
+function programOf(/** @type {Map<string, string>} */ texts, /** @type {(from: string, text: string) => string | undefined} */ resolve) {
   const roots = [...texts.keys()].filter((it) => !it.endsWith('.json'));
   return ts.createProgram(roots, OPTIONS, hostOf(texts, resolve));
 }
@@ -87,13 +94,15 @@ function takeLooseTypes() {
 /**
  * The declarations that the compiler emits of the texts that are wanted, by their paths; declaration files are their own.
  *
- * @param {any} program
+ * @param {ts.Program} program
  * @param {Map<string, string>} texts
- * @param {(name: string) => boolean} isWanted
+ * @param {(name: string) => boolean} [isWanted]
+ * @returns {Map<string, string>}
  */
 function emitted(program, texts, isWanted = () => true) {
+  /** @type {Map<string, string>} */
   const made = new Map();
-  const write = (name, text) => made.set(name, text);
+  const write = (/** @type {string} */ name, /** @type {string} */ text) => made.set(name, text);
   for (const [name, text] of texts) {
     if (/\.d\.[cm]?ts$/.test(name)) made.set(name, text);
     // File by file: of all at once the compiler checks those too that are not wanted.
@@ -104,31 +113,43 @@ function emitted(program, texts, isWanted = () => true) {
 
 // ---- declarations in one form
 
-const isPrivate = (node) => node.name.kind === K.PrivateIdentifier || (node.modifiers || []).some((it) => it.kind === K.PrivateKeyword);
+const isPrivate = (/** @type {ts.ClassElement} */ node) => Boolean(node.name && ts.isPrivateIdentifier(node.name)) || hasModifier(node, K.PrivateKeyword);
 
 const PRINTER = ts.createPrinter({ removeComments: true, omitTrailingSemicolon: true });
 
-/** The members of a union, each once, in the order of their texts. */
-function unionOf(types, file) {
-  const members = types.flatMap((it) => (it.kind === K.UnionType ? [...it.types] : [it]));
+/**
+ * The members of a union, each once, in the order of their texts.
+ *
+ * @returns {ts.TypeNode}
+ */
+function unionOf(/** @type {readonly ts.TypeNode[]} */ types, /** @type {ts.SourceFile} */ file) {
+  const members = types.flatMap((it) => (ts.isUnionTypeNode(it) ? [...it.types] : [it]));
   const byText = new Map(members.map((it) => [PRINTER.printNode(ts.EmitHint.Unspecified, it, file), it]));
   const sorted = [...byText].sort(([a], [b]) => (a < b ? -1 : 1)).map(([, it]) => it);
   return sorted.length === 1 ? sorted[0] : ts.factory.createUnionTypeNode(sorted);
 }
 
-/** `T[]` for `Array<T>`, and so on. */
-function arrayOf(node) {
+/**
+ * `T[]` for `Array<T>`, and so on.
+ *
+ * @returns {ts.TypeNode}
+ */
+function arrayOf(/** @type {ts.TypeReferenceNode} */ node) {
   const [element, ...more] = node.typeArguments || [];
-  if (!element || more.length || node.typeName.kind !== K.Identifier) return node;
+  if (!element || more.length || !ts.isIdentifier(node.typeName)) return node;
   const array = ts.factory.createArrayTypeNode(element);
   if (node.typeName.text === 'Array') return array;
   return node.typeName.text === 'ReadonlyArray' ? ts.factory.createTypeOperatorNode(K.ReadonlyKeyword, array) : node;
 }
 
-/** A statement; of one with several variables a statement for each. */
-function eachVariable(node) {
-  if (node.kind !== K.VariableStatement || node.declarationList.declarations.length < 2) return [node];
-  const list = (it) => ts.factory.createVariableDeclarationList([it], node.declarationList.flags);
+/**
+ * A statement; of one with several variables a statement for each.
+ *
+ * @returns {ts.Statement[]}
+ */
+function eachVariable(/** @type {ts.Statement} */ node) {
+  if (!ts.isVariableStatement(node) || node.declarationList.declarations.length < 2) return [node];
+  const list = (/** @type {ts.VariableDeclaration} */ it) => ts.factory.createVariableDeclarationList([it], node.declarationList.flags);
   return node.declarationList.declarations.map((it) => ts.factory.createVariableStatement(node.modifiers, list(it)));
 }
 
@@ -136,46 +157,47 @@ function eachVariable(node) {
  * A node in one form, without what says nothing in a declaration: names in patterns and types of private members, which no skeleton has, parentheses, which the
  * printer writes again where they are needed, and the order of a union.
  */
-function plainly(node) {
+function plainly(/** @type {ts.Node} */ node) {
   const file = node.getSourceFile();
   return rewritten(node, (at, visit, inside) => {
-    if (at.kind === K.ObjectBindingPattern) return ts.factory.createObjectBindingPattern([]);
-    if (at.kind === K.ArrayBindingPattern) return ts.factory.createArrayBindingPattern([]);
-    if (MEMBERS.has(at.kind) && isPrivate(at)) return withoutType(at);
-    if (ts.isParameter(at) && at.name.kind !== K.Identifier) return inside(namedParameter(at));
-    if (at.kind === K.ParenthesizedType) return visit(at.type);
+    if (ts.isObjectBindingPattern(at)) return ts.factory.createObjectBindingPattern([]);
+    if (ts.isArrayBindingPattern(at)) return ts.factory.createArrayBindingPattern([]);
+    if (isMember(at) && isPrivate(at)) return withoutType(at);
+    if (ts.isParameter(at) && !ts.isIdentifier(at.name)) return inside(namedParameter(at));
+    if (ts.isParenthesizedTypeNode(at)) return visit(at.type);
     // Names and literals by what they stand for, however they are written.
-    if (at.kind === K.Identifier) return ts.factory.createIdentifier(at.text);
-    if (at.kind === K.StringLiteral) return ts.factory.createStringLiteral(at.text);
-    if (at.kind === K.NumericLiteral) return ts.factory.createNumericLiteral(at.text);
-    if (at.kind === K.ModuleBlock) return ts.factory.createModuleBlock(at.statements.flatMap(eachVariable).map(visit));
+    if (ts.isIdentifier(at)) return ts.factory.createIdentifier(at.text);
+    if (ts.isStringLiteral(at)) return ts.factory.createStringLiteral(at.text);
+    if (ts.isNumericLiteral(at)) return ts.factory.createNumericLiteral(at.text);
+    if (ts.isModuleBlock(at)) return ts.factory.createModuleBlock(at.statements.flatMap(eachVariable).map((it) => /** @type {ts.Statement} */ (visit(it))));
     const made = inside(at);
-    if (made.kind === K.UnionType) return unionOf(made.types, file);
+    if (ts.isUnionTypeNode(made)) return unionOf(made.types, file);
     if (ts.isClassDeclaration(made)) return withoutTwice(made, file);
-    return made.kind === K.TypeReference ? arrayOf(made) : made;
+    return ts.isTypeReferenceNode(made) ? arrayOf(made) : made;
   });
 }
 
 /** A parameter that is a pattern, by a name. */
-function namedParameter(node) {
-  const name = `param${node.parent.parameters.indexOf(node)}`;
+function namedParameter(/** @type {ts.ParameterDeclaration} */ node) {
+  const name = `param${/** @type {ts.SignatureDeclaration} */ (node.parent).parameters.findIndex((it) => it === node)}`;
   return ts.factory.createParameterDeclaration(undefined, node.dotDotDotToken, name, node.questionToken, node.type);
 }
 
-const MEMBERS = new Set([K.PropertyDeclaration, K.MethodDeclaration, K.GetAccessor, K.SetAccessor]);
+/** @type {(node: ts.Node) => node is ts.PropertyDeclaration | ts.MethodDeclaration | ts.AccessorDeclaration} */
+const isMember = (node) => ts.isPropertyDeclaration(node) || ts.isMethodDeclaration(node) || ts.isAccessor(node);
 
 /** A private member as a property with its accessibility and its name alone. */
-function withoutType({ name, modifiers }) {
-  const kept = (modifiers || []).filter((it) => it.kind === K.PrivateKeyword || it.kind === K.StaticKeyword);
-  return ts.factory.createPropertyDeclaration(kept, name);
+function withoutType(/** @type {ts.PropertyDeclaration | ts.MethodDeclaration | ts.AccessorDeclaration} */ node) {
+  const kept = modifiersOf(node).filter((it) => it.kind === K.PrivateKeyword || it.kind === K.StaticKeyword);
+  return ts.factory.createPropertyDeclaration(kept, node.name, undefined, undefined, undefined);
 }
 
 /** A class in which no private member stands twice, as a getter and its setter. */
-function withoutTwice(node, file) {
+function withoutTwice(/** @type {ts.ClassDeclaration} */ node, /** @type {ts.SourceFile} */ file) {
   const seen = new Set();
   const members = node.members.filter((it) => {
     const text = PRINTER.printNode(ts.EmitHint.Unspecified, it, file);
-    const isSeen = it.kind === K.PropertyDeclaration && isPrivate(it) && seen.has(text);
+    const isSeen = ts.isPropertyDeclaration(it) && isPrivate(it) && seen.has(text);
     seen.add(text);
     return !isSeen;
   });
@@ -184,12 +206,12 @@ function withoutTwice(node, file) {
 }
 
 /** The text of a node without comments and line breaks. */
-function textOf(node) {
+function textOf(/** @type {ts.Node} */ node) {
   return PRINTER.printNode(ts.EmitHint.Unspecified, plainly(node), node.getSourceFile()).replace(/\s+/g, ' ');
 }
 
 /** Types as written, but for quotes, endings of relative sources, `x = 1` for `x: 1`, and `undefined` of what may be left out. */
-function normalise(text) {
+function normalise(/** @type {string} */ text) {
   return text
     .replace(/'((?:[^'\\"]|\\.)*)'/g, '"$1"')
     .replace(/\b((?:readonly|const) (?:[\w$]+|"[^"]*"|\[[^\]]*\])) = ("(?:[^"\\]|\\.)*"|-?[\d.]\w*|true|false)/g, '$1: $2')
@@ -205,53 +227,61 @@ function normalise(text) {
 
 // ---- the walk
 
+/** @type {(name: string, type: ts.TypeNode | undefined) => [string, ts.TypeNode | undefined]} */
+const named = (name, type) => [name, type];
+
 class Surface {
-  constructor(program, files) {
+  constructor(/** @type {ts.Program} */ program, /** @type {Set<string>} */ files) {
     this.program = program;
     this.checker = program.getTypeChecker();
     this.files = files;
+    /** @type {Set<ts.Symbol | ts.Node>} */
     this.seen = new Set();
+    /** @type {Map<string, Set<string>>} */
     this.shown = new Map();
+    /** @type {Map<string, ts.Node[]>} */
     this.nodes = new Map();
+    /** @type {Set<string>} */
     this.lost = new Set();
   }
 
-  isOurs(node) {
+  isOurs(/** @type {ts.Node} */ node) {
     return this.files.has(node.getSourceFile().fileName);
   }
 
-  keyOf(node) {
+  keyOf(/** @type {ts.Node} */ node) {
     const names = [];
-    for (let at = node; at && at.kind !== K.SourceFile; at = at.parent) {
-      if (at.name && at.kind !== K.ModuleBlock) names.unshift(at.name.kind === K.Identifier ? at.name.text : at.name.getText ? at.name.getText() : '');
+    for (let at = node; at && !ts.isSourceFile(at); at = at.parent) {
+      const { name } = /** @type {{ name?: ts.Node }} */ (at);
+      if (name && !ts.isModuleBlock(at)) names.unshift(ts.isIdentifier(name) ? name.text : name.getText());
     }
     const stem = node.getSourceFile().fileName.replace(/(\.d)?\.[cm]?tsx?$/, '');
     return `${stem}#${names.join('.') || 'default'}`;
   }
 
-  entry(name) {
+  entry(/** @type {string} */ name) {
     const file = this.program.getSourceFile(name);
     const symbol = file && this.checker.getSymbolAtLocation(file);
     if (!symbol) {
       this.lost.add(`no module ${name}`);
       return;
     }
-    this.module(symbol, name);
+    this.module(symbol);
   }
 
-  module(symbol, from) {
+  module(/** @type {ts.Symbol} */ symbol) {
     if (this.seen.has(symbol)) return;
     this.seen.add(symbol);
     const names = [];
     for (const it of this.checker.getExportsOfModule(symbol)) {
       names.push(it.name);
-      this.symbol(it, from);
+      this.symbol(it);
     }
     const file = symbol.declarations && symbol.declarations[0].getSourceFile().fileName;
     if (file) this.shown.set(`${file.replace(/(\.d)?\.[cm]?tsx?$/, '')}#*`, new Set([names.sort().join(' ')]));
   }
 
-  symbol(found, from) {
+  symbol(/** @type {ts.Symbol} */ found) {
     let symbol = found;
     if (symbol.flags & ts.SymbolFlags.Alias) {
       const target = this.checker.getAliasedSymbol(symbol);
@@ -261,8 +291,8 @@ class Surface {
     }
     if (this.seen.has(symbol)) return;
     const [first] = symbol.declarations || [];
-    if (first && first.kind === K.SourceFile) {
-      this.module(symbol, from);
+    if (first && ts.isSourceFile(first)) {
+      this.module(symbol);
       return;
     }
     this.seen.add(symbol);
@@ -270,117 +300,139 @@ class Surface {
   }
 
   /** The declaration that stands at the top of a module or a namespace around a node. */
-  outermost(node) {
+  outermost(/** @type {ts.Node} */ node) {
     let at = node;
-    while (at.parent && !(ts.isSourceFile(at.parent) || ts.isModuleBlock(at.parent) || at.kind === K.VariableDeclaration)) at = at.parent;
+    while (at.parent && !(ts.isSourceFile(at.parent) || ts.isModuleBlock(at.parent) || ts.isVariableDeclaration(at))) at = at.parent;
     return at;
   }
 
-  declaration(found) {
+  declaration(/** @type {ts.Node} */ found) {
     if (found.kind === K.TypeParameter) return;
-    const node = found.kind === K.SourceFile ? found : this.outermost(found);
-    if (node.kind === K.SourceFile || this.seen.has(node)) return;
+    const node = ts.isSourceFile(found) ? found : this.outermost(found);
+    if (ts.isSourceFile(node) || this.seen.has(node)) return;
     this.seen.add(node);
     const key = this.keyOf(node);
-    if (!this.shown.has(key)) this.shown.set(key, new Set());
+    const texts = this.shown.get(key) || new Set();
+    this.shown.set(key, texts);
     this.nodes.set(key, [...(this.nodes.get(key) || []), node]);
     const properties = this.propertiesOf(node);
     if (properties) {
       // By what each property is, however the variables behind them are named and the blocks parted.
       for (const [name, type] of properties) {
-        this.shown.get(key).add(normalise(`var ${name}: ${type ? textOf(type) : 'any'}`));
-        if (type) this.references({ type, forEachChild: (visit) => visit(type) });
+        texts.add(normalise(`var ${name}: ${type ? textOf(type) : 'any'}`));
+        if (type) this.reach(type);
       }
       return;
     }
-    this.shown.get(key).add(normalise(declarationText(node)));
+    texts.add(normalise(declarationText(node)));
     this.references(node);
   }
 
-  /** The properties of a function that a block of a namespace declares, by their names; null of another declaration. */
-  propertiesOf(node) {
-    const isOfFunction = ts.isModuleDeclaration(node) && node.body && ts.isModuleBlock(node.body) && node.symbol && node.symbol.flags & ts.SymbolFlags.Function;
-    if (!isOfFunction) return null;
+  /**
+   * The properties of a function that a block of a namespace declares, by their names; null of another declaration.
+   *
+   * @returns {[string, ts.TypeNode | undefined][] | null}
+   */
+  propertiesOf(/** @type {ts.Node} */ node) {
+    if (!ts.isModuleDeclaration(node) || !node.body || !ts.isModuleBlock(node.body)) return null;
+    const symbol = this.checker.getSymbolAtLocation(node.name);
+    if (!symbol || !(symbol.flags & ts.SymbolFlags.Function)) return null;
     const { statements } = node.body;
     if (!statements.every((it) => ts.isVariableStatement(it) || (ts.isExportDeclaration(it) && !it.moduleSpecifier && it.exportClause))) return null;
-    const lists = statements.filter(ts.isExportDeclaration).flatMap((it) => [...it.exportClause.elements]);
-    const isExported = (it) => !lists.length || (ts.getCombinedModifierFlags(it) & ts.ModifierFlags.Export) !== 0;
+    const lists = statements.flatMap((it) => (ts.isExportDeclaration(it) && it.exportClause && ts.isNamedExports(it.exportClause) ? [...it.exportClause.elements] : []));
+    const isExported = (/** @type {ts.VariableDeclaration} */ it) => !lists.length || (ts.getCombinedModifierFlags(it) & ts.ModifierFlags.Export) !== 0;
     const variables = statements.filter(ts.isVariableStatement).flatMap((it) => [...it.declarationList.declarations]).filter(isExported);
-    const target = (it) => (this.checker.getExportSpecifierLocalTargetSymbol(it) || {}).valueDeclaration || {};
-    return [...variables.map((it) => [it.name.text, it.type]), ...lists.map((it) => [it.name.text, target(it).type])];
-  }
-
-  references(node) {
-    const visit = (at) => {
-      if (at.kind === K.Identifier) this.reference(at);
-      else if (at.kind === K.QualifiedName) this.last(at, at.right);
-      else if (at.kind === K.PropertyAccessExpression) this.last(at, at.name);
-      else if (at.kind === K.ImportType) this.importType(at, visit);
-      else ts.forEachChild(at, visit);
+    const typeOf = (/** @type {ts.ExportSpecifier} */ it) => {
+      const { valueDeclaration: target } = this.checker.getExportSpecifierLocalTargetSymbol(it) || { valueDeclaration: undefined };
+      return target && ts.isVariableDeclaration(target) ? target.type : undefined;
     };
-    if (node.forEachChild) node.forEachChild(visit);
-    else ts.forEachChild(node, visit);
+    return [...variables.map((it) => named(it.name.getText(), it.type)), ...lists.map((it) => named(it.name.text, typeOf(it)))];
   }
 
-  importType(node, visit) {
-    if (node.qualifier) visit(node.qualifier);
-    else {
+  /** Follows what stands in a declaration. */
+  references(/** @type {ts.Node} */ node) {
+    ts.forEachChild(node, (it) => this.reach(it));
+  }
+
+  reach(/** @type {ts.Node} */ at) {
+    if (ts.isIdentifier(at)) this.reference(at);
+    else if (ts.isQualifiedName(at)) this.last(at, at.right);
+    else if (ts.isPropertyAccessExpression(at)) this.last(at, at.name);
+    else if (ts.isImportTypeNode(at)) this.importType(at);
+    else this.references(at);
+  }
+
+  importType(/** @type {ts.ImportTypeNode} */ node) {
+    if (node.qualifier) this.reach(node.qualifier);
+    else if (ts.isLiteralTypeNode(node.argument)) {
       const symbol = this.checker.getSymbolAtLocation(node.argument.literal);
-      if (symbol) this.symbol(symbol, node);
+      if (symbol) this.symbol(symbol);
     }
-    for (const it of node.typeArguments || []) visit(it);
+    for (const it of node.typeArguments || []) this.reach(it);
   }
 
-  last(node, name) {
+  last(/** @type {ts.Node} */ node, /** @type {ts.Node} */ name) {
     const symbol = this.checker.getSymbolAtLocation(name);
-    if (symbol && symbol.declarations) this.symbol(symbol, node);
+    if (symbol && symbol.declarations) this.symbol(symbol);
     let first = node;
-    while (first.left || first.expression) first = first.left || first.expression;
+    while (ts.isQualifiedName(first) || ts.isPropertyAccessExpression(first)) first = ts.isQualifiedName(first) ? first.left : first.expression;
     const namespace = this.checker.getSymbolAtLocation(first);
-    const isSpace = !namespace || namespace.flags & (ts.SymbolFlags.Namespace | ts.SymbolFlags.Alias);
-    if (!isSpace) this.symbol(namespace, node);
+    if (namespace && !(namespace.flags & (ts.SymbolFlags.Namespace | ts.SymbolFlags.Alias))) this.symbol(namespace);
   }
 
-  reference(node) {
+  reference(/** @type {ts.Node} */ node) {
     const symbol = this.checker.getSymbolAtLocation(node);
-    if (symbol) this.symbol(symbol, node);
+    if (symbol) this.symbol(symbol);
   }
 }
 
 /** The text of a declaration; of a variable with what it is declared by. */
-function declarationText(node) {
-  if (node.kind !== K.VariableDeclaration) return textOf(node);
+function declarationText(/** @type {ts.Node} */ node) {
+  if (!ts.isVariableDeclaration(node)) return textOf(node);
   const word = node.parent.flags & ts.NodeFlags.Const ? 'const' : node.parent.flags & ts.NodeFlags.Let ? 'let' : 'var';
   return `${word} ${textOf(node).replace(/^([\w$]+) = /, '$1: ')}`;
 }
 
 /** What the entry points of declaration files show: sets of texts by `file#name`. */
-function surfaceOf(program, texts, entries) {
+function surfaceOf(/** @type {ts.Program} */ program, /** @type {Map<string, string>} */ texts, /** @type {string[]} */ entries) {
   const surface = new Surface(program, new Set(texts.keys()));
   for (const it of entries) surface.entry(it);
   return surface;
 }
 
-/** Where the texts of imports lead among some texts: as the graph resolves them, to a module or to its declarations. */
-function resolverOf(world, texts) {
+/**
+ * Where the texts of imports lead among some texts: as the graph resolves them, to a module or to its declarations.
+ *
+ * @returns {(from: string, text: string) => string | undefined}
+ */
+function resolverOf(/** @type {ResolvedWorld} */ world, /** @type {Map<string, string>} */ texts) {
   const resolve = resolver(world);
   const known = [...world.files.values(), ...(world.info.jsonModules || [])];
   const paths = new Map(known.map((it) => [it.specifier, it.path]));
-  const specifiers = new Map(known.flatMap((it) => [[declarationName(it.path), it.specifier], [it.path, it.specifier]]));
-  return (from, text) => {
-    const to = paths.get(resolve(specifiers.get(from), text));
+  /** @type {Map<string, string>} */
+  const specifiers = new Map();
+  for (const it of known) specifiers.set(declarationName(it.path), it.specifier).set(it.path, it.specifier);
+  return (/** @type {string} */ from, /** @type {string} */ text) => {
+    const own = specifiers.get(from);
+    const target = own === undefined ? undefined : resolve(own, text);
+    const to = target === undefined ? undefined : paths.get(target);
     const names = to ? [to, declarationName(to)] : [];
     return names.find((it) => texts.has(it)) || resolveIn(texts, from, text);
   };
 }
 
 /** The name of the declarations of a module. */
-function declarationName(name) {
+function declarationName(/** @type {string} */ name) {
   return name.replace(/(\.d)?\.([cm]?)tsx?$/, '.d.$2ts');
 }
 
-/** Where two surfaces differ: the key of each declaration with the texts that the one has and the other has not. */
-function compared(source, skeleton) {
+/**
+ * Where two surfaces differ: the key of each declaration with the texts that the one has and the other has not.
+ *
+ * @returns {import('./types').SurfaceDifference[]}
+ */
+function compared(/** @type {Surface} */ source, /** @type {Surface} */ skeleton) {
+  /** @type {Set<string>} */
   const nothing = new Set();
   const keys = [...new Set([...source.shown.keys(), ...skeleton.shown.keys()])];
   return keys.map((key) => {
@@ -390,11 +442,15 @@ function compared(source, skeleton) {
   }).filter(({ missing, added }) => missing.length || added.length);
 }
 
-/** What the compiler finds wrong in a file of a program: `{code, start, end, text}`. */
-function errorsIn(program, name) {
+/**
+ * What the compiler finds wrong in a file of a program: `{code, start, end, text}`.
+ *
+ * @returns {import('./types').FoundError[]}
+ */
+function errorsIn(/** @type {ts.Program} */ program, /** @type {string} */ name) {
   const file = program.getSourceFile(name);
   const found = file ? [...program.getSyntacticDiagnostics(file), ...program.getSemanticDiagnostics(file)] : [];
-  return found.map((it) => ({ code: it.code, start: it.start, end: it.start + it.length, text: ts.flattenDiagnosticMessageText(it.messageText, ' ') }));
+  return found.map(({ start = 0, length = 0, ...it }) => ({ code: it.code, start, end: start + length, text: ts.flattenDiagnosticMessageText(it.messageText, ' ') }));
 }
 
-module.exports = { programOf, resolverOf, declarationName, emitted, surfaceOf, compared, errorsIn, normalise, takeLooseTypes, textOf };
+module.exports = { Surface, programOf, resolverOf, declarationName, emitted, surfaceOf, compared, errorsIn, normalise, takeLooseTypes, textOf };

@@ -11,22 +11,26 @@ const { AllowUniqueESSymbolType, InTypeAlias, NoTruncation, UseFullyQualifiedTyp
 const FLAGS = NoTruncation | AllowUniqueESSymbolType | InTypeAlias | UseFullyQualifiedType;
 
 class View {
-  constructor(program, file) {
+  constructor(/** @type {ts.Program} */ program, /** @type {ts.SourceFile} */ file) {
     this.checker = program.getTypeChecker();
     this.file = file;
   }
 
-  text(type) {
+  text(/** @type {ts.Type} */ type) {
     const text = this.checker.typeToString(type, undefined, FLAGS);
     return inOrder(normalise(text.replace(/import\("([^"]*\/)?([^"/]*?)(\.[cm]?js)?"\)/g, 'import("$2")')));
   }
 
-  isPrivate(symbol) {
-    return (symbol.declarations || []).some((it) => (ts.getCombinedModifierFlags(it) & ts.ModifierFlags.Private) !== 0 || (it.name && ts.isPrivateIdentifier(it.name)));
+  isPrivate(/** @type {ts.Symbol} */ symbol) {
+    return (symbol.declarations || []).some((it) => (ts.getCombinedModifierFlags(it) & ts.ModifierFlags.Private) !== 0 || (ts.isClassElement(it) && it.name !== undefined && ts.isPrivateIdentifier(it.name)));
   }
 
-  /** What a property shows: what may be done with it, and its type, of a private one its name alone. */
-  property(symbol) {
+  /**
+   * What a property shows: what may be done with it, and its type, of a private one its name alone.
+   *
+   * @returns {string[]}
+   */
+  property(/** @type {ts.Symbol} */ symbol) {
     if (this.isPrivate(symbol)) return /^__#/.test(symbol.name) ? [] : [`private ${symbol.name}`];
     const flags = (symbol.declarations || []).reduce((all, it) => all | ts.getCombinedModifierFlags(it), 0);
     const isOnlyRead = flags & ts.ModifierFlags.Readonly || (symbol.flags & S.GetAccessor && !(symbol.flags & S.SetAccessor));
@@ -35,10 +39,14 @@ class View {
     return [`${words}${symbol.name.replace(/@\d+$/, '')}${symbol.flags & S.Optional ? '?' : ''}: ${this.text(this.checker.getTypeOfSymbolAtLocation(symbol, this.file))}`];
   }
 
-  /** The members of a type: of a class, an interface, or what makes a class. */
-  members(type) {
+  /**
+   * The members of a type: of a class, an interface, or what makes a class.
+   *
+   * @returns {string[]}
+   */
+  members(/** @type {ts.Type} */ type) {
     const { checker } = this;
-    const signature = (it) => checker.signatureToString(it, undefined, FLAGS);
+    const signature = (/** @type {ts.Signature} */ it) => checker.signatureToString(it, undefined, FLAGS);
     return [
       ...checker.getPropertiesOfType(type).filter((it) => it.name !== 'prototype').flatMap((it) => this.property(it)),
       ...checker.getSignaturesOfType(type, ts.SignatureKind.Call).map((it) => inOrder(normalise(signature(it)))),
@@ -47,8 +55,12 @@ class View {
     ].sort();
   }
 
-  /** What a symbol stands for, as a type, as a value, and as a namespace. */
-  symbol(symbol, seen = new Set()) {
+  /**
+   * What a symbol stands for, as a type, as a value, and as a namespace.
+   *
+   * @returns {string[]}
+   */
+  symbol(/** @type {ts.Symbol} */ symbol, seen = new Set()) {
     const { checker } = this;
     if (seen.has(symbol)) return [];
     seen.add(symbol);
@@ -58,7 +70,7 @@ class View {
     if (symbol.flags & S.TypeAlias) found.push(`type ${this.text(checker.getDeclaredTypeOfSymbol(symbol))}`);
     if (symbol.flags & S.Enum) {
       const members = (symbol.declarations || []).filter(ts.isEnumDeclaration).flatMap((it) => [...it.members]);
-      found.push(`enum { ${members.map((it) => `${it.name.text} = ${checker.getConstantValue(it)}`).join(', ')} }`);
+      found.push(`enum { ${members.map((it) => `${/** @type {ts.Identifier} */ (it.name).text} = ${checker.getConstantValue(it)}`).join(', ')} }`);
     } else if (symbol.flags & S.Class) found.push(`class { ${this.members(checker.getTypeOfSymbolAtLocation(symbol, this.file)).join('; ')} }`);
     else if (symbol.flags & (S.Variable | S.Function)) {
       const type = checker.getTypeOfSymbolAtLocation(symbol, this.file);
@@ -72,21 +84,25 @@ class View {
   }
 }
 
-/** The names of a file that a program has, each with what it stands for. */
-function viewOf(program, name) {
-  const file = program.getSourceFile(name);
+/**
+ * The names of a file that a program has, each with what it stands for.
+ *
+ * @returns {Map<string, string>}
+ */
+function viewOf(/** @type {ts.Program} */ program, /** @type {string} */ name) {
+  const file = /** @type {ts.SourceFile} */ (program.getSourceFile(name));
   const view = new View(program, file);
   const module = view.checker.getSymbolAtLocation(file);
   const exported = module ? view.checker.getExportsOfModule(module) : [];
-  const locals = [...(file.locals || new Map())].filter(([key]) => !String(key).startsWith('__'));
+  const locals = [...(file.locals || [])].filter(([key]) => !String(key).startsWith('__'));
   const names = new Map(locals.map(([key, it]) => [`${key}`, view.symbol(it.exportSymbol || it).join('\n')]));
   names.set('(exports)', exported.map((it) => it.name).sort().join(' '));
   return names;
 }
 
 /** Where a view is another one, for the names that both have and for the exports: `[name, one, other]`. */
-function differing(one, other) {
-  return [...one].filter(([name, text]) => other.has(name) && other.get(name) !== text).map(([name, text]) => [name, text, other.get(name)]);
+function differing(/** @type {Map<string, string>} */ one, /** @type {Map<string, string>} */ other) {
+  return [...one].filter(([name, text]) => other.has(name) && other.get(name) !== text).map(([name, text]) => [name, text, /** @type {string} */ (other.get(name))]);
 }
 
 module.exports = { differing, viewOf };

@@ -3,19 +3,24 @@
 
 const { ts } = require('../../compiler/typescript.js');
 
+/** @typedef {import('../offsets.js').Offsets} Offsets */
+/** @typedef {import('../types').Comment} Comment */
+
 const { SyntaxKind: K } = ts;
+
+/** @typedef {{ kind: 'Line' | 'Block', start: number, end: number, text: string }} Scanned */
 
 const JSX = new Set([K.JsxElement, K.JsxSelfClosingElement, K.JsxFragment]);
 
-function isTemplatePiece(kind) {
+function isTemplatePiece(/** @type {ts.SyntaxKind} */ kind) {
   return kind >= K.FirstTemplateToken && kind <= K.LastTemplateToken;
 }
 
 /** The leaves whose text may look like comments: where each ends, by where it begins. */
-function opaqueLeaves(sourceFile) {
+function opaqueLeaves(/** @type {ts.SourceFile} */ sourceFile) {
   const leaves = new Map();
   const ends = new Set();
-  const visit = (node) => {
+  const visit = (/** @type {ts.Node} */ node) => {
     const { kind } = node;
     const isOpaque = kind === K.StringLiteral || kind === K.RegularExpressionLiteral || isTemplatePiece(kind) || JSX.has(kind);
     if (isOpaque) leaves.set(node.getStart(sourceFile, false), node.end);
@@ -32,13 +37,13 @@ const BLANK = /[ \t\v\f\u00a0\ufeff\u1680\u2000-\u200a\u202f\u205f\u3000\r\n\u20
 const PLAIN = /[^\s/"'`<}\u00a0\ufeff\u1680\u2000-\u200a\u2028\u2029\u202f\u205f\u3000]+/y;
 const LINE = /[^\r\n\u2028\u2029]*/y;
 
-function matchEnd(pattern, text, at) {
+function matchEnd(/** @type {RegExp} */ pattern, /** @type {string} */ text, /** @type {number} */ at) {
   pattern.lastIndex = at;
   return pattern.test(text) ? pattern.lastIndex : at;
 }
 
 /** Calls back for each comment, and for each other piece of text between blanks and comments. */
-function scan(text, leaves, onComment, onToken) {
+function scan(/** @type {string} */ text, /** @type {Map<number, number>} */ leaves, /** @type {(comment: Scanned) => void} */ onComment, /** @type {(start: number, end: number) => void} */ onToken) {
   let at = text.startsWith('#!') ? matchEnd(LINE, text, 0) : 0;
   while (at < text.length) {
     const leaf = leaves.get(at);
@@ -68,35 +73,37 @@ function scan(text, leaves, onComment, onToken) {
   }
 }
 
-function add(map, position, comment) {
+function add(/** @type {Map<number, Comment[]>} */ map, /** @type {number} */ position, /** @type {Comment} */ comment) {
   const there = map.get(position);
   if (there) there.push(comment);
   else map.set(position, [comment]);
 }
 
 /** Whether the comment stands behind the last token, rather than before the next one. */
-function trails(comment, token, text, ends) {
+function trails(/** @type {Scanned} */ comment, /** @type {{ end: number } | null} */ token, /** @type {string} */ text, /** @type {Set<number>} */ ends) {
   if (!token || /[\r\n]/.test(text.slice(token.end, comment.start))) return false;
   if (comment.kind === 'Line') return true;
   return ends.has(token.end) || '};{'.includes(text[token.end - 1]);
 }
 
 /** The comments of a file: lists of `[position, comments]`. */
-function commentsOf(sourceFile, offsets) {
+function commentsOf(/** @type {ts.SourceFile} */ sourceFile, /** @type {Offsets} */ offsets) {
   const { text } = sourceFile;
   if (!/\/[/*]/.test(text)) return { leading: [], trailing: [] };
   const { leaves, ends } = opaqueLeaves(sourceFile);
   const leading = new Map();
   const trailing = new Map();
+  /** @type {Comment[]} */
   let waiting = [];
   /** @type {{ end: number } | null} */
   let last = null;
-  const onComment = (it) => {
+  const onComment = (/** @type {Scanned} */ it) => {
+    /** @type {Comment} */
     const made = { kind: it.kind, span: [offsets.of(it.start), offsets.of(it.end)], text: it.text };
-    if (waiting.length === 0 && trails(it, last, text, ends)) add(trailing, offsets.of(last.end), made);
+    if (last && waiting.length === 0 && trails(it, last, text, ends)) add(trailing, offsets.of(last.end), made);
     else waiting.push(made);
   };
-  const onToken = (start, end) => {
+  const onToken = (/** @type {number} */ start, /** @type {number} */ end) => {
     for (const it of waiting) add(leading, offsets.of(start), it);
     waiting = [];
     last = { end };

@@ -2,48 +2,97 @@
 // What all parts of the conversion share: places, scopes, errors, and the making of forms.
 
 const { ts } = require('../../compiler/typescript.js');
+const { partsOf } = require('../walk.js');
 const { Offsets } = require('../offsets.js');
 const { Scope, bindBody, UNRESOLVED, TOP } = require('./scopes.js');
 
+/** @typedef {import('../types').TreeOptions} TreeOptions */
+
 const { SyntaxKind: K } = ts;
 
-/** A form without the members that have their defaults, which the program fills in. */
+/**
+ * Kinds that compilers have from a later version on.
+ *
+ * @type {{ AccessorKeyword?: ts.SyntaxKind, DeferKeyword?: ts.SyntaxKind, SatisfiesExpression?: ts.SyntaxKind }}
+ */
+const NEWER = /** @type {Record<string, ts.SyntaxKind | undefined>} */ (/** @type {unknown} */ (K));
+
+/**
+ * A form without the members that have their defaults, which the program fills in.
+ *
+ * @template {object} T
+ * @param {T} fields
+ * @returns {T}
+ */
 function form(fields) {
+  /** @type {Record<string, unknown>} */
   const made = {};
-  for (const name in fields) {
-    const value = fields[name];
+  for (const [name, value] of Object.entries(fields)) {
     if (value === null || value === undefined || value === false) continue;
     if (Array.isArray(value) && value.length === 0) continue;
     made[name] = value;
   }
-  return made;
+  return /** @type {T} */ (made);
+}
+
+/**
+ * A choice of a variant that is known at run time alone.
+ *
+ * @template {string} K
+ * @template T
+ * @param {K} variant
+ * @param {T} content
+ */
+function oneOf(variant, content) {
+  return /** @type {forms.OneOf<Record<K, T>>} */ ({ [variant]: content });
+}
+
+/**
+ * What makes a form of a node by its kind; undefined where there is nothing.
+ *
+ * @template R
+ * @param {import('./nodes').Converters<R>} converters
+ * @param {ts.Node} node
+ */
+function converterOf(converters, node) {
+  return /** @type {Record<number, (c: Converter, node: ts.Node) => R>} */ (converters)[node.kind];
 }
 
 class Converter {
-  constructor(sourceFile, options = {}) {
+  constructor(/** @type {ts.SourceFile} */ sourceFile, /** @type {TreeOptions} */ options = {}) {
     this.file = sourceFile;
     this.text = sourceFile.text;
     this.offsets = new Offsets(this.text);
     this.short = Boolean(options.short);
     this.namesReturns = options.rules !== 'deno';
+    /** @type {import('../types').TreeError[]} */
     this.errors = [];
+    /** @type {import('../types').TreeFault[]} */
     this.faults = [];
+    /** @type {import('../types').TreeSource[]} */
     this.sources = [];
     this.lastScope = UNRESOLVED;
+    /** @type {Map<ts.Node, { block: ts.Node, scope: Scope, shown: Scope }>} */
     this.blocks = new Map();
+    /** @type {Map<number, Scope>} */
     this.scopes = new Map();
     this.scope = this.newScope(null);
     bindBody(this.scope, sourceFile.statements);
   }
 
-  newScope(parent) {
+  newScope(/** @type {Scope | null} */ parent) {
     this.lastScope += 1;
     const scope = new Scope(this.lastScope, parent);
     this.scopes.set(this.lastScope, scope);
     return scope;
   }
 
-  /** Calls back within a fresh scope. */
+  /**
+   * Calls back within a fresh scope.
+   *
+   * @template R
+   * @param {(scope: Scope) => R} call
+   */
   within(call, scope = this.newScope(this.scope)) {
     const outer = this.scope;
     this.scope = scope;
@@ -54,71 +103,90 @@ class Converter {
     }
   }
 
-  start(node) {
+  start(/** @type {ts.Node} */ node) {
     return node.getStart(this.file, false);
   }
 
-  range(start, end) {
+  /** @returns {forms.Span} */
+  range(/** @type {number} */ start, /** @type {number} */ end) {
     return [this.offsets.of(start), this.offsets.of(end)];
   }
 
-  span(node) {
+  span(/** @type {ts.Node} */ node) {
     return this.range(this.start(node), node.end);
   }
 
   /** The written text of a node. */
-  written(node) {
+  written(/** @type {ts.Node} */ node) {
     return this.text.slice(this.start(node), node.end);
   }
 
   /** Where the text goes on behind an offset, past blanks and comments. */
-  after(offset) {
+  after(/** @type {number} */ offset) {
     return ts.skipTrivia(this.text, offset);
   }
 
   /** What stands for a value that is cut away. It names no type. */
-  noType(node) {
+  /** @returns {forms.Expr} */
+  noType(/** @type {ts.Node} */ node) {
     return { This: { span: this.span(node) } };
   }
 
   /** A value that no skeleton keeps, and that names no type. */
-  hidden(node) {
+  /** @returns {forms.Expr} */
+  hidden(/** @type {ts.Node} */ node) {
     return { Call: { span: this.span(node), callee: { Expr: this.noType(node) } } };
   }
 
   /** A value of which a skeleton may be made, or a hidden one, where the value has a name whose type no skeleton says. */
-  told(value, node) {
-    const isUnsaid = ({ sym, ctxt }, isAsserted) => {
-      const scope = ctxt > TOP && this.scopes.get(ctxt);
-      return Boolean(scope) && scope.unsaid.has(sym) && !(isAsserted && scope.unsaid.get(sym));
+  told(/** @type {forms.Expr} */ value, /** @type {ts.Node} */ node) {
+    const isUnsaid = (/** @type {forms.Ident} */ { sym, ctxt = 0 }, /** @type {boolean} */ isAsserted) => {
+      const scope = ctxt > TOP ? this.scopes.get(ctxt) : undefined;
+      return scope !== undefined && scope.unsaid.has(sym) && !(isAsserted && scope.unsaid.get(sym));
     };
+    /** @type {(it: forms.Part, isAsserted: boolean) => boolean} */
     const has = (it, isAsserted) => {
-      if (it === null || typeof it !== 'object') return false;
       const name = it.Ident || it.Shorthand;
-      if (name && name.sym !== undefined && isUnsaid(name, isAsserted)) return true;
+      if (name && 'sym' in name && isUnsaid(name, isAsserted)) return true;
       const asserted = it.TsAs || it.TsTypeAssertion || it.TsNonNull;
       if (asserted && has(asserted.expr, true)) return true;
-      return Object.values(asserted ? { ...asserted, expr: null } : it).some((each) => has(each, isAsserted));
+      return partsOf(asserted ? { ...asserted, expr: null } : it).some((each) => has(each, isAsserted));
     };
     return this.short && has(value, false) ? this.hidden(node) : value;
   }
 
   /** An error at a node: the tree has no such form, or the text is none of TypeScript's. */
-  refuse(node, message) {
-    const start = node.pos === undefined ? node.start : this.start(node);
+  refuse(/** @type {ts.Node} */ node, /** @type {string} */ message) {
+    const start = this.start(node);
     this.errors.push({ offset: start, position: this.offsets.of(start), message });
   }
 
   /** What is wrong at a node with a form that is read all the same. */
-  fault(node, message) {
+  fault(/** @type {ts.Node} */ node, /** @type {string} */ message) {
     this.faults.push({ offset: this.start(node), length: node.end - this.start(node), message });
   }
 
-  /** Refuses a kind of node that is not known here. */
-  unknown(node, place) {
+  /**
+   * What stands for a node that is refused: its tree is thrown away.
+   *
+   * @template R
+   * @param {ts.Node} node
+   * @returns {R}
+   */
+  invalid(node) {
+    return /** @type {R} */ (/** @type {unknown} */ ({ Invalid: { span: this.span(node) } }));
+  }
+
+  /**
+   * Refuses a kind of node that is not known here.
+   *
+   * @template R
+   * @returns {R}
+   */
+  unknown(/** @type {ts.Node} */ node, /** @type {string} */ place) {
     this.refuse(node, `no form for ${K[node.kind]} as ${place}`);
-    return { Invalid: { span: this.span(node) } };
+    return this.invalid(node);
   }
 }
 
-module.exports = { Converter, form, TOP, UNRESOLVED };
+module.exports = { Converter, NEWER, converterOf, form, oneOf, TOP, UNRESOLVED };

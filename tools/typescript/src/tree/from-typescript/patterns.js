@@ -12,30 +12,37 @@ const { SyntaxKind: K } = ts;
 const types = () => require('./types.js');
 const expressions = () => require('./expressions.js');
 
-function bindParameter(scope, node) {
+/** @typedef {import('./converter.js').Converter} Converter */
+/** @typedef {import('./scopes.js').Scope} Scope */
+
+function bindParameter(/** @type {Scope} */ scope, /** @type {ts.ParameterDeclaration} */ node) {
   bindPattern(scope, node.name);
-  if (node.initializer || node.name.kind !== K.Identifier) eachName(node.name, (it) => scope.unsaid.set(it.text, node.name.kind === K.Identifier));
+  if (node.initializer || !ts.isIdentifier(node.name)) eachName(node.name, (it) => scope.unsaid.set(it.text, ts.isIdentifier(node.name)));
 }
 
-function identPattern(c, node, optional, type) {
+/** @returns {forms.Pat} */
+function identPattern(/** @type {Converter} */ c, /** @type {ts.Identifier} */ node, /** @type {boolean} */ optional, /** @type {ts.TypeNode | undefined} */ type) {
   const id = form({ ...names.binding(c, node, VALUE), optional });
   return { Ident: form({ id, type_ann: types().annotation(c, type) }) };
 }
 
-function withDefault(c, node, left) {
+/** @returns {forms.Pat} */
+function withDefault(/** @type {Converter} */ c, /** @type {ts.ParameterDeclaration | ts.BindingElement} */ node, /** @type {forms.Pat} */ left) {
   if (!node.initializer) return left;
   const right = c.told(expressions().expression(c, node.initializer), node.initializer);
   return { Assign: { span: c.range(c.start(node.name), node.initializer.end), left, right } };
 }
 
-function arrayElement(c, node) {
-  if (node.kind === K.OmittedExpression) return null;
+/** @returns {forms.Pat | null} */
+function arrayElement(/** @type {Converter} */ c, /** @type {ts.ArrayBindingElement} */ node) {
+  if (ts.isOmittedExpression(node)) return null;
   const inner = pattern(c, node.name);
   if (node.dotDotDotToken) return { Rest: { span: c.span(node), dot3_token: c.span(node.dotDotDotToken), arg: inner } };
   return withDefault(c, node, inner);
 }
 
-function objectProperty(c, node) {
+/** @returns {forms.ObjectPatProp} */
+function objectProperty(/** @type {Converter} */ c, /** @type {ts.BindingElement} */ node) {
   if (node.dotDotDotToken) {
     return { Rest: { span: c.span(node), dot3_token: c.span(node.dotDotDotToken), arg: pattern(c, node.name) } };
   }
@@ -44,25 +51,33 @@ function objectProperty(c, node) {
     return { KeyValue: { key, value: withDefault(c, node, pattern(c, node.name)) } };
   }
   const value = node.initializer && expressions().expression(c, node.initializer);
-  return { Assign: form({ span: c.span(node), key: { id: names.binding(c, node.name, VALUE) }, value }) };
+  return { Assign: form({ span: c.span(node), key: { id: names.binding(c, /** @type {ts.Identifier} */ (node.name), VALUE) }, value }) };
 }
 
-/** A pattern that binds names, with the `?` and the type that stand behind it. */
-function pattern(c, node, optional = false, type = undefined) {
-  if (node.kind === K.Identifier) return identPattern(c, node, optional, type);
+/**
+ * A pattern that binds names, with the `?` and the type that stand behind it.
+ *
+ * @returns {forms.Pat}
+ */
+function pattern(/** @type {Converter} */ c, /** @type {ts.BindingName} */ node, optional = false, /** @type {ts.TypeNode | undefined} */ type = undefined) {
+  if (ts.isIdentifier(node)) return identPattern(c, node, optional, type);
   const span = c.range(c.start(node), type ? type.end : node.end);
   const type_ann = types().annotation(c, type);
-  if (node.kind === K.ObjectBindingPattern) {
+  if (ts.isObjectBindingPattern(node)) {
     return { Object: form({ span, props: node.elements.map((it) => objectProperty(c, it)), optional, type_ann }) };
   }
-  if (node.kind === K.ArrayBindingPattern) {
+  if (ts.isArrayBindingPattern(node)) {
     return { Array: form({ span, elems: node.elements.map((it) => arrayElement(c, it)), optional, type_ann }) };
   }
   return { Expr: c.unknown(node, 'a pattern') };
 }
 
-/** A parameter without its decorators and modifiers. */
-function parameter(c, node) {
+/**
+ * A parameter without its decorators and modifiers.
+ *
+ * @returns {forms.Pat}
+ */
+function parameter(/** @type {Converter} */ c, /** @type {ts.ParameterDeclaration} */ node) {
   const optional = Boolean(node.questionToken);
   if (node.dotDotDotToken) {
     const end = node.type ? node.type.end : node.name.end;
@@ -80,8 +95,12 @@ function parameter(c, node) {
   return withDefault(c, node, pattern(c, node.name, optional && !node.initializer, node.type));
 }
 
-/** The parameter of an index signature: an identifier whose range takes in its type. */
-function indexParameter(c, node) {
+/**
+ * The parameter of an index signature: an identifier whose range takes in its type.
+ *
+ * @returns {forms.Pat}
+ */
+function indexParameter(/** @type {Converter} */ c, /** @type {ts.ParameterDeclaration} */ node) {
   const made = parameter(c, node);
   if (made.Ident) made.Ident.id.span = c.range(c.start(node.name), node.type ? node.type.end : node.name.end);
   return made;
@@ -89,48 +108,55 @@ function indexParameter(c, node) {
 
 // ---- patterns that are written as expressions: targets of assignments
 
-function assignedElement(c, node) {
-  if (node.kind === K.OmittedExpression) return null;
-  if (node.kind === K.SpreadElement) return restOf(c, node);
+/** @returns {forms.Pat | null} */
+function assignedElement(/** @type {Converter} */ c, /** @type {ts.Expression} */ node) {
+  if (ts.isOmittedExpression(node)) return null;
+  if (ts.isSpreadElement(node)) return restOf(c, node);
   return assigned(c, node);
 }
 
-function restOf(c, node) {
+/** @returns {{ Rest: forms.RestPat }} */
+function restOf(/** @type {Converter} */ c, /** @type {ts.SpreadElement | ts.SpreadAssignment} */ node) {
   const start = c.start(node);
   return { Rest: { span: c.span(node), dot3_token: c.range(start, start + 3), arg: assigned(c, node.expression) } };
 }
 
-function assignedProperty(c, node) {
-  if (node.kind === K.SpreadAssignment) return restOf(c, node);
-  if (node.kind === K.ShorthandPropertyAssignment) {
+/** @returns {forms.ObjectPatProp} */
+function assignedProperty(/** @type {Converter} */ c, /** @type {ts.ObjectLiteralElementLike} */ node) {
+  if (ts.isSpreadAssignment(node)) return restOf(c, node);
+  if (ts.isShorthandPropertyAssignment(node)) {
     const value = node.objectAssignmentInitializer && expressions().expression(c, node.objectAssignmentInitializer);
     return { Assign: form({ span: c.span(node), key: { id: names.reference(c, node.name) }, value }) };
   }
-  if (node.kind === K.PropertyAssignment) {
+  if (ts.isPropertyAssignment(node)) {
     return { KeyValue: { key: expressions().propName(c, node.name), value: assigned(c, node.initializer) } };
   }
   c.refuse(node, `no form for ${K[node.kind]} in a pattern`);
-  return { Assign: { span: c.span(node), key: { id: { span: c.span(node), sym: '' } } } };
+  return c.invalid(node);
 }
 
-/** What is assigned to, as a pattern. */
-function assigned(c, node) {
-  if (node.kind === K.Identifier) return { Ident: { id: names.reference(c, node) } };
-  if (node.kind === K.ArrayLiteralExpression) {
+/**
+ * What is assigned to, as a pattern.
+ *
+ * @returns {forms.Pat}
+ */
+function assigned(/** @type {Converter} */ c, /** @type {ts.Expression} */ node) {
+  if (ts.isIdentifier(node)) return { Ident: { id: names.reference(c, node) } };
+  if (ts.isArrayLiteralExpression(node)) {
     return { Array: form({ span: c.span(node), elems: node.elements.map((it) => assignedElement(c, it)) }) };
   }
-  if (node.kind === K.ObjectLiteralExpression) {
+  if (ts.isObjectLiteralExpression(node)) {
     return { Object: form({ span: c.span(node), props: node.properties.map((it) => assignedProperty(c, it)) }) };
   }
-  if (node.kind === K.BinaryExpression && node.operatorToken.kind === K.EqualsToken) {
+  if (ts.isBinaryExpression(node) && node.operatorToken.kind === K.EqualsToken) {
     const right = expressions().expression(c, node.right);
     return { Assign: { span: c.span(node), left: assigned(c, node.left), right } };
   }
   return { Expr: expressions().expression(c, node) };
 }
 
-function isLiteralPattern(node) {
-  return node.kind === K.ArrayLiteralExpression || node.kind === K.ObjectLiteralExpression;
+function isLiteralPattern(/** @type {ts.Expression} */ node) {
+  return ts.isArrayLiteralExpression(node) || ts.isObjectLiteralExpression(node);
 }
 
 module.exports = { pattern, parameter, indexParameter, bindParameter, assigned, isLiteralPattern };

@@ -4,6 +4,8 @@
 
 const { ts } = require('../../compiler/typescript.js');
 
+const { NEWER } = require('./converter.js');
+
 const { SyntaxKind: K } = ts;
 
 const ENTERED = new Set([
@@ -12,10 +14,11 @@ const ENTERED = new Set([
 ]);
 
 /** The return statements that a body reaches. */
-function returnsOf(body) {
+function returnsOf(/** @type {ts.Node} */ body) {
+  /** @type {ts.ReturnStatement[]} */
   const found = [];
-  const visit = (node) => {
-    if (node.kind === K.ReturnStatement) found.push(node);
+  const visit = (/** @type {ts.Node} */ node) => {
+    if (ts.isReturnStatement(node)) found.push(node);
     else if (ENTERED.has(node.kind)) ts.forEachChild(node, visit);
   };
   visit(body);
@@ -29,16 +32,16 @@ const NAMING = new Set([
   K.NoSubstitutionTemplateLiteral, K.TemplateExpression, K.AsExpression, K.TypeAssertionExpression,
 ]);
 
-function namesType(node) {
-  if (node.kind === K.ParenthesizedExpression || node.kind === K.SatisfiesExpression) return namesType(node.expression);
+/** @returns {boolean} */
+function namesType(/** @type {ts.Expression} */ node) {
+  if (ts.isParenthesizedExpression(node) || node.kind === NEWER.SatisfiesExpression) return namesType(/** @type {ts.ParenthesizedExpression} */ (node).expression);
   return NAMING.has(node.kind);
 }
 
 /** The argument of a function's only return, where that is its last statement and a literal, a template or an assertion; else undefined. */
-function namingArgument(node) {
-  const { body } = node;
+function namingArgument(/** @type {{ asteriskToken?: ts.Node }} */ node, /** @type {ts.Block} */ body) {
   const last = body.statements[body.statements.length - 1];
-  if (node.asteriskToken || !last || last.kind !== K.ReturnStatement || !last.expression) return undefined;
+  if (node.asteriskToken || !last || !ts.isReturnStatement(last) || !last.expression) return undefined;
   return returnsOf(body).length === 1 && namesType(last.expression) ? last.expression : undefined;
 }
 

@@ -17,23 +17,28 @@ const UNRESOLVED = 1;
 const TOP = 2;
 
 class Scope {
-  constructor(number, parent) {
+  constructor(/** @type {number} */ number, /** @type {Scope | null} */ parent) {
     this.number = number;
     this.parent = parent;
+    /** @type {Map<string, number>} */
     this.names = new Map();
+    /** @type {Scope[] | null} */
     this.joined = null;
     // Names whose type no skeleton says: of parameters with a default, which may be left out there, and in patterns, of which a skeleton has no names. Whether
     // an assertion says the type.
+    /** @type {Map<string, boolean>} */
     this.unsaid = new Map();
   }
 
-  bind(name, meaning) {
+  bind(/** @type {string} */ name, /** @type {number} */ meaning) {
     this.names.set(name, (this.names.get(name) || 0) | meaning);
   }
 
   /** The number of the scope that binds the name with one of the meanings. */
-  find(name, meaning) {
-    for (let scope = this; scope; scope = scope.parent) {
+  find(/** @type {string} */ name, /** @type {number} */ meaning) {
+    /** @type {Scope | null} */
+    let scope = this;
+    for (; scope; scope = scope.parent) {
       const found = scope.numberOf(name, meaning);
       if (found) return found;
     }
@@ -41,7 +46,7 @@ class Scope {
   }
 
   /** The number of this scope, or of one that it is joined with, where that binds the name. */
-  numberOf(name, meaning) {
+  numberOf(/** @type {string} */ name, /** @type {number} */ meaning) {
     if ((this.names.get(name) || 0) & meaning) return this.number;
     for (const other of this.joined || []) {
       if ((other.names.get(name) || 0) & meaning) return other.number;
@@ -51,21 +56,22 @@ class Scope {
 }
 
 /** Calls back for each name of a pattern. */
-function eachName(name, call) {
-  if (name.kind === K.Identifier) {
+function eachName(/** @type {ts.BindingName} */ name, /** @type {(name: ts.Identifier) => void} */ call) {
+  if (ts.isIdentifier(name)) {
     call(name);
     return;
   }
   if (!name.elements) return;
   for (const element of name.elements) {
-    if (element.kind === K.BindingElement) eachName(element.name, call);
+    if (ts.isBindingElement(element)) eachName(element.name, call);
   }
 }
 
-function bindPattern(scope, name) {
+function bindPattern(/** @type {Scope} */ scope, /** @type {ts.BindingName} */ name) {
   eachName(name, (it) => scope.bind(it.text, VALUE));
 }
 
+/** @type {Map<ts.SyntaxKind, number>} */
 const MEANINGS = new Map([
   [K.FunctionDeclaration, VALUE],
   [K.ClassDeclaration, VALUE | TYPE],
@@ -76,49 +82,46 @@ const MEANINGS = new Map([
   [K.ImportEqualsDeclaration, ANY],
 ]);
 
-function bindImport(scope, statement) {
+function bindImport(/** @type {Scope} */ scope, /** @type {ts.ImportDeclaration} */ statement) {
   const clause = statement.importClause;
   if (!clause) return;
   if (clause.name) scope.bind(clause.name.text, ANY);
   const bindings = clause.namedBindings;
   if (!bindings) return;
-  if (bindings.kind === K.NamespaceImport) scope.bind(bindings.name.text, ANY);
+  if (ts.isNamespaceImport(bindings)) scope.bind(bindings.name.text, ANY);
   else for (const element of bindings.elements) scope.bind(element.name.text, ANY);
 }
 
-function isVar(list) {
+function isVar(/** @type {ts.VariableDeclarationList} */ list) {
   return (list.flags & ts.NodeFlags.BlockScoped) === 0;
 }
 
 /** Binds what a statement declares in its own block. `var` is bound by `bindVars`. */
-function bindStatement(scope, statement) {
+function bindStatement(/** @type {Scope} */ scope, /** @type {ts.Statement} */ statement) {
   const meaning = MEANINGS.get(statement.kind);
   if (meaning) {
-    if (statement.name && statement.name.kind === K.Identifier) scope.bind(statement.name.text, meaning);
-  } else if (statement.kind === K.VariableStatement) {
+    const { name } = /** @type {{ name?: ts.Node }} */ (/** @type {unknown} */ (statement));
+    if (name && ts.isIdentifier(name)) scope.bind(name.text, meaning);
+  } else if (ts.isVariableStatement(statement)) {
     if (isVar(statement.declarationList)) return;
     for (const it of statement.declarationList.declarations) bindPattern(scope, it.name);
-  } else if (statement.kind === K.ImportDeclaration) {
+  } else if (ts.isImportDeclaration(statement)) {
     bindImport(scope, statement);
-  } else if (statement.kind === K.LabeledStatement) {
+  } else if (ts.isLabeledStatement(statement)) {
     bindStatement(scope, statement.statement);
   }
 }
 
 /** Calls back for each list behind `var` of a statement, however deep in blocks, but not in functions, classes or namespaces. */
-function eachVarList(node, call) {
+function eachVarList(/** @type {ts.Node} */ node, /** @type {(list: ts.VariableDeclarationList) => void} */ call) {
   switch (node.kind) {
-    case K.VariableStatement:
-      if (isVar(node.declarationList)) call(node.declarationList);
+    case K.VariableDeclarationList:
+      if (isVar(/** @type {ts.VariableDeclarationList} */ (node))) call(/** @type {ts.VariableDeclarationList} */ (node));
       return;
+    case K.VariableStatement:
     case K.ForStatement:
     case K.ForInStatement:
-    case K.ForOfStatement: {
-      const list = node.initializer;
-      if (list && list.kind === K.VariableDeclarationList && isVar(list)) call(list);
-      eachVarList(node.statement, call);
-      return;
-    }
+    case K.ForOfStatement:
     case K.Block:
     case K.IfStatement:
     case K.DoStatement:
@@ -138,18 +141,18 @@ function eachVarList(node, call) {
 }
 
 /** Binds each `var` of a statement. */
-function bindVars(scope, node) {
+function bindVars(/** @type {Scope} */ scope, /** @type {ts.Node} */ node) {
   eachVarList(node, (list) => {
     for (const it of list.declarations) bindPattern(scope, it.name);
   });
 }
 
-function bindStatements(scope, statements) {
+function bindStatements(/** @type {Scope} */ scope, /** @type {readonly ts.Statement[]} */ statements) {
   for (const it of statements) bindStatement(scope, it);
 }
 
 /** Binds what a body declares: that of a module, a namespace or a function. */
-function bindBody(scope, statements) {
+function bindBody(/** @type {Scope} */ scope, /** @type {readonly ts.Statement[]} */ statements) {
   for (const it of statements) {
     bindStatement(scope, it);
     bindVars(scope, it);

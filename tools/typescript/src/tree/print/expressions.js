@@ -1,14 +1,19 @@
 'use strict';
 // Prints expressions, and the members of classes.
 
+const { variantOf } = require('../walk.js');
 const t = require('./types.js');
 
+/** @typedef {import('./writer.js').Writer} Writer */
+
+/** @typedef {import('./printers').Spanned} Spanned */
+
 const statements = () => require('./statements.js');
-const { at, variantOf } = t;
+const { at, printBy } = t;
 
 // ---- keys and properties
 
-function propName(w, choice) {
+function propName(/** @type {Writer} */ w, /** @type {forms.PropName} */ choice) {
   const [variant, node] = variantOf(choice);
   if (variant === 'Ident') t.name(w, node);
   else if (variant === 'Computed') {
@@ -17,10 +22,10 @@ function propName(w, choice) {
       expression(w, node.expr);
       w.write(']');
     });
-  } else t.literal(w, choice);
+  } else t.literal(w, /** @type {forms.Lit} */ (choice));
 }
 
-function accessor(w, word, node) {
+function accessor(/** @type {Writer} */ w, /** @type {string} */ word, /** @type {forms.GetterProp & { param?: forms.Pat }} */ node) {
   w.write(`${word} `);
   propName(w, node.key);
   w.write('(');
@@ -30,6 +35,7 @@ function accessor(w, word, node) {
   body(w, node.body);
 }
 
+/** @type {import('./printers').Printers<forms.PropVariants>} */
 const PROPS = {
   Shorthand: t.ident,
   KeyValue: (w, node) => {
@@ -52,21 +58,21 @@ const PROPS = {
   },
 };
 
-function property(w, choice) {
+function property(/** @type {Writer} */ w, /** @type {forms.PropOrSpread} */ choice) {
   if (choice.Spread) {
     w.write('...');
     expression(w, choice.Spread.expr);
     return;
   }
   const [variant, node] = variantOf(choice.Prop);
-  if (node.span) at(w, node, () => PROPS[variant](w, node));
-  else PROPS[variant](w, node);
+  if ('span' in node) at(w, node, () => printBy(PROPS, w, variant, node));
+  else printBy(PROPS, w, variant, node);
 }
 
-function object(w, node) {
+function object(/** @type {Writer} */ w, /** @type {forms.ObjectLit} */ node) {
   const props = node.props || [];
   if (props.length === 0) w.write('{}');
-  else if (t.isWide(w, node) || props.some((it) => w.hasLeading((t.spanOf(it) || [0])[0]))) t.listed(w, props, '{', '}', true, property);
+  else if (t.isWide(w, node) || props.some((it) => w.hasLeading(t.startOf(it)))) t.listed(w, props, '{', '}', true, property);
   else {
     w.write('{ ');
     t.separated(w, props, ', ', property);
@@ -76,17 +82,17 @@ function object(w, node) {
 
 // ---- members and calls
 
-function argument(w, node) {
+function argument(/** @type {Writer} */ w, /** @type {forms.ExprOrSpread} */ node) {
   if (node.spread) w.write('...');
   expression(w, node.expr);
 }
 
-function args(w, list, node) {
+function args(/** @type {Writer} */ w, /** @type {forms.ExprOrSpread[] | null | undefined} */ list, /** @type {Spanned} */ node) {
   t.listed(w, list || [], '(', ')', t.isWide(w, node) && (list || []).length > 1, argument);
 }
 
 /** Behind a dot or in brackets; `optional` is what stands before it. */
-function memberProp(w, choice, optional = '') {
+function memberProp(/** @type {Writer} */ w, /** @type {forms.MemberProp} */ choice, optional = '') {
   const [variant, node] = variantOf(choice);
   if (variant === 'Computed') {
     at(w, node, () => {
@@ -101,35 +107,35 @@ function memberProp(w, choice, optional = '') {
   else t.name(w, node);
 }
 
-function member(w, node, optional) {
+function member(/** @type {Writer} */ w, /** @type {forms.MemberExpr} */ node, optional = '') {
   expression(w, node.obj);
   // A whole number takes the dot for its own.
   if (node.obj.Lit && node.obj.Lit.Num && /^[\d_]+$/.test(node.obj.Lit.Num.raw) && !optional) w.write(' ');
   memberProp(w, node.prop, optional);
 }
 
-function callee(w, choice) {
+function callee(/** @type {Writer} */ w, /** @type {forms.Callee} */ choice) {
   if (choice.Super) at(w, choice.Super, () => w.write('super'));
   else if (choice.Import) at(w, choice.Import, () => w.write(choice.Import.phase === 'defer' ? 'import.defer' : 'import'));
   else expression(w, choice.Expr);
 }
 
-function call(w, node, optional = '') {
+function call(/** @type {Writer} */ w, /** @type {forms.CallExpr | forms.OptCall} */ node, optional = '') {
   callee(w, node.callee);
   w.write(optional);
   t.typeArguments(w, node.type_args);
   args(w, node.args, node);
 }
 
-function newExpression(w, node) {
+function newExpression(/** @type {Writer} */ w, /** @type {forms.NewExpr} */ node) {
   w.write('new ');
   expression(w, node.callee);
   t.typeArguments(w, node.type_args);
   if (node.args) args(w, node.args, node);
 }
 
-function chain(w, node) {
-  const optional = node.optional ? '?.' : undefined;
+function chain(/** @type {Writer} */ w, /** @type {forms.OptChainExpr} */ node) {
+  const optional = node.optional ? '?.' : '';
   const [variant, base] = variantOf(node.base);
   at(w, base, () => {
     if (variant === 'Member') member(w, base, optional);
@@ -141,7 +147,7 @@ function chain(w, node) {
 
 const SIGN = /^[-+]/;
 
-function unary(w, node) {
+function unary(/** @type {Writer} */ w, /** @type {forms.UnaryExpr} */ node) {
   const isWord = /^[a-z]/.test(node.op);
   const [variant, inner] = variantOf(node.arg);
   const clashes = (variant === 'Unary' || (variant === 'Update' && inner.prefix)) && SIGN.test(node.op) && SIGN.test(inner.op);
@@ -150,27 +156,27 @@ function unary(w, node) {
 }
 
 /** Whether a value begins with the `<` of an assertion. */
-function beginsWithAngle(choice) {
+function beginsWithAngle(/** @type {forms.Expr} */ choice) {
   let at = choice;
   while (at.Bin) at = at.Bin.left;
   return Boolean(at.TsTypeAssertion);
 }
 
-function binary(w, node) {
+function binary(/** @type {Writer} */ w, /** @type {forms.BinExpr} */ node) {
   expression(w, node.left);
   // Behind `<< ` a parser would take the `<` of an assertion for that of a type parameter.
   w.write(node.op === '<<' && beginsWithAngle(node.right) ? ' <<' : ` ${node.op} `);
   expression(w, node.right);
 }
 
-function assign(w, node) {
+function assign(/** @type {Writer} */ w, /** @type {forms.AssignExpr} */ node) {
   if (node.left.Pat) t.pattern(w, node.left.Pat);
   else expression(w, node.left.Simple);
   w.write(` ${node.op} `);
   expression(w, node.right);
 }
 
-function conditional(w, node) {
+function conditional(/** @type {Writer} */ w, /** @type {forms.CondExpr} */ node) {
   expression(w, node.test);
   w.write(' ? ');
   expression(w, node.cons);
@@ -180,18 +186,18 @@ function conditional(w, node) {
 
 // ---- functions
 
-function functionMarks(w, node) {
+function functionMarks(/** @type {Writer} */ w, /** @type {forms.Function} */ node) {
   if (node.is_async) w.write('async ');
   if (node.is_generator) w.write('*');
 }
 
-function signature(w, node) {
+function signature(/** @type {Writer} */ w, /** @type {forms.Function} */ node) {
   t.typeParameters(w, node.type_params);
   t.parameters(w, node.params);
   t.annotation(w, node.return_type);
 }
 
-function body(w, node) {
+function body(/** @type {Writer} */ w, /** @type {forms.BlockStmt | null | undefined} */ node) {
   if (!node) {
     w.write(';');
     return;
@@ -201,7 +207,7 @@ function body(w, node) {
 }
 
 /** `function`, its name, signature and body. */
-function functionOf(w, ident, node) {
+function functionOf(/** @type {Writer} */ w, /** @type {forms.Ident | null | undefined} */ ident, /** @type {forms.Function} */ node) {
   if (node.is_async) w.write('async ');
   w.write('function');
   if (node.is_generator) w.write('*');
@@ -213,7 +219,7 @@ function functionOf(w, ident, node) {
   body(w, node.body);
 }
 
-function arrow(w, node) {
+function arrow(/** @type {Writer} */ w, /** @type {forms.ArrowExpr} */ node) {
   if (node.is_async) w.write('async ');
   t.typeParameters(w, node.type_params, w.isAngleReserved);
   t.parameters(w, node.params);
@@ -223,14 +229,15 @@ function arrow(w, node) {
   else expression(w, node.body.Expr);
 }
 
-function tpl(w, node) {
+function tpl(/** @type {Writer} */ w, /** @type {forms.Tpl} */ node) {
   at(w, node, () => t.template(w, node.quasis, node.exprs, expression));
 }
 
-function array(w, node) {
+function array(/** @type {Writer} */ w, /** @type {forms.ArrayLit} */ node) {
   const elems = node.elems || [];
-  if (t.isWide(w, node) && elems.every(Boolean)) {
-    t.listed(w, elems, '[', ']', true, argument);
+  const written = elems.flatMap((it) => it || []);
+  if (t.isWide(w, node) && written.length === elems.length) {
+    t.listed(w, written, '[', ']', true, argument);
     return;
   }
   w.write('[');
@@ -242,26 +249,28 @@ function array(w, node) {
   w.write(']');
 }
 
-function wrapped(before, field, after) {
-  return (w, node) => {
+/** What prints an expression between two texts. */
+function wrapped(/** @type {string} */ before, /** @type {string} */ after) {
+  return (/** @type {Writer} */ w, /** @type {{ expr: forms.Expr }} */ node) => {
     w.write(before);
-    expression(w, node[field]);
+    expression(w, node.expr);
     w.write(after);
   };
 }
 
-function typed(word) {
-  return (w, node) => {
+function typed(/** @type {string} */ word) {
+  return (/** @type {Writer} */ w, /** @type {{ expr: forms.Expr, type_ann: forms.TsType }} */ node) => {
     expression(w, node.expr);
     w.write(` ${word} `);
     t.type(w, node.type_ann);
   };
 }
 
-function rawText(w, node) {
+function rawText(/** @type {Writer} */ w, /** @type {{ raw: string }} */ node) {
   w.write(node.raw);
 }
 
+/** @type {import('./printers').Printers<Omit<forms.ExprVariants, 'Ident' | 'Lit' | 'PrivateName'>>} */
 const EXPRESSIONS = {
   This: (w) => w.write('this'),
   Array: array,
@@ -299,8 +308,11 @@ const EXPRESSIONS = {
     expression(w, node.arg);
   },
   MetaProp: (w, node) => w.write(node.kind),
-  Await: wrapped('await ', 'arg', ''),
-  Paren: wrapped('(', 'expr', ')'),
+  Await: (w, node) => {
+    w.write('await ');
+    expression(w, node.arg);
+  },
+  Paren: wrapped('(', ')'),
   JSXMember: rawText,
   JSXNamespacedName: rawText,
   JSXEmpty: rawText,
@@ -314,8 +326,8 @@ const EXPRESSIONS = {
     w.write('>');
     expression(w, node.expr);
   },
-  TsConstAssertion: wrapped('', 'expr', ' as const'),
-  TsNonNull: wrapped('', 'expr', '!'),
+  TsConstAssertion: wrapped('', ' as const'),
+  TsNonNull: wrapped('', '!'),
   TsAs: typed('as'),
   TsSatisfies: typed('satisfies'),
   TsInstantiation: (w, node) => {
@@ -327,16 +339,16 @@ const EXPRESSIONS = {
 };
 
 /** An expression. */
-function expression(w, choice) {
+function expression(/** @type {Writer} */ w, /** @type {forms.Expr} */ choice) {
   const [variant, node] = variantOf(choice);
   if (variant === 'Ident') t.ident(w, node);
   else if (variant === 'Lit') t.literal(w, node);
   else if (variant === 'PrivateName') t.privateName(w, node);
-  else if (node.span) at(w, node, () => EXPRESSIONS[variant](w, node));
-  else EXPRESSIONS[variant](w, node);
+  else if ('span' in node) at(w, node, () => printBy(EXPRESSIONS, w, variant, node));
+  else printBy(EXPRESSIONS, w, variant, node);
 }
 
-function decorators(w, list, after) {
+function decorators(/** @type {Writer} */ w, /** @type {forms.Decorator[] | undefined} */ list, /** @type {string} */ after) {
   for (const it of list || []) {
     at(w, it, () => {
       w.write('@');
@@ -347,4 +359,4 @@ function decorators(w, list, after) {
   }
 }
 
-module.exports = { expression, propName, property, functionOf, functionMarks, signature, body, decorators };
+module.exports = { expression, propName, property, functionOf, signature, body, decorators };

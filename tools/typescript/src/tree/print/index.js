@@ -16,22 +16,27 @@ const ANGLE_RESERVED = /\.(tsx|[cm]ts)$/;
  * is a declaration file with a declaration that is not exported, without which it would be.
  *
  * `isDeclaration` says that it is such a file; `asWritten` adds nothing anywhere; `name` is that of the file, whose ending tells how arrows are written.
+ *
+ * @param {forms.Program} program
+ * @param {import('../types').Comments | null} comments
+ * @param {{ isDeclaration?: boolean, asWritten?: boolean, name?: string }} options
  */
 function print(program, comments, { isDeclaration = false, asWritten = false, name = '' } = {}) {
   const w = new Writer(comments);
   w.isAngleReserved = ANGLE_RESERVED.test(name);
   w.asWritten = asWritten;
   w.isAmbient = isDeclaration;
-  const module = program.Module || program.Script || program;
-  const isScript = Boolean(program.Script);
-  if (module.shebang !== null && module.shebang !== undefined) {
-    w.write(`#!${module.shebang}`);
+  const { Module: module, Script: script } = program;
+  const { shebang } = module || script;
+  if (shebang !== null && shebang !== undefined) {
+    w.write(`#!${shebang}`);
     w.line();
   }
-  const body = asWritten ? module.body || [] : writable(module.body || []);
-  if (isScript) items(w, body.map((Stmt) => ({ Stmt })));
-  else items(w, body);
-  if (!isScript && !asWritten && (!body.some((it) => it.ModuleDecl) || (isDeclaration && needsList(body, true)))) {
+  /** @type {forms.ModuleItem[]} */
+  const written = script ? (script.body || []).map((Stmt) => ({ Stmt })) : module.body || [];
+  const body = asWritten ? written : writable(written);
+  items(w, body);
+  if (module && !asWritten && (!body.some((it) => it.ModuleDecl) || (isDeclaration && needsList(body, true)))) {
     w.line();
     w.write('export {};');
   }

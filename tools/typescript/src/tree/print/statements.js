@@ -1,25 +1,40 @@
 'use strict';
 // Prints statements, declarations, classes, imports and exports.
 
+const { variantOf } = require('../walk.js');
 const t = require('./types.js');
 const e = require('./expressions.js');
 const { needsList } = require('../../tables/ambient.js');
 const { writable } = require('../../skeleton/reserved.js');
 const { isFrom } = require('../../compiler/typescript.js');
 
-const { at, variantOf } = t;
+/** @typedef {import('./writer.js').Writer} Writer */
+
+const { at, printBy } = t;
 const { expression } = e;
+
+/** @typedef {import('./printers').Spanned} Spanned */
+/** @typedef {import('./printers').Named} Named */
+
 // The word before the attributes of an import, as the compiler at hand reads it.
 const attributesWord = () => (isFrom(5, 3) ? 'with' : 'assert');
 
 // ---- statements
 
 /** Statements in braces. */
-function block(w, node) {
+function block(/** @type {Writer} */ w, /** @type {forms.BlockStmt} */ node) {
   at(w, node, () => inBraces(w, node.stmts || [], node.span, statement));
 }
 
-/** A list in braces, each part on a line of its own; comments before the closing brace stay there. */
+/**
+ * A list in braces, each part on a line of its own; comments before the closing brace stay there.
+ *
+ * @template T
+ * @param {Writer} w
+ * @param {T[]} list
+ * @param {forms.Span | null} span
+ * @param {(w: Writer, it: T) => void} call
+ */
 function inBraces(w, list, span, call) {
   const [start, end] = span || [0, 0];
   const ends = end > 0 && w.hasLeading(end - 1);
@@ -43,27 +58,28 @@ function inBraces(w, list, span, call) {
   w.write('}');
 }
 
-function nested(w, choice) {
+function nested(/** @type {Writer} */ w, /** @type {forms.Stmt} */ choice) {
   w.write(' ');
   statement(w, choice);
 }
 
-function head(w, word, node, field) {
+function head(/** @type {Writer} */ w, /** @type {string} */ word, /** @type {forms.Expr} */ test) {
   w.write(`${word} (`);
-  expression(w, node[field]);
+  expression(w, test);
   w.write(')');
 }
 
-function variables(w, node) {
-  const word = node.kind ? node.kind.toLowerCase() : node.is_await ? 'await using' : 'using';
-  w.write(`${node.declare ? 'declare ' : ''}${word} `);
-  const broken = t.isWide(w, node) && (node.decls || []).length > 1;
+function variables(/** @type {Writer} */ w, /** @type {forms.VarDecl | forms.UsingDecl} */ node) {
+  const word = 'kind' in node ? node.kind.toLowerCase() : node.is_await ? 'await using' : 'using';
+  const decls = node.decls || [];
+  w.write(`${'declare' in node && node.declare ? 'declare ' : ''}${word} `);
+  const broken = t.isWide(w, node) && decls.length > 1;
   if (!broken) {
-    t.separated(w, node.decls, ', ', declarator);
+    t.separated(w, decls, ', ', declarator);
     return;
   }
   w.indented(() => {
-    node.decls.forEach((it, place) => {
+    decls.forEach((it, place) => {
       if (place) w.write(',');
       if (place) w.line();
       declarator(w, it);
@@ -71,7 +87,7 @@ function variables(w, node) {
   });
 }
 
-function declarator(w, node) {
+function declarator(/** @type {Writer} */ w, /** @type {forms.VarDeclarator} */ node) {
   at(w, node, () => {
     // `!` stands between the name and its type.
     if (node.definite && node.name.Ident) {
@@ -91,7 +107,12 @@ function declarator(w, node) {
 // Types that are no union, whatever their parts are.
 const SINGLE = new Set(['TsArrayType', 'TsTupleType', 'TsFnOrConstructorType', 'TsTypeLit']);
 
-/** Whether a type may be a union by its form. */
+/**
+ * Whether a type may be a union by its form.
+ *
+ * @param {forms.TsType} choice
+ * @returns {boolean}
+ */
 function mayBeUnion(choice) {
   const [variant, node] = variantOf(choice);
   if (variant === 'TsParenthesizedType') return mayBeUnion(node.type_ann);
@@ -103,19 +124,20 @@ function mayBeUnion(choice) {
 }
 
 /** Whether a variable has the value `{} as never` of a skeleton, and a type of which a compiler would take that value for a part. */
-function narrows({ name, init: { TsAs: value } }) {
+function narrows(/** @type {forms.VarDeclarator} */ { name, init }) {
+  const value = init && init.TsAs;
   const isMade = value && value.expr.Object && value.type_ann.TsKeywordType && value.type_ann.TsKeywordType.kind === 'TsNeverKeyword' && !value.span[0];
   return Boolean(isMade && name.Ident && name.Ident.type_ann && mayBeUnion(name.Ident.type_ann.type_ann));
 }
 
-function headVariables(w, choice) {
-  const list = choice.VarDecl || choice.UsingDecl;
-  if (list) at(w, list, () => variables(w, list));
-  else if (choice.Pat) t.pattern(w, choice.Pat);
-  else expression(w, choice.Expr || choice);
+function headVariables(/** @type {Writer} */ w, /** @type {forms.VarDeclOrExpr | forms.ForHead} */ choice) {
+  const [variant, node] = variantOf(choice);
+  if (variant === 'VarDecl' || variant === 'UsingDecl') at(w, node, () => variables(w, node));
+  else if (variant === 'Pat') t.pattern(w, node);
+  else expression(w, node);
 }
 
-function forStatement(w, node) {
+function forStatement(/** @type {Writer} */ w, /** @type {forms.ForStmt} */ node) {
   w.write('for (');
   if (node.init) headVariables(w, node.init);
   w.write(node.test ? '; ' : ';');
@@ -126,8 +148,8 @@ function forStatement(w, node) {
   nested(w, node.body);
 }
 
-function forEach(word) {
-  return (w, node) => {
+function forEach(/** @type {string} */ word) {
+  return (/** @type {Writer} */ w, /** @type {forms.ForInStmt & { is_await?: boolean }} */ node) => {
     w.write(node.is_await ? 'for await (' : 'for (');
     headVariables(w, node.left);
     w.write(` ${word} `);
@@ -137,15 +159,15 @@ function forEach(word) {
   };
 }
 
-function ifStatement(w, node) {
-  head(w, 'if', node, 'test');
+function ifStatement(/** @type {Writer} */ w, /** @type {forms.IfStmt} */ node) {
+  head(w, 'if', node.test);
   nested(w, node.cons);
   if (!node.alt) return;
   w.write(' else');
   nested(w, node.alt);
 }
 
-function switchCase(w, node) {
+function switchCase(/** @type {Writer} */ w, /** @type {forms.SwitchCase} */ node) {
   at(w, node, () => {
     if (node.test) {
       w.write('case ');
@@ -163,18 +185,19 @@ function switchCase(w, node) {
   });
 }
 
-function tryStatement(w, node) {
+function tryStatement(/** @type {Writer} */ w, /** @type {forms.TryStmt} */ node) {
   w.write('try ');
   block(w, node.block);
-  if (node.handler) {
-    at(w, node.handler, () => {
+  const { handler } = node;
+  if (handler) {
+    at(w, handler, () => {
       w.write(' catch ');
-      if (node.handler.param) {
+      if (handler.param) {
         w.write('(');
-        t.pattern(w, node.handler.param);
+        t.pattern(w, handler.param);
         w.write(') ');
       }
-      block(w, node.handler.body);
+      block(w, handler.body);
     });
   }
   if (!node.finalizer) return;
@@ -182,22 +205,23 @@ function tryStatement(w, node) {
   block(w, node.finalizer);
 }
 
-function jump(word) {
-  return (w, node) => {
+/** What prints a statement that goes elsewhere. */
+function jump(/** @type {string} */ word) {
+  return (/** @type {Writer} */ w, /** @type {{ label?: forms.Ident | null, arg?: forms.Expr | null }} */ { label, arg }) => {
     w.write(word);
-    const part = node.label || node.arg;
-    if (part) w.write(' ');
-    if (node.label) t.ident(w, node.label);
-    if (node.arg) expression(w, node.arg);
+    if (label || arg) w.write(' ');
+    if (label) t.ident(w, label);
+    if (arg) expression(w, arg);
     w.write(';');
   };
 }
 
+/** @type {import('./printers').Printers<Omit<forms.StmtVariants, 'Decl' | 'Block'>>} */
 const STATEMENTS = {
   Empty: (w) => w.write(';'),
   Debugger: (w) => w.write('debugger;'),
   With: (w, node) => {
-    head(w, 'with', node, 'obj');
+    head(w, 'with', node.obj);
     nested(w, node.body);
   },
   Return: jump('return'),
@@ -211,20 +235,20 @@ const STATEMENTS = {
   },
   If: ifStatement,
   Switch: (w, node) => {
-    head(w, 'switch', node, 'discriminant');
+    head(w, 'switch', node.discriminant);
     w.write(' ');
     inBraces(w, node.cases || [], null, switchCase);
   },
   Try: tryStatement,
   While: (w, node) => {
-    head(w, 'while', node, 'test');
+    head(w, 'while', node.test);
     nested(w, node.body);
   },
   DoWhile: (w, node) => {
     w.write('do');
     nested(w, node.body);
     w.write(' ');
-    head(w, 'while', node, 'test');
+    head(w, 'while', node.test);
     w.write(';');
   },
   For: forStatement,
@@ -237,31 +261,31 @@ const STATEMENTS = {
 };
 
 /** A statement. */
-function statement(w, choice) {
+function statement(/** @type {Writer} */ w, /** @type {forms.Stmt} */ choice) {
   const [variant, node] = variantOf(choice);
   if (variant === 'Decl') declaration(w, node);
   else if (variant === 'Block') block(w, node);
-  else at(w, node, () => STATEMENTS[variant](w, node));
+  else at(w, node, () => printBy(STATEMENTS, w, variant, node));
 }
 
 // ---- classes
 
-function accessibility(node) {
+function accessibility(/** @type {{ accessibility?: forms.Accessibility | null }} */ node) {
   return node.accessibility ? `${node.accessibility.toLowerCase()} ` : '';
 }
 
-function words(w, node, list) {
+function words(/** @type {Writer} */ w, /** @type {forms.Part} */ node, /** @type {('declare' | 'is_static' | 'is_abstract' | 'is_override' | 'readonly')[]} */ list) {
   for (const it of list) if (node[it]) w.write(`${it.replace(/^is_/, '')} `);
 }
 
-function memberKey(w, key) {
-  if (key.Private) t.privateName(w, key.Private);
-  else if (key.Public) e.propName(w, key.Public);
+function memberKey(/** @type {Writer} */ w, /** @type {forms.Key | forms.PropName | forms.PrivateName} */ key) {
+  if ('Private' in key && key.Private) t.privateName(w, key.Private);
+  else if ('Public' in key && key.Public) e.propName(w, key.Public);
   else if ('name' in key) t.privateName(w, key);
-  else e.propName(w, key);
+  else e.propName(w, /** @type {forms.PropName} */ (key));
 }
 
-function property(w, node) {
+function property(/** @type {Writer} */ w, /** @type {((forms.ClassProp | forms.PrivateProp) & { isAccessor?: undefined }) | (forms.AutoAccessor & { isAccessor: true, is_optional?: undefined })} */ node) {
   e.decorators(w, node.decorators, ' ');
   words(w, node, ['declare']);
   w.write(accessibility(node));
@@ -279,7 +303,7 @@ function property(w, node) {
 
 const METHOD_WORDS = { Getter: 'get ', Setter: 'set ', Method: '' };
 
-function method(w, node) {
+function method(/** @type {Writer} */ w, /** @type {forms.ClassMethod | forms.PrivateMethod} */ node) {
   e.decorators(w, node.function.decorators, ' ');
   w.write(accessibility(node));
   words(w, node, ['is_static', 'is_abstract', 'is_override']);
@@ -292,7 +316,7 @@ function method(w, node) {
   e.body(w, node.function.body);
 }
 
-function constructorParam(w, choice) {
+function constructorParam(/** @type {Writer} */ w, /** @type {forms.ParamOrTsParamProp} */ choice) {
   const [variant, node] = variantOf(choice);
   if (variant === 'Param') {
     t.pattern(w, node);
@@ -306,16 +330,17 @@ function constructorParam(w, choice) {
   });
 }
 
-function constructor(w, node) {
+function constructor(/** @type {Writer} */ w, /** @type {forms.Constructor} */ node) {
   w.write(accessibility(node));
   e.propName(w, node.key);
   const params = node.params || [];
-  const spans = params.map((it) => t.spanOf(it)).filter((it) => it && it[0]);
-  const isWide = !w.isHeld() && spans.length > 1 && spans[spans.length - 1][1] - spans[0][0] > 80;
-  t.listed(w, params, '(', ')', isWide || spans.some((it) => w.hasLeading(it[0])), constructorParam, t.afterLast(params));
+  const spans = params.flatMap((it) => (t.startOf(it) ? t.spanOf(it) || [] : []));
+  const isWide = !w.isHeld() && spans.length > 2 && spans[spans.length - 1] - spans[0] > 80;
+  t.listed(w, params, '(', ')', isWide || params.some((it) => t.startOf(it) && w.hasLeading(t.startOf(it))), constructorParam, t.afterLast(params));
   e.body(w, node.body);
 }
 
+/** @type {import('./printers').Printers<forms.ClassMemberVariants>} */
 const MEMBERS = {
   Constructor: constructor,
   Method: method,
@@ -334,12 +359,12 @@ const MEMBERS = {
   },
 };
 
-function member(w, choice) {
+function member(/** @type {Writer} */ w, /** @type {forms.ClassMember} */ choice) {
   const [variant, node] = variantOf(choice);
-  at(w, node, () => MEMBERS[variant](w, node));
+  at(w, node, () => printBy(MEMBERS, w, variant, node));
 }
 
-function implemented(w, node) {
+function implemented(/** @type {Writer} */ w, /** @type {forms.TsExprWithTypeArgs} */ node) {
   at(w, node, () => {
     expression(w, node.expr);
     t.typeArguments(w, node.type_args);
@@ -347,7 +372,7 @@ function implemented(w, node) {
 }
 
 /** A class, within its comments: decorators, name, heritage and members. */
-function classOf(w, ident, node, declare = false) {
+function classOf(/** @type {Writer} */ w, /** @type {forms.Ident | null | undefined} */ ident, /** @type {forms.Class} */ node, declare = false) {
   e.decorators(w, node.decorators, '\n');
   if (declare) w.write('declare ');
   if (node.is_abstract) w.write('abstract ');
@@ -372,14 +397,14 @@ function classOf(w, ident, node, declare = false) {
 
 // ---- declarations
 
-function functionDeclaration(w, node) {
+function functionDeclaration(/** @type {Writer} */ w, /** @type {forms.FnDecl} */ node) {
   at(w, node.function, () => {
     if (node.declare) w.write('declare ');
     e.functionOf(w, node.ident, node.function);
   });
 }
 
-function interfaceDeclaration(w, node) {
+function interfaceDeclaration(/** @type {Writer} */ w, /** @type {forms.TsInterfaceDecl} */ node) {
   if (node.declare) w.write('declare ');
   w.write('interface ');
   t.ident(w, node.id);
@@ -392,7 +417,7 @@ function interfaceDeclaration(w, node) {
   at(w, node.body, () => t.memberLines(w, node.body.body || [], node.body));
 }
 
-function typeAlias(w, node) {
+function typeAlias(/** @type {Writer} */ w, /** @type {forms.TsTypeAliasDecl} */ node) {
   if (node.declare) w.write('declare ');
   w.write('type ');
   t.ident(w, node.id);
@@ -402,7 +427,7 @@ function typeAlias(w, node) {
   w.write(';');
 }
 
-function enumMember(w, node) {
+function enumMember(/** @type {Writer} */ w, /** @type {forms.TsEnumMember} */ node) {
   at(w, node, () => {
     if (node.id.Ident) t.ident(w, node.id.Ident);
     else t.str(w, node.id.Str);
@@ -414,7 +439,7 @@ function enumMember(w, node) {
   });
 }
 
-function enumDeclaration(w, node) {
+function enumDeclaration(/** @type {Writer} */ w, /** @type {forms.TsEnumDecl} */ node) {
   if (node.declare) w.write('declare ');
   w.write(node.is_const ? 'const enum ' : 'enum ');
   t.ident(w, node.id);
@@ -422,9 +447,10 @@ function enumDeclaration(w, node) {
   inBraces(w, node.members || [], [0, (node.span || [0, 0])[1]], enumMember);
 }
 
-const EMPTY_LIST = { ModuleDecl: { ExportNamed: {} } };
+/** @type {forms.ModuleItem} */
+const EMPTY_LIST = { ModuleDecl: { ExportNamed: { span: [0, 0] } } };
 
-function namespaceBody(w, choice) {
+function namespaceBody(/** @type {Writer} */ w, /** @type {forms.TsNamespaceBody} */ choice) {
   if (choice.TsNamespaceDecl) {
     w.write('.');
     t.ident(w, choice.TsNamespaceDecl.id);
@@ -438,7 +464,7 @@ function namespaceBody(w, choice) {
   at(w, choice.TsModuleBlock, () => inBraces(w, list, span, item));
 }
 
-function namespaceDeclaration(w, node) {
+function namespaceDeclaration(/** @type {Writer} */ w, /** @type {forms.TsModuleDecl} */ node) {
   if (node.declare) w.write('declare ');
   if (!node.global) w.write(node.namespace ? 'namespace ' : 'module ');
   if (node.id.Str) t.str(w, node.id.Str);
@@ -453,11 +479,12 @@ function namespaceDeclaration(w, node) {
   w.isAmbient = outer;
 }
 
-function variableStatement(w, node) {
+function variableStatement(/** @type {Writer} */ w, /** @type {forms.VarDecl | forms.UsingDecl} */ node) {
   variables(w, node);
   w.write(';');
 }
 
+/** @type {import('./printers').Printers<Omit<forms.DeclVariants, 'Fn' | 'Class'>>} */
 const DECLARATIONS = {
   Var: variableStatement,
   Using: variableStatement,
@@ -467,21 +494,21 @@ const DECLARATIONS = {
   TsModule: namespaceDeclaration,
 };
 
-function declaration(w, choice) {
+function declaration(/** @type {Writer} */ w, /** @type {forms.Decl} */ choice) {
   const [variant, node] = variantOf(choice);
   if (variant === 'Fn') functionDeclaration(w, node);
   else if (variant === 'Class') at(w, node.class, () => classOf(w, node.ident, node.class, node.declare));
-  else at(w, node, () => DECLARATIONS[variant](w, node));
+  else at(w, node, () => printBy(DECLARATIONS, w, variant, node));
 }
 
 // ---- imports and exports
 
-function moduleExportName(w, choice) {
+function moduleExportName(/** @type {Writer} */ w, /** @type {forms.ModuleExportName} */ choice) {
   if (choice.Str) t.str(w, choice.Str);
   else t.ident(w, choice.Ident);
 }
 
-function fromSource(w, node) {
+function fromSource(/** @type {Writer} */ w, /** @type {{ src?: forms.Str | null, with?: forms.ObjectLit | null }} */ node) {
   if (node.src) {
     w.write(' from ');
     t.str(w, node.src);
@@ -493,7 +520,7 @@ function fromSource(w, node) {
   w.write(';');
 }
 
-function named(w, node) {
+function named(/** @type {Writer} */ w, /** @type {Named} */ node) {
   at(w, node, () => {
     if (node.is_type_only) w.write('type ');
     if (node.orig) {
@@ -511,7 +538,7 @@ function named(w, node) {
   });
 }
 
-function namedList(w, list, node) {
+function namedList(/** @type {Writer} */ w, /** @type {Named[]} */ list, /** @type {Spanned} */ node) {
   if (t.isWide(w, node) || list.some((it) => w.hasLeading(it.span[0]))) t.listed(w, list, '{', '}', true, named);
   else {
     w.write('{ ');
@@ -520,7 +547,7 @@ function namedList(w, list, node) {
   }
 }
 
-function importDeclaration(w, node) {
+function importDeclaration(/** @type {Writer} */ w, /** @type {forms.ImportDecl} */ node) {
   w.write('import ');
   if (node.type_only) w.write('type ');
   if (node.phase === 'defer') w.write('defer ');
@@ -530,24 +557,25 @@ function importDeclaration(w, node) {
     fromSource(w, { with: node.with });
     return;
   }
+  /** @type {(() => void)[]} */
   const parts = [];
-  for (const it of list) {
-    if (it.Default) parts.push(() => at(w, it.Default, () => t.ident(w, it.Default.local)));
-    if (it.Namespace) {
-      parts.push(() => at(w, it.Namespace, () => {
+  for (const { Default: single, Namespace: whole } of list) {
+    if (single) parts.push(() => at(w, single, () => t.ident(w, single.local)));
+    if (whole) {
+      parts.push(() => at(w, whole, () => {
         w.write('* as ');
-        t.ident(w, it.Namespace.local);
+        t.ident(w, whole.local);
       }));
     }
   }
-  const names = list.filter((it) => it.Named).map((it) => it.Named);
+  const names = list.flatMap((it) => it.Named || []);
   if (names.length) parts.push(() => namedList(w, names, node));
   if (list.length === 0) w.write('{}');
   t.separated(w, parts, ', ', (_, part) => part());
   fromSource(w, node);
 }
 
-function exportNamed(w, node) {
+function exportNamed(/** @type {Writer} */ w, /** @type {forms.NamedExport} */ node) {
   w.write('export ');
   if (node.type_only) w.write('type ');
   const list = node.specifiers || [];
@@ -558,11 +586,11 @@ function exportNamed(w, node) {
       moduleExportName(w, first.Namespace.name);
     });
   } else if (list.length === 0) w.write('{}');
-  else namedList(w, list.map((it) => it.Named), node);
+  else namedList(w, list.flatMap((it) => it.Named || []), node);
   fromSource(w, node);
 }
 
-function importEquals(w, node) {
+function importEquals(/** @type {Writer} */ w, /** @type {forms.TsImportEqualsDecl} */ node) {
   if (node.is_export) w.write('export ');
   w.write(node.is_type_only ? 'import type ' : 'import ');
   t.ident(w, node.id);
@@ -577,7 +605,7 @@ function importEquals(w, node) {
   w.write(';');
 }
 
-function defaultDeclaration(w, node) {
+function defaultDeclaration(/** @type {Writer} */ w, /** @type {forms.ExportDefaultDecl} */ node) {
   const [variant, decl] = variantOf(node.decl);
   if (variant === 'Class') e.decorators(w, decl.class.decorators, '\n');
   w.write('export default ');
@@ -587,33 +615,35 @@ function defaultDeclaration(w, node) {
 }
 
 /** A declaration behind `export`. The decorators of a class stand before the word. */
-function exportedDeclaration(w, node) {
+function exportedDeclaration(/** @type {Writer} */ w, /** @type {forms.ExportDecl} */ node) {
   const { Class } = node.decl;
   if (Class) e.decorators(w, Class.class.decorators, '\n');
   w.write('export ');
   declaration(w, Class ? { Class: { ...Class, class: { ...Class.class, decorators: [] } } } : node.decl);
 }
 
-function ended(before, field) {
-  return (w, node) => {
+/** What prints an expression behind some words. */
+function ended(/** @type {string} */ before) {
+  return (/** @type {Writer} */ w, /** @type {{ expr: forms.Expr }} */ node) => {
     w.write(before);
-    expression(w, node[field]);
+    expression(w, node.expr);
     w.write(';');
   };
 }
 
+/** @type {import('./printers').Printers<forms.ModuleDeclVariants>} */
 const MODULE_DECLARATIONS = {
   Import: importDeclaration,
   ExportDecl: exportedDeclaration,
   ExportNamed: exportNamed,
   ExportDefaultDecl: defaultDeclaration,
-  ExportDefaultExpr: ended('export default ', 'expr'),
+  ExportDefaultExpr: ended('export default '),
   ExportAll: (w, node) => {
     w.write(node.type_only ? 'export type *' : 'export *');
     fromSource(w, node);
   },
   TsImportEquals: importEquals,
-  TsExportAssignment: ended('export = ', 'expr'),
+  TsExportAssignment: ended('export = '),
   TsNamespaceExport: (w, node) => {
     w.write('export as namespace ');
     t.ident(w, node.id);
@@ -622,16 +652,16 @@ const MODULE_DECLARATIONS = {
 };
 
 /** An item of a module or a namespace. */
-function item(w, choice) {
+function item(/** @type {Writer} */ w, /** @type {forms.ModuleItem} */ choice) {
   if (choice.Stmt) {
     statement(w, choice.Stmt);
     return;
   }
   const [variant, node] = variantOf(choice.ModuleDecl);
-  at(w, node, () => MODULE_DECLARATIONS[variant](w, node));
+  at(w, node, () => printBy(MODULE_DECLARATIONS, w, variant, node));
 }
 
-function items(w, list) {
+function items(/** @type {Writer} */ w, /** @type {forms.ModuleItem[]} */ list) {
   for (const it of list) {
     w.line();
     item(w, it);

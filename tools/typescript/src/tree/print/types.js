@@ -1,30 +1,58 @@
 'use strict';
 // Prints names, types, patterns and signatures.
 
+/** @typedef {import('./writer.js').Writer} Writer */
+
+/** @typedef {import('./printers').Spanned} Spanned */
+/** @typedef {import('./printers').Parameter} Parameter */
+
+const { variantOf } = require('../walk.js');
+
 const expressions = () => require('./expressions.js');
+
+/** @type {forms.Span} */
+const NOWHERE = [0, 0];
 
 /** Above this many bytes of source a list stands on lines of its own. */
 const WIDE = 80;
 
-/** The one variant of a choice, and its content. */
-function variantOf(choice) {
-  const [variant] = Object.keys(choice);
-  return [variant, choice[variant]];
+/**
+ * Prints what a choice holds by the entry of its variant.
+ *
+ * @template V
+ * @template {keyof V} K
+ * @param {import('./printers').Printers<V>} printers
+ * @param {Writer} w
+ * @param {K} variant
+ * @param {V[K]} node
+ */
+function printBy(printers, w, variant, node) {
+  printers[variant](w, node);
 }
 
 /** Writes a node with the comments before and after it. */
-function at(w, node, call) {
-  const span = node.span || [0, 0];
-  w.leading(span[0]);
+function at(/** @type {Writer} */ w, /** @type {Spanned} */ node, /** @type {() => void} */ call) {
+  const [start, end] = node.span || NOWHERE;
+  w.leading(start);
   call();
-  w.trailing(span[1]);
+  w.trailing(end);
 }
 
 /** Whether a node is broken into lines. */
-function isWide(w, node) {
-  return !w.isHeld() && Boolean(node.span) && node.span[1] - node.span[0] > WIDE;
+function isWide(/** @type {Writer} */ w, /** @type {Spanned} */ node) {
+  const [start, end] = node.span || NOWHERE;
+  return !w.isHeld() && end - start > WIDE;
 }
 
+/**
+ * A list with something between its parts.
+ *
+ * @template T
+ * @param {Writer} w
+ * @param {T[] | null | undefined} list
+ * @param {string} between
+ * @param {(w: Writer, it: T) => void} call
+ */
 function separated(w, list, between, call) {
   (list || []).forEach((it, place) => {
     if (place) w.write(between);
@@ -32,7 +60,17 @@ function separated(w, list, between, call) {
   });
 }
 
-/** A list in delimiters, each part on a line of its own where it is wide. */
+/**
+ * A list in delimiters, each part on a line of its own where it is wide.
+ *
+ * @template T
+ * @param {Writer} w
+ * @param {T[]} list
+ * @param {string} open
+ * @param {string} close
+ * @param {boolean} wide
+ * @param {(w: Writer, it: T) => void} call
+ */
 function listed(w, list, open, close, wide, call, last = ',') {
   if (!wide || list.length === 0) {
     w.write(open);
@@ -54,26 +92,27 @@ function listed(w, list, open, close, wide, call, last = ',') {
 
 // ---- names and literals
 
-function quoted(text) {
+function quoted(/** @type {string} */ text) {
   return JSON.stringify(text).replace(/\u2028/g, '\\u2028').replace(/\u2029/g, '\\u2029');
 }
 
-function str(w, node) {
+function str(/** @type {Writer} */ w, /** @type {forms.Str} */ node) {
   at(w, node, () => w.write(node.raw === null || node.raw === undefined ? quoted(node.value) : node.raw));
 }
 
-function ident(w, node) {
+function ident(/** @type {Writer} */ w, /** @type {forms.Ident} */ node) {
   at(w, node, () => w.write(node.optional ? `${node.sym}?` : node.sym));
 }
 
-function name(w, node) {
+function name(/** @type {Writer} */ w, /** @type {forms.Ident | forms.IdentName} */ node) {
   at(w, node, () => w.write(node.sym));
 }
 
-function privateName(w, node) {
+function privateName(/** @type {Writer} */ w, /** @type {forms.PrivateName} */ node) {
   at(w, node, () => w.write(`#${node.name}`));
 }
 
+/** @type {import('./printers').Printers<forms.LitVariants & Pick<forms.TsLitVariants, 'Number'>>} */
 const LITERALS = {
   Str: str,
   Bool: (w, node) => w.write(node.value ? 'true' : 'false'),
@@ -85,17 +124,26 @@ const LITERALS = {
   JSXText: (w, node) => w.write(node.raw),
 };
 
-function literal(w, choice) {
+function literal(/** @type {Writer} */ w, /** @type {forms.Lit | forms.TsLit} */ choice) {
   const [variant, node] = variantOf(choice);
-  at(w, node, () => LITERALS[variant](w, node));
+  if (variant === 'Tpl') template(w, node.quasis, node.types, type);
+  else at(w, node, () => printBy(LITERALS, w, variant, node));
 }
 
-/** A template whose parts are written by a call. */
+/**
+ * A template whose parts are written by a call.
+ *
+ * @template T
+ * @param {Writer} w
+ * @param {forms.TplElement[] | undefined} quasis
+ * @param {T[] | undefined} parts
+ * @param {(w: Writer, it: T) => void} call
+ */
 function template(w, quasis, parts, call) {
   w.write('`');
-  quasis.forEach((it, place) => {
+  (quasis || []).forEach((it, place) => {
     w.pieces.push(it.raw);
-    if (place < (parts || []).length) {
+    if (parts && place < parts.length) {
       w.write('${');
       call(w, parts[place]);
       w.write('}');
@@ -104,7 +152,7 @@ function template(w, quasis, parts, call) {
   w.write('`');
 }
 
-function entity(w, choice) {
+function entity(/** @type {Writer} */ w, /** @type {forms.TsEntityName} */ choice) {
   const [variant, node] = variantOf(choice);
   if (variant === 'Ident') return ident(w, node);
   return at(w, node, () => {
@@ -116,13 +164,13 @@ function entity(w, choice) {
 
 // ---- types
 
-function annotation(w, node, before = ': ') {
+function annotation(/** @type {Writer} */ w, /** @type {forms.TsTypeAnn | null | undefined} */ node, before = ': ') {
   if (!node) return;
   w.write(before);
   at(w, node, () => type(w, node.type_ann));
 }
 
-function typeArguments(w, node) {
+function typeArguments(/** @type {Writer} */ w, /** @type {forms.TsTypeParamInstantiation | null | undefined} */ node) {
   if (!node) return;
   at(w, node, () => {
     w.write('<');
@@ -131,7 +179,7 @@ function typeArguments(w, node) {
   });
 }
 
-function typeParameter(w, node) {
+function typeParameter(/** @type {Writer} */ w, /** @type {forms.TsTypeParam} */ node) {
   at(w, node, () => {
     if (node.is_const) w.write('const ');
     if (node.is_in) w.write('in ');
@@ -149,37 +197,47 @@ function typeParameter(w, node) {
 }
 
 /** Type parameters. `isReserved` says that one alone needs a comma, without which it would be an element. */
-function typeParameters(w, node, isReserved = false) {
+function typeParameters(/** @type {Writer} */ w, /** @type {forms.TsTypeParamDecl | null | undefined} */ node, isReserved = false) {
   if (!node) return;
+  const params = node.params || [];
   at(w, node, () => {
     w.write('<');
-    separated(w, node.params, ', ', typeParameter);
-    w.write(isReserved && node.params.length === 1 && !node.params[0].constraint ? ',>' : '>');
+    separated(w, params, ', ', typeParameter);
+    w.write(isReserved && params.length === 1 && !params[0].constraint ? ',>' : '>');
   });
 }
 
-function parameters(w, list) {
+function parameters(/** @type {Writer} */ w, /** @type {Parameter[] | undefined} */ list) {
   const params = list || [];
-  const spans = params.map((it) => spanOf(it)).filter((it) => it && it[0]);
+  const spans = params.flatMap((it) => (startOf(it) ? [spanOf(it) || NOWHERE] : []));
   const width = spans.length ? spans[spans.length - 1][1] - spans[0][0] : 0;
   const hasComments = spans.some((it) => w.hasLeading(it[0]));
   listed(w, params, '(', ')', (width > WIDE && !w.isHeld()) || hasComments, pattern, afterLast(params));
 }
 
+/** The pattern of a parameter. */
+function partOf(/** @type {forms.Part} */ { Param: param, pat, ...others }) {
+  return /** @type {forms.Part} */ ((param && param.pat) || pat || others);
+}
+
 /** What stands after the last of several lines of parameters: no comma may follow a rest. */
-function afterLast(params) {
+function afterLast(/** @type {(Parameter | forms.ParamOrTsParamProp)[]} */ params) {
   const last = params[params.length - 1];
-  return last && (last.pat || last.Param?.pat || last).Rest ? '' : ',';
+  return last && partOf(last).Rest ? '' : ',';
 }
 
 /** The range of a parameter, under whatever names. */
-function spanOf(node) {
+function spanOf(/** @type {forms.Part} */ node) {
+  /** @type {forms.Part | undefined} */
   let inner = node;
-  while (inner && !inner.span) inner = inner.id || inner[Object.keys(inner)[0]];
-  return inner ? inner.span : null;
+  while (inner && !inner.span) inner = /** @type {forms.Part | undefined} */ (inner.id || Object.values(inner)[0]);
+  return (inner && inner.span) || null;
 }
 
-function functionType(w, choice) {
+/** The position at which a part begins; 0 where that is not known. */
+const startOf = (/** @type {forms.Part} */ node) => (spanOf(node) || NOWHERE)[0];
+
+function functionType(/** @type {Writer} */ w, /** @type {forms.TsFnOrConstructorType} */ choice) {
   const [variant, node] = variantOf(choice);
   at(w, node, () => {
     if (node.is_abstract) w.write('abstract ');
@@ -191,7 +249,7 @@ function functionType(w, choice) {
 }
 
 /** The type as a part of one that binds closer: a made tree may lack the parentheses. */
-function closer(w, choice, variants) {
+function closer(/** @type {Writer} */ w, /** @type {forms.TsType} */ choice, /** @type {string[]} */ variants) {
   const many = choice.TsUnionOrIntersectionType;
   const needs = variants.some((it) => it in choice) || (many && variants.includes(Object.keys(many)[0]));
   if (needs) w.write('(');
@@ -201,7 +259,7 @@ function closer(w, choice, variants) {
 
 const LOOSE = ['TsFnOrConstructorType', 'TsConditionalType'];
 
-function union(w, choice) {
+function union(/** @type {Writer} */ w, /** @type {forms.TsUnionOrIntersectionType} */ choice) {
   const [variant, node] = variantOf(choice);
   const sign = variant === 'TsUnionType' ? '|' : '&';
   const loose = variant === 'TsUnionType' ? LOOSE : [...LOOSE, 'TsUnionType'];
@@ -211,7 +269,7 @@ function union(w, choice) {
       return;
     }
     w.indented(() => {
-      for (const it of node.types) {
+      for (const it of node.types || []) {
         w.line();
         w.write(`${sign} `);
         closer(w, it, loose);
@@ -220,19 +278,19 @@ function union(w, choice) {
   });
 }
 
-function mappedMark(mark, word) {
+function mappedMark(/** @type {string | null | undefined} */ mark, /** @type {string} */ word) {
   if (!mark) return '';
   return mark === 'true' ? word : mark + word;
 }
 
-function mapped(w, node) {
+function mapped(/** @type {Writer} */ w, /** @type {forms.TsMappedType} */ node) {
   w.write('{ ');
   const readonly = mappedMark(node.readonly, 'readonly');
   if (readonly) w.write(`${readonly} `);
   w.write('[');
   ident(w, node.type_param.name);
   w.write(' in ');
-  type(w, node.type_param.constraint);
+  if (node.type_param.constraint) type(w, node.type_param.constraint);
   if (node.name_type) {
     w.write(' as ');
     type(w, node.name_type);
@@ -246,7 +304,7 @@ function mapped(w, node) {
   w.write(' }');
 }
 
-function conditional(w, node) {
+function conditional(/** @type {Writer} */ w, /** @type {forms.TsConditionalType} */ node) {
   closer(w, node.check_type, LOOSE);
   w.write(' extends ');
   closer(w, node.extends_type, ['TsConditionalType']);
@@ -258,21 +316,21 @@ function conditional(w, node) {
   else branches();
 }
 
-function separatedBranch(w, wide, sign, branch) {
+function separatedBranch(/** @type {Writer} */ w, /** @type {boolean} */ wide, /** @type {string} */ sign, /** @type {forms.TsType} */ branch) {
   if (wide) w.line();
   else w.write(' ');
   w.write(sign);
   type(w, branch);
 }
 
-function predicate(w, node) {
+function predicate(/** @type {Writer} */ w, /** @type {forms.TsTypePredicate} */ node) {
   if (node.asserts) w.write('asserts ');
   if (node.param_name.Ident) ident(w, node.param_name.Ident);
   else w.write('this');
   if (node.type_ann) annotation(w, node.type_ann, ' is ');
 }
 
-function importType(w, node) {
+function importType(/** @type {Writer} */ w, /** @type {forms.TsImportType} */ node) {
   at(w, node, () => {
     w.write('import(');
     str(w, node.arg);
@@ -285,14 +343,14 @@ function importType(w, node) {
   });
 }
 
-function query(w, node) {
+function query(/** @type {Writer} */ w, /** @type {forms.TsTypeQuery} */ node) {
   w.write('typeof ');
   if (node.expr_name.Import) importType(w, node.expr_name.Import);
   else entity(w, node.expr_name.TsEntityName);
   typeArguments(w, node.type_args);
 }
 
-function tupleElement(w, node) {
+function tupleElement(/** @type {Writer} */ w, /** @type {forms.TsTupleElement} */ node) {
   at(w, node, () => {
     if (node.label) {
       pattern(w, node.label);
@@ -306,8 +364,9 @@ const KEYWORD = /^Ts(.*)Keyword$/;
 const OPERATORS = { KeyOf: 'keyof', Unique: 'unique', ReadOnly: 'readonly' };
 const POSTFIX = [...LOOSE, 'TsUnionType', 'TsIntersectionType', 'TsTypeOperator', 'TsInferType', 'TsTypeQuery'];
 
+/** @type {import('./printers').Printers<forms.TsTypeVariants>} */
 const TYPES = {
-  TsKeywordType: (w, node) => w.write(KEYWORD.exec(node.kind)[1].toLowerCase()),
+  TsKeywordType: (w, node) => w.write(node.kind.replace(KEYWORD, '$1').toLowerCase()),
   TsThisType: (w) => w.write('this'),
   TsFnOrConstructorType: functionType,
   TsTypeRef: (w, node) => {
@@ -352,35 +411,34 @@ const TYPES = {
   },
   TsMappedType: mapped,
   TsLitType: (w, node) => {
-    if (node.lit.Tpl) template(w, node.lit.Tpl.quasis, node.lit.Tpl.types, type);
-    else literal(w, node.lit);
+    literal(w, node.lit);
   },
   TsTypePredicate: predicate,
   TsImportType: importType,
 };
 
 /** A type. */
-function type(w, choice) {
+function type(/** @type {Writer} */ w, /** @type {forms.TsType} */ choice) {
   const [variant, node] = variantOf(choice);
-  if (node.span) at(w, node, () => TYPES[variant](w, node));
-  else TYPES[variant](w, node);
+  if ('span' in node) at(w, node, () => printBy(TYPES, w, variant, node));
+  else printBy(TYPES, w, variant, node);
 }
 
 // ---- members of interfaces and type literals
 
-function signatureKey(w, node) {
+function signatureKey(/** @type {Writer} */ w, /** @type {{ key: forms.Expr, computed?: boolean }} */ node) {
   if (node.computed) w.write('[');
   expressions().expression(w, node.key);
   if (node.computed) w.write(']');
 }
 
-function callSignature(w, node) {
+function callSignature(/** @type {Writer} */ w, /** @type {forms.TsCallSignatureDecl | forms.TsConstructSignatureDecl | forms.TsMethodSignature} */ node) {
   typeParameters(w, node.type_params);
   parameters(w, node.params);
   annotation(w, node.type_ann);
 }
 
-function indexSignature(w, node) {
+function indexSignature(/** @type {Writer} */ w, /** @type {forms.TsIndexSignature} */ node) {
   if (node.is_static) w.write('static ');
   if (node.readonly) w.write('readonly ');
   w.write('[');
@@ -389,6 +447,7 @@ function indexSignature(w, node) {
   annotation(w, node.type_ann);
 }
 
+/** @type {import('./printers').Printers<forms.TsTypeElementVariants>} */
 const MEMBERS = {
   TsCallSignatureDecl: callSignature,
   TsConstructSignatureDecl: (w, node) => {
@@ -420,17 +479,17 @@ const MEMBERS = {
   TsIndexSignature: indexSignature,
 };
 
-function member(w, choice, end) {
+function member(/** @type {Writer} */ w, /** @type {forms.TsTypeElement} */ choice, /** @type {string} */ end) {
   const [variant, node] = variantOf(choice);
   at(w, node, () => {
-    MEMBERS[variant](w, node);
+    printBy(MEMBERS, w, variant, node);
     w.write(end);
   });
 }
 
 /** Members in braces, on one line where they are few and short. */
-function members(w, list, node) {
-  const wide = isWide(w, node) || list.some((it) => w.hasLeading(spanOf(it)[0]));
+function members(/** @type {Writer} */ w, /** @type {forms.TsTypeElement[]} */ list, /** @type {Spanned} */ node) {
+  const wide = isWide(w, node) || list.some((it) => w.hasLeading(startOf(it)));
   if (!wide && list.length) {
     w.write('{ ');
     list.forEach((it, place) => {
@@ -444,8 +503,8 @@ function members(w, list, node) {
 }
 
 /** Members in braces, each on a line of its own. */
-function memberLines(w, list, node) {
-  const [start, end] = node.span || [0, 0];
+function memberLines(/** @type {Writer} */ w, /** @type {forms.TsTypeElement[]} */ list, /** @type {Spanned} */ node) {
+  const [start, end] = node.span || NOWHERE;
   w.write('{');
   w.trailing(start && start + 1);
   w.indented(() => {
@@ -464,7 +523,7 @@ function memberLines(w, list, node) {
 
 // ---- patterns
 
-function objectPatternProp(w, choice) {
+function objectPatternProp(/** @type {Writer} */ w, /** @type {forms.ObjectPatProp} */ choice) {
   const [variant, node] = variantOf(choice);
   if (variant === 'KeyValue') {
     expressions().propName(w, node.key);
@@ -476,22 +535,22 @@ function objectPatternProp(w, choice) {
       withDefault(w, node.value);
     });
   } else {
-    pattern(w, choice);
+    pattern(w, { Rest: node });
   }
 }
 
-function withDefault(w, value) {
+function withDefault(/** @type {Writer} */ w, /** @type {forms.Expr | null | undefined} */ value) {
   if (!value) return;
   w.write(' = ');
   expressions().expression(w, value);
 }
 
-function binding(w, node) {
+function binding(/** @type {Writer} */ w, /** @type {forms.BindingIdent} */ node) {
   ident(w, node.id);
   annotation(w, node.type_ann);
 }
 
-function arrayPattern(w, node) {
+function arrayPattern(/** @type {Writer} */ w, /** @type {forms.ArrayPat} */ node) {
   const elems = node.elems || [];
   w.write('[');
   elems.forEach((it, place) => {
@@ -503,7 +562,7 @@ function arrayPattern(w, node) {
   annotation(w, node.type_ann);
 }
 
-function objectPattern(w, node) {
+function objectPattern(/** @type {Writer} */ w, /** @type {forms.ObjectPat} */ node) {
   const props = node.props || [];
   if (props.length === 0) w.write('{}');
   else {
@@ -515,6 +574,7 @@ function objectPattern(w, node) {
   annotation(w, node.type_ann);
 }
 
+/** @type {import('./printers').Printers<Omit<forms.PatVariants, 'Ident' | 'Expr'>>} */
 const PATTERNS = {
   Array: arrayPattern,
   Object: objectPattern,
@@ -531,21 +591,22 @@ const PATTERNS = {
 };
 
 /** A pattern, or a parameter of a function with its decorators. */
-function pattern(w, choice) {
+function pattern(/** @type {Writer} */ w, /** @type {Parameter} */ choice) {
   if (choice.pat) {
+    const { pat, decorators } = choice;
     at(w, choice, () => {
-      expressions().decorators(w, choice.decorators, ' ');
-      pattern(w, choice.pat);
+      expressions().decorators(w, decorators, ' ');
+      pattern(w, pat);
     });
     return;
   }
-  const [variant, node] = variantOf(choice);
+  const [variant, node] = variantOf(/** @type {forms.Pat} */ (choice));
   if (variant === 'Ident') binding(w, node);
   else if (variant === 'Expr') expressions().expression(w, node);
-  else at(w, node, () => PATTERNS[variant](w, node));
+  else at(w, node, () => printBy(PATTERNS, w, variant, node));
 }
 
 module.exports = {
-  variantOf, at, isWide, separated, listed, spanOf, quoted, str, ident, name, privateName, literal, template, entity, annotation,
-  typeArguments, typeParameters, parameters, afterLast, type, indexSignature, memberLines, pattern,
+  printBy, at, isWide, separated, listed, spanOf, quoted, str, ident, name, privateName, literal, template, entity, annotation,
+  typeArguments, typeParameters, parameters, afterLast, startOf, type, indexSignature, memberLines, pattern,
 };

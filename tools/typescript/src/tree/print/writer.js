@@ -1,26 +1,30 @@
 'use strict';
 // Text that grows line by line, with the comments that stand at its tokens.
 
+/** @typedef {import('../types').Comment} Comment */
+/** @typedef {import('../types').Comments} Comments */
+
 const STEP = '  ';
 
-function byPosition(list) {
-  return new Map((list || []).map(([position, comments]) => [position, comments]));
+function byPosition(/** @type {[number, Comment[]][] | null | undefined} */ list) {
+  return new Map(list || []);
 }
 
 /** A block comment whose lines begin with `*`, moved to an indentation. */
-function moved(text, indent) {
+function moved(/** @type {string} */ text, /** @type {string} */ indent) {
   const lines = text.split(/\r\n?|\n/);
   if (!lines.slice(1).every((it) => /^\s*\*|^\s*$/.test(it))) return text;
   return lines.map((it, place) => (place === 0 ? it : `${indent} ${it.trim()}`)).join('\n');
 }
 
 /** Whether a comment has the compiler expect an error in the next line. */
-function expectsError({ kind, text }) {
-  return kind === 'Line' ? /^\/?\s*@ts-expect-error/.test(text) : /^\s*[/*]*\s*@ts-expect-error/.test(text.split(/\r\n?|\n/).pop());
+function expectsError(/** @type {{ kind: string, text: string }} */ { kind, text }) {
+  return kind === 'Line' ? /^\/?\s*@ts-expect-error/.test(text) : /^\s*[/*]*\s*@ts-expect-error/.test(text.split(/\r\n?|\n/).pop() || '');
 }
 
 class Writer {
-  constructor(comments) {
+  constructor(/** @type {Comments | null} */ comments) {
+    /** @type {string[]} */
     this.pieces = [];
     this.indent = '';
     this.isLineStart = true;
@@ -33,7 +37,7 @@ class Writer {
     this.trailingAt = byPosition(comments && comments.trailing);
   }
 
-  write(text) {
+  write(/** @type {string} */ text) {
     if (!text) return;
     if (this.wantsLine) {
       this.wantsLine = false;
@@ -61,7 +65,7 @@ class Writer {
   }
 
   /** What is written in the call stands further to the right. */
-  indented(call) {
+  indented(/** @type {() => void} */ call) {
     const outer = this.indent;
     this.indent = outer + STEP;
     call();
@@ -69,7 +73,7 @@ class Writer {
   }
 
   /** Writes a comment. One that expects an error only allows it in a skeleton, since the error may lie in what the skeleton leaves out. */
-  comment(written) {
+  comment(/** @type {{ kind: string, text: string }} */ written) {
     const isExpected = !this.asWritten && expectsError(written);
     const comment = isExpected ? { ...written, text: written.text.replace('@ts-expect-error', '@ts-ignore') } : written;
     if (/@ts-(ignore|expect-error)/.test(comment.text)) this.held = 2;
@@ -78,7 +82,7 @@ class Writer {
   }
 
   /** Writes the comments before the token at a position. */
-  leading(position) {
+  leading(/** @type {number} */ position) {
     const found = position && this.leadingAt.get(position);
     if (!found) return;
     this.leadingAt.delete(position);
@@ -91,7 +95,7 @@ class Writer {
   }
 
   /** Writes the comments after the token that ends at a position. */
-  trailing(position) {
+  trailing(/** @type {number} */ position) {
     const found = position && this.trailingAt.get(position);
     if (!found) return;
     this.trailingAt.delete(position);
@@ -102,7 +106,7 @@ class Writer {
     }
   }
 
-  hasLeading(position) {
+  hasLeading(/** @type {number} */ position) {
     return this.leadingAt.has(position);
   }
 

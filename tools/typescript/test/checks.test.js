@@ -3,8 +3,13 @@
 const childProcess = require('child_process');
 const fs = require('fs');
 const path = require('path');
-const { githubCommand, junitSuites, sarifRun } = require('./formats.js');
-const { write } = require('./odd.js');
+const { githubCommand, junitSuites, sarifRun } = require('./support/formats.js');
+const { run, untimed, same, holds, withFolder, write, readOr, cases, LAUNCHER, PACKAGES, DOCS, TOP } = require('./support/helpers.js');
+
+/** @typedef {import('./support/helpers.js').Case} Case */
+/** @typedef {import('./support/formats.js').Element} Element */
+/** @typedef {{ code: string, file: string, line: number | string, column: number | string, level?: string, message?: string }} Said what `--json` says of a message */
+/** @typedef {(...words: string[]) => Promise<import('./support/helpers.js').Ran>} Told */
 
 const CONFIG = '{ "name": "@test/a", "version": "1.0.0", "exports": "./mod.ts" }';
 const UNTYPED = 'export function f() { return Math.max(1); }\n';
@@ -12,18 +17,26 @@ const TYPED = 'export const a: number = 1;\n';
 // Errors, warnings, a message without a place, and one of a folder that cannot be read.
 const FOLDERS = ['several-messages', 'unresolved-import', 'javascript-entry', 'variables', 'syntax-error'];
 
-/** The objects of a run with `--json`. */
-function objects(out) {
+/**
+ * The objects of a run with `--json`.
+ *
+ * @returns {Said[]}
+ */
+function objects(/** @type {string} */ out) {
   return out.split('\n').filter(Boolean).map((line) => JSON.parse(line));
 }
 
-/** Tests of what is written. */
-function formats({ run, same, holds }) {
+/**
+ * Tests of what is written.
+ *
+ * @returns {Case[]}
+ */
+function formats() {
   const wanted = async () => objects((await run(['check', '--json', ...FOLDERS])).out);
-  const places = (all) => all.map(({ code, file, line, column }) => [code, file, line, column].join(' ')).join('\n');
+  const places = (/** @type {Said[]} */ all) => all.map(({ code, file, line, column }) => [code, file, line, column].join(' ')).join('\n');
   return [
     ['--format json is --json', async () => {
-      const said = (...format) => run(['check', ...format, '--list-externals', ...FOLDERS]);
+      const said = (/** @type {string[]} */ ...format) => run(['check', ...format, '--list-externals', ...FOLDERS]);
       const [one, other] = [await said('--json'), await said('--format', 'json')];
       same(JSON.stringify(one), JSON.stringify(other));
       same(one.status, 2, 'the status');
@@ -39,8 +52,8 @@ function formats({ run, same, holds }) {
     }],
     ['--format sarif', async () => {
       const { results, invocations } = sarifRun((await run(['check', '--format=sarif', ...FOLDERS])).out);
-      const placeOf = ({ physicalLocation: { artifactLocation, region = {} } }) => ({
-        file: artifactLocation.uri, line: region.startLine, column: region.startColumn,
+      const placeOf = (/** @type {import('./support/formats.js').Location} */ { physicalLocation: { artifactLocation, region } }) => ({
+        file: artifactLocation.uri, line: region ? region.startLine : '', column: region ? region.startColumn : '',
       });
       same(places(results.map(({ ruleId, locations: [each] }) => ({ code: ruleId, ...placeOf(each) }))), places(await wanted()));
       same(JSON.stringify(invocations.map((each) => [each.executionSuccessful, each.toolExecutionNotifications.length])), '[[false,1]]');
@@ -56,9 +69,13 @@ function formats({ run, same, holds }) {
   ];
 }
 
-/** Tests of what formats write otherwise, or leave out. */
-function escapes({ run, withFolder, same }) {
-  const places = (all) => all.map(({ code, file, line, column }) => [code, file, line, column].join(' ')).join('\n');
+/**
+ * Tests of what formats write otherwise, or leave out.
+ *
+ * @returns {Case[]}
+ */
+function escapes() {
+  const places = (/** @type {Said[]} */ all) => all.map(({ code, file, line, column }) => [code, file, line, column].join(' ')).join('\n');
   return [
     ['names and texts that formats write otherwise', () => withFolder(async (folder) => {
       const name = 'a,b:c%0A&"<é 日>.ts';
@@ -74,14 +91,18 @@ function escapes({ run, withFolder, same }) {
     })],
     ['an error in a skeleton has the source for its file, and no place in it', async () => {
       const { out } = await run(['check', '--verify', '--format=sarif', 'apart-qualified']);
-      const { physicalLocation } = sarifRun(out).results.find(({ ruleId }) => ruleId === 'typescript-2304').locations[0];
+      const { physicalLocation } = sarifRun(out).results.filter(({ ruleId }) => ruleId === 'typescript-2304')[0].locations[0];
       same(JSON.stringify(physicalLocation), '{"artifactLocation":{"uri":"apart-qualified/n.ts"}}');
     }],
   ];
 }
 
-/** Tests of what is checked. */
-function targets({ run, withFolder, same, holds }) {
+/**
+ * Tests of what is checked.
+ *
+ * @returns {Case[]}
+ */
+function targets() {
   return [
     ['several folders, one of which cannot be read', async () => {
       const { status, out, err } = await run(['check', 'variables', 'syntax-error', 'missing-type']);
@@ -94,7 +115,7 @@ function targets({ run, withFolder, same, holds }) {
     }],
     ['a file as an entry point', () => withFolder(async (folder) => {
       write(folder, { 'deno.json': CONFIG, 'mod.ts': TYPED, 'src/b.ts': 'export * from "../c.ts";', 'c.ts': UNTYPED, 'src/d.ts': UNTYPED });
-      const told = async (...words) => (await run(['check', ...words], { cwd: folder })).out;
+      const told = async (/** @type {string[]} */ ...words) => (await run(['check', ...words], { cwd: folder })).out;
       same(await told('mod.ts'), '1 file, 1 public module, 0 messages, 0.00 s\n');
       holds(/--> c\.ts:1:17[^]*\n2 files, 1 message, /.test(await told('src/b.ts')), 'what a file leads to is checked');
       holds(/--> src\/d\.ts:1:17[^]*\n3 files, 2 messages, /.test(await told('src/b.ts', 'src/d.ts')), 'two files are two entry points');
@@ -123,16 +144,19 @@ export const last = Math.max(1); // fast-check-ignore missing-explicit-type
 `;
 
 /** A test in a folder with some files. */
-function insideOf({ run, withFolder }) {
-  return (files, body) => () => withFolder(async (folder) => {
+function inside(/** @type {Record<string, string>} */ files, /** @type {(told: Told, folder: string) => Promise<void>} */ body) {
+  return () => withFolder(async (folder) => {
     write(folder, { 'deno.json': CONFIG, ...files });
     await body((...words) => run(words, { cwd: folder }), folder);
   });
 }
 
-/** Tests of what is left out. */
-function leftOut({ run, withFolder, same, holds }) {
-  const inside = insideOf({ run, withFolder });
+/**
+ * Tests of what is left out.
+ *
+ * @returns {Case[]}
+ */
+function leftOut() {
   return [
     ['warnings alone are no error', inside({ 'mod.ts': 'import "a";\nimport "b";\nexport {};\n' }, async (told) => {
       same((await told('check', '.')).status, 0, 'the status');
@@ -160,9 +184,12 @@ function leftOut({ run, withFolder, same, holds }) {
   ];
 }
 
-/** Tests of what is known, and of the closing lines. */
-function known({ run, withFolder, same, holds }) {
-  const inside = insideOf({ run, withFolder });
+/**
+ * Tests of what is known, and of the closing lines.
+ *
+ * @returns {Case[]}
+ */
+function known() {
   return [
     ['a baseline', inside({ 'mod.ts': `${UNTYPED}${UNTYPED.replace('f()', 'g()')}` }, async (told, folder) => {
       const file = path.join(folder, 'known.jsonl');
@@ -185,7 +212,7 @@ function known({ run, withFolder, same, holds }) {
 }
 
 /** Waits until a text comes that a pattern fits, and answers how long that took. */
-function until(child, said, pattern) {
+function until(/** @type {childProcess.ChildProcessWithoutNullStreams} */ child, /** @type {{ text: string; all: string; }} */ said, /** @type {RegExp} */ pattern) {
   const begun = Date.now();
   return new Promise((resolve, reject) => {
     const look = () => {
@@ -198,16 +225,21 @@ function until(child, said, pattern) {
   });
 }
 
-/** Tests of checks that go on. The program's input lies in the folder that is watched. */
-function going({ withFolder, same, LAUNCHER }) {
+/**
+ * Tests of checks that go on. The program's input lies in the folder that is watched.
+ *
+ * @returns {Case[]}
+ */
+function going() {
   return [['--watch', () => withFolder(async (folder) => {
     write(folder, { 'deno.json': CONFIG, 'mod.ts': 'export * from "./a.ts";\nexport * from "./new/b.ts";\n', 'a.ts': TYPED });
     const options = { cwd: folder, env: { ...process.env, TMPDIR: folder } };
     const child = childProcess.spawn(LAUNCHER, ['check', '--watch', '--no-cache', '.'], options);
     const said = { text: '', all: '' };
-    const tell = (part) => Object.assign(said, { text: said.text + part, all: said.all + part });
+    const tell = (/** @type {Buffer} */ part) => Object.assign(said, { text: said.text + part, all: said.all + part });
     for (const stream of [child.stdout, child.stderr]) stream.on('data', tell);
     try {
+      /** @type {[change: () => void, wanted: RegExp][]} */
       const steps = [
         [() => {}, /there is no module '\.\/new\/b\.ts'[^]*\n2 files, 1 message, /],
         [() => fs.writeFileSync(path.join(folder, 'a.ts'), UNTYPED), /a\.ts changed\n[^]*\n2 files, 1 read again, 2 messages, /],
@@ -232,14 +264,19 @@ function going({ withFolder, same, LAUNCHER }) {
   })]];
 }
 
-/** Tests of what is kept between runs. */
-function keeping({ run, withFolder, same, holds, PACKAGES }) {
-  const entries = (folder) => fs.readdirSync(folder, { withFileTypes: true }).flatMap((it) => {
+/**
+ * Tests of what is kept between runs.
+ *
+ * @returns {Case[]}
+ */
+function keeping() {
+  /** @returns {string[]} */
+  const entries = (/** @type {string} */ folder) => fs.readdirSync(folder, { withFileTypes: true }).flatMap((it) => {
     const at = path.join(folder, it.name);
     return it.isDirectory() ? entries(at) : it.name === 'tidied' ? [] : [at];
   });
   const all = fs.readdirSync(PACKAGES);
-  const said = async (name, environment, commands = [['check', '--json', '--list-externals'], ['skeleton'], ['input']]) => {
+  const said = async (/** @type {string} */ name, /** @type {NodeJS.ProcessEnv} */ environment, commands = [['check', '--json', '--list-externals'], ['skeleton'], ['input']]) => {
     const parts = [];
     for (const words of commands) parts.push(JSON.stringify(await run([...words, name], { environment })));
     return parts.join('\n');
@@ -260,8 +297,9 @@ function keeping({ run, withFolder, same, holds, PACKAGES }) {
       const environment = { XDG_CACHE_HOME: folder };
       const without = await said('re-exports', {});
       await said('re-exports', environment);
+      /** @type {((text: string) => string)[]} */
       const cut = [(text) => text.slice(0, -1), () => '', () => '{}', (text) => `${text.split('\n')[0]}\nnull`];
-      const damages = [...cut, (text) => text.replace('sources', 'source5')];
+      const damages = [...cut, (/** @type {string} */ text) => text.replace('sources', 'source5')];
       for (const damage of damages) {
         for (const file of entries(folder)) fs.writeFileSync(file, damage(fs.readFileSync(file, 'utf8')));
         same(await said('re-exports', environment), without, `what comes of ${damage}`);
@@ -270,6 +308,37 @@ function keeping({ run, withFolder, same, holds, PACKAGES }) {
       for (const file of whole) fs.writeFileSync(file, 'x');
       await run(['check', '--no-cache', 're-exports'], { environment });
       same(whole.map((file) => fs.readFileSync(file, 'utf8')).join(''), 'x'.repeat(whole.length), 'what --no-cache leaves');
+    })],
+    ['whole answers are told again while all that was read stays', () => withFolder(async (folder) => {
+      const [own, program, log] = ['own', 'program', 'log'].map((name) => path.join(folder, name));
+      fs.writeFileSync(program, `#!/bin/sh\necho ran >> ${log}\nexec "${process.env.FAST_CHECK}" "$@"\n`, { mode: 0o755 });
+      const environment = { XDG_CACHE_HOME: path.join(folder, 'kept'), FAST_CHECK: program };
+      write(own, { 'deno.json': CONFIG, 'mod.ts': 'export * from "./a";\nimport "@/c";\n', 'a.tsx': UNTYPED, 'src/c.ts': UNTYPED, 'real/d.ts': TYPED });
+      /** @type {[change: string, make: () => void][]} */
+      const changes = [
+        ['nothing', () => {}],
+        ['a text', () => fs.writeFileSync(path.join(own, 'a.tsx'), `\n${UNTYPED}`)],
+        ['a file that comes first', () => fs.writeFileSync(path.join(own, 'a.ts'), TYPED)],
+        ['a configuration that was not there', () => fs.writeFileSync(path.join(own, 'tsconfig.json'), '{ "compilerOptions": { "paths": { "@/*": ["./src/*"] } } }')],
+        ['an import', () => fs.writeFileSync(path.join(own, 'mod.ts'), 'export * from "./a";\nexport * from "@/c";\nexport * from "./link/d.ts";\n')],
+        ['a link', () => fs.symlinkSync('real', path.join(own, 'link'))],
+        ['a link that leads out', () => {
+          fs.rmSync(path.join(own, 'link'));
+          fs.symlinkSync('/etc', path.join(own, 'link'));
+        }],
+        ['a file that goes', () => fs.rmSync(path.join(own, 'src/c.ts'))],
+        ['the entry point', () => fs.writeFileSync(path.join(own, 'deno.json'), CONFIG.replace('mod.ts', 'a.ts'))],
+      ];
+      for (const [change, make] of changes) {
+        make();
+        for (const words of [['check', 'own'], ['check', '--json', '--list-externals', 'own']]) {
+          const wanted = JSON.stringify(await run([...words, '--no-cache'], { cwd: folder }));
+          same(JSON.stringify(await run(words, { cwd: folder, environment })), wanted, `${words.join(' ')} behind ${change}`);
+          const count = readOr(log, '').length;
+          same(JSON.stringify(await run(words, { cwd: folder, environment })), wanted, `${words.join(' ')} again behind ${change}`);
+          same(readOr(log, '').length, count, `the runs of the program for ${words.join(' ')} again behind ${change}`);
+        }
+      }
     })],
     ['a folder that cannot be written to', async () => {
       const without = await said('re-exports', {});
@@ -283,10 +352,8 @@ function keeping({ run, withFolder, same, holds, PACKAGES }) {
   ];
 }
 
-const TOP = path.resolve(__dirname, '../../..');
-
 /** The examples of a page: the words behind `$ ./fast-check-ts`, and the lines that follow, up to an empty one or the next. */
-function examplesOf(text) {
+function examplesOf(/** @type {string} */ text) {
   const found = [];
   let lines = null;
   for (const line of text.split('\n')) {
@@ -298,24 +365,23 @@ function examplesOf(text) {
   return found;
 }
 
-/** Tests of the examples of the pages for users. */
-function examples({ run, same, holds }) {
-  const untimed = (text) => text.replace(/, \d+\.\d\d s(?=\n|;)/g, ', 0.00 s');
-  const [guide, ...pages] = ['guide', 'cli', 'ci', 'limits'].map((name) => fs.readFileSync(path.join(TOP, 'docs', `${name}.md`), 'utf8'));
+/**
+ * Tests of the examples of the pages for users.
+ *
+ * @returns {Case[]}
+ */
+function examples() {
+  const [guide, ...pages] = ['guide', 'cli', 'ci', 'limits'].map((name) => fs.readFileSync(path.join(DOCS, `${name}.md`), 'utf8'));
+  /** @type {Case[]} */
   const all = examplesOf([guide, ...pages].join('\n')).map(({ words, lines }) => [`the example ${words.join(' ')}`, async () => {
     same((await run(words, { cwd: TOP })).out, untimed(lines.join('')));
   }]);
   return [...all, ['the example of a message', async () => {
     const { out } = await run(['check', 'examples/package'], { cwd: TOP });
-    const [, message] = /```\n(error\[[^]*?)```/.exec(guide);
+    const [, message = guide] = /```\n(error\[[^]*?)```/.exec(guide) || [];
     holds(out.startsWith(message), `the page has not\n${out}`);
     holds(all.length > 2, 'the pages have examples');
   }]];
 }
 
-/** The tests: a name and a call that throws where it fails. */
-function tests(tools) {
-  return [...examples(tools), ...formats(tools), ...escapes(tools), ...targets(tools), ...leftOut(tools), ...known(tools), ...keeping(tools), ...going(tools)];
-}
-
-module.exports = { tests };
+cases([...examples(), ...formats(), ...escapes(), ...targets(), ...leftOut(), ...known(), ...keeping(), ...going()]);

@@ -3,6 +3,10 @@
 const childProcess = require('child_process');
 const fs = require('fs');
 const path = require('path');
+const { test } = require('node:test');
+const { run, same, holds, withFolder, cases, PACKAGES } = require('./support/helpers.js');
+
+/** @typedef {import('./support/helpers.js').Case} Case */
 
 const FUNCTION = 'export function area(width: number): number { return width; }\n';
 const SHAPE = 'export interface Shape { width: number }\n';
@@ -88,11 +92,13 @@ const EDITS = [
 ];
 
 const MODULES = { exports: '{ "name": "it", "exports": "./mod.ts", "dependencies": { "zod": "^3" } }' };
-const zod = (range) => `{ "name": "it", "exports": "./mod.ts", "dependencies": { "zod": "${range}" } }`;
+const zod = (/** @type {string} */ range) => `{ "name": "it", "exports": "./mod.ts", "dependencies": { "zod": "${range}" } }`;
 const S = `${ZOD}export type S = z.ZodString;\n`;
-const adding = (member) => ({ 'mod.ts': 'import "./more.ts";\nexport interface Opts { a: 1 }\n', 'more.ts': `declare module "./mod.ts" { interface Opts { ${member} } }\nexport {};\n` });
+const adding = (/** @type {string} */ member) => ({ 'mod.ts': 'import "./more.ts";\nexport interface Opts { a: 1 }\n', 'more.ts': `declare module "./mod.ts" { interface Opts { ${member} } }\nexport {};\n` });
 
-/** Versions of several files: a title, both, the advice, and what is said. */
+/** @typedef {[title: string, before: Record<string, string>, after: Record<string, string>, advice: string, said: string]} Versions */
+
+/** @type {Versions[]} */
 const OTHERS = [
   ['an addition of a module that is imported for its effects', adding('b: 1'), adding('b: 2'), 'unknown', 'more.ts differs'],
   ['the same addition', adding('b: 1'), adding('b: 1'), 'patch', 'no public declaration differs'],
@@ -113,9 +119,10 @@ const OTHERS = [
     { 'mod.ts': 'export { f } from "./f.ts";\n', 'f.ts': 'import type { A } from "./a.ts";\nexport function f(it: A): void {}\n', 'a.ts': 'export interface A { a: 1; b?: 2 }\n' }, 'minor', 'by A (a.ts)'],
 ];
 
-const versioned = (version, text) => ({ 'mod.ts': text, 'package.json': `{ "name": "it", "version": "${version}", "exports": "./mod.ts" }` });
+const versioned = (/** @type {string} */ version, /** @type {string} */ text) => ({ 'mod.ts': text, 'package.json': `{ "name": "it", "version": "${version}", "exports": "./mod.ts" }` });
 
-/** Versions with their numbers, and what is said of these. */
+// Versions with their numbers, and what is said of these.
+/** @type {[old: string, now: string, advice: 'major' | 'minor', said: string][]} */
 const VERSIONS = [
   ['1.0.4', '1.1.0', 'major', '1.1.0 is too low: 2.0.0'],
   ['1.0.4', '2.0.0', 'major', '2.0.0 is high enough'],
@@ -128,7 +135,7 @@ const VERSIONS = [
 ];
 const CHANGED = { major: SHAPE.replace('number', 'string'), minor: 'export interface Shape { width: number; name?: string }\n' };
 
-function write(folder, files) {
+function write(/** @type {string} */ folder, /** @type {Record<string, string>} */ files) {
   const all = { 'package.json': MODULES.exports, ...files };
   for (const [name, text] of Object.entries(all)) {
     fs.mkdirSync(path.dirname(path.join(folder, name)), { recursive: true });
@@ -136,17 +143,54 @@ function write(folder, files) {
   }
 }
 
-/** What leads to a changed declaration, and to a public one. */
-function reasons({ run, withFolder, same, holds, compared }) {
+const compared = async (/** @type {Record<string, string>} */ old, /** @type {Record<string, string>} */ now) => {
+  const found = { status: 0, out: '', err: '' };
+  await withFolder(async (folder) => {
+    write(path.join(folder, 'old'), old);
+    write(path.join(folder, 'now'), now);
+    Object.assign(found, await run(['diff', path.join(folder, 'old'), path.join(folder, 'now')]));
+  });
+  return found;
+};
+const adviceOf = (/** @type {{ out: string, err: string }} */ { out, err }) => {
+  const [, advice] = /^(major|minor|patch|unknown|preview): /m.exec(out) || [];
+  holds(advice, `there is an advice in\n${out}${err}`);
+  return advice;
+};
+/** @returns {Case} */
+const edit = (/** @type {string[]} */ [title, before, after, wanted, head = '']) => [`diff: ${title}`, async () => {
+  const found = await compared({ 'mod.ts': head + before }, { 'mod.ts': head + after });
+  same(adviceOf({ ...found, out: found.out.replace(/^ .*\n/gm, '') }), wanted, `the advice in\n${found.out}${found.err}\nwhich`);
+  holds(!found.out.includes('theorem'), 'no theorem is cited');
+}];
+/** @returns {Case} */
+const other = (/** @type {Versions} */ [title, before, after, wanted, said]) => [`diff: ${title}`, async () => {
+  const found = await compared(before, after);
+  same(adviceOf({ ...found, out: found.out.replace(/^ .*\n/gm, '') }), wanted, `the advice in\n${found.out}${found.err}\nwhich`);
+  holds(found.out.includes(said), `'${said}' stands in\n${found.out}`);
+  if (['preview', 'unknown'].includes(wanted)) same(found.status, 2, 'the status');
+}];
+/** @returns {Case} */
+const version = (/** @type {[old: string, now: string, advice: 'major' | 'minor', said: string]} */ [old, now, advice, said]) => [`diff: ${advice} from ${old} to ${now}`, async () => {
+  const { out, err } = await compared(versioned(old, SHAPE), versioned(now, CHANGED[advice]));
+  holds(out.includes(`${said}\n`), `'${said}' stands in\n${out}${err}`);
+}];
+
+/**
+ * What leads to a changed declaration, and to a public one.
+ *
+ * @returns {Case[]}
+ */
+function reasons() {
   const CLASS_A = 'export class A { a: number = 1; }\n';
   const USERS = 'export enum E { A }\nexport interface I { A: 1; of(A: string): void }\nexport type T<A> = A[];\n';
   return [
     ['diff: names of other scopes lead to no declaration', async () => {
       const { out } = await compared({ 'mod.ts': USERS + CLASS_A }, { 'mod.ts': USERS + CLASS_A.replace('number', 'string | number') });
-      same(out.match(/^changed .*/gm).join(), 'changed A (mod.ts)', 'what changed');
+      same((out.match(/^changed .*/gm) || []).join(), 'changed A (mod.ts)', 'what changed');
     }],
     ['diff names the files of a revision by the revision', () => withFolder(async (folder) => {
-      const git = (...words) => childProcess.execFileSync('git', ['-c', 'user.name=a', '-c', 'user.email=a@host.example', ...words], { cwd: folder, stdio: 'ignore' });
+      const git = (/** @type {string[]} */ ...words) => childProcess.execFileSync('git', ['-c', 'user.name=a', '-c', 'user.email=a@host.example', ...words], { cwd: folder, stdio: 'ignore' });
       write(folder, { 'mod.ts': 'export const a = f();\n' });
       git('init', '-q');
       git('add', '-A');
@@ -161,42 +205,81 @@ function reasons({ run, withFolder, same, holds, compared }) {
       const page = path.join(folder, 'page.html');
       await run(['report', folder, page]);
       const text = fs.readFileSync(page, 'utf8').replace(/&#39;/g, "'");
-      holds(text.includes("a.ts exports 'default'") && !text.includes("mod.ts exports 'default'"), text.match(/<ul class="ways">.*/g).join('\n'));
+      holds(text.includes("a.ts exports 'default'") && !text.includes("mod.ts exports 'default'"), (text.match(/<ul class="ways">.*/g) || []).join('\n'));
     })],
   ];
 }
 
-/** The tests, each `[name, body]`. */
-function tests({ run, withFolder, same, holds }) {
-  const compared = (old, now, words = []) => {
-    let found = null;
-    return withFolder(async (folder) => {
-      write(path.join(folder, 'old'), old);
-      write(path.join(folder, 'now'), now);
-      found = await run(['diff', ...words, path.join(folder, 'old'), path.join(folder, 'now')]);
-    }).then(() => found);
-  };
-  const adviceOf = ({ out, err }) => {
-    const [, advice] = /^(major|minor|patch|unknown|preview): /m.exec(out) || [];
-    holds(advice, `there is an advice in\n${out}${err}`);
-    return advice;
-  };
-  const edit = ([title, before, after, wanted, head = '']) => [`diff: ${title}`, async () => {
-    const found = await compared({ 'mod.ts': head + before }, { 'mod.ts': head + after });
-    same(adviceOf({ ...found, out: found.out.replace(/^ .*\n/gm, '') }), wanted, `the advice in\n${found.out}${found.err}\nwhich`);
-    holds(!found.out.includes('theorem'), 'no theorem is cited');
-  }];
-  const other = ([title, before, after, wanted, said]) => [`diff: ${title}`, async () => {
-    const found = await compared(before, after);
-    same(adviceOf({ ...found, out: found.out.replace(/^ .*\n/gm, '') }), wanted, `the advice in\n${found.out}${found.err}\nwhich`);
-    holds(found.out.includes(said), `'${said}' stands in\n${found.out}`);
-    if (['preview', 'unknown'].includes(wanted)) same(found.status, 2, 'the status');
-  }];
-  const version = ([old, now, advice, said]) => [`diff: ${advice} from ${old} to ${now}`, async () => {
-    const { out, err } = await compared(versioned(old, SHAPE), versioned(now, CHANGED[advice]));
-    holds(out.includes(`${said}\n`), `'${said}' stands in\n${out}${err}`);
-  }];
-  return [...EDITS.map(edit), ...OTHERS.map(other), ...VERSIONS.map(version), ...reasons({ run, withFolder, same, holds, compared })];
+cases([...EDITS.map(edit), ...OTHERS.map(other), ...VERSIONS.map(version), ...reasons()]);
+
+// ---- edits of the stored packages
+
+const HIDDEN = [
+  ['hidden-code', 'helper.ts', 'return a == b;', 'let c = a;\n  return c === b;'],
+  ['hidden-code', 'model.ts', 'return { a: 1 };', 'return { a: 2, b: "x" };'],
+  ['hidden-code', 'mod.ts', 'helper.length', 'helper.length + 1'],
+  ['hidden-code', 'mod.ts', 'new Map<string, Model>()', 'new Map<string, Model>([["a", new Model()]])'],
+  ['classes', 'mod.ts', 'private cache: Map<string, number> = new Map();', 'private cache: Set<string> = new Set();'],
+  ['classes', 'mod.ts', 'return force;', 'return !force;'],
+  ['classes', 'mod.ts', '#radius = 1;', '#radius = 2;\n  #more = "a";'],
+  ['functions', 'mod.ts', 'return plain("a");', '// another\n  return plain("b", 2);'],
+  ['variables', 'mod.ts', 'const hidden = read();', 'const hidden = [read(), 1];'],
+  ['re-exports', 'shapes.ts', 'export function unused(): void {}', 'export function unused(a: number): string {\n  return "";\n}'],
+  ['namespaces', 'mod.ts', 'const hidden = 2;', 'const hidden = 3, more = hidden;'],
+  ['workspace', 'core/mod.ts', 'return 1;', 'return 2;'],
+  ['comments', 'mod.ts', '// A note that goes.', '// Another note, which goes too.'],
+  ['overloads', 'mod.ts', 'return strict ? null : {};', 'return null;'],
+];
+/** @type {[name: string, file: string, old: string, now: string, said: string[]][]} */
+const SHOWN = [
+  ['variables', 'mod.ts', 'text = "a"', 'text = "b"', ['changed text (mod.ts)\n', '\npatch: ']],
+  ['re-exports', 'shapes.ts', 'x: number;', 'x: string;', ['changed Point (shapes.ts)\n', 'changed areaOf (shapes.ts)\n  by Point (shapes.ts), as above\n', '\nmajor: ']],
+  ['re-export-all', 'mod.ts', 'export * from "./b.ts";\n', '', ['removed b (b.ts)\n', 'major: ']],
+  ['variables', 'mod.ts', 'const hidden', 'export const added = 1;\nconst hidden', ['added added (mod.ts)\nminor: ']],
+];
+
+/** A copy of a package with an edit. */
+function edited(/** @type {string} */ folder, /** @type {string} */ name, /** @type {string} */ file, /** @type {string} */ old, /** @type {string} */ now) {
+  fs.cpSync(path.join(PACKAGES, name), folder, { recursive: true });
+  const target = path.join(folder, file);
+  const text = fs.readFileSync(target, 'utf8');
+  holds(text.split(old).length === 2, `'${old}' stands once in ${name}/${file}`);
+  fs.writeFileSync(target, text.replace(old, () => now));
 }
 
-module.exports = { tests };
+for (const [name, file, old, now] of HIDDEN) {
+  test(`hidden edit in ${name}/${file}: ${now.split('\n')[0]}`, () => withFolder(async (folder) => {
+    edited(folder, name, file, old, now);
+    const before = await run(['skeleton', path.join(PACKAGES, name)]);
+    same((await run(['skeleton', folder])).out, before.out, 'the skeleton');
+    const { status, out, err } = await run(['diff', path.join(PACKAGES, name), folder]);
+    same(`${status}${out.split(':')[0]}${err}`, '0patch', 'diff');
+  }));
+}
+for (const [name, file, old, now, wanted] of SHOWN) {
+  test(`public edit in ${name}/${file}`, () => withFolder(async (folder) => {
+    edited(folder, name, file, old, now);
+    const { status, out } = await run(['diff', path.join(PACKAGES, name), folder]);
+    same(status, 1, 'the status');
+    for (const each of wanted) holds(out.includes(each), `'${each}' is reported, and this was: ${out}`);
+  }));
+}
+
+test('diff with a revision of the repository', () => withFolder(async (folder) => {
+  const git = (/** @type {string[]} */ ...words) => childProcess.execFileSync('git', ['-c', 'user.name=a', '-c', 'user.email=a@host.example', ...words], { cwd: folder, stdio: 'ignore' });
+  fs.mkdirSync(path.join(folder, 'packages'));
+  const dir = path.join(folder, 'packages/a');
+  fs.cpSync(path.join(PACKAGES, 'variables'), dir, { recursive: true });
+  git('init', '-q');
+  git('add', '-A');
+  git('commit', '-qm', 'first');
+  fs.appendFileSync(path.join(dir, 'mod.ts'), 'export const added = 1;\n');
+  const { status, out } = await run(['diff', 'HEAD', '.'], { cwd: dir });
+  same(`${status} ${out.split(':')[0]}`, '1 added added (mod.ts)\nminor');
+  const json = await run(['diff', '--json', 'HEAD', '.'], { cwd: dir });
+  same(JSON.parse(json.out.trim().split('\n').slice(-1)[0]).advice, 'minor');
+  const markdown = await run(['diff', '--markdown', 'HEAD', 'HEAD'], { cwd: dir });
+  same(markdown.status, 2, 'the status where neither is a folder');
+  holds((await run(['diff', '--markdown', '.', 'HEAD'], { cwd: dir })).out.startsWith('**major**: '), 'the other way round a name is gone');
+  same((await run(['diff', 'nowhere', '.'], { cwd: dir })).status, 2, 'the status of a revision that is not there');
+}));

@@ -2,6 +2,7 @@
 // Tests of the tree, the tables and the printer by themselves, without the program.
 const fs = require('fs');
 const path = require('path');
+const { cases, holds } = require('./support/helpers.js');
 const { roundTrip } = require('../dev/roundtrip.js');
 const { ownTables, World, tablesOf } = require('../src/tables/symbols.js');
 const { parse, toTree } = require('../src/tree/index.js');
@@ -10,7 +11,7 @@ const { isFrom } = require('../src/compiler/typescript.js');
 
 const FOLDERS = ['forms', 'packages'];
 
-function sourcesBelow(dir, found = []) {
+function sourcesBelow(/** @type {string} */ dir, /** @type {string[]} */ found = []) {
   for (const each of fs.readdirSync(dir, { withFileTypes: true })) {
     const file = path.join(dir, each.name);
     if (each.isDirectory()) sourcesBelow(file, found);
@@ -19,27 +20,30 @@ function sourcesBelow(dir, found = []) {
   return found.sort();
 }
 
-function check(value, what) {
+function check(/** @type {unknown} */ value, /** @type {string} */ what) {
   if (!value) throw new Error(what);
 }
 
 /** Source, tree, text, tree. What the parser refuses has no tree; the files of `forms` have to have one, that of newer forms by the compilers that read it. */
-function comesBack(file) {
+function comesBack(/** @type {string} */ file) {
   const found = roundTrip(file, fs.readFileSync(file, 'utf8'));
   const mayBeRefused = !file.includes(`${path.sep}forms${path.sep}`) || (file.endsWith('newer.ts') && !isFrom(5, 9));
   if (found && found[0] === 'refused' && mayBeRefused) return;
   check(!found, `${(found || []).join(': ')}`);
 }
 
+/** @typedef {{ sym?: string, span: [number, number], ctxt?: number }} Ident */
+
 /** The nodes of a tree that have a range and a name, as `[name, text of the range]`. */
-function named(value, bytes, found = []) {
-  if (value === null || typeof value !== 'object') return found;
+function named(/** @type {unknown} */ part, /** @type {Buffer} */ bytes, /** @type {[string, string][]} */ found = []) {
+  if (part === null || typeof part !== 'object') return found;
+  const value = /** @type {Ident} */ (part);
   if (typeof value.sym === 'string' && value.span) found.push([value.sym, bytes.subarray(value.span[0] - 1, value.span[1] - 1).toString()]);
   for (const each of Object.values(value)) named(each, bytes, found);
   return found;
 }
 
-function namesStandWhereTheyAre(file) {
+function namesStandWhereTheyAre(/** @type {string} */ file) {
   const text = fs.readFileSync(file, 'utf8');
   const found = named(toTree(parse(file, text)).program, Buffer.from(text));
   check(found.length > 3, 'it has names');
@@ -47,15 +51,17 @@ function namesStandWhereTheyAre(file) {
   check(!wrong, `${wrong} differ`);
 }
 
-function treeOf(text, name = 'mod.ts') {
+function treeOf(/** @type {string} */ text, name = 'mod.ts') {
   return toTree(parse(name, text), { short: true });
 }
 
 /** The scope number of each mention of a name, in order. */
-function scopesOf(text, name) {
+function scopesOf(/** @type {string} */ text, /** @type {string} */ name) {
+  /** @type {[place: number, scope: number][]} */
   const found = [];
-  const walk = (value) => {
-    if (value === null || typeof value !== 'object') return;
+  const walk = (/** @type {unknown} */ part) => {
+    if (part === null || typeof part !== 'object') return;
+    const value = /** @type {Ident} */ (part);
     if (value.sym === name && value.ctxt !== undefined) found.push([value.span[0], value.ctxt]);
     Object.values(value).forEach(walk);
   };
@@ -63,6 +69,7 @@ function scopesOf(text, name) {
   return found.sort(([a], [b]) => a - b).map(([, ctxt]) => ctxt);
 }
 
+/** @type {[title: string, text: string, name: string, holds: (scopes: number[]) => boolean][]} */
 const SCOPES = [
   ['a value is no type', 'type T = 1; function f(T: T) { return T; }', 'T', ([top, param, type, value]) => top === type && param === value && top !== param],
   ['a name that nothing binds', 'f(Symbol)', 'Symbol', ([only]) => only === 1],
@@ -73,13 +80,23 @@ const SCOPES = [
   ['infer', 'type A<X> = X extends infer U ? U : U', 'U', ([bound, yes, no]) => bound === yes && no === 1],
 ];
 
-function tables(text, name) {
-  return ownTables({ specifier: 'file:///mod.ts', isDeclaration: /\.d\.ts$/.test(name || ''), tree: treeOf(text, name) });
+/**
+ * A module as the tables are made of it.
+ *
+ * @returns {import('../src/package/types').Module}
+ */
+function moduleOf(/** @type {string} */ specifier, text = '') {
+  return { specifier, path: 'mod.ts', text, isDeclaration: false, hasEffects: false, mediaType: 'TypeScript', tree: treeOf(text) };
 }
 
-function depsOf(text, name) {
-  const symbol = tables(text).symbols.find((each) => each.maybe_name === name);
-  return JSON.stringify(symbol.decls.flatMap((each) => each.kind.Definition.deps.map(([dep]) => (dep.Id ? dep.Id[0] : dep.QualifiedId ? [dep.QualifiedId[0][0], ...dep.QualifiedId[1]].join('.') : dep.ImportType.flat().join('.')))));
+function depsOf(/** @type {string} */ text, /** @type {string} */ name) {
+  const [symbol] = ownTables(moduleOf('file:///mod.ts', text)).symbols.filter((each) => each.maybe_name === name);
+  const nameOf = (/** @type {import('../src/tables/types').Dep} */ { Id, QualifiedId, ImportType }) => {
+    if (Id) return Id[0];
+    return QualifiedId ? [QualifiedId[0][0], ...QualifiedId[1]].join('.') : (ImportType || []).flat().join('.');
+  };
+  const definitions = (symbol.decls || []).map(({ kind }) => kind.Definition);
+  return JSON.stringify(definitions.flatMap((each) => ((each && each.deps) || []).map(([dep]) => nameOf(dep))));
 }
 
 const DEPENDENCIES = [
@@ -103,23 +120,26 @@ const DEPENDENCIES = [
 function circle() {
   const sources = { a: 'export * from "b"; export * from "c"; export default 1', b: 'export * from "a"', c: 'export const x = 1; export default 2' };
   const world = new World((_, text) => text);
-  for (const [specifier, text] of Object.entries(sources)) world.add(specifier, ownTables({ specifier, tree: treeOf(text) }));
-  const made = tablesOf({ specifier: 'a' }, world);
+  for (const [specifier, text] of Object.entries(sources)) world.add(specifier, ownTables(moduleOf(specifier, text)));
+  const made = tablesOf(moduleOf('a'), world);
   check(JSON.stringify(made.resolved_exports) === '[["default","a"],["x","a"]]', JSON.stringify(made.resolved_exports));
-  check(made.re_export_all_nodes[0][1] === 'c', 'the one that leads back comes last');
+  check((made.re_export_all_nodes || [])[0][1] === 'c', 'the one that leads back comes last');
 }
 
 function keptComments() {
   const text = '/** doc */\nexport interface A {\n  /** b */\n  b: 1;\n  // @ts-ignore\n  c: 2;\n  /** end */\n}\n';
   const { program, comments } = treeOf(text);
+  holds(program, 'there is a tree');
   const printed = print(program, comments);
   check(printed === text, printed);
 }
 
 /** What a body keeps that is cut short, of each of its returns the kind of the argument. */
-function returnsKept(text) {
-  const [item] = treeOf(text).program.Script.body;
-  return item.Decl.Fn.function.body.stmts.map((each) => (each.Return.arg ? Object.keys(each.Return.arg)[0] : 'nothing')).join(' ');
+function returnsKept(/** @type {string} */ text) {
+  const { program } = treeOf(text);
+  const [item] = (program && program.Script && program.Script.body) || [];
+  const { body } = (item && item.Decl && item.Decl.Fn && item.Decl.Fn.function) || { body: null };
+  return ((body && body.stmts) || []).map((each) => (each.Return && each.Return.arg ? Object.keys(each.Return.arg)[0] : 'nothing')).join(' ');
 }
 
 const KEPT_RETURNS = [
@@ -133,15 +153,12 @@ const KEPT_RETURNS = [
   ['no literal of a generator', 'function* f() { return 1; }', 'This'],
 ];
 
-/** The tests: lists of a name and a call that throws where it fails. */
-const tests = [
+cases(/** @type {import('./support/helpers.js').Case[]} */ ([
   ...FOLDERS.flatMap((each) => sourcesBelow(path.join(__dirname, each))).map((file) => [`round trip of ${path.relative(__dirname, file)}`, () => comesBack(file)]),
   ...['unicode.ts', 'types.ts', 'statements.ts'].map((name) => [`places in ${name}`, () => namesStandWhereTheyAre(path.join(__dirname, 'forms', name))]),
-  ...SCOPES.map(([name, text, sym, holds]) => [`scopes: ${name}`, () => check(holds(scopesOf(text, sym)), String(scopesOf(text, sym)))]),
+  ...SCOPES.map(([name, text, sym, isRight]) => [`scopes: ${name}`, () => check(isRight(scopesOf(text, sym)), String(scopesOf(text, sym)))]),
   ...DEPENDENCIES.map(([name, text, symbol, wanted]) => [`dependencies: ${name}`, () => check(depsOf(text, symbol) === wanted, depsOf(text, symbol))]),
   ...KEPT_RETURNS.map(([name, text, wanted]) => [`a body cut short keeps ${name}`, () => check(returnsKept(text) === wanted, returnsKept(text))]),
   ['tables of a circle of re-exports', circle],
   ['comments where they stood', keptComments],
-];
-
-module.exports = { tests };
+]));

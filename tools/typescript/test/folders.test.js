@@ -1,18 +1,21 @@
 'use strict';
 // Folders as they come: bytes that are no text, odd names, links, configurations that say something else, entry points that lead elsewhere.
-const childProcess = require('child_process');
-const fs = require('fs');
-const path = require('path');
+const { test } = require('node:test');
+const { Converter } = require('../src/tree/from-typescript/converter.js');
+const { run, same, holds, withFolder, write, cases, CONFIG } = require('./support/helpers.js');
 
-const CONFIG = '{ "name": "@test/odd", "version": "1.0.0", "exports": "./mod.ts" }';
+/** @typedef {import('./support/helpers.js').Content} Content */
+
 const UNTYPED = 'export function f() { return Math.max(1); }\n';
 
 const BUNDLED = '{ "exports": { ".": { "types": "./dist/index.d.ts" }, "./cli": { "import": { "types": "./dist/cli/index.d.mts" } } } }';
 const NO_EMIT = '{ "compilerOptions": { "noEmit": true, "module": "esnext" } }';
-const WORKSPACE = (list) => ({ 'deno.json': null, 'package.json': `{ "name": "root", "private": true, "workspaces": [${list}] }` });
+/** @returns {Record<string, Content>} */
+const WORKSPACE = (/** @type {string} */ list) => ({ 'deno.json': null, 'package.json': `{ "name": "root", "private": true, "workspaces": [${list}] }` });
 const MEMBER = '{ "name": "member", "exports": "./mod.ts" }';
 
 /** Each has a name, the files of a folder, the status of `check`, and what has to be reported, or may not be reported where a `!` stands before it. */
+/** @type {[name: string, files: Record<string, Content>, status: number, told: string[]][]} */
 const FOLDERS = [
   ['a mark of byte order', { 'deno.json': `\ufeff${CONFIG}`, 'mod.ts': `\ufeff${UNTYPED}` }, 1, ['mod.ts:1:17', '|                 ^ this']],
   ['lines that end with both', { 'mod.ts': `// one\r\n\t${UNTYPED}` }, 1, ['mod.ts:2:18', '| \t                ^ this']],
@@ -129,37 +132,21 @@ const FOLDERS = [
   ['a character that no line has', { 'mod.ts': 'export const a: 1 = 1;\x00\n' }, 2, ['Invalid character', '\u2400']],
 ];
 
-function write(folder, files) {
-  for (const [name, content] of Object.entries({ 'deno.json': CONFIG, ...files })) {
-    if (content === null) continue;
-    const file = path.join(folder, name);
-    fs.mkdirSync(path.dirname(file), { recursive: true });
-    if (content.linkTo) fs.symlinkSync(content.linkTo, file);
-    else if (content.pipe) childProcess.execFileSync('mkfifo', [file]);
-    else fs.writeFileSync(file, content);
-  }
-}
-
-/** The tests: a name and a call that throws where it fails. `tools` runs the command line, and makes folders. */
-function tests({ run, withFolder, same, holds }) {
-  const checked = ([name, files, wanted, told]) => [`a folder with ${name}`, () => withFolder(async (folder) => {
-    write(folder, files);
-    const { status, out, err } = await run(['check', '.'], { cwd: folder });
-    const text = out + err;
-    for (const each of told) holds(each[0] === '!' ? !text.includes(each.slice(1)) : text.includes(each), `${JSON.stringify(each)} and this was told:\n${text}`);
-    same(status, wanted, `the status of\n${text}\nthat`);
-  })];
-  return FOLDERS.map(checked);
-}
+cases(FOLDERS.map(([name, files, wanted, told]) => [`a folder with ${name}`, () => withFolder(async (folder) => {
+  write(folder, files);
+  const { status, out, err } = await run(['check', '.'], { cwd: folder });
+  const text = out + err;
+  for (const each of told) holds(each[0] === '!' ? !text.includes(each.slice(1)) : text.includes(each), `${JSON.stringify(each)} and this was told:\n${text}`);
+  same(status, wanted, `the status of\n${text}\nthat`);
+})]));
 
 /** Calls back while the tree of the first package of a workspace cannot be made, by an exception that is no refusal. */
-async function withFault(folder, call) {
-  const { Converter } = require('../src/tree/from-typescript/converter.js');
+async function withFault(/** @type {string} */ folder, /** @type {() => Promise<void>} */ call) {
   const { start } = Converter.prototype;
   write(folder, {
     'deno.json': '{ "workspace": ["./a", "./b"] }', 'a/deno.json': CONFIG, 'a/mod.ts': 'export const fault = 1;', 'b/deno.json': CONFIG.replace('odd', 'b'), 'b/mod.ts': UNTYPED,
   });
-  Converter.prototype.start = function wrong(node) {
+  Converter.prototype.start = function wrong(/** @type {ts.SourceFile} */ node) {
     if (this.text.includes('fault')) throw new TypeError('no such form');
     return start.call(this, node);
   };
@@ -170,4 +157,18 @@ async function withFault(folder, call) {
   }
 }
 
-module.exports = { tests, withFault, write };
+test('a fault of the tool takes no other messages away', () => withFolder((folder) => withFault(folder, async () => {
+  const { status, out, err } = await run(['check', '.'], { cwd: folder });
+  same(status, 70, 'the status');
+  const text = out + err;
+  for (const each of ['error[internal-error]: internal error in folders.test.js:', '(module a/mod.ts): no such form, please report it', '--> b/mod.ts', '1 file, 2 messages']) holds(text.includes(each), text);
+  const json = await run(['check', '--json', '.'], { cwd: folder });
+  same(json.status, 70, 'the status');
+  const codes = json.out.trim().split('\n').map((line) => JSON.parse(line).code).sort();
+  same(codes.join(' '), 'internal-error missing-explicit-return-type');
+})));
+test('a fault of the tool in a package alone', () => withFolder((folder) => withFault(folder, async () => {
+  const { status, out } = await run(['check', '--json', 'a'], { cwd: folder });
+  same(status, 70, 'the status');
+  same(JSON.parse(out).code, 'internal-error');
+})));
