@@ -1,0 +1,15 @@
+//! The rules of statements, declarations, classes, imports and exports.
+#![tactic(auto)]
+
+mod classes;
+mod declarations;
+mod exports;
+mod flow;
+mod imports;
+mod loops;
+mod members;
+mod modifiers;
+mod namespaces;
+mod statements;
+
+pub use statements::Statements;

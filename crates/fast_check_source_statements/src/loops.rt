@@ -1,0 +1,234 @@
+//! Loops.
+ghost use Rattle.fast_check_source_grammar.specs.Nests.{Nests};
+
+use crate::statements::{Opening, Statements, is_await_using, is_using};
+use fast_check_source_grammar::{Cursor, Note, ParseError, Rule, Tokens, Within};
+use fast_check_source_lexer::{Keyword, TokenKind};
+use fast_check_statement_forms::{DoWhileStmt, ForInStmt, ForOfStmt, ForStmt, WhileStmt};
+use fast_check_syntax::{SourcePos, Tree};
+use std::alloc::Global;
+
+fn set_no_in(tokens: &mut Tokens<'_>, no_in: bool) {
+    let within = tokens.at.within();
+    let _ = tokens.at.enter(Within { no_in, ..within });
+}
+
+fn walks(at: Cursor<'_>) -> bool {
+    at.is_word(Keyword::Of) || at.is_word(Keyword::In)
+}
+
+// What stands first in the head of a `for`.
+#[derive(Drop)]
+struct Head {
+    left: Tree,
+    declared: bool,
+}
+
+impl<F: Fn(Global, &mut Tokens<'_>, usize, Rule) -> Result<Tree, ParseError>> Statements<F> {
+    pub fn while_loop(&self, tokens: &mut Tokens<'_>) -> Result<Tree, ParseError>
+        requires { Nests self.now.expressions.values.types.grammar.depth (F.pre self.now.expressions.values.types.grammar.parse) }
+    {
+        let start = tokens.at.start();
+        tokens.at.advance();
+        let test = self.in_parens(tokens)?;
+        let body = self
+            .expressions
+            .values
+            .types
+            .grammar
+            .again(tokens, Rule::Statement)?;
+        let span = tokens.at.from(start);
+        Ok(WhileStmt { span, test, body }.into_tree(self.expressions.values.types.grammar.alloc)?)
+    }
+
+    pub fn do_loop(&self, tokens: &mut Tokens<'_>) -> Result<Tree, ParseError>
+        requires { Nests self.now.expressions.values.types.grammar.depth (F.pre self.now.expressions.values.types.grammar.parse) }
+    {
+        let start = tokens.at.start();
+        tokens.at.advance();
+        let body = self
+            .expressions
+            .values
+            .types
+            .grammar
+            .again(tokens, Rule::Statement)?;
+        tokens.at.expect_word(Keyword::While)?;
+        let test = self.in_parens(tokens)?;
+        let _ = tokens.at.eat(TokenKind::Semicolon);
+        let span = tokens.at.from(start);
+        Ok(DoWhileStmt { span, test, body }.into_tree(self.expressions.values.types.grammar.alloc)?)
+    }
+
+    // What a `for` declares, or its first expression.
+    fn head(&self, tokens: &mut Tokens<'_>) -> Result<Head, ParseError>
+        requires { Nests self.now.expressions.values.types.grammar.depth (F.pre self.now.expressions.values.types.grammar.parse) }
+    {
+        let start = tokens.at.start();
+        let opening = Opening {
+            start,
+            declare: false,
+        };
+        let next = tokens.at.second();
+        let declares = match tokens.at.word() {
+            Keyword::Var | Keyword::Const => true,
+            Keyword::Let => !walks(next) || next.second().is(TokenKind::Assign),
+            _ => false,
+        };
+        if declares {
+            return Ok(Head {
+                left: self.variables(tokens, opening, false)?,
+                declared: true,
+            });
+        }
+        if (is_using(tokens.at) && !next.is_word(Keyword::Of)) || is_await_using(tokens.at) {
+            return Ok(Head {
+                left: self.using(tokens, start, false)?,
+                declared: true,
+            });
+        }
+        Ok(Head {
+            left: self.expressions.expression(tokens)?,
+            declared: false,
+        })
+    }
+
+    pub fn for_loop(&self, tokens: &mut Tokens<'_>) -> Result<Tree, ParseError>
+        requires { Nests self.now.expressions.values.types.grammar.depth (F.pre self.now.expressions.values.types.grammar.parse) }
+    {
+        let start = tokens.at.start();
+        tokens.at.advance();
+        let is_await = tokens.at.eat_word(Keyword::Await);
+        if is_await && !tokens.at.within().function {
+            tokens.note_module();
+        }
+        tokens.at.expect(TokenKind::LParen)?;
+        let saved = tokens.at;
+        if tokens.at.is(TokenKind::Semicolon) {
+            return self.counted(tokens, start, Tree::Absent);
+        }
+        if tokens.is_noted(Note::Walked) {
+            return self.walked_target(tokens, start, is_await);
+        }
+        set_no_in(tokens, true);
+        let Head { left, declared } = self.head(tokens)?;
+        set_no_in(tokens, false);
+        if !walks(tokens.at) {
+            return self.counted(tokens, start, left);
+        }
+        if declared {
+            return self.walked(tokens, start, left, is_await);
+        }
+        tokens.note(Note::Walked, saved.place())?;
+        tokens.at = saved;
+        self.walked_target(tokens, start, is_await)
+    }
+
+    // What is assigned to in the head of a `for`, and what stands behind it.
+    fn walked_target(
+        &self,
+        tokens: &mut Tokens<'_>,
+        start: SourcePos,
+        is_await: bool,
+    ) -> Result<Tree, ParseError>
+        requires { Nests self.now.expressions.values.types.grammar.depth (F.pre self.now.expressions.values.types.grammar.parse) }
+    {
+        set_no_in(tokens, true);
+        let target = self.expressions.values.target(tokens)?;
+        set_no_in(tokens, false);
+        self.walked(tokens, start, target, is_await)
+    }
+
+    // `of a) b` or `in a) b`
+    fn walked(
+        &self,
+        tokens: &mut Tokens<'_>,
+        start: SourcePos,
+        left: Tree,
+        is_await: bool,
+    ) -> Result<Tree, ParseError>
+        requires { Nests self.now.expressions.values.types.grammar.depth (F.pre self.now.expressions.values.types.grammar.parse) }
+    {
+        let alloc = self.expressions.values.types.grammar.alloc;
+        let is_of = tokens.at.is_word(Keyword::Of);
+        tokens.at.advance();
+        let rule = if is_of {
+            Rule::Assigned
+        } else {
+            Rule::Expression
+        };
+        let right = self.expressions.values.types.grammar.again(tokens, rule)?;
+        tokens.at.expect(TokenKind::RParen)?;
+        let body = self
+            .expressions
+            .values
+            .types
+            .grammar
+            .again(tokens, Rule::Statement)?;
+        let span = tokens.at.from(start);
+        let made = if is_of {
+            ForOfStmt {
+                span,
+                is_await,
+                left,
+                right,
+                body,
+            }
+            .into_tree(alloc)
+        } else {
+            ForInStmt {
+                span,
+                left,
+                right,
+                body,
+            }
+            .into_tree(alloc)
+        };
+        Ok(made?)
+    }
+
+    // `; a; b) c`
+    fn counted(
+        &self,
+        tokens: &mut Tokens<'_>,
+        start: SourcePos,
+        init: Tree,
+    ) -> Result<Tree, ParseError>
+        requires { Nests self.now.expressions.values.types.grammar.depth (F.pre self.now.expressions.values.types.grammar.parse) }
+    {
+        tokens.at.expect(TokenKind::Semicolon)?;
+        let test = if tokens.at.is(TokenKind::Semicolon) {
+            Tree::Absent
+        } else {
+            self.expressions
+                .values
+                .types
+                .grammar
+                .again(tokens, Rule::Expression)?
+        };
+        tokens.at.expect(TokenKind::Semicolon)?;
+        let update = if tokens.at.is(TokenKind::RParen) {
+            Tree::Absent
+        } else {
+            self.expressions
+                .values
+                .types
+                .grammar
+                .again(tokens, Rule::Expression)?
+        };
+        tokens.at.expect(TokenKind::RParen)?;
+        let body = self
+            .expressions
+            .values
+            .types
+            .grammar
+            .again(tokens, Rule::Statement)?;
+        let made = ForStmt {
+            span: tokens.at.from(start),
+            init,
+            test,
+            update,
+            body,
+        };
+        Ok(made.into_tree(self.expressions.values.types.grammar.alloc)?)
+    }
+}

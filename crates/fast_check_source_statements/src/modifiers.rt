@@ -1,0 +1,156 @@
+//! The words before a member of a class or before a parameter.
+use fast_check_source_grammar::{Cursor, Tokens};
+use fast_check_source_lexer::{Keyword, TokenKind};
+use fast_check_syntax::{Tree, Word as Form};
+
+/// The words before a member of a class or before a parameter.
+#[derive(Clone, Copy)]
+pub struct Modifiers {
+    pub access: Option<Form>,
+    pub is_static: bool,
+    pub is_abstract: bool,
+    pub is_override: bool,
+    pub readonly: bool,
+    pub declare: bool,
+    pub is_async: bool,
+    pub accessor: bool,
+}
+
+const NONE: Modifiers = Modifiers {
+    access: None,
+    is_static: false,
+    is_abstract: false,
+    is_override: false,
+    readonly: false,
+    declare: false,
+    is_async: false,
+    accessor: false,
+};
+
+fn accessible(access: Form, marks: Modifiers) -> Modifiers {
+    Modifiers {
+        access: Some(access),
+        ..marks
+    }
+}
+
+impl Modifiers {
+    // The modifiers with one more, if a word is one.
+    fn with(self, word: Keyword) -> Option<Modifiers> {
+        match word {
+            Keyword::Public => Some(accessible(Form::Public, self)),
+            Keyword::Protected => Some(accessible(Form::Protected, self)),
+            Keyword::Private => Some(accessible(Form::Private, self)),
+            Keyword::Static => Some(Modifiers {
+                is_static: true,
+                ..self
+            }),
+            Keyword::Abstract => Some(Modifiers {
+                is_abstract: true,
+                ..self
+            }),
+            Keyword::Override => Some(Modifiers {
+                is_override: true,
+                ..self
+            }),
+            Keyword::Readonly => Some(Modifiers {
+                readonly: true,
+                ..self
+            }),
+            Keyword::Declare => Some(Modifiers {
+                declare: true,
+                ..self
+            }),
+            Keyword::Async => Some(Modifiers {
+                is_async: true,
+                ..self
+            }),
+            Keyword::Accessor => Some(Modifiers {
+                accessor: true,
+                ..self
+            }),
+            _ => None,
+        }
+    }
+
+    /// `public`, `protected` or `private`, or nothing.
+    pub fn accessibility(self) -> Tree {
+        match self.access {
+            Some(form) => Tree::Word(form),
+            None => Tree::Absent,
+        }
+    }
+
+    /// Whether a parameter with these modifiers is a property too.
+    pub fn declares_property(self) -> bool {
+        self.access.is_some() || self.readonly || self.is_override
+    }
+}
+
+// Whether a key, or what begins a method, stands behind a word, so that the word is a modifier and no key.
+fn is_before_key(at: Cursor<'_>, may_break: bool) -> bool {
+    let next = at.second();
+    (may_break || !next.newline())
+        && matches!(
+            next.kind(),
+            TokenKind::Name
+                | TokenKind::PrivateName
+                | TokenKind::String
+                | TokenKind::Number
+                | TokenKind::BigInt
+                | TokenKind::LBracket
+                | TokenKind::Star
+        )
+}
+
+/// The modifiers of a member, which are passed.
+pub fn member_modifiers(tokens: &mut Tokens<'_>) -> Modifiers {
+    let mut found = NONE;
+    for _turn in 0..tokens.at.left() {
+        let Some(more) = found.with(tokens.at.word()) else {
+            break;
+        };
+        if !is_before_key(tokens.at, tokens.at.is_word(Keyword::Static)) {
+            break;
+        }
+        found = more;
+        tokens.at.advance();
+    }
+    found
+}
+
+/// The modifiers of a parameter of a constructor, which are passed.
+pub fn param_modifiers(tokens: &mut Tokens<'_>) -> Modifiers {
+    let mut found = NONE;
+    for _turn in 0..tokens.at.left() {
+        let Some(more) = found.with(tokens.at.word()) else {
+            break;
+        };
+        let next = tokens.at.second();
+        let follows = matches!(
+            next.kind(),
+            TokenKind::Name | TokenKind::LBrace | TokenKind::LBracket
+        );
+        if next.newline() || !follows {
+            break;
+        }
+        found = more;
+        tokens.at.advance();
+    }
+    found
+}
+
+/// `Getter` or `Setter` behind `get` or `set`, which is passed, or `Method`.
+pub fn method_kind(tokens: &mut Tokens<'_>) -> Form {
+    let form = match tokens.at.word() {
+        Keyword::Get => Form::Getter,
+        Keyword::Set => Form::Setter,
+        _ => return Form::Method,
+    };
+    if is_before_key(tokens.at, true) && !tokens.at.second().is(TokenKind::Star) {
+        tokens.at.advance();
+        form
+    } else {
+        Form::Method
+    }
+}

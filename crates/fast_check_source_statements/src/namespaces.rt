@@ -1,0 +1,89 @@
+//! Namespaces and ambient modules.
+ghost use Rattle.fast_check_source_grammar.specs.Nests.{Nests};
+
+use crate::statements::{Opening, Statements};
+use fast_check_source_grammar::{ParseError, Rule, Tokens, ident, string, word_ident};
+use fast_check_source_lexer::{Keyword, TokenKind};
+use fast_check_statement_forms::{TsModuleBlock, TsModuleDecl, TsNamespaceDecl};
+use fast_check_syntax::{SourcePos, Tree};
+use std::alloc::Global;
+
+// One of the names behind the first one, and where it begins.
+#[derive(Drop)]
+struct Inner {
+    start: SourcePos,
+    id: Tree,
+}
+
+impl<F: Fn(Global, &mut Tokens<'_>, usize, Rule) -> Result<Tree, ParseError>> Statements<F> {
+    fn module_block(&self, tokens: &mut Tokens<'_>) -> Result<Tree, ParseError>
+        requires { Nests self.now.expressions.values.types.grammar.depth (F.pre self.now.expressions.values.types.grammar.parse) }
+    {
+        let start = tokens.at.start();
+        tokens.at.expect(TokenKind::LBrace)?;
+        let body = self.up_to_brace(tokens, Rule::Item)?;
+        let span = tokens.at.from(start);
+        Ok(TsModuleBlock { span, body }.into_tree(self.expressions.values.types.grammar.alloc)?)
+    }
+
+    // `.b.c { .. }`, `{ .. }` or nothing behind the name of a namespace.
+    fn namespace_body(&self, tokens: &mut Tokens<'_>) -> Result<Tree, ParseError>
+        requires { Nests self.now.expressions.values.types.grammar.depth (F.pre self.now.expressions.values.types.grammar.parse) }
+    {
+        let alloc = self.expressions.values.types.grammar.alloc;
+        let mut names: Vec<Inner> = Vec::new(alloc);
+        for _turn in 0..tokens.at.left() {
+            if !tokens.at.eat(TokenKind::Dot) {
+                break;
+            }
+            tokens.link()?;
+            let start = tokens.at.start();
+            let id = word_ident(alloc, tokens)?;
+            names.push(Inner { start, id })?;
+        }
+        if names.is_empty() && !tokens.at.is(TokenKind::LBrace) {
+            tokens.at.end_statement()?;
+            return Ok(Tree::Absent);
+        }
+        let mut body = self.module_block(tokens)?;
+        for _turn in 0..names.len() {
+            if let Some(Inner { start, id }) = names.pop() {
+                let made = TsNamespaceDecl {
+                    span: tokens.at.from(start),
+                    declare: false,
+                    global: false,
+                    id,
+                    body,
+                };
+                body = made.into_tree(alloc)?;
+            }
+        }
+        Ok(body)
+    }
+
+    /// `namespace A.B {}`, `module "a" {}` or `global {}`
+    pub fn namespace(&self, tokens: &mut Tokens<'_>, opening: Opening) -> Result<Tree, ParseError>
+        requires { Nests self.now.expressions.values.types.grammar.depth (F.pre self.now.expressions.values.types.grammar.parse) }
+    {
+        let alloc = self.expressions.values.types.grammar.alloc;
+        let global = tokens.at.is_word(Keyword::Global);
+        let namespace = tokens.at.is_word(Keyword::Namespace);
+        if !global {
+            tokens.at.advance();
+        }
+        let id = if tokens.at.is(TokenKind::String) {
+            string(alloc, tokens)?
+        } else {
+            ident(alloc, tokens)?
+        };
+        let made = TsModuleDecl {
+            declare: opening.declare,
+            global,
+            namespace,
+            id,
+            body: self.namespace_body(tokens)?,
+            span: tokens.at.from(opening.start),
+        };
+        Ok(made.into_tree(alloc)?)
+    }
+}

@@ -1,0 +1,183 @@
+//! Statements and items of modules, by their first words.
+ghost use Rattle.fast_check_source_grammar.specs.Nests.{Nests};
+
+use fast_check_source_expressions::Expressions;
+use fast_check_source_grammar::{Cursor, ParseError, Rule, Tokens, is_reserved};
+use fast_check_source_lexer::{Keyword, TokenKind};
+use fast_check_statement_forms::{BlockStmt, EmptyStmt};
+use fast_check_syntax::{Items, SourcePos, SyntaxContext, Tree};
+use std::alloc::Global;
+
+/// The rules of statements.
+#[derive(Clone, Copy)]
+pub struct Statements<F> {
+    pub expressions: Expressions<F>,
+}
+
+/// Where a declaration begins, and what stands before it.
+#[derive(Clone, Copy)]
+pub struct Opening {
+    pub start: SourcePos,
+    /// Whether `declare` stands before it.
+    pub declare: bool,
+}
+
+/// Whether a name in the same line stands behind a word.
+pub fn names_next(at: Cursor<'_>) -> bool {
+    let next = at.second();
+    next.is(TokenKind::Name) && !next.newline() && !is_reserved(next.word())
+}
+
+fn is_in_line(at: Cursor<'_>, word: Keyword) -> bool {
+    let next = at.second();
+    next.is_word(word) && !next.newline()
+}
+
+// Whether a `let` or `using` that comes next declares, and is no name.
+fn binds_next(at: Cursor<'_>) -> bool {
+    let next = at.second();
+    match next.kind() {
+        TokenKind::LBracket | TokenKind::LBrace => true,
+        TokenKind::Name => !is_reserved(next.word()),
+        _ => false,
+    }
+}
+
+/// Whether a `using` that comes next declares.
+pub fn is_using(at: Cursor<'_>) -> bool {
+    at.is_word(Keyword::Using) && names_next(at)
+}
+
+/// Whether `await using` that comes next declares.
+pub fn is_await_using(at: Cursor<'_>) -> bool {
+    at.is_word(Keyword::Await) && is_in_line(at, Keyword::Using) && names_next(at.second())
+}
+
+/// Whether a declaration comes next.
+pub fn sees_declaration(at: Cursor<'_>) -> bool {
+    let next = at.second();
+    match at.word() {
+        Keyword::Function | Keyword::Class | Keyword::Enum | Keyword::Var | Keyword::Const => true,
+        Keyword::Let => binds_next(at),
+        Keyword::Using => is_using(at),
+        Keyword::Await => is_await_using(at),
+        Keyword::Async => is_in_line(at, Keyword::Function),
+        Keyword::Abstract => is_in_line(at, Keyword::Class),
+        Keyword::Interface | Keyword::Type | Keyword::Namespace => names_next(at),
+        Keyword::Module => names_next(at) || (next.is(TokenKind::String) && !next.newline()),
+        Keyword::Global => next.is(TokenKind::LBrace),
+        _ => false,
+    }
+}
+
+// Whether `declare` comes next, as what stands before a declaration.
+fn declares(at: Cursor<'_>) -> bool {
+    let next = at.second();
+    at.is_word(Keyword::Declare) && !next.newline() && sees_declaration(next)
+}
+
+// Whether a `import` that comes next is a value, as in `import("a")`.
+fn is_import_value(at: Cursor<'_>) -> bool {
+    let next = at.second();
+    next.is(TokenKind::LParen) || next.is(TokenKind::Dot)
+}
+
+impl<F: Fn(Global, &mut Tokens<'_>, usize, Rule) -> Result<Tree, ParseError>> Statements<F> {
+    /// An item of a module or of a namespace.
+    pub fn item(&self, tokens: &mut Tokens<'_>) -> Result<Tree, ParseError>
+        requires { Nests self.now.expressions.values.types.grammar.depth (F.pre self.now.expressions.values.types.grammar.parse) }
+    {
+        if tokens.at.is_word(Keyword::Import) && !is_import_value(tokens.at) {
+            return self.import(tokens);
+        }
+        if tokens.at.is_word(Keyword::Export) {
+            return self.export(tokens);
+        }
+        self.statement(tokens)
+    }
+
+    /// A statement or a declaration.
+    pub fn statement(&self, tokens: &mut Tokens<'_>) -> Result<Tree, ParseError>
+        requires { Nests self.now.expressions.values.types.grammar.depth (F.pre self.now.expressions.values.types.grammar.parse) }
+    {
+        let start = tokens.at.start();
+        if tokens.at.is(TokenKind::At) {
+            return self.decorated_class(tokens);
+        }
+        let declare = declares(tokens.at);
+        if declare {
+            tokens.at.advance();
+        }
+        if declare || sees_declaration(tokens.at) {
+            self.declaration(tokens, Opening { start, declare })
+        } else {
+            self.flow(tokens)
+        }
+    }
+
+    /// A declaration that comes next, behind `declare`.
+    pub fn declaration(&self, tokens: &mut Tokens<'_>, opening: Opening) -> Result<Tree, ParseError>
+        requires { Nests self.now.expressions.values.types.grammar.depth (F.pre self.now.expressions.values.types.grammar.parse) }
+    {
+        match tokens.at.word() {
+            Keyword::Interface => self.interface(tokens, opening),
+            Keyword::Type => self.alias(tokens, opening),
+            Keyword::Function | Keyword::Async => self.function(tokens, opening),
+            Keyword::Const if tokens.at.second().is_word(Keyword::Enum) => self.enumeration(
+                tokens, opening,
+            ),
+            Keyword::Enum => self.enumeration(tokens, opening),
+            Keyword::Class | Keyword::Abstract => self.class(
+                tokens,
+                opening,
+                Tree::list(self.none()),
+            ),
+            Keyword::Namespace | Keyword::Module | Keyword::Global => self.namespace(
+                tokens, opening,
+            ),
+            Keyword::Using | Keyword::Await => self.using(tokens, opening.start, true),
+            _ => self.variables(tokens, opening, true),
+        }
+    }
+
+    pub fn none(&self) -> Items<Tree> {
+        Items::new(self.expressions.values.types.grammar.alloc)
+    }
+
+    /// The items of a rule up to a `}`, which is passed.
+    pub fn up_to_brace(&self, tokens: &mut Tokens<'_>, rule: Rule) -> Result<Tree, ParseError>
+        requires { Nests self.now.expressions.values.types.grammar.depth (F.pre self.now.expressions.values.types.grammar.parse) }
+    {
+        let mut items = self.none();
+        for _turn in 0..tokens.at.left() {
+            if tokens.at.is(TokenKind::RBrace) {
+                break;
+            }
+            items.push(self.expressions.values.types.grammar.again(tokens, rule)?)?;
+        }
+        tokens.at.expect(TokenKind::RBrace)?;
+        Ok(Tree::list(items))
+    }
+
+    /// `{ .. }` of statements.
+    pub fn block(&self, tokens: &mut Tokens<'_>) -> Result<Tree, ParseError>
+        requires { Nests self.now.expressions.values.types.grammar.depth (F.pre self.now.expressions.values.types.grammar.parse) }
+    {
+        let start = tokens.at.start();
+        tokens.at.expect(TokenKind::LBrace)?;
+        let stmts = self.up_to_brace(tokens, Rule::Statement)?;
+        let made = BlockStmt {
+            span: tokens.at.from(start),
+            ctxt: SyntaxContext(0),
+            stmts,
+        };
+        Ok(made.into_tree(self.expressions.values.types.grammar.alloc)?)
+    }
+
+    /// A lone `;`.
+    pub fn empty(&self, tokens: &mut Tokens<'_>) -> Result<Tree, ParseError> {
+        let span = tokens.at.here();
+        tokens.at.advance();
+        Ok(EmptyStmt { span }.into_tree(self.expressions.values.types.grammar.alloc)?)
+    }
+}

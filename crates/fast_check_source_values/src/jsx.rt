@@ -1,0 +1,172 @@
+//! JSX. It is passed over, and held as it is written.
+ghost use Rattle.fast_check_source_grammar.specs.Nests.{Nests};
+
+use crate::values::Values;
+use fast_check_expression_forms::{JSXElement, JSXFragment};
+use fast_check_source_grammar::{ParseError, Rule, Tokens};
+use fast_check_source_lexer::TokenKind;
+use fast_check_syntax::{Atom, Tree};
+use std::alloc::Global;
+
+// Passes a name in a tag.
+fn pass_name(tokens: &mut Tokens<'_>) -> Result<(), ParseError> {
+    tokens.at.rescan_jsx_name();
+    tokens.at.expect(TokenKind::Name)
+}
+
+// Passes the name of a tag, as `a`, `a.b` or `a:b`, and answers its text.
+fn tag_name<'a>(tokens: &mut Tokens<'a>) -> Result<&'a str, ParseError> {
+    let start = tokens.at.start();
+    if tokens.at.is(TokenKind::Greater) {
+        return Ok("");
+    }
+    pass_name(tokens)?;
+    for _turn in 0..tokens.at.left() {
+        if !tokens.at.eat(TokenKind::Dot) && !tokens.at.eat(TokenKind::Colon) {
+            break;
+        }
+        pass_name(tokens)?;
+    }
+    Ok(tokens.at.text_from(start))
+}
+
+// Passes the `>` that ends an element, and the text behind it where the element stands in another.
+fn end_tag(tokens: &mut Tokens<'_>, nested: bool) -> Result<(), ParseError> {
+    if !tokens.at.is(TokenKind::Greater) {
+        return Err(tokens.at.refuse());
+    }
+    if nested {
+        tokens.at.pass_jsx_text();
+    } else {
+        tokens.at.advance();
+    }
+    Ok(())
+}
+
+impl<F: Fn(Global, &mut Tokens<'_>, usize, Rule) -> Result<Tree, ParseError>> Values<F> {
+    /// `<a>..</a>`, `<a />` or `<>..</>` as a value.
+    pub fn jsx(&self, tokens: &mut Tokens<'_>) -> Result<Tree, ParseError>
+        requires { Nests self.now.types.grammar.depth (F.pre self.now.types.grammar.parse) }
+    {
+        let alloc = self.types.grammar.alloc;
+        let start = tokens.at.start();
+        let is_fragment = tokens.at.second().is(TokenKind::Greater);
+        self.element(tokens, false)?;
+        let span = tokens.at.from(start);
+        let raw = Atom::from_str(alloc, tokens.at.text_from(start))?;
+        let made = if is_fragment {
+            JSXFragment { span, raw }.into_tree(alloc)
+        } else {
+            JSXElement { span, raw }.into_tree(alloc)
+        };
+        Ok(made?)
+    }
+
+    /// An element within another, with the text behind it. No tree is made of it.
+    pub fn nested_jsx(&self, tokens: &mut Tokens<'_>) -> Result<Tree, ParseError>
+        requires { Nests self.now.types.grammar.depth (F.pre self.now.types.grammar.parse) }
+    {
+        self.element(tokens, true)?;
+        Ok(Tree::Absent)
+    }
+
+    fn element(&self, tokens: &mut Tokens<'_>, nested: bool) -> Result<(), ParseError>
+        requires { Nests self.now.types.grammar.depth (F.pre self.now.types.grammar.parse) }
+    {
+        tokens.at.expect(TokenKind::Less)?;
+        let name = tag_name(tokens)?;
+        if !name.is_empty() {
+            let _ = self.types.type_args(tokens)?;
+            self.attributes(tokens)?;
+            if tokens.at.eat(TokenKind::Slash) {
+                return end_tag(tokens, nested);
+            }
+        }
+        end_tag(tokens, true)?;
+        self.children(tokens)?;
+        tokens.at.expect(TokenKind::Slash)?;
+        let at = tokens.at;
+        if tag_name(tokens)? != name {
+            return Err(at.refuse());
+        }
+        end_tag(tokens, nested)
+    }
+
+    fn attributes(&self, tokens: &mut Tokens<'_>) -> Result<(), ParseError>
+        requires { Nests self.now.types.grammar.depth (F.pre self.now.types.grammar.parse) }
+    {
+        for _turn in 0..tokens.at.left() {
+            match tokens.at.kind() {
+                TokenKind::LBrace => {
+                    tokens.at.advance();
+                    tokens.at.expect(TokenKind::Dots)?;
+                    let _ = self.types.grammar.again(tokens, Rule::Expression)?;
+                    tokens.at.expect(TokenKind::RBrace)?;
+                }
+                TokenKind::Name => {
+                    pass_name(tokens)?;
+                    if tokens.at.eat(TokenKind::Colon) {
+                        pass_name(tokens)?;
+                    }
+                    if tokens.at.eat(TokenKind::Assign) {
+                        self.attribute_value(tokens)?;
+                    }
+                }
+                _ => break,
+            }
+        }
+        Ok(())
+    }
+
+    fn attribute_value(&self, tokens: &mut Tokens<'_>) -> Result<(), ParseError>
+        requires { Nests self.now.types.grammar.depth (F.pre self.now.types.grammar.parse) }
+    {
+        match tokens.at.kind() {
+            TokenKind::LBrace => {
+                tokens.at.advance();
+                let _ = self.types.grammar.again(tokens, Rule::Expression)?;
+                tokens.at.expect(TokenKind::RBrace)
+            }
+            TokenKind::Less => {
+                let _ = self.types.grammar.again(tokens, Rule::Postfixed)?;
+                Ok(())
+            }
+            _ => {
+                tokens.at.rescan_jsx_string();
+                tokens.at.expect(TokenKind::String)
+            }
+        }
+    }
+
+    // What stands between two tags, and the `<` of the second one.
+    fn children(&self, tokens: &mut Tokens<'_>) -> Result<(), ParseError>
+        requires { Nests self.now.types.grammar.depth (F.pre self.now.types.grammar.parse) }
+    {
+        for _turn in 0..tokens.at.left() {
+            if tokens.at.is(TokenKind::LBrace) {
+                self.contained(tokens)?;
+            } else if tokens.at.second().is(TokenKind::Slash) {
+                break;
+            } else {
+                let _ = self.types.grammar.again(tokens, Rule::Jsx)?;
+            }
+        }
+        tokens.at.expect(TokenKind::Less)
+    }
+
+    // `{a}` or `{...a}` among the children.
+    fn contained(&self, tokens: &mut Tokens<'_>) -> Result<(), ParseError>
+        requires { Nests self.now.types.grammar.depth (F.pre self.now.types.grammar.parse) }
+    {
+        tokens.at.advance();
+        if !tokens.at.is(TokenKind::RBrace) {
+            let _ = tokens.at.eat(TokenKind::Dots);
+            let _ = self.types.grammar.again(tokens, Rule::Expression)?;
+        }
+        if !tokens.at.is(TokenKind::RBrace) {
+            return Err(tokens.at.refuse());
+        }
+        tokens.at.pass_jsx_text();
+        Ok(())
+    }
+}

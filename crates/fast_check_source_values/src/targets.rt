@@ -1,0 +1,165 @@
+//! Patterns that something is assigned to. They are written as literals are.
+ghost use Rattle.fast_check_source_grammar.specs.Nests.{Nests};
+
+use crate::values::Values;
+use fast_check_expression_forms::{
+    ArrayPat, AssignPat, AssignPatProp, KeyValuePatProp, ObjectPat, PatExpr, RestPat, TargetPat,
+};
+use fast_check_program_forms::BindingIdent;
+use fast_check_source_grammar::{ParseError, Rule, Tokens, ident};
+use fast_check_source_lexer::TokenKind;
+use fast_check_syntax::{Kind, Tree};
+use std::alloc::Global;
+
+/// Whether a tree is a literal that may be read as a pattern.
+pub fn is_shape(tree: &Tree) -> bool {
+    match tree {
+        Tree::Node(kind, _) => *kind == Kind::ArrayLit || *kind == Kind::ObjectLit,
+        _ => false,
+    }
+}
+
+fn is_ident(tree: &Tree) -> bool {
+    match tree {
+        Tree::Node(kind, _) => *kind == Kind::Ident,
+        _ => false,
+    }
+}
+
+impl<F: Fn(Global, &mut Tokens<'_>, usize, Rule) -> Result<Tree, ParseError>> Values<F> {
+    /// `[a, b]` or `{ a, b }` before `=`.
+    pub fn assigned_shape(&self, tokens: &mut Tokens<'_>) -> Result<Tree, ParseError>
+        requires { Nests self.now.types.grammar.depth (F.pre self.now.types.grammar.parse) }
+    {
+        let pat = self.shape(tokens)?;
+        Ok(TargetPat { pat }.into_tree(self.types.grammar.alloc)?)
+    }
+
+    fn shape(&self, tokens: &mut Tokens<'_>) -> Result<Tree, ParseError>
+        requires { Nests self.now.types.grammar.depth (F.pre self.now.types.grammar.parse) }
+    {
+        let alloc = self.types.grammar.alloc;
+        let start = tokens.at.start();
+        if tokens.at.is(TokenKind::LBracket) {
+            let elems = self.elements(tokens, Rule::TargetElement)?;
+            let made = ArrayPat {
+                span: tokens.at.from(start),
+                elems,
+                optional: false,
+                type_ann: Tree::Absent,
+            };
+            return Ok(made.into_tree(alloc)?);
+        }
+        tokens.at.expect(TokenKind::LBrace)?;
+        let props = self.types.grammar.list(
+            tokens,
+            Rule::TargetProperty,
+            TokenKind::Comma,
+            TokenKind::RBrace,
+        )?;
+        let made = ObjectPat {
+            span: tokens.at.from(start),
+            props,
+            optional: false,
+            type_ann: Tree::Absent,
+        };
+        Ok(made.into_tree(alloc)?)
+    }
+
+    /// What is assigned to: a pattern, a name or another value.
+    pub fn target(&self, tokens: &mut Tokens<'_>) -> Result<Tree, ParseError>
+        requires { Nests self.now.types.grammar.depth (F.pre self.now.types.grammar.parse) }
+    {
+        let alloc = self.types.grammar.alloc;
+        let saved = tokens.at;
+        // `a as A` and `<A>a` may be assigned to, which bind as tight as a comparison.
+        let expr = self.types.grammar.again(tokens, Rule::Operand(8))?;
+        if is_shape(&expr) {
+            tokens.at = saved;
+            return self.shape(tokens);
+        }
+        if is_ident(&expr) {
+            let made = BindingIdent {
+                id: expr,
+                type_ann: Tree::Absent,
+            };
+            return Ok(made.into_tree(alloc)?);
+        }
+        Ok(PatExpr { expr }.into_tree(alloc)?)
+    }
+
+    // A target with a value behind `=` that stands for it.
+    fn target_or_default(&self, tokens: &mut Tokens<'_>) -> Result<Tree, ParseError>
+        requires { Nests self.now.types.grammar.depth (F.pre self.now.types.grammar.parse) }
+    {
+        let start = tokens.at.start();
+        let left = self.target(tokens)?;
+        if !tokens.at.eat(TokenKind::Assign) {
+            return Ok(left);
+        }
+        let right = self.types.grammar.again(tokens, Rule::Assigned)?;
+        let span = tokens.at.from(start);
+        Ok(AssignPat { span, left, right }.into_tree(self.types.grammar.alloc)?)
+    }
+
+    fn target_rest(&self, tokens: &mut Tokens<'_>) -> Result<Tree, ParseError>
+        requires { Nests self.now.types.grammar.depth (F.pre self.now.types.grammar.parse) }
+    {
+        let start = tokens.at.start();
+        let dot3_token = tokens.at.here();
+        tokens.at.advance();
+        let arg = self.target_or_default(tokens)?;
+        let made = RestPat {
+            span: tokens.at.from(start),
+            dot3_token,
+            arg,
+            type_ann: Tree::Absent,
+        };
+        Ok(made.into_tree(self.types.grammar.alloc)?)
+    }
+
+    pub fn target_element(&self, tokens: &mut Tokens<'_>) -> Result<Tree, ParseError>
+        requires { Nests self.now.types.grammar.depth (F.pre self.now.types.grammar.parse) }
+    {
+        if tokens.at.is(TokenKind::Dots) {
+            self.target_rest(tokens)
+        } else {
+            self.target_or_default(tokens)
+        }
+    }
+
+    pub fn target_property(&self, tokens: &mut Tokens<'_>) -> Result<Tree, ParseError>
+        requires { Nests self.now.types.grammar.depth (F.pre self.now.types.grammar.parse) }
+    {
+        if tokens.at.is(TokenKind::Dots) {
+            return self.target_rest(tokens);
+        }
+        if tokens.at.is(TokenKind::Name) && !tokens.at.second().is(TokenKind::Colon) {
+            return self.short_target(tokens);
+        }
+        let key = self.types.prop_name(tokens)?;
+        tokens.at.expect(TokenKind::Colon)?;
+        let value = self.target_or_default(tokens)?;
+        Ok(KeyValuePatProp { key, value }.into_tree(self.types.grammar.alloc)?)
+    }
+
+    // `a` or `a = b`
+    fn short_target(&self, tokens: &mut Tokens<'_>) -> Result<Tree, ParseError>
+        requires { Nests self.now.types.grammar.depth (F.pre self.now.types.grammar.parse) }
+    {
+        let alloc = self.types.grammar.alloc;
+        let start = tokens.at.start();
+        let name = BindingIdent {
+            id: ident(alloc, tokens)?,
+            type_ann: Tree::Absent,
+        };
+        let key = name.into_tree(alloc)?;
+        let value = if tokens.at.eat(TokenKind::Assign) {
+            self.types.grammar.again(tokens, Rule::Assigned)?
+        } else {
+            Tree::Absent
+        };
+        let span = tokens.at.from(start);
+        Ok(AssignPatProp { span, key, value }.into_tree(alloc)?)
+    }
+}

@@ -1,0 +1,276 @@
+//! Values without operators.
+ghost use Rattle.fast_check_source_grammar.specs.Nests.{Nests};
+
+use crate::look_ahead::follows_args;
+use fast_check_expression_forms::{
+    ArrayLit, ComputedPropName, Import, MetaPropExpr, NewExpr, ParenExpr, Super, SuperPropExpr,
+    ThisExpr, Tpl,
+};
+use fast_check_program_forms::Null;
+use fast_check_source_grammar::{
+    Note, ParseError, Rule, Tokens, bool_literal, ident, ident_name, number, regex, string,
+};
+use fast_check_source_lexer::{Keyword, TokenKind};
+use fast_check_source_types::Types;
+use fast_check_syntax::{Atom, Items, SourcePos, SyntaxContext, Tree};
+use std::alloc::Global;
+
+/// The rules of values without operators.
+#[derive(Clone, Copy)]
+pub struct Values<F> {
+    pub types: Types<F>,
+}
+
+// `new.target` or `import.meta`, behind its dot.
+fn meta(
+    alloc: Global,
+    tokens: &mut Tokens<'_>,
+    start: SourcePos,
+    kind: &str,
+) -> Result<Tree, ParseError> {
+    tokens.at.advance();
+    let made = MetaPropExpr {
+        span: tokens.at.from(start),
+        kind: Atom::from_str(alloc, kind)?,
+    };
+    Ok(made.into_tree(alloc)?)
+}
+
+fn import(
+    alloc: Global,
+    tokens: &mut Tokens<'_>,
+    start: SourcePos,
+    phase: &str,
+) -> Result<Tree, ParseError> {
+    if !tokens.at.is(TokenKind::LParen) {
+        return Err(tokens.at.refuse());
+    }
+    let made = Import {
+        span: tokens.at.from(start),
+        phase: Atom::from_str(alloc, phase)?,
+    };
+    Ok(made.into_tree(alloc)?)
+}
+
+// `import.meta`, or `import` or `import.defer` as what is called.
+fn imported(alloc: Global, tokens: &mut Tokens<'_>) -> Result<Tree, ParseError> {
+    let start = tokens.at.start();
+    tokens.at.advance();
+    if !tokens.at.eat(TokenKind::Dot) {
+        return import(alloc, tokens, start, "evaluation");
+    }
+    match tokens.at.inside(0, 0) {
+        "meta" => {
+            tokens.note_module();
+            meta(alloc, tokens, start, "import.meta")
+        }
+        "defer" => {
+            tokens.at.advance();
+            import(alloc, tokens, start, "defer")
+        }
+        _ => Err(tokens.at.refuse()),
+    }
+}
+
+fn this(alloc: Global, tokens: &mut Tokens<'_>) -> Result<Tree, ParseError> {
+    let span = tokens.at.here();
+    tokens.at.advance();
+    Ok(ThisExpr { span }.into_tree(alloc)?)
+}
+
+fn null(alloc: Global, tokens: &mut Tokens<'_>) -> Result<Tree, ParseError> {
+    let span = tokens.at.here();
+    tokens.at.advance();
+    Ok(Null { span }.into_tree(alloc)?)
+}
+
+impl<F: Fn(Global, &mut Tokens<'_>, usize, Rule) -> Result<Tree, ParseError>> Values<F> {
+    /// A value with nothing behind it.
+    pub fn value(&self, tokens: &mut Tokens<'_>) -> Result<Tree, ParseError>
+        requires { Nests self.now.types.grammar.depth (F.pre self.now.types.grammar.parse) }
+    {
+        let alloc = self.types.grammar.alloc;
+        match tokens.at.kind() {
+            TokenKind::Name => self.word_value(tokens),
+            TokenKind::String => string(alloc, tokens),
+            TokenKind::Number | TokenKind::BigInt => number(alloc, tokens),
+            TokenKind::Template | TokenKind::TemplateHead => self.template(tokens),
+            TokenKind::Slash | TokenKind::SlashAssign => regex(alloc, tokens),
+            TokenKind::LParen => self.parenthesized(tokens),
+            TokenKind::LBracket => self.array(tokens),
+            TokenKind::LBrace => self.object(tokens),
+            TokenKind::At => self.types.grammar.again(tokens, Rule::ClassValue),
+            TokenKind::Less if tokens.at.within().jsx => self.jsx(tokens),
+            _ => Err(tokens.at.refuse()),
+        }
+    }
+
+    fn word_value(&self, tokens: &mut Tokens<'_>) -> Result<Tree, ParseError>
+        requires { Nests self.now.types.grammar.depth (F.pre self.now.types.grammar.parse) }
+    {
+        let alloc = self.types.grammar.alloc;
+        match tokens.at.word() {
+            Keyword::This => this(alloc, tokens),
+            Keyword::Super => self.super_value(tokens),
+            Keyword::Null => null(alloc, tokens),
+            Keyword::True | Keyword::False => bool_literal(alloc, tokens),
+            Keyword::Function => self.function_value(tokens),
+            Keyword::Class => self.types.grammar.again(tokens, Rule::ClassValue),
+            Keyword::New => self.constructed(tokens),
+            Keyword::Import => imported(alloc, tokens),
+            Keyword::Async => {
+                let next = tokens.at.second();
+                if next.is_word(Keyword::Function) && !next.newline() {
+                    self.function_value(tokens)
+                } else {
+                    ident(alloc, tokens)
+                }
+            }
+            _ => ident(alloc, tokens),
+        }
+    }
+
+    fn parenthesized(&self, tokens: &mut Tokens<'_>) -> Result<Tree, ParseError>
+        requires { Nests self.now.types.grammar.depth (F.pre self.now.types.grammar.parse) }
+    {
+        let start = tokens.at.start();
+        tokens.at.advance();
+        let expr = self.types.grammar.again(tokens, Rule::Expression)?;
+        tokens.at.expect(TokenKind::RParen)?;
+        let span = tokens.at.from(start);
+        Ok(ParenExpr { span, expr }.into_tree(self.types.grammar.alloc)?)
+    }
+
+    /// `[a]` behind a value.
+    pub fn computed(&self, tokens: &mut Tokens<'_>) -> Result<Tree, ParseError>
+        requires { Nests self.now.types.grammar.depth (F.pre self.now.types.grammar.parse) }
+    {
+        let start = tokens.at.start();
+        tokens.at.advance();
+        let expr = self.types.grammar.again(tokens, Rule::Expression)?;
+        tokens.at.expect(TokenKind::RBracket)?;
+        let span = tokens.at.from(start);
+        Ok(ComputedPropName { span, expr }.into_tree(self.types.grammar.alloc)?)
+    }
+
+    // `super`, or `super.a` or `super[a]`.
+    fn super_value(&self, tokens: &mut Tokens<'_>) -> Result<Tree, ParseError>
+        requires { Nests self.now.types.grammar.depth (F.pre self.now.types.grammar.parse) }
+    {
+        let alloc = self.types.grammar.alloc;
+        let start = tokens.at.start();
+        tokens.at.advance();
+        let prop = match tokens.at.kind() {
+            TokenKind::LParen => {
+                let span = tokens.at.from(start);
+                return Ok(Super { span }.into_tree(alloc)?);
+            }
+            TokenKind::LBracket => self.computed(tokens)?,
+            _ => {
+                tokens.at.expect(TokenKind::Dot)?;
+                ident_name(alloc, tokens)?
+            }
+        };
+        let span = tokens.at.from(start);
+        Ok(SuperPropExpr { span, prop }.into_tree(alloc)?)
+    }
+
+    /// Type arguments of a value, if such come next.
+    pub fn value_args(&self, tokens: &mut Tokens<'_>) -> Result<Option<Tree>, ParseError>
+        requires { Nests self.now.types.grammar.depth (F.pre self.now.types.grammar.parse) }
+    {
+        let opens = tokens.at.is(TokenKind::Less) || tokens.at.is(TokenKind::LeftShift);
+        if !opens || tokens.is_noted(Note::NoArgs) {
+            return Ok(None);
+        }
+        let saved = tokens.at;
+        match self.types.type_args(tokens) {
+            Ok(args) if follows_args(tokens.at) => Ok(Some(args)),
+            Err(ParseError::Memory) => Err(ParseError::Memory),
+            _ => {
+                tokens.note(Note::NoArgs, saved.place())?;
+                tokens.at = saved;
+                Ok(None)
+            }
+        }
+    }
+
+    // `new A<B>(c)`, or `new.target`.
+    fn constructed(&self, tokens: &mut Tokens<'_>) -> Result<Tree, ParseError>
+        requires { Nests self.now.types.grammar.depth (F.pre self.now.types.grammar.parse) }
+    {
+        let alloc = self.types.grammar.alloc;
+        let start = tokens.at.start();
+        tokens.at.advance();
+        if tokens.at.eat(TokenKind::Dot) {
+            if tokens.at.inside(0, 0) == "target" {
+                return meta(alloc, tokens, start, "new.target");
+            }
+            return Err(tokens.at.refuse());
+        }
+        let callee = self.types.grammar.again(tokens, Rule::Constructed)?;
+        let type_args = match self.value_args(tokens)? {
+            Some(args) => args,
+            None => Tree::Absent,
+        };
+        let args = if tokens.at.eat(TokenKind::LParen) {
+            self.types.grammar.list(tokens, Rule::Argument, TokenKind::Comma, TokenKind::RParen)?
+        } else {
+            Tree::Absent
+        };
+        let made = NewExpr {
+            span: tokens.at.from(start),
+            ctxt: SyntaxContext(0),
+            callee,
+            args,
+            type_args,
+        };
+        Ok(made.into_tree(alloc)?)
+    }
+
+    fn array(&self, tokens: &mut Tokens<'_>) -> Result<Tree, ParseError>
+        requires { Nests self.now.types.grammar.depth (F.pre self.now.types.grammar.parse) }
+    {
+        let start = tokens.at.start();
+        let elems = self.elements(tokens, Rule::Argument)?;
+        let span = tokens.at.from(start);
+        Ok(ArrayLit { span, elems }.into_tree(self.types.grammar.alloc)?)
+    }
+
+    /// `[a, , b]` by a rule for each element that is not missing.
+    pub fn elements(&self, tokens: &mut Tokens<'_>, rule: Rule) -> Result<Tree, ParseError>
+        requires { Nests self.now.types.grammar.depth (F.pre self.now.types.grammar.parse) }
+    {
+        tokens.at.advance();
+        let mut elems = Items::new(self.types.grammar.alloc);
+        for _turn in 0..tokens.at.left() {
+            if tokens.at.is(TokenKind::RBracket) {
+                break;
+            }
+            if tokens.at.eat(TokenKind::Comma) {
+                elems.push(Tree::Absent)?;
+                continue;
+            }
+            elems.push(self.types.grammar.again(tokens, rule)?)?;
+            if !tokens.at.eat(TokenKind::Comma) {
+                break;
+            }
+        }
+        tokens.at.expect(TokenKind::RBracket)?;
+        Ok(Tree::list(elems))
+    }
+
+    /// A template with expressions in it.
+    pub fn template(&self, tokens: &mut Tokens<'_>) -> Result<Tree, ParseError>
+        requires { Nests self.now.types.grammar.depth (F.pre self.now.types.grammar.parse) }
+    {
+        let start = tokens.at.start();
+        let (exprs, quasis) = self.types.template_parts(tokens, Rule::Expression)?;
+        let made = Tpl {
+            span: tokens.at.from(start),
+            exprs,
+            quasis,
+        };
+        Ok(made.into_tree(self.types.grammar.alloc)?)
+    }
+}
