@@ -1,126 +1,15 @@
 //! Exports.
 ghost use Rattle.fast_check_source_grammar.specs.Nests.{Nests};
 
-use crate::imports::{attributes, eat_type, export_name, import_equals, is_type_only};
 use crate::statements::{Opening, Statements, sees_declaration};
 use fast_check_program_forms::{
-    ExportAll, ExportDecl, ExportDefaultDecl, ExportDefaultExpr, ExportNamedSpecifier,
-    ExportNamespaceSpecifier, NamedExport, TsExportAssignment, TsNamespaceExportDecl,
+    ExportDecl, ExportDefaultDecl, ExportDefaultExpr, TsExportAssignment, TsNamespaceExportDecl,
 };
-use fast_check_source_grammar::{Cursor, ParseError, Rule, Tokens, ident, string};
+use fast_check_source_grammar::{Cursor, ParseError, Rule, Tokens, ident};
+use fast_check_source_imports::{eat_type, export_names, export_star, import_equals};
 use fast_check_source_lexer::{Keyword, TokenKind};
-use fast_check_syntax::{Items, SourcePos, Tree};
+use fast_check_syntax::{SourcePos, Tree};
 use std::alloc::Global;
-
-// `a`, `a as b` or `type a` in the braces of an export.
-fn named(alloc: Global, tokens: &mut Tokens<'_>) -> Result<Tree, ParseError> {
-    let start = tokens.at.start();
-    let is_type_only = is_type_only(tokens.at);
-    if is_type_only {
-        tokens.at.advance();
-    }
-    let orig = export_name(alloc, tokens)?;
-    let exported = if tokens.at.eat_word(Keyword::As) {
-        export_name(alloc, tokens)?
-    } else {
-        Tree::Absent
-    };
-    let made = ExportNamedSpecifier {
-        span: tokens.at.from(start),
-        orig,
-        exported,
-        is_type_only,
-    };
-    Ok(made.into_tree(alloc)?)
-}
-
-// `from "a"`, or nothing.
-fn source(alloc: Global, tokens: &mut Tokens<'_>) -> Result<Tree, ParseError> {
-    if tokens.at.eat_word(Keyword::From) {
-        string(alloc, tokens)
-    } else {
-        Ok(Tree::Absent)
-    }
-}
-
-// What is behind the names of an export: its source, its attributes and its end.
-fn named_export(
-    alloc: Global,
-    tokens: &mut Tokens<'_>,
-    start: SourcePos,
-    type_only: bool,
-    specifiers: Items<Tree>,
-) -> Result<Tree, ParseError> {
-    let src = source(alloc, tokens)?;
-    let with = if matches!(&src, Tree::Absent) {
-        Tree::Absent
-    } else {
-        attributes(alloc, tokens)?
-    };
-    tokens.at.end_statement()?;
-    let made = NamedExport {
-        span: tokens.at.from(start),
-        specifiers: Tree::list(specifiers),
-        src,
-        type_only,
-        with,
-    };
-    Ok(made.into_tree(alloc)?)
-}
-
-// `{ a, b as c }` behind `export`.
-fn braced(
-    alloc: Global,
-    tokens: &mut Tokens<'_>,
-    start: SourcePos,
-    type_only: bool,
-) -> Result<Tree, ParseError> {
-    tokens.at.advance();
-    let mut specifiers = Items::new(alloc);
-    for _turn in 0..tokens.at.left() {
-        if tokens.at.is(TokenKind::RBrace) {
-            break;
-        }
-        specifiers.push(named(alloc, tokens)?)?;
-        if !tokens.at.eat(TokenKind::Comma) {
-            break;
-        }
-    }
-    tokens.at.expect(TokenKind::RBrace)?;
-    named_export(alloc, tokens, start, type_only, specifiers)
-}
-
-// `* from "a"` or `* as b from "a"` behind `export`.
-fn starred(
-    alloc: Global,
-    tokens: &mut Tokens<'_>,
-    start: SourcePos,
-    type_only: bool,
-) -> Result<Tree, ParseError> {
-    let at = tokens.at.start();
-    tokens.at.advance();
-    if tokens.at.eat_word(Keyword::As) {
-        let name = export_name(alloc, tokens)?;
-        let span = tokens.at.from(at);
-        let mut specifiers = Items::new(alloc);
-        specifiers.push(ExportNamespaceSpecifier { span, name }.into_tree(alloc)?)?;
-        if !tokens.at.is_word(Keyword::From) {
-            return Err(tokens.at.refuse());
-        }
-        return named_export(alloc, tokens, start, type_only, specifiers);
-    }
-    tokens.at.expect_word(Keyword::From)?;
-    let src = string(alloc, tokens)?;
-    let with = attributes(alloc, tokens)?;
-    tokens.at.end_statement()?;
-    let made = ExportAll {
-        span: tokens.at.from(start),
-        src,
-        type_only,
-        with,
-    };
-    Ok(made.into_tree(alloc)?)
-}
 
 fn is_function(at: Cursor<'_>) -> bool {
     let next = at.second();
@@ -149,8 +38,8 @@ impl<F: Fn(Global, &mut Tokens<'_>, usize, Rule) -> Result<Tree, ParseError>> St
             tokens.at.advance();
         }
         match tokens.at.kind() {
-            TokenKind::LBrace => braced(alloc, tokens, start, type_only),
-            TokenKind::Star => starred(alloc, tokens, start, type_only),
+            TokenKind::LBrace => export_names(alloc, tokens, start, type_only),
+            TokenKind::Star => export_star(alloc, tokens, start, type_only),
             TokenKind::Assign => self.assignment(tokens, start),
             TokenKind::At => {
                 let decorators = self.expressions.values.decorators(tokens)?;

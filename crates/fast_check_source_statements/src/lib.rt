@@ -1,11 +1,10 @@
-//! The rules of statements, declarations, classes, imports and exports.
+//! The rules of statements, declarations, classes and exports.
 #![tactic(auto)]
 
 mod classes;
 mod declarations;
 mod exports;
 mod flow;
-mod imports;
 mod loops;
 mod members;
 mod modifiers;

@@ -3,6 +3,7 @@ ghost use Rattle.fast_check_source_grammar.specs.Nests.{Nests};
 
 use fast_check_source_expressions::Expressions;
 use fast_check_source_grammar::{Cursor, ParseError, Rule, Tokens, is_reserved};
+use fast_check_source_imports::import;
 use fast_check_source_lexer::{Keyword, TokenKind};
 use fast_check_statement_forms::{BlockStmt, EmptyStmt};
 use fast_check_syntax::{Items, SourcePos, SyntaxContext, Tree};
@@ -88,7 +89,7 @@ impl<F: Fn(Global, &mut Tokens<'_>, usize, Rule) -> Result<Tree, ParseError>> St
         requires { Nests self.now.expressions.values.types.grammar.depth (F.pre self.now.expressions.values.types.grammar.parse) }
     {
         if tokens.at.is_word(Keyword::Import) && !is_import_value(tokens.at) {
-            return self.import(tokens);
+            return import(self.expressions.values.types.grammar.alloc, tokens);
         }
         if tokens.at.is_word(Keyword::Export) {
             return self.export(tokens);

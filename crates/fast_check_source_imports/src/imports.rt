@@ -1,14 +1,11 @@
 //! Imports.
-ghost use Rattle.fast_check_source_grammar.specs.Nests.{Nests};
-
-use crate::statements::Statements;
 use fast_check_expression_forms::{KeyValueProp, ObjectLit};
 use fast_check_program_forms::{
     ImportDecl, ImportDefaultSpecifier, ImportNamedSpecifier, ImportStarAsSpecifier,
     TsExternalModuleRef, TsImportEqualsDecl,
 };
 use fast_check_source_grammar::{
-    Cursor, ParseError, Rule, Tokens, entity, ident, ident_name, string, word_ident,
+    Cursor, ParseError, Tokens, entity, ident, ident_name, string, word_ident,
 };
 use fast_check_source_lexer::{Keyword, TokenKind};
 use fast_check_syntax::{Atom, Items, SourcePos, Tree};
@@ -210,40 +207,37 @@ pub fn eat_type(tokens: &mut Tokens<'_>) -> bool {
     found
 }
 
-impl<F: Fn(Global, &mut Tokens<'_>, usize, Rule) -> Result<Tree, ParseError>> Statements<F> {
-    /// An import.
-    pub fn import(&self, tokens: &mut Tokens<'_>) -> Result<Tree, ParseError> {
-        let alloc = self.expressions.values.types.grammar.alloc;
-        let start = tokens.at.start();
-        tokens.at.advance();
-        let type_only = eat_type(tokens);
-        if tokens.at.is(TokenKind::Name) && tokens.at.second().is(TokenKind::Assign) {
-            return import_equals(alloc, tokens, start, false, type_only);
-        }
-        let is_deferred = !type_only
-            && tokens.at.inside(0, 0) == "defer"
-            && is_before_clause(tokens.at);
-        if is_deferred {
-            tokens.at.advance();
-        }
-        let specifiers = if tokens.at.is(TokenKind::String) {
-            Tree::list(self.none())
-        } else {
-            let found = clause(alloc, tokens)?;
-            tokens.at.expect_word(Keyword::From)?;
-            found
-        };
-        let src = string(alloc, tokens)?;
-        let with = attributes(alloc, tokens)?;
-        tokens.at.end_statement()?;
-        let made = ImportDecl {
-            span: tokens.at.from(start),
-            specifiers,
-            src,
-            type_only,
-            with,
-            phase: Atom::from_str(alloc, if is_deferred { "defer" } else { "evaluation" })?,
-        };
-        Ok(made.into_tree(alloc)?)
+/// An import.
+pub fn import(alloc: Global, tokens: &mut Tokens<'_>) -> Result<Tree, ParseError> {
+    let start = tokens.at.start();
+    tokens.at.advance();
+    let type_only = eat_type(tokens);
+    if tokens.at.is(TokenKind::Name) && tokens.at.second().is(TokenKind::Assign) {
+        return import_equals(alloc, tokens, start, false, type_only);
     }
+    let is_deferred = !type_only
+        && tokens.at.inside(0, 0) == "defer"
+        && is_before_clause(tokens.at);
+    if is_deferred {
+        tokens.at.advance();
+    }
+    let specifiers = if tokens.at.is(TokenKind::String) {
+        Tree::list(Items::new(alloc))
+    } else {
+        let found = clause(alloc, tokens)?;
+        tokens.at.expect_word(Keyword::From)?;
+        found
+    };
+    let src = string(alloc, tokens)?;
+    let with = attributes(alloc, tokens)?;
+    tokens.at.end_statement()?;
+    let made = ImportDecl {
+        span: tokens.at.from(start),
+        specifiers,
+        src,
+        type_only,
+        with,
+        phase: Atom::from_str(alloc, if is_deferred { "defer" } else { "evaluation" })?,
+    };
+    Ok(made.into_tree(alloc)?)
 }
