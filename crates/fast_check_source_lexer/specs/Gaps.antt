@@ -30,6 +30,10 @@ IsLineEnd z k =
     (slice_index z k ≡ 10) ⊎ ((slice_index z k ≡ 13)
     ⊎ ((slice_index z k ≡ 226) × (slice_index z (k + 1) ≡ 128) × ((slice_index z (k + 2) ≡ 168) ⊎ (slice_index z (k + 2) ≡ 169))))
 
+-- A line ends between two places.
+abbrev pub HoldsLineEnd : List ℕ → ℕ → ℕ → Type 0
+HoldsLineEnd z a b = (k : ℕ) × ((a ≤ k) × (k < b) × IsLineEnd z k)
+
 -- The rest of a line: up to the first place where a line ends, or to the end of the text.
 pub record IsRest (z : List ℕ) (a : ℕ) (b : ℕ) : Type 0 where
   pub within : a ≤ b

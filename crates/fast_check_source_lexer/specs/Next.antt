@@ -1,12 +1,15 @@
 -- What it is to be the next token of a text.
-use Rattle.std.specs.Prelude.{◌≡◌, ◌≢◌, ℕ, ◌<◌, ◌≤◌, List, length}
-use Rattle.fast_check_source_lexer.specs.Gaps.{IsGap}
+use Rattle.std.specs.Prelude.{◌≡◌, ◌≢◌, ℕ, ◌<◌, ◌≤◌, ◌↔◌, List, length, IsTrue}
+use Rattle.fast_check_source_lexer.specs.Gaps.{IsGap, IsPiece, HoldsLineEnd}
 use Rattle.fast_check_source_lexer.specs.declared.scan.Token.{Token}
 use Rattle.fast_check_source_lexer.specs.declared.kind.TokenKind.TheVariants.{End}
 
 -- It begins behind a gap at the place, and takes some of the text, but at the text's end alone.
 pub record IsNext (z : List ℕ) (at : ℕ) (t : Token) : Type 0 where
   pub gap : IsGap z at t.start
+  -- Where it begins no white space and no comment does.
+  pub whole : (b : ℕ) → t.start < b → IsPiece z t.start b → ⊥
+  pub lines : IsTrue t.newline ↔ HoldsLineEnd z at t.start
   pub begins : at ≤ t.start
   pub ends : t.start ≤ t.end
   pub within : t.end ≤ length z

@@ -1,6 +1,6 @@
 //! White space and comments.
-ghost use Rattle.std.specs.Prelude.{◌≡◌, ◌≢◌, ◌<◌, ◌≤◌, ◌+◌, ◌^◌, ◌⊎◌, ◌↔◌, length, slice_index, IfSome, IsTrue};
-ghost use Rattle.fast_check_source_lexer.specs.Gaps.{AreBlanks, IsTwo, IsThree, IsLineEnd, IsRest, IsLine, IsBlock, IsHashbang, IsPiece, IsGap};
+ghost use Rattle.std.specs.Prelude.{◌≡◌, ◌≢◌, ◌<◌, ◌≤◌, ◌+◌, ◌^◌, ◌⊎◌, ◌↔◌, length, slice_index, IfSome, MatchOption, IsTrue, ℕ};
+ghost use Rattle.fast_check_source_lexer.specs.Gaps.{IsBlank, AreBlanks, IsTwo, IsThree, IsLineEnd, HoldsLineEnd, IsRest, IsLine, IsBlock, IsHashbang, IsPiece, IsGap};
 
 use crate::bytes::byte;
 
@@ -27,6 +27,8 @@ fn past_blanks(z: &[u8], at: usize) -> Gap
     requires { at ≤ length z.now }
     ensures within { (at ≤ result.end) × (result.end ≤ length z.now) }
     ensures blank { AreBlanks z.now at result.end }
+    ensures whole { IsBlank (slice_index z.now result.end) → ⊥ }
+    ensures lines { IsTrue result.newline ↔ HoldsLineEnd z.now at result.end }
 {
     let mut end = at;
     let mut newline = false;
@@ -45,6 +47,7 @@ fn past_wide(z: &[u8], at: usize) -> usize
     requires fits { length z.now < 2 ^ 32 }
     ensures within { (at ≤ result) × (result ≤ length z.now) }
     ensures space { at < result → (IsTwo z.now at × (result ≡ at + 2)) ⊎ (IsThree z.now at × (result ≡ at + 3)) }
+    ensures whole { result ≤ at → (IsTwo z.now at ⊎ IsThree z.now at) → ⊥ }
 {
     let (a, b, c) = (byte(z, at), byte(z, at + 1), byte(z, at + 2));
     match (a, b) {
@@ -90,6 +93,8 @@ fn past_block(z: &[u8], at: usize) -> Option<Gap>
     requires fits { length z.now < 2 ^ 32 }
     ensures within { IfSome result (λ gap. (at + 4 ≤ gap.end) × (gap.end ≤ length z.now)) }
     ensures block { IfSome result (λ gap. IsBlock z.now at gap.end) }
+    ensures whole { result ≡ None → (b : ℕ) → IsBlock z.now at b → ⊥ }
+    ensures lines { IfSome result (λ gap. IsTrue gap.newline ↔ HoldsLineEnd z.now at gap.end) }
 {
     let mut end = at + 2;
     let mut newline = false;
@@ -112,6 +117,8 @@ fn past_piece(z: &[u8], at: usize) -> Gap
     requires fits { length z.now < 2 ^ 32 }
     ensures within { (at ≤ result.end) × (result.end ≤ length z.now) }
     ensures piece { at < result.end → IsPiece z.now at result.end }
+    ensures whole { result.end ≤ at → (b : ℕ) → at < b → IsPiece z.now at b → ⊥ }
+    ensures lines { IsTrue result.newline ↔ HoldsLineEnd z.now at result.end }
 {
     let none = Gap {
         end: at,
@@ -148,6 +155,8 @@ pub(crate) fn past_gap(z: &[u8], at: usize) -> Gap
     requires fits { length z.now < 2 ^ 32 }
     ensures within { (at ≤ result.end) × (result.end ≤ length z.now) }
     ensures gap { IsGap z.now at result.end }
+    ensures whole { (b : ℕ) → result.end < b → IsPiece z.now result.end b → ⊥ }
+    ensures lines { IsTrue result.newline ↔ HoldsLineEnd z.now at result.end }
 {
     let mut end = at;
     let mut newline = false;

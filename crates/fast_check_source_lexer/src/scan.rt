@@ -300,6 +300,32 @@ fn digits(z: &[u8], at: usize) -> (TokenKind, usize)
     (some(kind), end.max(at + 1))
 }
 
+// The token behind a place and the gap that begins there.
+fn next(z: &[u8], at: usize) -> Token
+    requires within { at ≤ length z.now }
+    requires fits { length z.now < 2 ^ 32 }
+    ensures { IsNext z.now at result }
+{
+    let gap = past_gap(z, at);
+    let start = gap.end;
+    let newline = gap.newline;
+    if start >= z.len() {
+        return Token {
+            kind: TokenKind::End,
+            newline,
+            start,
+            end: start,
+        };
+    }
+    let (kind, end) = cut(z, start);
+    Token {
+        kind,
+        newline,
+        start,
+        end,
+    }
+}
+
 /// A text of less than 4 GB, for reading.
 #[derive(Clone, Copy)]
 pub struct Source<'a> {
@@ -331,25 +357,7 @@ impl<'a> Source<'a> {
         requires { at ≤ length self.text.now }
         ensures { IsNext self.entry.text.now at result }
     {
-        let z = self.text.as_bytes();
-        let gap = past_gap(z, at);
-        let start = gap.end;
-        let newline = gap.newline;
-        if start >= z.len() {
-            return Token {
-                kind: TokenKind::End,
-                newline,
-                start,
-                end: start,
-            };
-        }
-        let (kind, end) = cut(z, start);
-        Token {
-            kind,
-            newline,
-            start,
-            end,
-        }
+        next(self.text.as_bytes(), at)
     }
 
     /// A `}` read again, as what goes on with a template.
