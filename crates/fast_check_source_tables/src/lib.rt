@@ -1,0 +1,16 @@
+//! The tables of a module by its tree: its symbols with their exports, members and declarations, and what these refer to.
+#![tactic(auto)]
+
+mod builder;
+mod classes;
+mod declarations;
+mod dependencies;
+mod exports;
+mod finish;
+mod functions;
+mod items;
+mod names;
+mod returns;
+mod values;
+
+pub use finish::tables_of;
