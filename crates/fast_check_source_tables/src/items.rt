@@ -9,7 +9,7 @@ use fast_check_syntax::{Atom, Kind, Part, SourceRange};
 use std::alloc::AllocError;
 
 // Whether a body says itself what it exports.
-fn says_exports(items: Part<'_>) -> bool {
+pub fn says_exports(items: Part<'_>) -> bool {
     items.parts().iter().any(|item| {
         matches!(
             item.read().kind(),
@@ -19,7 +19,7 @@ fn says_exports(items: Part<'_>) -> bool {
 }
 
 // The declaration that an item is, with the range of the export that it stands in.
-fn declaration_of(item: Part<'_>) -> (Part<'_>, Option<SourceRange>) {
+pub fn declaration_of(item: Part<'_>) -> (Part<'_>, Option<SourceRange>) {
     if item.kind() == Kind::ExportDecl {
         let ExportDecl { span, decl } = ExportDecl::of(item);
         (decl, Some(span))
@@ -28,7 +28,7 @@ fn declaration_of(item: Part<'_>) -> (Part<'_>, Option<SourceRange>) {
     }
 }
 
-fn is_declaration(item: Part<'_>) -> bool {
+pub fn is_declaration(item: Part<'_>) -> bool {
     matches!(
         item.kind(),
         Kind::VarDecl

@@ -1,6 +1,7 @@
 //! The tables of a module by its tree: its symbols with their exports, members and declarations, and what these refer to.
 #![tactic(auto)]
 
+mod ambient;
 mod builder;
 mod classes;
 mod declarations;
@@ -13,4 +14,5 @@ mod names;
 mod returns;
 mod values;
 
+pub use ambient::with_exports;
 pub use finish::tables_of;
