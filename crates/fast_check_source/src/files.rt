@@ -63,7 +63,8 @@ pub struct ReadFile {
     pub text: String,
 }
 
-fn joined(alloc: Global, first: &str, second: &str) -> Result<String, AllocError> {
+/// One text behind another.
+pub fn joined(alloc: Global, first: &str, second: &str) -> Result<String, AllocError> {
     let mut made = String::from_str(alloc, first)?;
     made.push_str(second)?;
     Ok(made)

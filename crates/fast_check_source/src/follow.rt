@@ -1,5 +1,7 @@
 //! The modules that entry points lead to.
-use crate::files::{ReadFile, find, media_type};
+use crate::config::Package;
+use crate::files::{ReadFile, media_type};
+use crate::resolve::{is_relative, resolve};
 use crate::sources::push_sources;
 use anyhow::Result;
 use fast_check_diagnostics::parsed_source::{MediaType, ParsedSource};
@@ -35,18 +37,6 @@ pub fn url_of(rt: &HostRuntime, path: &str) -> Result<Url> {
     let mut text = String::from_str(rt.alloc(), "file:///")?;
     text.push_str(path)?;
     Ok(Url::parse(rt.alloc(), text.as_str())?)
-}
-
-// The path of a file by its URL.
-fn path_of(url: &Url) -> &str {
-    match url.as_str().strip_prefix("file:///") {
-        Some(path) => path,
-        None => "",
-    }
-}
-
-fn is_relative(text: &str) -> bool {
-    text.starts_with("./") || text.starts_with("../") || text == "." || text == ".."
 }
 
 fn external(rt: &HostRuntime, text: &str) -> Result<Url> {
@@ -99,7 +89,12 @@ fn parsed(
 }
 
 /// Reads the modules that entry points lead to inside of a folder.
-pub fn follow(rt: &HostRuntime, folder: &str, entries: Vec<ReadFile>) -> Result<Found> {
+pub fn follow(
+    rt: &HostRuntime,
+    folder: &str,
+    packages: &[Package],
+    entries: Vec<ReadFile>,
+) -> Result<Found> {
     let alloc = rt.alloc();
     let mut found = Found {
         modules: BTreeMap::new(alloc),
@@ -133,20 +128,21 @@ pub fn follow(rt: &HostRuntime, folder: &str, entries: Vec<ReadFile>) -> Result<
         };
         let mut resolved: BTreeMap<String, Url> = BTreeMap::new(alloc);
         for text in texts {
-            if !is_relative(text.as_str()) {
-                let target = external(rt, text.as_str())?;
-                let _ = found.graph.insert(target.clone()?, Module::External)?;
-                let _ = resolved.insert(text, target)?;
-                continue;
-            }
-            if let Ok(wanted) = url.join(text.as_str())
-                && let Some(next) = find(rt, folder, path_of(&wanted))?
-            {
-                let target = url_of(rt, next.path.as_str())?;
-                if !found.graph.contains_key(&target) {
-                    waiting.push(next)?;
+            match resolve(rt, folder, packages, file.path.as_str(), text.as_str())? {
+                Some(next) => {
+                    let target = url_of(rt, next.path.as_str())?;
+                    if !found.graph.contains_key(&target) {
+                        waiting.push(next)?;
+                    }
+                    let _ = resolved.insert(text, target)?;
                 }
-                let _ = resolved.insert(text, target)?;
+                None => {
+                    if !is_relative(text.as_str()) {
+                        let target = external(rt, text.as_str())?;
+                        let _ = found.graph.insert(target.clone()?, Module::External)?;
+                        let _ = resolved.insert(text, target)?;
+                    }
+                }
             }
         }
         let _ = found.resolutions.insert(url.clone()?, resolved)?;

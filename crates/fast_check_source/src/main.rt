@@ -5,10 +5,12 @@
 mod config;
 mod files;
 mod follow;
+mod jsonc;
+mod resolve;
 mod sources;
 mod world;
 
-use crate::config::{Package, package_of};
+use crate::config::{Package, packages_of};
 use crate::files::find;
 use crate::follow::{Found, follow, url_of};
 use crate::world::{answered, in_order, names_of};
@@ -78,65 +80,78 @@ fn version_of(rt: &HostRuntime, text: &str) -> Result<Version> {
     }
 }
 
-fn answers_of(rt: &HostRuntime, folder: &str, package: Package) -> Result<Vec<ModuleAnswer>> {
+// A package as a member of the workspace, and what is asked of it.
+fn member_of(rt: &HostRuntime, package: &Package) -> Result<(WorkspaceMember, PackageNv)> {
     let alloc = rt.alloc();
+    let mut base = String::from_str(alloc, package.folder.as_str())?;
+    if !base.is_empty() {
+        base.push_str("/")?;
+    }
     let mut exports = IndexMap::new(alloc);
-    let mut entries = Vec::new(alloc);
-    for (key, path) in package.exports {
-        let wanted = match path.as_str().strip_prefix("./") {
-            Some(path) => path,
+    for (key, path) in package.exports.iter() {
+        let own = match path.as_str().strip_prefix(base.as_str()) {
+            Some(own) => own,
             None => path.as_str(),
         };
-        if let Some(file) = find(rt, folder, wanted)? {
-            let mut text = String::from_str(alloc, "./")?;
-            text.push_str(file.path.as_str())?;
-            let _ = exports.insert(key, text)?;
-            entries.push(file)?;
-        }
+        let mut text = String::from_str(alloc, "./")?;
+        text.push_str(own)?;
+        let _ = exports.insert(key.clone()?, text)?;
     }
-    let found = follow(rt, folder, entries)?;
-    if let Some(path) = found.refused.first() {
-        bail!("{path} is not read");
-    }
-    let (graph, root) = root_of(rt, found)?;
     let member = WorkspaceMember {
-        base: url_of(rt, "")?,
+        base: url_of(rt, base.as_str())?,
         name: package.name.clone()?,
         version: Some(version_of(rt, package.version.as_str())?),
         exports,
     };
-    let pending = Vec::from_array(
-        alloc,
-        [PackageNv {
-            name: package.name,
-            version: version_of(rt, package.version.as_str())?,
-        }],
-    )?;
+    let asked = PackageNv {
+        name: package.name.clone()?,
+        version: version_of(rt, package.version.as_str())?,
+    };
+    Ok((member, asked))
+}
+
+fn answers_of(rt: &HostRuntime, folder: &str, packages: &[Package]) -> Result<Vec<ModuleAnswer>> {
+    let alloc = rt.alloc();
+    let mut entries = Vec::new(alloc);
+    let mut by_length = BTreeMap::new(alloc);
+    let mut pending = VecDeque::new(alloc);
+    for (place, package) in packages.iter().enumerate() {
+        for (_, path) in package.exports.iter() {
+            if let Some(file) = find(rt, folder, path.as_str())? {
+                entries.push(file)?;
+            }
+        }
+        let (member, asked) = member_of(rt, package)?;
+        let _ = by_length.insert((usize::MAX - package.folder.len(), place), member)?;
+        pending.push_back(asked)?;
+    }
+    // The innermost member around a file stands before those around it.
+    let mut members = Vec::new(alloc);
+    for (_, member) in by_length {
+        members.push(member)?;
+    }
+    let found = follow(rt, folder, packages, entries)?;
+    if let Some(path) = found.refused.first() {
+        bail!("{path} is not read");
+    }
+    let (graph, root) = root_of(rt, found)?;
     let options = TransformOptions {
-        workspace_members: Vec::from_array(alloc, [member])?,
+        workspace_members: members,
         should_error_on_first_diagnostic: false,
     };
     let provider = ListedPackages {
         packages: Vec::new(alloc),
         fallback: Url::parse(alloc, "https://package.test/")?,
     };
-    Ok(build_fast_check_type_graph(
-        alloc,
-        None,
-        &provider,
-        &graph,
-        &root,
-        VecDeque::from(pending),
-        &options,
-    )?)
+    Ok(build_fast_check_type_graph(alloc, None, &provider, &graph, &root, pending, &options)?)
 }
 
 fn main(rt: HostRuntime) -> Result<()> {
     let mut words = env::args(&rt)?;
     let _ = words.next();
     let folder = words.next().context("no folder")?;
-    let package = package_of(&rt, folder.as_str())?.context("no configuration")?;
-    let answers = answers_of(&rt, folder.as_str(), package)?;
+    let packages = packages_of(&rt, folder.as_str())?;
+    let answers = answers_of(&rt, folder.as_str(), packages.as_slice())?;
     let mut out = Writer::new(Vec::new(rt.alloc()));
     print_answers(rt.alloc(), &mut out, answers)?;
     let line = match String::from_utf8(out.into_inner()) {
