@@ -30,36 +30,48 @@ fn bind_ident(
     Ok(())
 }
 
-/// Binds the names of a pattern, or of a parameter, as values.
-#[cycle(pattern)]
+// Pushes the patterns within one.
+fn push_inner<'a>(pattern: Part<'a>, waiting: &mut Vec<Part<'a>>) -> Result<(), AllocError> {
+    let inner = match pattern.kind() {
+        Kind::RestPat => RestPat::of(pattern).arg,
+        Kind::AssignPat => AssignPat::of(pattern).left,
+        Kind::KeyValuePatProp => KeyValuePatProp::of(pattern).value,
+        Kind::AssignPatProp => AssignPatProp::of(pattern).key,
+        Kind::Param => Param::of(pattern).pat,
+        Kind::TsParamProp => TsParamProp::of(pattern).param,
+        Kind::ArrayPat => return push_parts(ArrayPat::of(pattern).elems, waiting),
+        Kind::ObjectPat => return push_parts(ObjectPat::of(pattern).props, waiting),
+        Kind::List => return push_parts(pattern, waiting),
+        _ => return Ok(()),
+    };
+    waiting.push(inner)?;
+    Ok(())
+}
+
+fn push_parts<'a>(list: Part<'a>, waiting: &mut Vec<Part<'a>>) -> Result<(), AllocError> {
+    for part in list.parts() {
+        waiting.push(part.read())?;
+    }
+    Ok(())
+}
+
+/// Binds the names of a pattern, of a parameter or of a list of these, as values.
 pub fn bind_pattern(
     scopes: &mut Scopes,
     scope: ScopeNo,
     pattern: Part<'_>,
 ) -> Result<(), AllocError> {
-    match pattern.kind() {
-        Kind::BindingIdent => bind_ident(scopes, scope, BindingIdent::of(pattern).id, VALUE),
-        Kind::ArrayPat => bind_patterns(scopes, scope, ArrayPat::of(pattern).elems),
-        Kind::ObjectPat => bind_patterns(scopes, scope, ObjectPat::of(pattern).props),
-        Kind::RestPat => bind_pattern(scopes, scope, RestPat::of(pattern).arg),
-        Kind::AssignPat => bind_pattern(scopes, scope, AssignPat::of(pattern).left),
-        Kind::KeyValuePatProp => bind_pattern(scopes, scope, KeyValuePatProp::of(pattern).value),
-        Kind::AssignPatProp => bind_pattern(scopes, scope, AssignPatProp::of(pattern).key),
-        Kind::Param => bind_pattern(scopes, scope, Param::of(pattern).pat),
-        Kind::TsParamProp => bind_pattern(scopes, scope, TsParamProp::of(pattern).param),
-        _ => Ok(()),
-    }
-}
-
-/// Binds those of each pattern of a list.
-#[cycle(pattern)]
-pub fn bind_patterns(
-    scopes: &mut Scopes,
-    scope: ScopeNo,
-    patterns: Part<'_>,
-) -> Result<(), AllocError> {
-    for pattern in patterns.parts() {
-        bind_pattern(scopes, scope, pattern.read())?;
+    let mut waiting = Vec::new(scopes.alloc());
+    waiting.push(pattern)?;
+    for _turn in 0..u64::MAX {
+        let Some(next) = waiting.pop() else {
+            break;
+        };
+        if next.kind() == Kind::BindingIdent {
+            bind_ident(scopes, scope, BindingIdent::of(next).id, VALUE)?;
+        } else {
+            push_inner(next, &mut waiting)?;
+        }
     }
     Ok(())
 }
@@ -79,31 +91,36 @@ pub fn bind_type_params(
     Ok(())
 }
 
-/// Binds what `infer` names in a type, but not in the `extends` of conditional types within it.
-#[cycle(inferred)]
-pub fn bind_inferred(scopes: &mut Scopes, scope: ScopeNo, ty: Part<'_>) -> Result<(), AllocError> {
-    if ty.kind() == Kind::TsConditionalType {
-        let TsConditionalType {
-            check_type,
-            true_type,
-            false_type,
-            ..
-        } = TsConditionalType::of(ty);
-        bind_inferred(scopes, scope, check_type)?;
-        bind_inferred(scopes, scope, true_type)?;
-        return bind_inferred(scopes, scope, false_type);
+// Pushes the types in which the names that `infer` gives are bound with those of a type.
+fn push_types<'a>(ty: Part<'a>, waiting: &mut Vec<Part<'a>>) -> Result<(), AllocError> {
+    if ty.kind() != Kind::TsConditionalType {
+        return push_parts(ty, waiting);
     }
-    if ty.kind() == Kind::TsInferType {
-        let param = TsInferType::of(ty).type_param;
-        bind_ident(scopes, scope, TsTypeParam::of(param).name, TYPE)?;
-    }
-    bind_all_inferred(scopes, scope, ty)
+    let TsConditionalType {
+        check_type,
+        true_type,
+        false_type,
+        ..
+    } = TsConditionalType::of(ty);
+    waiting.push(check_type)?;
+    waiting.push(true_type)?;
+    waiting.push(false_type)?;
+    Ok(())
 }
 
-#[cycle(inferred)]
-fn bind_all_inferred(scopes: &mut Scopes, scope: ScopeNo, ty: Part<'_>) -> Result<(), AllocError> {
-    for part in ty.parts() {
-        bind_inferred(scopes, scope, part.read())?;
+/// Binds what `infer` names in a type, but not in the `extends` of conditional types within it.
+pub fn bind_inferred(scopes: &mut Scopes, scope: ScopeNo, ty: Part<'_>) -> Result<(), AllocError> {
+    let mut waiting = Vec::new(scopes.alloc());
+    waiting.push(ty)?;
+    for _turn in 0..u64::MAX {
+        let Some(next) = waiting.pop() else {
+            break;
+        };
+        if next.kind() == Kind::TsInferType {
+            let param = TsInferType::of(next).type_param;
+            bind_ident(scopes, scope, TsTypeParam::of(param).name, TYPE)?;
+        }
+        push_types(next, &mut waiting)?;
     }
     Ok(())
 }
@@ -156,13 +173,27 @@ fn bind_import(
     Ok(())
 }
 
+// The declaration that stands behind labels and `export`.
+fn inner_of(item: Part<'_>) -> Part<'_> {
+    let mut at = item;
+    for _turn in 0..u64::MAX {
+        at = match at.kind() {
+            Kind::LabeledStmt => LabeledStmt::of(at).body,
+            Kind::ExportDecl => ExportDecl::of(at).decl,
+            Kind::ExportDefaultDecl => ExportDefaultDecl::of(at).decl,
+            _ => break,
+        };
+    }
+    at
+}
+
 /// Binds what a statement declares in its own block, but for `var`.
-#[cycle(statement)]
 pub fn bind_statement(
     scopes: &mut Scopes,
     scope: ScopeNo,
     item: Part<'_>,
 ) -> Result<(), AllocError> {
+    let item = inner_of(item);
     let (name, meaning) = match item.kind() {
         Kind::FnDecl => (FnDecl::of(item).ident, VALUE),
         Kind::FnExpr => (FnExpr::of(item).ident, VALUE),
@@ -175,13 +206,6 @@ pub fn bind_statement(
         Kind::TsImportEqualsDecl => (TsImportEqualsDecl::of(item).id, ANY),
         Kind::VarDecl | Kind::UsingDecl => return bind_variables(scopes, scope, item, false),
         Kind::ImportDecl => return bind_import(scopes, scope, ImportDecl::of(item).specifiers),
-        Kind::LabeledStmt => return bind_statement(scopes, scope, LabeledStmt::of(item).body),
-        Kind::ExportDecl => return bind_statement(scopes, scope, ExportDecl::of(item).decl),
-        Kind::ExportDefaultDecl => return bind_statement(
-            scopes,
-            scope,
-            ExportDefaultDecl::of(item).decl,
-        ),
         _ => return Ok(()),
     };
     bind_ident(scopes, scope, name, meaning)
@@ -199,39 +223,46 @@ pub fn bind_statements(
     Ok(())
 }
 
-/// Binds each `var` of a statement, however deep in blocks, but not in functions, classes or namespaces.
-#[cycle(vars)]
-pub fn bind_vars(scopes: &mut Scopes, scope: ScopeNo, stmt: Part<'_>) -> Result<(), AllocError> {
+// Pushes the statements within one in which a `var` is one of the same function.
+fn push_stmts<'a>(stmt: Part<'a>, waiting: &mut Vec<Part<'a>>) -> Result<(), AllocError> {
+    let inner = match stmt.kind() {
+        Kind::ExportDecl => ExportDecl::of(stmt).decl,
+        Kind::DoWhileStmt => DoWhileStmt::of(stmt).body,
+        Kind::WhileStmt => WhileStmt::of(stmt).body,
+        Kind::WithStmt => WithStmt::of(stmt).body,
+        Kind::LabeledStmt => LabeledStmt::of(stmt).body,
+        Kind::CatchClause => CatchClause::of(stmt).body,
+        Kind::BlockStmt => return push_parts(BlockStmt::of(stmt).stmts, waiting),
+        Kind::SwitchStmt => return push_parts(SwitchStmt::of(stmt).cases, waiting),
+        Kind::SwitchCase => return push_parts(SwitchCase::of(stmt).cons, waiting),
+        _ => return push_branches(stmt, waiting),
+    };
+    waiting.push(inner)?;
+    Ok(())
+}
+
+fn push_branches<'a>(stmt: Part<'a>, waiting: &mut Vec<Part<'a>>) -> Result<(), AllocError> {
     match stmt.kind() {
-        Kind::VarDecl => bind_variables(scopes, scope, stmt, true),
-        Kind::ExportDecl => bind_vars(scopes, scope, ExportDecl::of(stmt).decl),
         Kind::ForStmt => {
             let ForStmt { init, body, .. } = ForStmt::of(stmt);
-            bind_variables(scopes, scope, init, true)?;
-            bind_vars(scopes, scope, body)
+            waiting.push(init)?;
+            waiting.push(body)?;
         }
         Kind::ForInStmt => {
             let ForInStmt { left, body, .. } = ForInStmt::of(stmt);
-            bind_variables(scopes, scope, left, true)?;
-            bind_vars(scopes, scope, body)
+            waiting.push(left)?;
+            waiting.push(body)?;
         }
         Kind::ForOfStmt => {
             let ForOfStmt { left, body, .. } = ForOfStmt::of(stmt);
-            bind_variables(scopes, scope, left, true)?;
-            bind_vars(scopes, scope, body)
+            waiting.push(left)?;
+            waiting.push(body)?;
         }
-        Kind::BlockStmt => bind_all_vars(scopes, scope, BlockStmt::of(stmt).stmts),
         Kind::IfStmt => {
             let IfStmt { cons, alt, .. } = IfStmt::of(stmt);
-            bind_vars(scopes, scope, cons)?;
-            bind_vars(scopes, scope, alt)
+            waiting.push(cons)?;
+            waiting.push(alt)?;
         }
-        Kind::DoWhileStmt => bind_vars(scopes, scope, DoWhileStmt::of(stmt).body),
-        Kind::WhileStmt => bind_vars(scopes, scope, WhileStmt::of(stmt).body),
-        Kind::WithStmt => bind_vars(scopes, scope, WithStmt::of(stmt).body),
-        Kind::LabeledStmt => bind_vars(scopes, scope, LabeledStmt::of(stmt).body),
-        Kind::SwitchStmt => bind_all_vars(scopes, scope, SwitchStmt::of(stmt).cases),
-        Kind::SwitchCase => bind_all_vars(scopes, scope, SwitchCase::of(stmt).cons),
         Kind::TryStmt => {
             let TryStmt {
                 block,
@@ -239,19 +270,28 @@ pub fn bind_vars(scopes: &mut Scopes, scope: ScopeNo, stmt: Part<'_>) -> Result<
                 finalizer,
                 ..
             } = TryStmt::of(stmt);
-            bind_vars(scopes, scope, block)?;
-            bind_vars(scopes, scope, handler)?;
-            bind_vars(scopes, scope, finalizer)
+            waiting.push(block)?;
+            waiting.push(handler)?;
+            waiting.push(finalizer)?;
         }
-        Kind::CatchClause => bind_vars(scopes, scope, CatchClause::of(stmt).body),
-        _ => Ok(()),
+        _ => {}
     }
+    Ok(())
 }
 
-#[cycle(vars)]
-fn bind_all_vars(scopes: &mut Scopes, scope: ScopeNo, stmts: Part<'_>) -> Result<(), AllocError> {
-    for stmt in stmts.parts() {
-        bind_vars(scopes, scope, stmt.read())?;
+/// Binds each `var` of a statement, however deep in blocks, but not in functions, classes or namespaces.
+pub fn bind_vars(scopes: &mut Scopes, scope: ScopeNo, stmt: Part<'_>) -> Result<(), AllocError> {
+    let mut waiting = Vec::new(scopes.alloc());
+    waiting.push(stmt)?;
+    for _turn in 0..u64::MAX {
+        let Some(next) = waiting.pop() else {
+            break;
+        };
+        if next.kind() == Kind::VarDecl {
+            bind_variables(scopes, scope, next, true)?;
+        } else {
+            push_stmts(next, &mut waiting)?;
+        }
     }
     Ok(())
 }

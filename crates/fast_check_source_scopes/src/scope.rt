@@ -108,6 +108,10 @@ impl Scopes {
         }
     }
 
+    pub fn alloc(&self) -> Global {
+        self.alloc
+    }
+
     pub fn open(&mut self, parent: Option<ScopeNo>) -> Result<ScopeNo, AllocError> {
         let no = ScopeNo(self.scopes.len());
         self.scopes.push(Scope {

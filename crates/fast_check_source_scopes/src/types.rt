@@ -1,5 +1,5 @@
 //! Names in types, in imports and in exports.
-use crate::binds::{bind_inferred, bind_patterns, bind_type_params};
+use crate::binds::{bind_inferred, bind_pattern, bind_type_params};
 use crate::numbers::Numbered;
 use crate::scope::{ANY, Meaning, NAMESPACE, ScopeNo, TYPE, VALUE};
 use crate::visit::Visit;
@@ -16,12 +16,12 @@ use fast_check_type_forms::{
 };
 use std::alloc::AllocError;
 
-impl Visit {
+impl<'a> Visit<'a> {
     /// Numbers an identifier that is looked up as this.
     pub fn resolve(
         &mut self,
         scope: ScopeNo,
-        ident: Part<'_>,
+        ident: Part<'a>,
         meaning: Meaning,
     ) -> Result<(), AllocError> {
         if ident.kind() == Kind::Ident {
@@ -33,27 +33,30 @@ impl Visit {
     }
 
     /// Numbers the first name of a name with dots.
-    #[cycle(entity)]
     pub fn entity(
         &mut self,
         scope: ScopeNo,
-        name: Part<'_>,
+        name: Part<'a>,
         meaning: Meaning,
     ) -> Result<(), AllocError> {
-        if name.kind() != Kind::TsQualifiedName {
-            return self.resolve(scope, name, meaning);
+        let mut at = name;
+        let mut meaning = meaning;
+        for _turn in 0..u64::MAX {
+            if at.kind() != Kind::TsQualifiedName {
+                break;
+            }
+            meaning = if meaning.value {
+                VALUE.with(NAMESPACE)
+            } else {
+                NAMESPACE
+            };
+            at = TsQualifiedName::of(at).left;
         }
-        let first = if meaning.value {
-            VALUE.with(NAMESPACE)
-        } else {
-            NAMESPACE
-        };
-        self.entity(scope, TsQualifiedName::of(name).left, first)
+        self.resolve(scope, at, meaning)
     }
 
     /// A type whose names need more than a look at its parts, if it is one.
-    #[cycle(visit)]
-    pub fn visit_type(&mut self, scope: ScopeNo, ty: Part<'_>) -> Result<(), AllocError> {
+    pub fn visit_type(&mut self, scope: ScopeNo, ty: Part<'a>) -> Result<(), AllocError> {
         match ty.kind() {
             Kind::TsTypeRef => {
                 let TsTypeRef {
@@ -62,7 +65,7 @@ impl Visit {
                     ..
                 } = TsTypeRef::of(ty);
                 self.entity(scope, type_name, TYPE)?;
-                self.visit(scope, type_params)
+                self.later(scope, type_params)
             }
             Kind::TsTypeQuery => {
                 let TsTypeQuery {
@@ -71,13 +74,13 @@ impl Visit {
                     ..
                 } = TsTypeQuery::of(ty);
                 if expr_name.kind() == Kind::TsImportType {
-                    self.visit(scope, expr_name)?;
+                    self.later(scope, expr_name)?;
                 } else {
                     self.entity(scope, expr_name, VALUE)?;
                 }
-                self.visit(scope, type_args)
+                self.later(scope, type_args)
             }
-            Kind::TsImportType => self.visit(scope, TsImportType::of(ty).type_args),
+            Kind::TsImportType => self.later(scope, TsImportType::of(ty).type_args),
             Kind::TsConditionalType => self.conditional(scope, ty),
             Kind::TsMappedType => self.mapped(scope, ty),
             Kind::TsTypeParam => {
@@ -88,15 +91,14 @@ impl Visit {
                     ..
                 } = TsTypeParam::of(ty);
                 self.resolve(scope, name, TYPE)?;
-                self.visit(scope, constraint)?;
-                self.visit(scope, default)
+                self.later(scope, default)?;
+                self.later(scope, constraint)
             }
-            _ => self.visit_parts(scope, ty),
+            _ => self.each(scope, ty),
         }
     }
 
-    #[cycle(visit)]
-    fn conditional(&mut self, scope: ScopeNo, ty: Part<'_>) -> Result<(), AllocError> {
+    fn conditional(&mut self, scope: ScopeNo, ty: Part<'a>) -> Result<(), AllocError> {
         let TsConditionalType {
             check_type,
             extends_type,
@@ -104,16 +106,15 @@ impl Visit {
             false_type,
             ..
         } = TsConditionalType::of(ty);
-        self.visit(scope, check_type)?;
+        self.later(scope, check_type)?;
         let inner = self.scopes.open(Some(scope))?;
         bind_inferred(&mut self.scopes, inner, extends_type)?;
-        self.visit(inner, extends_type)?;
-        self.visit(inner, true_type)?;
-        self.visit(scope, false_type)
+        self.later(scope, false_type)?;
+        self.later(inner, true_type)?;
+        self.later(inner, extends_type)
     }
 
-    #[cycle(visit)]
-    fn mapped(&mut self, scope: ScopeNo, ty: Part<'_>) -> Result<(), AllocError> {
+    fn mapped(&mut self, scope: ScopeNo, ty: Part<'a>) -> Result<(), AllocError> {
         let TsMappedType {
             type_param,
             name_type,
@@ -125,40 +126,37 @@ impl Visit {
         if name.kind() == Kind::Ident {
             self.scopes.bind(inner, Ident::of(name).sym, TYPE)?;
         }
-        self.visit(inner, type_param)?;
-        self.visit(inner, name_type)?;
-        self.visit(inner, type_ann)
+        self.later(inner, type_ann)?;
+        self.later(inner, name_type)?;
+        self.later(inner, type_param)
     }
 
     /// A signature or a function type, in a scope of its own.
-    #[cycle(visit)]
     pub fn signature(
         &mut self,
         scope: ScopeNo,
-        params: Part<'_>,
-        type_params: Part<'_>,
-        type_ann: Part<'_>,
+        params: Part<'a>,
+        type_params: Part<'a>,
+        type_ann: Part<'a>,
     ) -> Result<(), AllocError> {
         let inner = self.scopes.open(Some(scope))?;
         bind_type_params(&mut self.scopes, inner, type_params)?;
-        bind_patterns(&mut self.scopes, inner, params)?;
-        self.visit(inner, params)?;
-        self.visit(inner, type_params)?;
-        self.visit(inner, type_ann)
+        bind_pattern(&mut self.scopes, inner, params)?;
+        self.later(inner, type_ann)?;
+        self.later(inner, type_params)?;
+        self.later(inner, params)
     }
 
-    #[cycle(visit)]
-    fn key(&mut self, scope: ScopeNo, key: Part<'_>, computed: bool) -> Result<(), AllocError> {
+    fn key(&mut self, scope: ScopeNo, key: Part<'a>, computed: bool) -> Result<(), AllocError> {
         if computed {
-            self.visit(scope, key)
+            self.later(scope, key)
         } else {
             Ok(())
         }
     }
 
     /// A member of an interface or an object type, or an index signature.
-    #[cycle(visit)]
-    pub fn visit_member(&mut self, scope: ScopeNo, member: Part<'_>) -> Result<(), AllocError> {
+    pub fn visit_member(&mut self, scope: ScopeNo, member: Part<'a>) -> Result<(), AllocError> {
         match member.kind() {
             Kind::TsPropertySignature => {
                 let TsPropertySignature {
@@ -168,7 +166,7 @@ impl Visit {
                     ..
                 } = TsPropertySignature::of(member);
                 self.key(scope, key, computed)?;
-                self.visit(scope, type_ann)
+                self.later(scope, type_ann)
             }
             Kind::TsGetterSignature => {
                 let TsGetterSignature {
@@ -178,7 +176,7 @@ impl Visit {
                     ..
                 } = TsGetterSignature::of(member);
                 self.key(scope, key, computed)?;
-                self.visit(scope, type_ann)
+                self.later(scope, type_ann)
             }
             Kind::TsSetterSignature => {
                 let TsSetterSignature {
@@ -189,8 +187,8 @@ impl Visit {
                 } = TsSetterSignature::of(member);
                 self.key(scope, key, computed)?;
                 let inner = self.scopes.open(Some(scope))?;
-                bind_patterns(&mut self.scopes, inner, params)?;
-                self.visit(inner, params)
+                bind_pattern(&mut self.scopes, inner, params)?;
+                self.later(inner, params)
             }
             Kind::TsMethodSignature => {
                 let TsMethodSignature {
@@ -211,46 +209,46 @@ impl Visit {
                     ..
                 } = TsIndexSignature::of(member);
                 let inner = self.scopes.open(Some(scope))?;
-                bind_patterns(&mut self.scopes, inner, params)?;
-                self.visit(inner, params)?;
-                self.visit(inner, type_ann)
+                bind_pattern(&mut self.scopes, inner, params)?;
+                self.later(inner, type_ann)?;
+                self.later(inner, params)
             }
         }
     }
 
-    // What a class or an interface extends, before its dots.
-    #[cycle(visit)]
-    fn heritage(
-        &mut self,
-        scope: ScopeNo,
-        name: Part<'_>,
-        meaning: Meaning,
-    ) -> Result<(), AllocError> {
-        match name.kind() {
-            Kind::Ident => self.resolve(scope, name, meaning),
-            Kind::MemberExpr => {
-                let MemberExpr { obj, prop, .. } = MemberExpr::of(name);
-                self.heritage(scope, obj, NAMESPACE)?;
-                self.visit(scope, prop)
+    // What an interface extends or a class implements, before its dots.
+    fn heritage(&mut self, scope: ScopeNo, name: Part<'a>) -> Result<(), AllocError> {
+        let mut at = name;
+        let mut meaning = TYPE;
+        for _turn in 0..u64::MAX {
+            if at.kind() != Kind::MemberExpr {
+                break;
             }
-            _ => self.visit(scope, name),
+            let MemberExpr { obj, prop, .. } = MemberExpr::of(at);
+            self.later(scope, prop)?;
+            meaning = NAMESPACE;
+            at = obj;
+        }
+        if at.kind() == Kind::Ident {
+            self.resolve(scope, at, meaning)
+        } else {
+            self.later(scope, at)
         }
     }
 
     /// `A.B<C>` behind `extends` of an interface or `implements`.
-    #[cycle(visit)]
-    pub fn heir(&mut self, scope: ScopeNo, part: Part<'_>) -> Result<(), AllocError> {
+    pub fn heir(&mut self, scope: ScopeNo, part: Part<'a>) -> Result<(), AllocError> {
         let TsExprWithTypeArgs {
             expr,
             type_args,
             ..
         } = TsExprWithTypeArgs::of(part);
-        self.heritage(scope, expr, TYPE)?;
-        self.visit(scope, type_args)
+        self.heritage(scope, expr)?;
+        self.later(scope, type_args)
     }
 
     /// The names that are exported from here.
-    pub fn named_export(&mut self, scope: ScopeNo, export: Part<'_>) -> Result<(), AllocError> {
+    pub fn named_export(&mut self, scope: ScopeNo, export: Part<'a>) -> Result<(), AllocError> {
         let NamedExport {
             specifiers,
             src,
@@ -269,7 +267,7 @@ impl Visit {
     }
 
     /// `import a = b.c`
-    pub fn import_equals(&mut self, scope: ScopeNo, import: Part<'_>) -> Result<(), AllocError> {
+    pub fn import_equals(&mut self, scope: ScopeNo, import: Part<'a>) -> Result<(), AllocError> {
         let TsImportEqualsDecl { id, module_ref, .. } = TsImportEqualsDecl::of(import);
         self.resolve(scope, id, ANY)?;
         if module_ref.kind() == Kind::TsExternalModuleRef {
@@ -279,10 +277,9 @@ impl Visit {
     }
 
     /// A name as a pattern, with its type.
-    #[cycle(visit)]
-    pub fn binding(&mut self, scope: ScopeNo, part: Part<'_>) -> Result<(), AllocError> {
+    pub fn binding(&mut self, scope: ScopeNo, part: Part<'a>) -> Result<(), AllocError> {
         let BindingIdent { id, type_ann } = BindingIdent::of(part);
         self.resolve(scope, id, VALUE)?;
-        self.visit(scope, type_ann)
+        self.later(scope, type_ann)
     }
 }

@@ -1,7 +1,7 @@
 //! The numbers of all names of a tree, from the top down.
 use crate::binds::{
-    bind_body, bind_pattern, bind_patterns, bind_statement, bind_statements, bind_type_params,
-    bind_variables, bind_vars,
+    bind_body, bind_pattern, bind_statement, bind_statements, bind_type_params, bind_variables,
+    bind_vars,
 };
 use crate::numbers::{Numbered, Numbers, numbered};
 use crate::scope::{ANY, GroupNo, NAMESPACE, ScopeNo, Scopes, TYPE, VALUE, number_of};
@@ -23,9 +23,19 @@ use fast_check_type_forms::{
 use std::alloc::{AllocError, Global};
 use std::collections::BTreeMap;
 
+// A part that is still to be visited.
+#[derive(Clone, Copy)]
+struct Task<'a> {
+    part: Part<'a>,
+    scope: ScopeNo,
+    // Whether it is the body of a function, which stands in the scope of its parameters.
+    is_body: bool,
+    ambient: bool,
+}
+
 /// The scopes that were opened so far, and the numbers that were given.
 #[derive(Drop)]
-pub struct Visit {
+pub struct Visit<'a> {
     pub scopes: Scopes,
     pub numbers: Numbers,
     alloc: Global,
@@ -33,6 +43,8 @@ pub struct Visit {
     ambient: bool,
     // The scopes of the blocks of namespaces and enums, by where they begin.
     blocks: BTreeMap<u32, ScopeNo>,
+    // What is still to be visited, the next part last.
+    waiting: Vec<Task<'a>>,
 }
 
 // The declaration that an item is, also behind `export`.
@@ -72,7 +84,7 @@ fn block_of(decl: Part<'_>) -> Option<(bool, &str, u32)> {
     }
 }
 
-impl Visit {
+impl<'a> Visit<'a> {
     fn opened(
         &mut self,
         what: Numbered,
@@ -83,7 +95,7 @@ impl Visit {
     }
 
     // What a block of a namespace or an enum shows to its other blocks.
-    fn show(&mut self, scope: ScopeNo, decl: Part<'_>) -> Result<(), AllocError> {
+    fn show(&mut self, scope: ScopeNo, decl: Part<'a>) -> Result<(), AllocError> {
         if decl.kind() == Kind::TsEnumDecl {
             for member in TsEnumDecl::of(decl).members.parts() {
                 let name = TsEnumMember::of(member.read()).id;
@@ -112,7 +124,7 @@ impl Visit {
         &mut self,
         alloc: Global,
         scope: ScopeNo,
-        items: Part<'_>,
+        items: Part<'a>,
     ) -> Result<(), AllocError> {
         let mut groups: BTreeMap<(bool, Atom), GroupNo> = BTreeMap::new(alloc);
         for item in items.parts() {
@@ -144,17 +156,55 @@ impl Visit {
         }
     }
 
-    #[cycle(visit)]
-    pub fn visit_parts(&mut self, scope: ScopeNo, part: Part<'_>) -> Result<(), AllocError> {
-        for inner in part.parts() {
-            self.visit(scope, inner.read())?;
+    fn push(&mut self, scope: ScopeNo, part: Part<'a>, is_body: bool) -> Result<(), AllocError> {
+        if part.kind() != Kind::Leaf {
+            let ambient = self.ambient;
+            self.waiting.push(Task {
+                part,
+                scope,
+                is_body,
+                ambient,
+            })?;
+        }
+        Ok(())
+    }
+
+    /// Has a part visited before all that waits so far.
+    pub fn later(&mut self, scope: ScopeNo, part: Part<'a>) -> Result<(), AllocError> {
+        self.push(scope, part, false)
+    }
+
+    // The same of the body of a function.
+    fn later_body(&mut self, scope: ScopeNo, body: Part<'a>) -> Result<(), AllocError> {
+        self.push(scope, body, true)
+    }
+
+    /// Has the parts of a part visited, the first one first.
+    pub fn each(&mut self, scope: ScopeNo, part: Part<'a>) -> Result<(), AllocError> {
+        for inner in part.parts().iter().rev() {
+            self.later(scope, inner.read())?;
+        }
+        Ok(())
+    }
+
+    // Visits what waits.
+    fn visit_all(&mut self) -> Result<(), AllocError> {
+        for _turn in 0..u64::MAX {
+            let Some(task) = self.waiting.pop() else {
+                break;
+            };
+            self.ambient = task.ambient;
+            if task.is_body {
+                self.body(task.scope, task.part)?;
+            } else {
+                self.visit(task.scope, task.part)?;
+            }
         }
         Ok(())
     }
 
     /// Numbers the names of a part that stands in a scope.
-    #[cycle(visit)]
-    pub fn visit(&mut self, scope: ScopeNo, part: Part<'_>) -> Result<(), AllocError> {
+    fn visit(&mut self, scope: ScopeNo, part: Part<'a>) -> Result<(), AllocError> {
         match part.kind() {
             Kind::Ident => self.resolve(scope, part, VALUE),
             Kind::BindingIdent => self.binding(scope, part),
@@ -206,7 +256,7 @@ impl Visit {
                 } = TsConstructSignatureDecl::of(part);
                 self.signature(scope, params, type_params, type_ann)
             }
-            Kind::TsTupleElement => self.visit(scope, TsTupleElement::of(part).ty),
+            Kind::TsTupleElement => self.later(scope, TsTupleElement::of(part).ty),
             Kind::BlockStmt => self.block(scope, part),
             Kind::Function
             | Kind::ArrowExpr
@@ -227,7 +277,7 @@ impl Visit {
             | Kind::ForOfStmt
             | Kind::SwitchStmt
             | Kind::CatchClause => { self.statement(scope, part) }
-            Kind::LabeledStmt => self.visit(scope, LabeledStmt::of(part).body),
+            Kind::LabeledStmt => self.later(scope, LabeledStmt::of(part).body),
             Kind::BreakStmt | Kind::ContinueStmt | Kind::ExportAll | Kind::TsNamespaceExportDecl =>
                 Ok(()),
             Kind::ImportDecl => self.import(scope, ImportDecl::of(part).specifiers),
@@ -236,20 +286,19 @@ impl Visit {
             Kind::ExportDefaultExpr => self.exported(scope, ExportDefaultExpr::of(part).expr),
             Kind::TsExportAssignment => self.exported(scope, TsExportAssignment::of(part).expr),
             Kind::ExportDefaultDecl => self.default_decl(scope, ExportDefaultDecl::of(part).decl),
-            _ => self.visit_parts(scope, part),
+            _ => self.each(scope, part),
         }
     }
 
-    #[cycle(visit)]
-    fn exported(&mut self, scope: ScopeNo, expr: Part<'_>) -> Result<(), AllocError> {
+    fn exported(&mut self, scope: ScopeNo, expr: Part<'a>) -> Result<(), AllocError> {
         if expr.kind() == Kind::Ident {
             self.resolve(scope, expr, ANY)
         } else {
-            self.visit(scope, expr)
+            self.later(scope, expr)
         }
     }
 
-    fn import(&mut self, scope: ScopeNo, specifiers: Part<'_>) -> Result<(), AllocError> {
+    fn import(&mut self, scope: ScopeNo, specifiers: Part<'a>) -> Result<(), AllocError> {
         for specifier in specifiers.parts() {
             let specifier = specifier.read();
             let local = match specifier.kind() {
@@ -262,32 +311,29 @@ impl Visit {
         Ok(())
     }
 
-    #[cycle(visit)]
-    fn block(&mut self, scope: ScopeNo, block: Part<'_>) -> Result<(), AllocError> {
+    fn block(&mut self, scope: ScopeNo, block: Part<'a>) -> Result<(), AllocError> {
         let BlockStmt { span, stmts, .. } = BlockStmt::of(block);
         let inner = self.scopes.open(Some(scope))?;
         bind_statements(&mut self.scopes, inner, stmts)?;
         self.open_blocks(self.alloc, inner, stmts)?;
         self.opened(Numbered::Block, span, inner)?;
-        self.visit(inner, stmts)
+        self.later(inner, stmts)
     }
 
     // The body of a function, in whose scope it stands.
-    #[cycle(visit)]
-    fn body(&mut self, scope: ScopeNo, body: Part<'_>) -> Result<(), AllocError> {
+    fn body(&mut self, scope: ScopeNo, body: Part<'a>) -> Result<(), AllocError> {
         if body.kind() != Kind::BlockStmt {
-            return self.visit(scope, body);
+            return self.later(scope, body);
         }
         let BlockStmt { span, stmts, .. } = BlockStmt::of(body);
         bind_body(&mut self.scopes, scope, stmts)?;
         self.open_blocks(self.alloc, scope, stmts)?;
         self.opened(Numbered::Block, span, scope)?;
-        self.visit(scope, stmts)
+        self.later(scope, stmts)
     }
 
     // A function in its scope.
-    #[cycle(visit)]
-    fn function(&mut self, inner: ScopeNo, function: Part<'_>) -> Result<(), AllocError> {
+    fn function(&mut self, inner: ScopeNo, function: Part<'a>) -> Result<(), AllocError> {
         let Function {
             span,
             params,
@@ -298,19 +344,18 @@ impl Visit {
             ..
         } = Function::of(function);
         bind_type_params(&mut self.scopes, inner, type_params)?;
-        bind_patterns(&mut self.scopes, inner, params)?;
+        bind_pattern(&mut self.scopes, inner, params)?;
         self.opened(Numbered::Function, span, inner)?;
-        self.visit(inner, params)?;
         let outer = self.scopes.parent(inner);
-        self.visit(outer, decorators)?;
-        self.body(inner, body)?;
-        self.visit(inner, type_params)?;
-        self.visit(inner, return_type)
+        self.later(inner, return_type)?;
+        self.later(inner, type_params)?;
+        self.later_body(inner, body)?;
+        self.later(outer, decorators)?;
+        self.later(inner, params)
     }
 
     // What has a scope of its own, as a function has.
-    #[cycle(visit)]
-    fn function_like(&mut self, scope: ScopeNo, part: Part<'_>) -> Result<(), AllocError> {
+    fn function_like(&mut self, scope: ScopeNo, part: Part<'a>) -> Result<(), AllocError> {
         let inner = self.scopes.open(Some(scope))?;
         match part.kind() {
             Kind::Function => self.function(inner, part),
@@ -324,12 +369,12 @@ impl Visit {
                     ..
                 } = ArrowExpr::of(part);
                 bind_type_params(&mut self.scopes, inner, type_params)?;
-                bind_patterns(&mut self.scopes, inner, params)?;
+                bind_pattern(&mut self.scopes, inner, params)?;
                 self.opened(Numbered::Arrow, span, inner)?;
-                self.visit(inner, params)?;
-                self.visit(inner, type_params)?;
-                self.visit(inner, return_type)?;
-                self.body(inner, body)
+                self.later_body(inner, body)?;
+                self.later(inner, return_type)?;
+                self.later(inner, type_params)?;
+                self.later(inner, params)
             }
             Kind::Constructor => {
                 let Constructor {
@@ -338,12 +383,12 @@ impl Visit {
                     body,
                     ..
                 } = Constructor::of(part);
-                bind_patterns(&mut self.scopes, inner, params)?;
+                bind_pattern(&mut self.scopes, inner, params)?;
                 self.opened(Numbered::Constructor, span, inner)?;
-                self.visit(inner, params)?;
-                self.body(inner, body)
+                self.later_body(inner, body)?;
+                self.later(inner, params)
             }
-            Kind::StaticBlock => self.body(inner, StaticBlock::of(part).body),
+            Kind::StaticBlock => self.later_body(inner, StaticBlock::of(part).body),
             Kind::GetterProp => {
                 let GetterProp {
                     key,
@@ -351,9 +396,9 @@ impl Visit {
                     body,
                     ..
                 } = GetterProp::of(part);
-                self.visit(scope, key)?;
-                self.visit(inner, type_ann)?;
-                self.body(inner, body)
+                self.later_body(inner, body)?;
+                self.later(inner, type_ann)?;
+                self.later(scope, key)
             }
             _ => {
                 let SetterProp {
@@ -362,17 +407,16 @@ impl Visit {
                     body,
                     ..
                 } = SetterProp::of(part);
-                self.visit(scope, key)?;
+                self.later(scope, key)?;
                 bind_pattern(&mut self.scopes, inner, param)?;
-                self.visit(inner, param)?;
-                self.body(inner, body)
+                self.later_body(inner, body)?;
+                self.later(inner, param)
             }
         }
     }
 
     // A class in its scope.
-    #[cycle(visit)]
-    fn class(&mut self, inner: ScopeNo, class: Part<'_>) -> Result<(), AllocError> {
+    fn class(&mut self, inner: ScopeNo, class: Part<'a>) -> Result<(), AllocError> {
         let Class {
             span,
             type_params,
@@ -380,17 +424,16 @@ impl Visit {
         } = Class::of(class);
         bind_type_params(&mut self.scopes, inner, type_params)?;
         self.opened(Numbered::Class, span, inner)?;
-        self.visit_parts(inner, class)
+        self.each(inner, class)
     }
 
     // A declaration behind `export default`, whose name stands in the scope around it.
-    #[cycle(visit)]
-    fn default_decl(&mut self, scope: ScopeNo, decl: Part<'_>) -> Result<(), AllocError> {
+    fn default_decl(&mut self, scope: ScopeNo, decl: Part<'a>) -> Result<(), AllocError> {
         match decl.kind() {
             Kind::FnExpr => {
                 let FnExpr { ident, function } = FnExpr::of(decl);
                 self.resolve(scope, ident, VALUE)?;
-                self.visit(scope, function)
+                self.later(scope, function)
             }
             Kind::ClassExpr => {
                 let ClassExpr { ident, class } = ClassExpr::of(decl);
@@ -398,12 +441,11 @@ impl Visit {
                 let inner = self.scopes.open(Some(scope))?;
                 self.class(inner, class)
             }
-            _ => self.visit(scope, decl),
+            _ => self.later(scope, decl),
         }
     }
 
-    #[cycle(visit)]
-    fn declaration(&mut self, scope: ScopeNo, decl: Part<'_>) -> Result<(), AllocError> {
+    fn declaration(&mut self, scope: ScopeNo, decl: Part<'a>) -> Result<(), AllocError> {
         match decl.kind() {
             Kind::FnDecl => {
                 let FnDecl {
@@ -412,7 +454,7 @@ impl Visit {
                     ..
                 } = FnDecl::of(decl);
                 self.resolve(scope, ident, VALUE)?;
-                self.visit(scope, function)
+                self.later(scope, function)
             }
             Kind::ClassDecl => {
                 let ClassDecl { ident, class, .. } = ClassDecl::of(decl);
@@ -450,9 +492,9 @@ impl Visit {
                 let inner = self.scopes.open(Some(scope))?;
                 bind_type_params(&mut self.scopes, inner, type_params)?;
                 self.resolve(scope, id, TYPE)?;
-                self.visit(inner, type_params)?;
-                self.visit(inner, extends)?;
-                self.visit(inner, body)
+                self.later(inner, body)?;
+                self.later(inner, extends)?;
+                self.later(inner, type_params)
             }
             Kind::TsTypeAliasDecl => {
                 let TsTypeAliasDecl {
@@ -464,16 +506,15 @@ impl Visit {
                 let inner = self.scopes.open(Some(scope))?;
                 bind_type_params(&mut self.scopes, inner, type_params)?;
                 self.resolve(scope, id, TYPE)?;
-                self.visit(inner, type_params)?;
-                self.visit(inner, type_ann)
+                self.later(inner, type_ann)?;
+                self.later(inner, type_params)
             }
             Kind::TsEnumDecl => self.enumeration(scope, decl),
             _ => self.namespace(scope, decl),
         }
     }
 
-    #[cycle(visit)]
-    fn enumeration(&mut self, scope: ScopeNo, decl: Part<'_>) -> Result<(), AllocError> {
+    fn enumeration(&mut self, scope: ScopeNo, decl: Part<'a>) -> Result<(), AllocError> {
         let TsEnumDecl {
             span,
             id,
@@ -488,11 +529,10 @@ impl Visit {
                 self.scopes.bind(inner, Ident::of(name).sym, VALUE)?;
             }
         }
-        self.visit(inner, members)
+        self.later(inner, members)
     }
 
-    #[cycle(visit)]
-    fn namespace(&mut self, scope: ScopeNo, decl: Part<'_>) -> Result<(), AllocError> {
+    fn namespace(&mut self, scope: ScopeNo, decl: Part<'a>) -> Result<(), AllocError> {
         let TsModuleDecl {
             span,
             declare,
@@ -515,38 +555,42 @@ impl Visit {
         Ok(())
     }
 
-    #[cycle(visit)]
-    fn namespace_body(&mut self, inner: ScopeNo, body: Part<'_>) -> Result<(), AllocError> {
-        if body.kind() == Kind::TsModuleBlock {
-            let items = TsModuleBlock::of(body).body;
-            bind_body(&mut self.scopes, inner, items)?;
-            self.open_blocks(self.alloc, inner, items)?;
-            return self.visit(inner, items);
+    // The names of `a.b.c` but for the first, and the block behind them.
+    fn namespace_body(&mut self, scope: ScopeNo, body: Part<'a>) -> Result<(), AllocError> {
+        let mut inner = scope;
+        let mut at = body;
+        for _turn in 0..u64::MAX {
+            if at.kind() != Kind::TsNamespaceDecl {
+                break;
+            }
+            let TsNamespaceDecl { id, body, .. } = TsNamespaceDecl::of(at);
+            if id.kind() == Kind::Ident {
+                self.scopes
+                    .bind(inner, Ident::of(id).sym, VALUE.with(NAMESPACE))?;
+            }
+            self.resolve(inner, id, NAMESPACE)?;
+            inner = self.scopes.open(Some(inner))?;
+            at = body;
         }
-        let TsNamespaceDecl { id, body, .. } = TsNamespaceDecl::of(body);
-        if id.kind() == Kind::Ident {
-            self.scopes
-                .bind(inner, Ident::of(id).sym, VALUE.with(NAMESPACE))?;
-        }
-        self.resolve(inner, id, NAMESPACE)?;
-        let below = self.scopes.open(Some(inner))?;
-        self.namespace_body(below, body)
+        let items = TsModuleBlock::of(at).body;
+        bind_body(&mut self.scopes, inner, items)?;
+        self.open_blocks(self.alloc, inner, items)?;
+        self.later(inner, items)
     }
 
-    #[cycle(visit)]
-    fn statement(&mut self, scope: ScopeNo, stmt: Part<'_>) -> Result<(), AllocError> {
+    fn statement(&mut self, scope: ScopeNo, stmt: Part<'a>) -> Result<(), AllocError> {
         if stmt.kind() == Kind::SwitchStmt {
             let SwitchStmt {
                 discriminant,
                 cases,
                 ..
             } = SwitchStmt::of(stmt);
-            self.visit(scope, discriminant)?;
+            self.later(scope, discriminant)?;
             let inner = self.scopes.open(Some(scope))?;
             for case in cases.parts() {
                 bind_statements(&mut self.scopes, inner, SwitchCase::of(case.read()).cons)?;
             }
-            return self.visit(inner, cases);
+            return self.later(inner, cases);
         }
         let inner = self.scopes.open(Some(scope))?;
         match stmt.kind() {
@@ -570,7 +614,7 @@ impl Visit {
             )?,
             _ => bind_pattern(&mut self.scopes, inner, CatchClause::of(stmt).param)?,
         }
-        self.visit_parts(inner, stmt)
+        self.each(inner, stmt)
     }
 }
 
@@ -583,11 +627,13 @@ pub fn with_scopes(alloc: Global, tree: &Tree, ambient: bool) -> Result<Tree, Al
         alloc,
         ambient,
         blocks: BTreeMap::new(alloc),
+        waiting: Vec::new(alloc),
     };
     let top = visit.scopes.open(None)?;
     let body = Module::of(tree.read()).body;
     bind_body(&mut visit.scopes, top, body)?;
     visit.open_blocks(alloc, top, body)?;
-    visit.visit(top, body)?;
+    visit.later(top, body)?;
+    visit.visit_all()?;
     numbered(alloc, tree, &visit.numbers, 0)
 }
