@@ -3,8 +3,8 @@
 #
 #   examples/clients/test.sh PROGRAM
 set -u
-cd "$(dirname "$(readlink -f "${BASH_SOURCE[0]}")")" || exit
 program=$(readlink -f "${1:?usage: test.sh PROGRAM}")
+cd "$(dirname "$(readlink -f "${BASH_SOURCE[0]}")")" || exit
 made=$(mktemp -d)
 trap 'rm -rf "$made"' EXIT
 cp ../build_hello.json "$made/ok.json"

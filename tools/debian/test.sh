@@ -145,6 +145,12 @@ installs_afresh() {
     DEBIAN_FRONTEND=noninteractive chroot "$fresh" apt-get install -y -q --no-install-recommends /nagdrez.deb < /dev/null &&
     ends_with 1 "4 files, 1 message" chroot "$fresh" fast-check-ts check --no-cache /usr/share/doc/nagdrez/examples/package &&
     ends_with 0 "fast-check-ts $(< "$top/VERSION")" chroot "$fresh" fast-check-ts --version &&
+    mkdir "$fresh/package" && printf 'export function twice(n: number) { return 2 * n; }\n' > "$fresh/package/index.ts" &&
+    ends_with 0 "1 type written" chroot "$fresh" sh -c 'cd /package && fast-check-ts fix --no-cache' &&
+    DEBIAN_FRONTEND=noninteractive chroot "$fresh" apt-get install -y -qq --no-install-recommends neovim < /dev/null > /dev/null && cp "$top/tools/editors/neovim.lua" "$fresh/tmp" &&
+    printf 'export function twice(n: number) { return 2 * n; }\n' > "$fresh/package/index.ts" &&
+    ends_with 0 "the end" chroot "$fresh" sh -c 'cd /package && XDG_CACHE_HOME=/package/cache SERVER="fast-check-ts lsp" nvim --headless -u NONE -c "luafile /tmp/neovim.lua"' &&
+    rm -r "$fresh/package" "$fresh/tmp/neovim.lua" &&
     chroot "$fresh" apt-get purge -y -q nagdrez && [ -z "$(find "$fresh" -path "$fresh/proc" -prune -o -name '*fast-check*' -print -o -name 'nagdrez' -print)" ]
 }
 

@@ -128,7 +128,14 @@ answers_afresh() {
     printf 'export function twice(n: number) { return 2 * n; }\n' > "$fresh/package/index.ts" &&
     chroot "$fresh" npm install --global --offline --no-audit --no-fund /tmp/nagdrez.tgz &&
     ends_with 1 "index.ts:1:17" chroot "$fresh" sh -c 'cd /package && nagdrez check' && ends_with 0 "1 type written" chroot "$fresh" sh -c 'cd /package && nagdrez fix' &&
-    ends_with 0 "0 messages" chroot "$fresh" sh -c 'cd /package && nagdrez check'
+    ends_with 0 "0 messages" chroot "$fresh" sh -c 'cd /package && nagdrez check' && asks_in_editor
+}
+
+# Whether Debian's Neovim gets a diagnostic and a quick fix there.
+asks_in_editor() {
+  DEBIAN_FRONTEND=noninteractive chroot "$fresh" apt-get install -y -qq --no-install-recommends neovim < /dev/null > /dev/null && cp "$here/../editors/neovim.lua" "$fresh/tmp" &&
+    printf 'export function twice(n: number) { return 2 * n; }\n' > "$fresh/package/index.ts" &&
+    ends_with 0 "the end" chroot "$fresh" sh -c 'cd /package && SERVER="nagdrez lsp" nvim --headless -u NONE -c "luafile /tmp/neovim.lua"'
 }
 
 test_that "the package is built" builds
