@@ -122,6 +122,17 @@ completes() {
     [ "$(offered fast-check-ts check --baseline VER)" = VERSION ] && [ -z "$(offered fast-check-ts check --max-warnings "")" ]
 }
 
+# Whether fish and zsh offer what bash does.
+fish_completes() {
+  [ "$(within fish -c 'complete -C "fast-check-ts ch"' | cut -f 1)" = check ] && within fish -c 'complete -C "fast-check-ts check --fo"' | grep -q -- --format &&
+    [ "$(within fish -c 'complete -C "fast-check-ts check --format s"' | cut -f 1)" = sarif ] && within fish -c 'complete -C "fast-check-ts explain wid"' | grep -q widened-literal
+}
+
+zsh_completes() {
+  within zsh -c 'source <(sed "/^_fast_check_ts \"/d" /usr/share/zsh/vendor-completions/_fast-check-ts); _fast_check_entries fast-check-ts "[a-z]+" --help; _fast_check_entries fast-check-ts "-[a-z-]+" help check' > "$made/zsh" &&
+    grep -q '^check:messages' "$made/zsh" && grep -q '^--format:text' "$made/zsh" && grep -q '^-q:report' "$made/zsh"
+}
+
 # Runs words in the copy, where the files of the package lie over those of this machine, for these words alone.
 within() {
   unshare --map-root-user --mount bash -c 'mount -t overlay overlay -o "lowerdir=$0/usr:/usr" /usr && cd "$1" && exec "${@:2}"' "$made/root" "$copy" "$@"
@@ -167,6 +178,8 @@ test_that "it depends on Node and TypeScript" grep -q "^nodejs .*node-typescript
 test_that "the changelog has the hashes" changelog_is_right
 test_that "the pages" pages_are_right
 test_that "links of the pages" links_are_right
+if command -v fish > /dev/null; then test_that "completion of fish" fish_completes; else echo "not tried: fish is not there"; fi
+if command -v zsh > /dev/null; then test_that "completion of zsh" zsh_completes; else echo "not tried: zsh is not there"; fi
 test_that "completion" completes
 
 package=tools/typescript/test/packages

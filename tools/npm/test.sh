@@ -105,6 +105,18 @@ speaks_to_editors() {
   { printf 'Content-Length: %s\r\n\r\n%s' ${#text} "$text"; sleep 2; } | npx nagdrez lsp | grep -q '"name":"nagdrez"'
 }
 
+# Whether what the examples for GitHub and GitLab run writes what they hand on.
+ci_examples_run() {
+  local gitlab github sarif
+  printf 'export function slow(n: number) { return 2 * n; }\n' > index.ts
+  gitlab=$(sed -n 's/^ *- \(npx nagdrez .*\)$/\1/p' "$top/examples/ci/gitlab.yml")
+  github=$(sed -n "s/^ *run: '\(.*--format github.*\)'$/\1/p" "$top/action.yml")
+  sarif=$(sed -n "s/^ *run: '\(.*--format sarif.*\)'$/\1/p" "$top/action.yml")
+  mkdir -p "$made/runner" && ln -sfn "$PWD" "$made/runner/nagdrez" && export RUNNER_TEMP="$made/runner" FOLDER=.
+  ends_with 1 "" bash -c "$gitlab" && grep -q '<testsuites' slow-types.xml && ends_with 1 "::error file=index.ts" bash -c "$github" && bash -c "$sarif" &&
+    node -e 'const log = JSON.parse(require("fs").readFileSync(process.argv[1])); process.exit(log.runs[0].results.length === 1 ? 0 : 1)' "$RUNNER_TEMP/nagdrez.sarif"
+}
+
 # Whether pre-commit reports a changed file alone, and writes its types, by the hooks of this repository.
 hooks_work() {
   local repository="$made/hooks"
@@ -148,6 +160,7 @@ test_that "it passes its own check" passes_its_own_check
 test_that "it is complete" is_complete
 test_that "another platform is told" says_its_platform
 test_that "it speaks to editors" speaks_to_editors
+test_that "the examples for CI run" ci_examples_run
 if command -v pre-commit > /dev/null; then test_that "its hooks work" hooks_work; else echo "not tried: pre-commit is not there (Debian: pre-commit)"; fi
 [ "${1-}" != --fresh ] || test_that "it answers in a new Debian" answers_afresh
 echo "$passed passed, $failed failed"

@@ -163,6 +163,25 @@ describe('the protocol', () => {
     });
   });
 
+  it('goes on behind a check that fails', () => withFiles(FILES, async (client, folder) => {
+    const program = process.env.FAST_CHECK;
+    const failing = path.join(folder, 'failing');
+    fs.writeFileSync(failing, `#!/bin/sh\n[ -e ${folder}/mended ] && exec ${program} "$@"\nkill -SEGV $$\n`, { mode: 0o755 });
+    process.env.FAST_CHECK = failing;
+    const other = new Client(folder);
+    process.env.FAST_CHECK = program;
+    try {
+      await other.begin();
+      await other.until(() => other.logs.some(({ type, message }) => type === 1 && /did not answer/.test(message)), 'the failure');
+      fs.writeFileSync(path.join(folder, 'mended'), '');
+      other.open('mod.ts', FILES['mod.ts']);
+      await other.until(() => other.shown('mod.ts').length, 'what a later check says');
+      assert.strictEqual(await other.end(), 0);
+    } finally {
+      other.child.kill('SIGKILL');
+    }
+  }));
+
   it('passes over what is no message', () => withFiles(FILES, async (client) => {
     await client.begin();
     const wrong = ['Content-Length: 5\r\n\r\n{"a":', 'Length: 5\r\n\r\n', 'Content-Length: 2\r\n\r\n[]', 'Content-Length: 4\r\n\r\nnull'];
