@@ -380,7 +380,7 @@ function examples() {
     const { out } = await run(['check', 'examples/package'], { cwd: TOP });
     const [, message = guide] = /```\n(error\[[^]*?)```/.exec(guide) || [];
     holds(out.startsWith(message), `the page has not\n${out}`);
-    holds(all.length > 2, 'the pages have examples');
+    holds(all.length > 1, 'the pages have examples');
   }]];
 }
 
