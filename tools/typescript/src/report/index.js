@@ -2,7 +2,7 @@
 // A page to look at: the source of each module beside its skeleton. It stands alone: no script, and no style from elsewhere.
 const fs = require('fs');
 const path = require('path');
-const { LABELS } = require('../messages/message.js');
+const { labelOf } = require('../messages/codes.js');
 const { Marks } = require('./marks.js');
 const { withPartial } = require('../program/preview.js');
 const { printed } = require('../skeleton/write.js');
@@ -72,7 +72,7 @@ function more(/** @type {Message} */ each) {
 }
 
 function message(/** @type {Message} */ each) {
-  const label = LABELS[each.code] ? `: ${LABELS[each.code]}` : '';
+  const label = labelOf(each.code) ? `: ${labelOf(each.code)}` : '';
   const lines = more(each).map((it) => `<div>${it}</div>`).join('');
   return `<div class="message${each.level === 'Warning' ? ' warning' : ''}"><b>${escape(each.code)}</b> ${escape(each.message)}${escape(label)}${lines}</div>`;
 }
