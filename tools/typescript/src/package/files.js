@@ -186,6 +186,8 @@ function makeFolder(/** @type {string} */ folder) {
 
 /** Whether a path lies below a folder. */
 function isInside(/** @type {string} */ root, /** @type {string} */ file) {
+  // Most paths are plain, and need not be parted.
+  if (file.length > root.length + 1 && file[root.length] === path.sep && file.startsWith(root) && !file.includes('..')) return true;
   const inside = path.relative(root, file);
   return inside !== '' && inside !== '..' && !inside.startsWith(`..${path.sep}`) && !path.isAbsolute(inside);
 }

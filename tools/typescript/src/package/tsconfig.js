@@ -189,10 +189,12 @@ class Projects {
     const options = withFolder(parsed, folder);
     if (!options.outDir && !options.declarationDir) return [];
     const sources = fileNames.filter((name) => !/\.d\.[cm]?ts$|\.json$/.test(name));
-    // Without `rootDir` compilers before 6.0 begin at the folder that all sources have in common, and later ones at that of the configuration.
-    const roots = options.rootDir ? [options.rootDir] : [commonFolder(sources), undefined];
+    // Without `rootDir` compilers before 6.0 begin at the folder that all sources have in common, and later ones at that of the configuration, as `composite` does.
+    // Each is named, since the compiler would look for it anew for each source.
+    const own = typescript.isFrom(6, 0) || options.composite ? [folder] : [];
+    const roots = options.rootDir ? [options.rootDir] : [commonFolder(sources), ...own];
     const written = (/** @type {string} */ source, /** @type {string | undefined} */ rootDir) => {
-      const asked = { options: { ...options, rootDir, declaration: true, noEmit: false }, fileNames: sources, errors: [] };
+      const asked = { options: { ...options, rootDir, declaration: true, noEmit: false }, fileNames: [source], errors: [] };
       return ts.getOutputFileNames(asked, source, false).map((each) => /** @type {[string, string]} */ ([path.resolve(each), source]));
     };
     return roots.flatMap((root) => sources.flatMap((source) => written(source, root))).filter(([each, source]) => each !== source && this.files.isBelow(each));
