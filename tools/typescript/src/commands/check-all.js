@@ -2,7 +2,6 @@
 // Checks folders, one after another, and reports their errors and warnings in the format that is asked for.
 const { resultOf } = require('../api/check.js');
 const { Baseline } = require('../messages/allow.js');
-const { fixed } = require('../compiler/thread.js');
 const { FORMATS, count } = require('../messages/formats.js');
 const { rewriteTexts } = require('../package/files.js');
 
@@ -36,6 +35,7 @@ async function checkOnce(/** @type {Target[]} */ targets, /** @type {Options} */
 
 /** Writes the types that messages of some folders ask for. */
 async function fixAll(/** @type {Target[]} */ targets, /** @type {Options} */ options, /** @type {Context} */ context) {
+  const { fixed } = require('../compiler/thread.js');
   for (const { dir, exports, only } of targets) {
     const within = only && { files: only };
     const { texts, count: types } = await fixed(dir, { ...options, exports, within }, context);

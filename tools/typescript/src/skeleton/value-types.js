@@ -2,8 +2,7 @@
 // The types of the values that stay in skeletons, by the form of each alone. Where the form does not say the type that TypeScript's compiler finds, the value has none
 // here, and that is reported.
 
-const { printType, spanOf } = require('../tree/print/index.js');
-const { variantOf } = require('../tree/walk.js');
+const { spanOf, variantOf } = require('../tree/walk.js');
 
 /** @typedef {import('./types').Holder} Holder */
 /** @typedef {import('./value-scopes.js').Scope} Scope */
@@ -50,6 +49,7 @@ const annotated = (type_ann) => ({ span: NONE, type_ann });
  * @returns {string}
  */
 function textOf(/** @type {forms.TsType} */ type) {
+  const { printType } = require('../tree/print/index.js');
   return printType(type).trimEnd();
 }
 

@@ -27,4 +27,12 @@ function partsOf(/** @type {object} */ part) {
   return found;
 }
 
-module.exports = { partsOf, variantOf };
+/** The range of a part, under whatever names. */
+function spanOf(/** @type {forms.Part} */ node) {
+  /** @type {forms.Part | undefined} */
+  let inner = node;
+  while (inner && !inner.span) inner = /** @type {forms.Part | undefined} */ (inner.id || Object.values(inner)[0]);
+  return (inner && inner.span) || null;
+}
+
+module.exports = { partsOf, spanOf, variantOf };

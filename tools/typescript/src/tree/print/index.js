@@ -5,7 +5,7 @@ const { Writer } = require('./writer.js');
 const { decorators, expression, propName } = require('./expressions.js');
 const { parts } = require('./parts.js');
 const { block, classOf, items } = require('./statements.js');
-const { spanOf, type } = require('./types.js');
+const { type } = require('./types.js');
 const { needsList } = require('../../tables/ambient.js');
 const { writable } = require('../../skeleton/reserved.js');
 
@@ -56,4 +56,4 @@ function printType(/** @type {forms.TsType} */ node) {
   return w.text();
 }
 
-module.exports = { print, printType, spanOf };
+module.exports = { print, printType };

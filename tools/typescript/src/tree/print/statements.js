@@ -1,7 +1,7 @@
 'use strict';
 // Prints statements, declarations, classes, imports and exports.
 
-const { variantOf } = require('../walk.js');
+const { spanOf, variantOf } = require('../walk.js');
 const t = require('./types.js');
 const e = require('./expressions.js');
 const { needsList } = require('../../tables/ambient.js');
@@ -334,7 +334,7 @@ function constructor(/** @type {Writer} */ w, /** @type {forms.Constructor} */ n
   w.write(accessibility(node));
   e.propName(w, node.key);
   const params = node.params || [];
-  const spans = params.flatMap((it) => (t.startOf(it) ? t.spanOf(it) || [] : []));
+  const spans = params.flatMap((it) => (t.startOf(it) ? spanOf(it) || [] : []));
   const isWide = !w.isHeld() && spans.length > 2 && spans[spans.length - 1] - spans[0] > 80;
   t.listed(w, params, '(', ')', isWide || params.some((it) => t.startOf(it) && w.hasLeading(t.startOf(it))), constructorParam, t.afterLast(params));
   e.body(w, node.body);

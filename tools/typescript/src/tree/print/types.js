@@ -7,7 +7,7 @@
 /** @typedef {import('./printers').Parameter} Parameter */
 
 const { parts } = require('./parts.js');
-const { variantOf } = require('../walk.js');
+const { spanOf, variantOf } = require('../walk.js');
 
 /** @type {forms.Span} */
 const NOWHERE = [0, 0];
@@ -223,14 +223,6 @@ function partOf(/** @type {forms.Part} */ { Param: param, pat, ...others }) {
 function afterLast(/** @type {(Parameter | forms.ParamOrTsParamProp)[]} */ params) {
   const last = params[params.length - 1];
   return last && partOf(last).Rest ? '' : ',';
-}
-
-/** The range of a parameter, under whatever names. */
-function spanOf(/** @type {forms.Part} */ node) {
-  /** @type {forms.Part | undefined} */
-  let inner = node;
-  while (inner && !inner.span) inner = /** @type {forms.Part | undefined} */ (inner.id || Object.values(inner)[0]);
-  return (inner && inner.span) || null;
 }
 
 /** The position at which a part begins; 0 where that is not known. */
@@ -606,6 +598,6 @@ function pattern(/** @type {Writer} */ w, /** @type {Parameter} */ choice) {
 }
 
 module.exports = {
-  printBy, at, isWide, separated, listed, spanOf, str, ident, name, privateName, literal, template, entity, annotation,
+  printBy, at, isWide, separated, listed, str, ident, name, privateName, literal, template, entity, annotation,
   typeArguments, typeParameters, parameters, afterLast, startOf, type, indexSignature, memberLines, pattern,
 };
