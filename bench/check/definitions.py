@@ -3,7 +3,7 @@
 
 usage: definitions.py                 the chapters, each with its files, definitions and lines beyond the chapters before it
        definitions.py read CHAPTER    the files of one chapter in an order in which they can be read, with their definitions
-       definitions.py page            the chapters as docs/PROVED.md has them
+       definitions.py page            the chapters as docs/proofs/clauses.md has them
        definitions.py mark            writes the first line of each file of definitions that no public contract reaches
        definitions.py check           says which files have that line and should not, or the other way round; status 1 if any
 """
