@@ -94,6 +94,7 @@ const OPTIONS = [
   },
   { word: '--no-cache', key: 'noCache', commands: ALL, text: 'keep nothing between runs, and use nothing that was kept' },
   { word: '--dry-run', also: ['--dry'], key: 'dry', commands: ['fix'], text: 'fix: show the changes, and write nothing' },
+  { word: '--types', key: 'types', commands: ['report'], text: "report: have TypeScript's compiler infer the missing types, and show what fix would write" },
   { word: '--markdown', key: 'markdown', commands: ['diff'], text: 'diff: a text for a pull request' },
   { word: '--dts', key: 'dts', commands: ['skeleton'], text: 'skeleton: declaration files (.d.ts) in place of skeletons' },
   { word: '--with-dts', key: 'withDts', commands: ['skeleton'], text: 'skeleton: declaration files beside skeletons' },
