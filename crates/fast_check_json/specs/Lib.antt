@@ -1,3 +1,4 @@
 pub mod Reading
 pub mod Fields
 pub mod Places
+pub mod Words
