@@ -159,6 +159,7 @@ def main(words):
             check_command(check, program, command, folder)
         for wrong in [[], ["transform"], ["transform", "a", "b"], ["other", "a"], [b"\xff", "a"], ["transform", b"\xff", "b"], ["transform", "a", b"\xff"]]:
             check.that(f"the words {wrong}", run([program, *wrong]), (2, b"", USAGE))
+        check.that("a FIFO for no command", run([program, "other", os.path.join(folder, "transform")]), (2, b"", USAGE))
         for name in [b"\xff", b"\xff" * 40]:
             check.that(f"the file {name}", run([program, "transform", name]), (2, b"", UNREADABLE))
     print(f"runs={check.runs} differing={check.differing}")
