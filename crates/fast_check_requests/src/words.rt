@@ -3,6 +3,7 @@
 ghost use Rattle.std.specs.Prelude.{◌≡◌, IfErr};
 ghost use Rattle.fast_check_requests.specs.Opened.{unless_out_of_memory};
 
+use crate::command::Command;
 use crate::refusal::Refusal;
 use std::alloc::AllocError;
 use std::env::{Env, FillError};
@@ -17,15 +18,17 @@ const WORDS: usize = 3;
 const LONGEST: usize = 4096;
 
 /// What the program is called with: the words behind its name, and the file that they name, which is none where it does not open,
-/// or its name is not text.
-pub fn read_call<R: Env + Files + AllocGlobal>(
+/// or its name is not text, or the first word names no command: then nothing is opened.
+pub fn read_call<C: Command, R: Env + Files + AllocGlobal>(
     rt: &R,
 ) -> Result<(Vec<String>, Option<R::File>), Refusal>
     ensures { IfErr result (λ refusal. refusal ≡ Refusal.OutOfMemory) }
 {
     let words = read_words(rt)?;
     let file = match words.as_slice() {
-        [_, path] => unless_out_of_memory(File::open(rt, path.as_str()))?,
+        [name, path] if C::of_name(name.as_str()).is_some() => {
+            unless_out_of_memory(File::open(rt, path.as_str()))?
+        }
         _ => None,
     };
     Ok((words, file))
