@@ -19,7 +19,7 @@ INNER = "-- Inner: no contract of a public call cites what stands here."
 CHAPTERS = {
     "transform": {"fast_check_transform_module": ["transform"], "fast_check_transformer::transformer": None, "fast_check_skeleton": ["hash_mark"]},
     "law": {"fast_check_skeleton": ["two_worlds", "hidden_changes", "hidden_items"], "fast_check_transformer": None},
-    "account": {"fast_check_build": ["find_public_ranges", "find", "new"]},
+    "account": {"fast_check_build": ["find_public_ranges", "find", "new"], "fast_check_package_ranges": ["entry_order"]},
     "build": {
         "fast_check_build": None, "fast_check_package_answers": None, "fast_check_cache::cache": None, "fast_check_cache::item": None,
         "fast_check_cache::package_ranges": None, "fast_check_packages::fault": None, "fast_check_packages::listed": None, "fast_check_packages::provider": None,
