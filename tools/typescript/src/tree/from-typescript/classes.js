@@ -294,4 +294,4 @@ function member(/** @type {Converter} */ c, /** @type {ts.ClassElement} */ node)
   return { Empty: { span: c.span(node) } };
 }
 
-module.exports = { functionIn, functionOf, classIn, classOf, decorators, implemented, heritage };
+module.exports = { functionIn, functionOf, classIn, classOf, implemented, heritage };

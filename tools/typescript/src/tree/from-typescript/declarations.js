@@ -441,4 +441,4 @@ function items(/** @type {Converter} */ c, /** @type {readonly ts.Statement[]} *
   return list.map((it) => item(c, it));
 }
 
-module.exports = { declaration, item, items };
+module.exports = { declaration, items };

@@ -4,8 +4,9 @@
 const { hasModifier } = require('../../compiler/modifiers.js');
 const { ts } = require('../../compiler/typescript.js');
 const { converterOf, form, oneOf } = require('./converter.js');
-const { VALUE, bindPattern, bindBody, bindStatements, eachVarList, isVar } = require('./scopes.js');
+const { bindPattern, bindBody, bindStatements, eachVarList, isVar } = require('./scopes.js');
 const names = require('./names.js');
+const { parts } = require('./parts.js');
 const patterns = require('./patterns.js');
 const types = require('./types.js');
 const { expression } = require('./expressions.js');
@@ -20,8 +21,6 @@ const { SyntaxKind: K } = ts;
 
 /** @typedef {ts.FunctionLikeDeclaration | ts.ClassStaticBlockDeclaration} Functional */
 /** @typedef {ts.ExpressionStatement & { expression: ts.CallExpression }} SuperCall */
-
-const declarations = () => require('./declarations.js');
 
 // ---- bodies
 
@@ -363,7 +362,7 @@ function hoisted(/** @type {Converter} */ c, /** @type {ts.Statement} */ node) {
 function statement(/** @type {Converter} */ c, /** @type {ts.Statement} */ node) {
   const convert = converterOf(STATEMENTS, node);
   if (!convert) {
-    const decl = declarations().declaration(c, node);
+    const decl = parts.declaration(c, node);
     if (decl) return { Decl: decl };
     c.unknown(node, 'a statement');
     return { Empty: { span: c.span(node) } };
@@ -371,4 +370,4 @@ function statement(/** @type {Converter} */ c, /** @type {ts.Statement} */ node)
   return c.short && !isExpando(node) ? hoisted(c, node) : convert(c, node);
 }
 
-module.exports = { bodyOf, functionBody, constructorBody, statement, declarator, KINDS, VALUE };
+module.exports = { bodyOf, functionBody, constructorBody, statement, declarator, KINDS };
