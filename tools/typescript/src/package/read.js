@@ -75,7 +75,7 @@ class Reader {
       this.resolutions.push([module.specifier, text, urlOf(this.root, file)]);
       this.waiting.push(file);
     } else if (RELATIVE.test(text)) {
-      this.missing.push({ path: module.path, offset, text, isOutside: !isInside(this.root, path.resolve(path.dirname(module.path), text)) });
+      this.missing.push({ path: module.path, offset, text, isOutside: !this.files.isBelow(path.resolve(path.dirname(module.path), text)) });
     } else {
       const specifier = SCHEME.test(text) ? text : `npm:${text}`;
       this.externals.push({ path: module.path, offset, text, specifier, name: packageName(text), isExplained: this.resolver.isExplained(module.path, text) });

@@ -56,7 +56,12 @@ class Lookup {
       useCaseSensitiveFileNames: true,
       getCurrentDirectory: () => files.root,
       fileExists: (file) => isInside(files.root, file) && files.isFile(file),
-      directoryExists: (folder) => files.isBelow(folder) && path.basename(folder) !== 'node_modules' && files.kind(folder) === 'folder',
+      directoryExists: (written) => {
+        const folder = path.resolve(written);
+        if (path.basename(folder) === 'node_modules') return false;
+        // Where the folders above were not there, the compiler would not look at the folder itself for "..".
+        return files.isBelow(folder) ? files.kind(folder) === 'folder' : isInside(folder, files.root);
+      },
       readFile: (file) => (files.isReadable(file) ? files.text(file).text : undefined),
     };
   }

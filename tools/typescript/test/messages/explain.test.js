@@ -11,10 +11,10 @@ const { CODES, PROGRAM, RETURNS, namesIn } = require('../../src/messages/codes.j
 
 const ERRORS = path.resolve(__dirname, '../../../../docs/errors');
 const TOOL = path.resolve(__dirname, '../../bin/fast-check-ts.js');
-const pageOf = (code) => fs.readFileSync(path.join(ERRORS, `${code}.md`), 'utf8');
+const pageOf = (/** @type {string} */ code) => fs.readFileSync(path.join(ERRORS, `${code}.md`), 'utf8');
 
 /** The codes of the messages about a module. */
-async function codesOf(text) {
+async function codesOf(/** @type {string} */ text) {
   const folder = fs.mkdtempSync(path.join(os.tmpdir(), 'fast-check-page-'));
   try {
     fs.writeFileSync(path.join(folder, 'mod.ts'), text);
@@ -45,7 +45,7 @@ describe('docs/errors', () => {
 });
 
 describe('explain', () => {
-  const run = (...words) => childProcess.spawnSync(process.execPath, [TOOL, 'explain', ...words], { encoding: 'utf8' });
+  const run = (/** @type {string[]} */ ...words) => childProcess.spawnSync(process.execPath, [TOOL, 'explain', ...words], { encoding: 'utf8' });
 
   it('prints the page', () => {
     assert.strictEqual(run('missing-explicit-type').stdout, pageOf('missing-explicit-type'));
@@ -60,13 +60,13 @@ describe('explain', () => {
 });
 
 describe('the table of codes', () => {
-  const read = (file) => fs.readFileSync(path.resolve(__dirname, '../../../../crates/fast_check_diagnostics/src', file), 'utf8');
+  const read = (/** @type {string} */ file) => fs.readFileSync(path.resolve(__dirname, '../../../../crates/fast_check_diagnostics/src', file), 'utf8');
 
   it('has the texts of the program', () => {
     const texts = read('diagnostics/texts.rt');
-    const [, reference] = /IS_REFERENCE: &str = "(.*)"/.exec(texts);
+    const [, reference = ''] = /IS_REFERENCE: &str = "(.*)"/.exec(texts) || [];
     const rows = [...texts.matchAll(/ code: "(.*)",[^]*? range_description: (?:None|Some\((?:"(.*)"|IS_REFERENCE)\)),/g)];
-    const label = ([whole, , written]) => written || (whole.includes('IS_REFERENCE') ? reference : undefined);
+    const label = (/** @type {RegExpMatchArray} */ [whole, , written]) => written || (whole.includes('IS_REFERENCE') ? reference : undefined);
     const known = rows.filter(([, code]) => PROGRAM[code]);
     assert.deepStrictEqual(known.map((row) => [row[1], label(row)]).sort(), Object.entries(PROGRAM).map(([code, it]) => [code, it.label]).sort());
     const written = read('diagnostics.rt');

@@ -77,17 +77,12 @@ function accessor(/** @type {Converter} */ c, /** @type {ts.AccessorDeclaration}
 
 // ---- members and calls
 
-/** Whether a statement assigns to a member: cut short, one under a text is one behind a dot, since no other one is converted. */
-function isAssigned(/** @type {ts.ElementAccessExpression} */ node) {
-  const { parent } = node;
-  return ts.isBinaryExpression(parent) && parent.left === node && ts.isExpressionStatement(parent.parent);
-}
-
 /** @returns {forms.MemberProp} */
 function memberProp(/** @type {Converter} */ c, /** @type {ts.PropertyAccessExpression | ts.ElementAccessExpression} */ node) {
   if (ts.isElementAccessExpression(node)) {
     const { argumentExpression: key } = node;
-    if (c.short && isAssigned(node) && ts.isStringLiteralLike(key)) return { Ident: { span: c.span(key), sym: key.text } };
+    // Cut short, no other member under a text is assigned to by a statement than one that may stand behind a dot.
+    if (c.short && c.assigned === node && ts.isStringLiteralLike(key)) return { Ident: { span: c.span(key), sym: key.text } };
     const open = c.text.lastIndexOf('[', node.argumentExpression.pos);
     return { Computed: { span: c.range(open, node.end), expr: expression(c, node.argumentExpression) } };
   }
@@ -331,7 +326,7 @@ const EXPRESSIONS = {
   [K.RegularExpressionLiteral]: literal,
   [K.ArrayLiteralExpression]: array,
   [K.ObjectLiteralExpression]: (c, node) => ({
-    Object: form({ span: c.span(node), props: node.properties.map((it) => objectMember(c, it)) }),
+    Object: form({ span: c.span(node), props: c.each(node.properties, (it) => objectMember(c, it)) }),
   }),
   [K.FunctionExpression]: functionExpression,
   [K.ArrowFunction]: arrow,

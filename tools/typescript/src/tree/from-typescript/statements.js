@@ -63,9 +63,7 @@ function isOfSetter(/** @type {Converter} */ c, /** @type {Functional} */ node, 
   if (!ts.isGetAccessorDeclaration(node) || !naming) return false;
   const isStatic = (/** @type {ts.AccessorDeclaration} */ it) => hasModifier(it, K.StaticKeyword);
   const keyOf = (/** @type {ts.AccessorDeclaration} */ it) => c.written(it.name);
-  /** @type {readonly ts.Node[]} */
-  const beside = 'members' in node.parent ? node.parent.members : node.parent.properties;
-  const setters = beside.flatMap((it) => (ts.isSetAccessorDeclaration(it) ? it : []));
+  const setters = c.list.flatMap((it) => (ts.isSetAccessorDeclaration(it) ? it : []));
   const setter = setters.find((it) => keyOf(it) === keyOf(node) && isStatic(it) === isStatic(node));
   const type = setter && setter.parameters.length === 1 && setter.parameters[0].type;
   const named = /** @type {{ type?: ts.TypeNode }} */ (naming).type;
@@ -155,7 +153,7 @@ function constructorBody(/** @type {Converter} */ c, /** @type {ts.ConstructorDe
 
 /** @returns {forms.Stmt[]} */
 function statements(/** @type {Converter} */ c, /** @type {readonly ts.Statement[]} */ list) {
-  return list.map((it) => statement(c, it));
+  return c.each(list, (it) => statement(c, it));
 }
 
 /** @returns {forms.BlockStmt} */
@@ -320,7 +318,10 @@ const STATEMENTS = {
   [K.ForStatement]: (c, node) => ({ For: forStatement(c, node) }),
   [K.ForInStatement]: (c, node) => ({ ForIn: forEach(c, node) }),
   [K.ForOfStatement]: (c, node) => ({ ForOf: forEach(c, node) }),
-  [K.ExpressionStatement]: (c, node) => ({ Expr: { span: c.span(node), expr: expression(c, node.expression) } }),
+  [K.ExpressionStatement]: (c, node) => {
+    c.assigned = ts.isBinaryExpression(node.expression) ? node.expression.left : null;
+    return { Expr: { span: c.span(node), expr: expression(c, node.expression) } };
+  },
 };
 
 /** Whether a statement may declare a property of what it assigns to: `object.name = value;`. */
@@ -346,8 +347,8 @@ function isNameText(/** @type {ts.Expression} */ node) {
 function hoisted(/** @type {Converter} */ c, /** @type {ts.Statement} */ node) {
   /** @type {forms.VarDeclarator[]} */
   const decls = [];
-  eachVarList(node, (list) => {
-    const isGiven = ts.isForInStatement(list.parent) || ts.isForOfStatement(list.parent);
+  eachVarList(node, (list, around) => {
+    const isGiven = ts.isForInStatement(around) || ts.isForOfStatement(around);
     const made = list.declarations.map((it) => declarator(c, it));
     decls.push(...made.map((it) => (isGiven ? { ...it, init: c.hidden(list) } : it)));
   });
