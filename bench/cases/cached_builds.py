@@ -1,5 +1,5 @@
 """The part `cached_builds` of `fast_check_vectors`: builds with a cache, one after the other. What is answered and what is set is put together here by
-`build_worlds` and by what docs/RULES.md says of the cache."""
+`build_worlds` and by what docs/proofs/rules.md says of the cache."""
 import json
 
 import random_builds

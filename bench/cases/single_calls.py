@@ -88,7 +88,7 @@ def transformers(runs):
 
 
 # how many parentheses stand around the value, and of how many arrays the written type is
-DEPTHS = [(0, 0), (1, 1), (1000, 0), (0, 1000), (1000, 1000)]
+DEPTHS = [(0, 0), (1, 1), (500, 0), (1000, 0), (0, 1000), (1000, 1000)]
 
 
 def array_type(arrays):
@@ -102,7 +102,7 @@ def array_type(arrays):
 def deep():
     """Values in parentheses, which show the type of what stands in them, and written types, which stay."""
     sys.setrecursionlimit(10_000)
-    module = Module().statement("let", ("x", None, "1", True))
+    module = Module().statement("const", ("x", None, "1", True))
     lines = []
     for parentheses, arrays in DEPTHS:
         made = copy.deepcopy(module.answer()["Ok"]["program"])

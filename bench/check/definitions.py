@@ -3,7 +3,6 @@
 
 usage: definitions.py                 the chapters, each with its files, definitions and lines beyond the chapters before it
        definitions.py read CHAPTER    the files of one chapter in an order in which they can be read, with their definitions
-       definitions.py page            the chapters as docs/PROVED.md has them
        definitions.py mark            writes the first line of each file of definitions that no public contract reaches
        definitions.py check           says which files have that line and should not, or the other way round; status 1 if any
 """
@@ -11,7 +10,6 @@ import re
 import sys
 from functools import cache
 from pathlib import Path
-from textwrap import fill
 
 TOP = Path(__file__).resolve().parents[2]
 CRATES = TOP / "crates"
@@ -21,7 +19,7 @@ INNER = "-- Inner: no contract of a public call cites what stands here."
 CHAPTERS = {
     "transform": {"fast_check_transform_module": ["transform"], "fast_check_transformer::transformer": None, "fast_check_skeleton": ["hash_mark"]},
     "law": {"fast_check_skeleton": ["two_worlds", "hidden_changes", "hidden_items"], "fast_check_transformer": None},
-    "account": {"fast_check_build": ["find_public_ranges", "find", "new"]},
+    "account": {"fast_check_build": ["find_public_ranges", "find", "new"], "fast_check_package_ranges": ["entry_order"]},
     "build": {
         "fast_check_build": None, "fast_check_package_answers": None, "fast_check_cache::cache": None, "fast_check_cache::item": None,
         "fast_check_cache::package_ranges": None, "fast_check_packages::fault": None, "fast_check_packages::listed": None, "fast_check_packages::provider": None,
@@ -37,6 +35,7 @@ CHAPTERS = {
     },
     "program": {"fast_check_commands": None},
     "forms": {"fast_check_forms": None},
+    "source": {"fast_check_source_lexer": None, "fast_check_source_grammar": None},
 }
 # The laws of std's traits. What an `impl` gives for one is a proof, which the check reads and nobody has to believe.
 LAWS = {"laws", "total", "matches_eq", "matches_partial_cmp", "respects_eq"}
@@ -247,31 +246,6 @@ def chapters():
     yield "in all", before
 
 
-def listed_crates():
-    """The crates in the order of crates.txt, where each stands behind those that it stands on."""
-    lines = (TOP / "crates.txt").read_text().splitlines()
-    return [line.partition(":")[0].split()[0] for line in lines if line.strip() and not line.startswith("#")]
-
-
-def page(every):
-    """The chapters in words: the files that each adds, by crates in the order of crates.txt, and those of a crate in an order in which they
-    can be read, with the lines that are reached."""
-    listed = listed_crates()
-    for chapter, found in list(every.items())[:-1]:
-        forms, rows = [], []
-        for file in in_order(found):
-            lines = size([it for it in found if it[0] == file])
-            (forms if "forms/forms.txt" in file.read_text()[:400] else rows).append((file, lines))
-        crates = sorted({file.parts[len(CRATES.parts)] for file, _ in rows}, key=listed.index)
-        words = [
-            f"`{crate}`: " + ", ".join(f"{file.stem} {lines}" for file, lines in rows if file.parts[len(CRATES.parts)] == crate)
-            for crate in crates
-        ]
-        if forms:
-            words.append(f"{sum(it[1] for it in forms)} lines in {len(forms)} files of forms, written from one table")
-        print(fill(f"- **{chapter}**, {size(found)} lines. " + "; ".join(words) + ".", 160, subsequent_indent="  ", break_on_hyphens=False))
-
-
 def is_list(file):
     """Whether a file only lists the files of a crate or of a module, and passes on others'."""
     return file.name == "Lib.antt" or all(not line or line.startswith(("pub mod ", "pub use ")) for line in file.read_text().splitlines())
@@ -298,8 +272,6 @@ def main(words):
                 beside.update(lines)
         print("beside them {} lines of clauses and {} ghost lines in src/".format(*map(sum, zip(*beside.values()))))
         print(f"{len(read)} of {len(every_file())} files that are not written from the table of forms are reached, {whole} lines by whole files")
-    elif words[0] == "page":
-        page(every)
     elif words[0] == "read" and words[1:] and words[1] in every:
         found = every[words[1]]
         for file in in_order(found):

@@ -76,6 +76,11 @@ def with_a_limit_of_memory(words):
     return child.returncode, out, err
 
 
+def words_named(name, words):
+    """Words that call a program by another name."""
+    return ["bash", "-c", 'exec -a "$0" "$@"', name, *words]
+
+
 def inputs(text):
     """What stands in files, each with what has to come."""
     mark = "\ufeff".encode()
@@ -140,6 +145,7 @@ def check_command(check, program, command, folder):
     fifo = os.path.join(folder, command)
     os.mkfifo(fifo)
     check.that(name("a FIFO without writer"), run([*words, fifo]), (WAITS, b"", b""))
+    check.that(name("a name of the program that is no text"), run(words_named(b"\xff", [*words, path])), answer)
     check.that(name("standard input, from a pipe"), run(["sh", "-c", 'cat "$1" | "$2" "$3" /dev/stdin', "sh", path, *words]), answer)
 
 
@@ -153,6 +159,7 @@ def main(words):
             check_command(check, program, command, folder)
         for wrong in [[], ["transform"], ["transform", "a", "b"], ["other", "a"], [b"\xff", "a"], ["transform", b"\xff", "b"], ["transform", "a", b"\xff"]]:
             check.that(f"the words {wrong}", run([program, *wrong]), (2, b"", USAGE))
+        check.that("a FIFO for no command", run([program, "other", os.path.join(folder, "transform")]), (2, b"", USAGE))
         for name in [b"\xff", b"\xff" * 40]:
             check.that(f"the file {name}", run([program, "transform", name]), (2, b"", UNREADABLE))
     print(f"runs={check.runs} differing={check.differing}")

@@ -1,7 +1,7 @@
 #!/usr/bin/env python3
 """Worlds of packages and modules for the finder, with what a plain and slow closure finds in each.
 
-The rules stand in package_rules.py, in words of docs/RULES.md and by nothing of the code; package_accounts.py says which answers
+The rules stand in package_rules.py, in words of docs/proofs/rules.md and by nothing of the code; package_accounts.py says which answers
 an account of demands gives. Compared is exactly that: whether the program's answer is what some account gives, no more and no
 less, where who asked first may decide between accounts. For most worlds there is one answer, that of all demands; they are counted.
 

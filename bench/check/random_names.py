@@ -4,7 +4,7 @@
 Both sets of a pair are trees of at most three names at a level and four levels: each name is demanded whole, has a subset that may be empty, or is
 absent. In one of fifty pairs both have 50 to 200 names more at their first level, of which some begin alike. For each pair the one is extended by the
 other; then random calls change it: `add`, `add_qualified`, `add_named`. After each call the answer, what the set has and its `node_count` have to be those of
-the trees, by the rules of docs/RULES.md; at the end the set has to equal itself, and not itself with one name more.
+the trees, by the rules of docs/proofs/rules.md; at the end the set has to equal itself, and not itself with one name more.
 
 Usage: bench/check/random_names.py PROGRAM [PAIRS [SEED]]
 PROGRAM runs the calls of the file `names` in its folder when its word is `names`, as the program of all cases does.

@@ -1,5 +1,5 @@
 #!/usr/bin/env python3
-"""Asks the kit whether it proves COUNT types that reach one another, as swc's forms do. docs/DECISIONS.md says why one plain tree stands for them.
+"""Asks the kit whether it proves COUNT types that reach one another, as swc's forms do. docs/dev/decisions.md says why one plain tree stands for them.
 
     bench/check/type_cycle.py COUNT
 

@@ -1,7 +1,7 @@
 """Worlds for `fast-check build`: packages whose modules are trees, what is asked of them, and what has to be answered.
 
 The symbols of a module are made of its items: variables, functions, classes with their members, interfaces, imports and exports. What is public is
-found by `package_rules` and `package_accounts`, and what a module shows by `skeletons`; the answer is put together here as docs/RULES.md says,
+found by `package_rules` and `package_accounts`, and what a module shows by `skeletons`; the answer is put together here as docs/proofs/rules.md says,
 chapters 16 to 18. No output of the program is taken for right.
 """
 import sys

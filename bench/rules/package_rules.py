@@ -1,6 +1,6 @@
 """The rules by which packages and modules are followed, as a plain and slow closure.
 
-It stands on the rules in words of docs/RULES.md and on nothing of the code: there is no worklist of traces, nothing is merged
+It stands on the rules in words of docs/proofs/rules.md and on nothing of the code: there is no worklist of traces, nothing is merged
 and nobody asks first. A demand is a tuple, what follows from one and what it yields are functions of it, and the closure is the
 set of all demands that follow, in some steps, from the packages that are handed in.
 

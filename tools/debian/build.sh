@@ -61,7 +61,7 @@ lay_out() {
   install -m 644 "$here/completion.fish" "$fish/fast-check-ts.fish"
   cp -r "$top/docs/errors" "$lib/tools/typescript/errors"
   install -m 644 "$top/LICENSE" "$doc/copyright"
-  (cd "$top" && node "$here/pages.js" "$doc" SECURITY.md docs/{guide,cli,ci,limits,registry,api,FORMATS,HIDDEN,RULES}.md docs/errors/*.md tools/schemas/*.json \
+  (cd "$top" && node "$here/pages.js" "$doc" SECURITY.md docs/{guide,cli,ci,limits,registry,api,FORMATS}.md docs/proofs/{hidden,rules}.md docs/errors/*.md tools/schemas/*.json \
     examples/ci/* examples/clients/client.* action.yml .pre-commit-hooks.yaml)
   cp -r "$top"/examples/{package,first.json,build_hello.json,pair.json} "$doc/examples"
   for page in fast-check fast-check-ts; do

@@ -106,7 +106,7 @@ pages_are_right() {
 
 # Whether each link of the pages leads to something in the package.
 links_are_right() {
-  "$top/tools/repo/links.py" "$made/root/usr/share/doc/nagdrez"
+  "$top/tools/repo/pages.py" "$made/root/usr/share/doc/nagdrez"
 }
 
 # What is offered behind words, the last of which is begun.
@@ -117,7 +117,7 @@ offered() {
 completes() {
   [ "$(offered fast-check-ts che)" = check ] && [ "$(offered fast-check-ts --no-color ske)" = skeleton ] && [ -z "$(offered fast-check-ts check che)" ] &&
     [[ $(offered fast-check-ts --) == "--name "*" --help" ]] && [ "$(offered fast-check "")" = "transform build pair" ] &&
-    [ "$(offered fast-check-ts check --w)" = --watch ] && [ -z "$(offered fast-check-ts fix --w)" ] && [ "$(offered fast-check-ts fix --d)" = --dry ] &&
+    [ "$(offered fast-check-ts check --w)" = --watch ] && [ -z "$(offered fast-check-ts fix --w)" ] && [ "$(offered fast-check-ts fix --d)" = --dry-run ] &&
     [ "$(offered fast-check-ts check --format "")" = "text json github sarif junit badge" ] && [ "$(offered fast-check-ts check --allow missing-m)" = missing-module ] &&
     [ "$(offered fast-check-ts check --baseline VER)" = VERSION ] && [ -z "$(offered fast-check-ts check --max-warnings "")" ]
 }
@@ -184,7 +184,7 @@ test_that "completion" completes
 
 package=tools/typescript/test/packages
 for words in "check examples/package" "check --format junit examples/package $package/classes" "check $package/ignored" "check --help" "check --unproved examples/package" "check --json examples/package" "check --verify $package/classes" "skeleton $package/classes" "input $package/classes" \
-  "fix --dry $package/fixed" "diff $package/classes $package/enums" "report $package/classes $made/page.html" "--help"; do
+  "fix --dry-run $package/fixed" "diff $package/classes $package/enums" "report $package/classes $made/page.html" "--help"; do
   # shellcheck disable=SC2086
   test_that "$words" answers_alike $words
 done

@@ -43,7 +43,6 @@ pub record IsGraphOf {S : Type 0} (modules : BTreeMap Parts Module)
     (resolutions : BTreeMap Parts (BTreeMap (String Global) Parts))
     (packages : BTreeMap PackageNv (IndexMap (String Global) (String Global) S)) (g : ModuleGraph) : Type 0 where
   pub has_modules : (specifier : Parts) → module_at g specifier ≡ lookup (is_specifier specifier) modules.entries
-  pub resolves : (text : List ℕ) (referrer : Parts)
-      → resolved_to g text referrer ≡ option_and_then (text_resolved text)
-      (lookup (is_specifier referrer) resolutions.entries)
+  pub has_resolutions : (referrer : Parts) → resolutions_of g referrer ≡
+      lookup (is_specifier referrer) resolutions.entries
   pub has_packages : (nv : Nv) → exports_of g nv ≡ option_map (λ m. m.entries) (lookup (is_package nv) packages.entries)

@@ -1,1 +1,2 @@
 pub mod InPlace
+mod InOrder

@@ -1,3 +1,5 @@
 pub mod Reading
 pub mod Fields
 pub mod Places
+pub mod Order
+pub mod Words

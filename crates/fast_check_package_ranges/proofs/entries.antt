@@ -3,3 +3,4 @@ pub mod Passed
 mod Keys
 mod Once
 mod Named
+mod Ordered

@@ -1,3 +1,4 @@
 pub mod Entries
 pub mod Joined
 pub mod MemberEntries
+pub mod Ordered

@@ -3,58 +3,58 @@
 ghost use Rattle.std.specs.Prelude.{◌≡◌, IfErr};
 ghost use Rattle.fast_check_requests.specs.Opened.{unless_out_of_memory};
 
+use crate::command::Command;
 use crate::refusal::Refusal;
 use std::alloc::AllocError;
 use std::env::{Env, FillError};
 use std::fs::{File, Files};
 use std::io::ErrorKind;
-use std::{env, io, str};
+use std::{io, str};
+
+/// How many words are read: those of a call, and one that is too many.
+const WORDS: usize = 3;
+
+/// The most bytes of a word: no file opens by a longer name.
+const LONGEST: usize = 4096;
 
 /// What the program is called with: the words behind its name, and the file that they name, which is none where it does not open,
-/// or its name is not text.
-pub fn read_call<R: Env + Files + AllocGlobal>(
+/// or its name is not text, or the first word names no command: then nothing is opened.
+pub fn read_call<C: Command, R: Env + Files + AllocGlobal>(
     rt: &R,
 ) -> Result<(Vec<String>, Option<R::File>), Refusal>
     ensures { IfErr result (λ refusal. refusal ≡ Refusal.OutOfMemory) }
 {
     let words = read_words(rt)?;
     let file = match words.as_slice() {
-        [_, path] => unless_out_of_memory(File::open(rt, path.as_str()))?,
+        [name, path] if C::of_name(name.as_str()).is_some() => {
+            unless_out_of_memory(File::open(rt, path.as_str()))?
+        }
         _ => None,
     };
     Ok((words, file))
 }
 
-fn read_words<R: Env + AllocGlobal>(rt: &R) -> Result<Vec<String>, Refusal>
-    ensures { IfErr result (λ refusal. refusal ≡ Refusal.OutOfMemory) }
-{
+/// The words behind the program's name, which is not read: it may be no text.
+fn read_words<R: Env + AllocGlobal>(rt: &R) -> Result<Vec<String>, AllocError> {
     let mut words = Vec::new(rt.alloc());
-    match unless_out_of_memory(env::args(rt))? {
-        Some(arguments) => {
-            for word in arguments.skip(1) {
-                words.push(word)?;
-            }
+    for place in 1..=WORDS {
+        match read_word(rt, place)? {
+            Some(word) => words.push(word)?,
+            None => break,
         }
-        None => push_short_words(rt, &mut words)?,
     }
     Ok(words)
 }
 
-/// Pushes the first three words, where one of all is not text. What is not text, or longer than the name of any command, is empty: so it
-/// names no command, and no file opens by it.
-fn push_short_words<R: Env + AllocGlobal>(
-    rt: &R,
-    words: &mut Vec<String>,
-) -> Result<(), AllocError> {
-    for place in 1..4usize {
-        let mut bytes = [0u8; 16];
-        match rt.arg(place, &mut bytes) {
-            Ok(length) => words.push(String::from_str(rt.alloc(), text_of(&bytes, length))?)?,
-            Err(FillError::TooLong) => words.push(String::new(rt.alloc()))?,
-            Err(FillError::NotPresent) => return Ok(()),
-        }
-    }
-    Ok(())
+/// The word at a place, if there is one. What is not text, or too long, is empty: so it names no command, and no file opens by it.
+fn read_word<R: Env + AllocGlobal>(rt: &R, place: usize) -> Result<Option<String>, AllocError> {
+    let mut bytes = [0u8; LONGEST];
+    let word = match rt.arg(place, &mut bytes) {
+        Ok(length) => text_of(&bytes, length),
+        Err(FillError::TooLong) => "",
+        Err(FillError::NotPresent) => return Ok(None),
+    };
+    Ok(Some(String::from_str(rt.alloc(), word)?))
 }
 
 /// The text that the first bytes are, or none.

@@ -1,5 +1,5 @@
 -- What aliases stand for, and at which places it is found.
-use Rattle.std.specs.Prelude.{◌≡◌, ℕ, IsTrue, is_some, List, map, slice_get}
+use Rattle.std.specs.Prelude.{◌≡◌, ◌≢◌, ℕ, IsTrue, is_some, List, map, slice_get, AllPairs}
 use Rattle.std.specs.Prelude.{Option, Some, None, option_to_list, string_bytes}
 use Rattle.std.specs.List.{Contains, flat_map}
 use Rattle.std.specs.Option.{option_and_then}
@@ -41,7 +41,8 @@ alias_at decls place = option_and_then (λ x. alias_of x.kind) (slice_get decls 
 abbrev pub IsAt : List SymbolDecl → List ℕ → Alias → Type 0
 IsAt decls places a = (place : ℕ) × Contains places place × (alias_at decls place ≡ Some a)
 
--- at each of these places stands an alias, and whatever an alias stands for, one of these does
+-- at each of these places stands an alias, whatever an alias stands for, one of these does, and no two stand for the same
 pub record AreAliases (decls : List SymbolDecl) (places : List ℕ) : Type 0 where
   pub each : (place : ℕ) → Contains places place → IsTrue (is_some (alias_at decls place))
   pub all : (a : Alias) → Contains (aliases decls) a → IsAt decls places a
+  pub once : AllPairs (λ p q. alias_at decls p ≢ alias_at decls q) places

@@ -12,7 +12,7 @@ fn main(rt: HostRuntime) -> ExitCode {
     let mut err = Lines {
         writer: rt.stderr(),
     };
-    let ending = match read_call(&rt) {
+    let ending = match read_call::<Transform, _>(&rt) {
         Ok((words, file)) => {
             run_commands::<Transform, _, _, _>(
                 rt.alloc(),

@@ -10,7 +10,7 @@ use Rattle.fast_check_skeleton.specs.Worlds.{SameSkeleton, SameFault, SameAnswer
 use Rattle.fast_check_skeleton.proofs.CommentsAlike.{two_worlds}
 use Rattle.fast_check_syntax.specs.Moves.{Renaming, IsRenaming}
 use Rattle.fast_check_syntax.specs.Same.{Each}
-use Rattle.fast_check_transformer.specs.Transformed.{ModuleAnswer, IsTransformed}
+use Rattle.fast_check_transformer.specs.Transformed.{TransformResult, IsTransformed}
 use Rattle.fast_check_transformer.specs.Compared.{SameStaticSource}
 use Rattle.fast_check_transformer.specs.Worlds.{SameAnswer, KeepsHidden}
 use Rattle.fast_check_transformer.proofs.SameSources.{sources_same}
@@ -26,7 +26,7 @@ module _ (graph : ModuleGraph) (a : EsModule) (ranges_a : PublicRanges) (b : EsM
       SameAnswers r (facts_of_module graph a ranges_a) a.source.program a.source.comments
       (facts_of_module graph b ranges_b) b.source.program b.source.comments
 
-  answer_same : (r : Renaming) → IsRenaming r → a.specifier ≡ b.specifier → Same r → (x y : ModuleAnswer) →
+  answer_same : (r : Renaming) → IsRenaming r → a.specifier ≡ b.specifier → Same r → (x y : TransformResult) →
       IsTransformed graph a ranges_a first_alone x → IsTransformed graph b ranges_b first_alone y → SameAnswer r x y
   answer_same r ok one h (Ok m) (Ok n) i j = record {
     program = both (SameSkeleton r) i.skeleton j.skeleton h.skeletons;
@@ -42,7 +42,7 @@ module _ (graph : ModuleGraph) (a : EsModule) (ranges_a : PublicRanges) (b : EsM
       absurd (true≢false
       (sym (i.ok.1 ((each_empty (SameFault r) (faults graph a ranges_a) (faults graph b ranges_b) h.faults).1 (j.ok.0 refl)))))
 
-  pub keeps_hidden : (x y : ModuleAnswer) → IsTransformed graph a ranges_a first_alone x → IsTransformed graph b ranges_b first_alone y →
+  pub keeps_hidden : (x y : TransformResult) → IsTransformed graph a ranges_a first_alone x → IsTransformed graph b ranges_b first_alone y →
       KeepsHidden graph a ranges_a b ranges_b x y
   keeps_hidden x y i j r ok h =
       answer_same r ok h.specifier

@@ -14,14 +14,14 @@ use Rattle.fast_check_skeleton.specs.Grammar.{IsSkeleton}
 use Rattle.fast_check_transform_module.specs.transform_faults.Diagnostics.{AreDiagnosticsOf, diagnosed}
 
 -- a skeleton, or diagnostics
-abbrev pub ModuleAnswer : Type 0
-ModuleAnswer = Result FastCheckModule (Vec FastCheckDiagnostic Global)
+abbrev pub TransformResult : Type 0
+TransformResult = Result FastCheckModule (Vec FastCheckDiagnostic Global)
 
 -- It is what `transform` answers to the module with these public ranges: exactly where nothing is wrong its skeleton,
 -- which stands in the grammar, with the comments that stay and the sources that it depends on; else the diagnostics of
 -- its faults, or of the first alone.
 pub record IsTransformed (graph : ModuleGraph) (info : EsModule) (public : PublicRanges) (first_alone : Bool)
-    (answer : ModuleAnswer) : Type 0 where
+    (answer : TransformResult) : Type 0 where
   pub ok : IsOk answer ↔ (transform.faults graph info public ≡ [])
   pub skeleton : IfOk answer (λ made. made.program ≡ transform.skeleton graph info public)
   pub grammar : IfOk answer (λ made. IsSkeleton (bindings_of info) (is_declaration info.source.media_type) made.program)

@@ -13,7 +13,7 @@ use Rattle.fast_check_skeleton.specs.Worlds.{SameSkeleton}
 use Rattle.fast_check_syntax.specs.Moves.{Renaming, IsRenaming}
 use Rattle.fast_check_syntax.specs.Same.{Each}
 use Rattle.fast_check_transformer.specs.Compared.{SameStaticSource, SameDiagnostic}
-use Rattle.fast_check_transformer.specs.Transformed.{ModuleAnswer}
+use Rattle.fast_check_transformer.specs.Transformed.{TransformResult}
 
 -- Two modules of one name that agree but for what is hidden. Of their media types it is asked whether both are those of
 -- declaration files, or neither (`is_ambient` of `AgreeHidden`); of their comments, that those which a skeleton may
@@ -32,13 +32,13 @@ pub record SameModule (r : Renaming) (m n : FastCheckModule) : Type 0 where
   pub sources : Each (SameStaticSource r) m.module_info.sources.items n.module_info.sources.items
 
 -- two answers: both are skeletons, or both diagnostics
-abbrev pub SameAnswer : Renaming → ModuleAnswer → ModuleAnswer → Type 0
+abbrev pub SameAnswer : Renaming → TransformResult → TransformResult → Type 0
 SameAnswer r (Ok m) (Ok n) = SameModule r m n
 SameAnswer r (Err ds) (Err es) = Each (SameDiagnostic r) ds.items es.items
 SameAnswer r _ _ = ⊥
 
 -- under each renaming under which the modules agree, these answers are the same
-abbrev pub KeepsHidden : ModuleGraph → EsModule → PublicRanges → EsModule → PublicRanges → ModuleAnswer → ModuleAnswer →
+abbrev pub KeepsHidden : ModuleGraph → EsModule → PublicRanges → EsModule → PublicRanges → TransformResult → TransformResult →
     Type 0
 KeepsHidden graph a ranges_a b ranges_b x y = (r : Renaming) → IsRenaming r → AgreePair r graph a ranges_a b ranges_b →
     SameAnswer r x y

@@ -14,7 +14,7 @@ use fast_check_transform_module::{FastCheckModule, TransformOptions, transform};
 use std::alloc::{AllocError, Global};
 
 /// The answer to a module: its skeleton, or what is wrong with it.
-type ModuleAnswer = Result<FastCheckModule, Vec<FastCheckDiagnostic>>;
+type TransformResult = Result<FastCheckModule, Vec<FastCheckDiagnostic>>;
 
 /// The skeletons of two modules of one graph, as `transform` answers each: so two versions of one file are compared. Either module has to admit
 /// its public ranges. An `Err` outside says that memory ran out.
@@ -34,7 +34,7 @@ pub fn transform_pair(
     b: &EsModuleInfo,
     ranges_b: &ModulePublicRanges,
     options: &TransformOptions,
-) -> Result<(ModuleAnswer, ModuleAnswer), AllocError>
+) -> Result<(TransformResult, TransformResult), AllocError>
     requires first_admitted { Admits a.now ranges_a.now }
     requires second_admitted { Admits b.now ranges_b.now }
     ensures first { IfOk result (λ answers. IsTransformed graph.now a.now ranges_a.now options.now.should_error_on_first_diagnostic answers.0) }

@@ -1,11 +1,14 @@
 -- Faults that compare alike are reported as one.
-use Rattle.std.proofs.Common.{◌≡◌, refl, ℕ, true, ◌==◌, List}
+use Rattle.std.proofs.Common.{◌≡◌, refl, ℕ, ◌≤◌, true, false, ◌==◌, List}
 use Rattle.std.specs.Cmp.{both_tied, unsigned_ties, unsigned_Decides}
 use Rattle.std.specs.Cmp.Lexicographic.{slice_cmp, texts_ties, nat_list_eq_equiv}
 use Rattle.std.specs.Str.{bytes_eq}
-use Rattle.std.specs.Ordering.{is_eq, nat_cmp}
+use Rattle.std.specs.Ordering.{is_eq, is_gt, nat_cmp, ordering_then}
+use Rattle.std.specs.declared.cmp.Ordering.{Ordering}
+use Rattle.std.specs.declared.cmp.Ordering.TheVariants.{Less, Equal, Greater}
 use Rattle.std.specs.Prelude.{string_bytes}
 use Rattle.std.proofs.lemmas.Bool.{and_from}
+use Rattle.std.proofs.lemmas.Map.Keys.{le_from_not_gt}
 use Rattle.url.specs.Parts.{serialize}
 use Rattle.fast_check_syntax.specs.declared.source.SourceRange.{SourceRange}
 use Rattle.fast_check_syntax.specs.contracts.source.SourceRangeOrd.TheImpl as range_order
@@ -64,3 +67,21 @@ same_itself r = and_from (same_range r.range r.range) _ (range_itself r.range)
     (and_from (bytes_eq r.referrer r.referrer) (bytes_eq (serialize r.specifier) (serialize r.specifier))
     (nat_list_eq_equiv.refl r.referrer)
     (nat_list_eq_equiv.refl (serialize r.specifier)))))
+
+-- a fault that comes before another starts no later
+
+first_less : (x y : Ordering) → ordering_then x y ≡ Less → is_gt x ≡ false
+first_less Less y e = refl
+first_less Equal y e = refl
+first_less Greater y e = cc
+
+first_not_greater : (x y : Ordering) → is_gt (ordering_then x y) ≡ false → is_gt x ≡ false
+first_not_greater Less y e = refl
+first_not_greater Equal y e = refl
+first_not_greater Greater y e = cc
+
+pub starts_before : (a b : DemandFault) → order.cmp-value.it a b ≡ Less → a.range.start.0 ≤ b.range.start.0
+starts_before a b e =
+    le_from_not_gt a.range.start.0 b.range.start.0
+    (first_not_greater (nat_cmp a.range.start.0 b.range.start.0) (nat_cmp a.range.end.0 b.range.end.0)
+    (first_less (range_order.cmp-value.it a.range b.range) _ e))

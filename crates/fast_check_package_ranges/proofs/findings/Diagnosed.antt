@@ -1,5 +1,6 @@
 -- The diagnostics of a module report what is to be reported.
-use Rattle.std.proofs.Common.{◌≡◌, ◌∙◌, refl, sym, ap, subst, Bool, true, false, cond, ◌||◌, List, [], ◌∷◌, ◌++◌, map, Some, None}
+use Rattle.std.proofs.Common.{◌≡◌, ◌≤◌, ◌∙◌, refl, sym, ap, subst, Bool, true, false, cond, ◌||◌, List, [], ◌∷◌, ◌++◌, map, Some, None, arith}
+use Rattle.std.specs.Prelude.{AllPairs}
 use Rattle.std.specs.List.{list_any, AllByRecursion, Contains, IsDistinct}
 use Rattle.std.specs.declared.alloc.Global.{Global}
 use Rattle.std.specs.declared.rc.RcStr.{RcStr}
@@ -15,7 +16,7 @@ use Rattle.fast_check_demands.proofs.worklists.Maps.{none_in, first_in}
 use Rattle.fast_check_demands.proofs.Elements.{later}
 use Rattle.fast_check_package_ranges.specs.declared.findings.module_faults.ReportedFault.{ReportedFault}
 use Rattle.fast_check_package_ranges.specs.findings.Yields.{ModuleFault, missing_entry, untyped_entry, untyped_module, of_demand}
-use Rattle.fast_check_package_ranges.specs.findings.Diagnostics.{fault_reported, same_report, is_untyped, others, all_reported, reported_of, AreDiagnosed}
+use Rattle.fast_check_package_ranges.specs.findings.Diagnostics.{fault_reported, same_report, is_untyped, others, all_reported, reported_of, place_of, AreDiagnosed}
 use Rattle.fast_check_package_ranges.specs.findings.ModuleFaults.{fault_of, AreFaults, reported_with}
 use Rattle.fast_check_package_ranges.proofs.findings.Lists.{any_map}
 use Rattle.fast_check_package_ranges.proofs.findings.Reports.{none_twice}
@@ -55,6 +56,7 @@ module _ (t : Text) (fs : List ModuleFault) (ds : List FastCheckDiagnostic) wher
     reports = untyped_module ∷ [];
     tell = e;
     once = one_alone untyped_module;
+    by_place = λ i j d lt within. absurd (omega arith);
     only = λ f c. subst (λ (g : ModuleFault). Contains (all_reported fs) g) (sym (only_one f c))
         (subst (λ (o : List ModuleFault). Contains (reported_of o fs) untyped_module) (sym h) (untyped_in fs (sym u)));
     all = λ f c. ap (λ g. same_report g untyped_module || false)
@@ -68,6 +70,7 @@ module _ (t : Text) (fs : List ModuleFault) (ds : List FastCheckDiagnostic) wher
     reports = [];
     tell = e;
     once = none_twice;
+    by_place = λ i j d lt within. absurd (omega arith);
     only = λ f c. absurd (none_in f c);
     all = λ f c. absurd (none_untyped fs u (all_untyped fs h) f (subst (λ (o : List ModuleFault). Contains (reported_of o fs) f) h c));
   }
@@ -78,11 +81,13 @@ module _ (t : Text) (fs : List ModuleFault) (ds : List FastCheckDiagnostic) wher
       none_untyped (g ∷ gs) n a f c = false≢true (n ∙ ap (λ x. is_untyped x || list_any is_untyped gs) a.0)
 
   beside : (es : List (ReportedFault × RcStr Global)) (o : List ModuleFault) → others fs ≡ o → AreFaults o es → all_reported fs ≡ o →
-      IsDistinct same_report (map fault_of es) → map (fault_reported t) ds ≡ map (λ e. Some (fault_of e)) es → AreDiagnosed t fs ds
-  beside es o h a is once e = record {
+      IsDistinct same_report (map fault_of es) → AllPairs (λ f g. place_of f ≤ place_of g) (map fault_of es) →
+      map (fault_reported t) ds ≡ map (λ e. Some (fault_of e)) es → AreDiagnosed t fs ds
+  beside es o h a is once by_place e = record {
     reports = map fault_of es;
     tell = e ∙ sym (map-map Some fault_of es);
     once = once;
+    by_place = by_place;
     only = λ f c. subst (λ (x : List ModuleFault). Contains x f) (sym is)
         (All-contains (Contains o) (map fault_of es) f
         (All-map (Contains o) fault_of es (All-from_recursion (λ e. Contains o (fault_of e)) es a.only)) c);
@@ -90,17 +95,18 @@ module _ (t : Text) (fs : List ModuleFault) (ds : List FastCheckDiagnostic) wher
   }
 
   by_parts : (u : Bool) (es : List (ReportedFault × RcStr Global)) (o : List ModuleFault) → others fs ≡ o → u ≡ list_any is_untyped fs →
-      AreFaults o es → IsDistinct same_report (map fault_of es) →
+      AreFaults o es → IsDistinct same_report (map fault_of es) → AllPairs (λ f g. place_of f ≤ place_of g) (map fault_of es) →
       map (fault_reported t) ds ≡ reported_with u (map (λ e. Some (fault_of e)) es) → AreDiagnosed t fs ds
-  by_parts u [] [] h v a once e = alone u v h e
-  by_parts u [] (f ∷ o) h v a once e = absurd (false≢true (a.all f (first_in f o)))
-  by_parts u (x ∷ es) [] h v a once e = absurd (none_in (fault_of x) a.only.0)
-  by_parts u (x ∷ es) (f ∷ o) h v a once e = beside (x ∷ es) (f ∷ o) h a (ap (λ x. reported_of x fs) h) once e
+  by_parts u [] [] h v a once by_place e = alone u v h e
+  by_parts u [] (f ∷ o) h v a once by_place e = absurd (false≢true (a.all f (first_in f o)))
+  by_parts u (x ∷ es) [] h v a once by_place e = absurd (none_in (fault_of x) a.only.0)
+  by_parts u (x ∷ es) (f ∷ o) h v a once by_place e = beside (x ∷ es) (f ∷ o) h a (ap (λ x. reported_of x fs) h) once by_place e
 
 pub diagnosed : (t : Text) (fs : List ModuleFault) (u : Bool) (es : List (ReportedFault × RcStr Global)) (ds : List FastCheckDiagnostic) →
     u ≡ list_any is_untyped fs → AreFaults (others fs) es → IsDistinct same_report (map fault_of es) →
+    AllPairs (λ f g. place_of f ≤ place_of g) (map fault_of es) →
     map (fault_reported t) ds ≡ reported_with u (map (λ e. Some (fault_of e)) es) → AreDiagnosed t fs ds
-diagnosed t fs u es ds v a once e = by_parts t fs ds u es (others fs) refl v a once e
+diagnosed t fs u es ds v a once by_place e = by_parts t fs ds u es (others fs) refl v a once by_place e
 
 -- that the types are not known, behind what else is reported
 

@@ -1,5 +1,6 @@
 -- What is reported of a module, and by which diagnostics.
-use Rattle.std.specs.Prelude.{◌≡◌, Bool, true, false, cond, not, ◌&&◌, List, [], ◌∷◌, map, Option, Some, None, option_map}
+use Rattle.std.specs.Prelude.{◌≡◌, ℕ, suc, ◌≤◌, Bool, true, false, cond, not, ◌&&◌, List, [], ◌∷◌, map, AllPairs}
+use Rattle.std.specs.Prelude.{Option, Some, None, option_map}
 use Rattle.std.specs.List.{list_any, filter, Contains, IsDistinct}
 use Rattle.std.specs.Str.{bytes_eq}
 use Rattle.url.specs.Parts.{serialize}
@@ -61,11 +62,17 @@ fault_reported t (UnsupportedNestedJavaScript specifier) =
     cond (bytes_eq t (serialize specifier)) (Some untyped_module) None
 fault_reported t d = option_map of_demand (demand_fault d)
 
+-- where a report stands: those of the module as a whole first, and then those of demands, by their places in the text
+abbrev pub place_of : ModuleFault → ℕ
+place_of (of_demand fault) = suc fault.range.start.0
+place_of _ = 0
+
 -- These diagnostics of a module report what of these faults is to be reported, with its source text, and nothing else.
--- All that is to be reported is reported, but no two report the same.
+-- All that is to be reported is reported, in the order of places, but no two report the same.
 pub record AreDiagnosed (t : Text) (faults : List ModuleFault) (ds : List FastCheckDiagnostic) : Type 0 where
   pub reports : List ModuleFault
   pub tell : map (fault_reported t) ds ≡ map Some reports
   pub once : IsDistinct same_report reports
+  pub by_place : AllPairs (λ f g. place_of f ≤ place_of g) reports
   pub only : (f : ModuleFault) → Contains reports f → Contains (all_reported faults) f
   pub all : (f : ModuleFault) → Contains (all_reported faults) f → list_any (same_report f) reports ≡ true

@@ -1,6 +1,6 @@
 //! What is wrong with a module, each fault once.
 
-ghost use Rattle.std.specs.Prelude.{◌≡◌, ◌∷◌, [], List, Some, map, OnOk, IfOk};
+ghost use Rattle.std.specs.Prelude.{◌≡◌, ◌≤◌, ◌∷◌, [], List, Some, map, AllPairs, OnOk, IfOk};
 ghost use Rattle.std.specs.List.{flat_map, IsDistinct};
 ghost use Rattle.std.specs.Rc.{rc_str_bytes};
 ghost use Rattle.url.specs.Parts.{serialize};
@@ -8,7 +8,7 @@ ghost use Rattle.fast_check_package_ranges.specs.findings.Faults.{source_of, pla
 ghost use Rattle.fast_check_package_ranges.specs.findings.Findings.{entry_fault};
 ghost use Rattle.fast_check_package_ranges.specs.findings.Found.{source_in};
 ghost use Rattle.fast_check_package_ranges.specs.findings.Yields.{ModuleFault, untyped_module, of_demand};
-ghost use Rattle.fast_check_package_ranges.specs.findings.Diagnostics.{fault_reported, same_report, AreDiagnosed};
+ghost use Rattle.fast_check_package_ranges.specs.findings.Diagnostics.{fault_reported, same_report, place_of, AreDiagnosed};
 ghost use Rattle.fast_check_package_ranges.specs.findings.ModuleFaults.{fault_with, fault_of, AddsFaults, AreFaultsOf, AddsTo, reported_with};
 
 use crate::findings::demand_fault::{DemandFault, placed};
@@ -121,6 +121,7 @@ fn diagnostics_of(
 ) -> Result<Vec<FastCheckDiagnostic>, AllocError>
     ensures reported { IfOk result (λ out. map (fault_reported (serialize specifier.now)) out.items ≡ map (λ e. Some (fault_of e)) others.entries) }
     ensures once { IfOk result (λ out. IsDistinct same_report (map fault_of others.entries)) }
+    ensures by_place { IfOk result (λ out. AllPairs (λ f g. place_of f ≤ place_of g) (map fault_of others.entries)) }
 {
     let mut out = Vec::new(alloc);
     for (fault, text) in others {

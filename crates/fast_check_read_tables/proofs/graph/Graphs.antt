@@ -140,7 +140,7 @@ pub graph_of_parts : {S : Type 0} (modules : BTreeMap Parts Module) (resolutions
     }
 graph_of_parts modules resolutions packages g h = λ i. record {
   modules = λ specifier. h.has_modules specifier i;
-  resolutions = λ text referrer. h.resolves text referrer i;
+  resolutions = λ text referrer. ap (λ (o : Option Texts_of). option_and_then (text_resolved text) o) (h.has_resolutions referrer) i;
   packages = λ nv. (ap (option_map seen_exports) (h.has_packages (nv_of nv))
       ∙ map_twice (λ m. m.entries) seen_exports (lookup (is_package (nv_of nv)) packages.entries)) i;
 }

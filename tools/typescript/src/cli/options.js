@@ -19,7 +19,7 @@ const COMMANDS = {
   },
   fix: {
     words: '[DIR]', least: 0, most: 1, text: "writes the types that messages ask for, as TypeScript's compiler infers them",
-    more: ['It runs until it can write no further type, and then reports the messages that are left.'], example: 'fix --dry .',
+    more: ['It runs until it can write no further type, and then reports the messages that are left.'], example: 'fix --dry-run .',
   },
   skeleton: {
     words: '[DIR [OUT]]', least: 0, most: 2, text: 'the skeletons of its public modules as TypeScript, in the folder OUT or on standard output',
@@ -93,7 +93,8 @@ const OPTIONS = [
     text: "check: have TypeScript's compiler check the skeletons, and report errors and types that the source has not",
   },
   { word: '--no-cache', key: 'noCache', commands: ALL, text: 'keep nothing between runs, and use nothing that was kept' },
-  { word: '--dry', also: ['--dry-run'], key: 'dry', commands: ['fix'], text: 'fix: show the changes, and write nothing' },
+  { word: '--dry-run', also: ['--dry'], key: 'dry', commands: ['fix'], text: 'fix: show the changes, and write nothing' },
+  { word: '--types', key: 'types', commands: ['report'], text: "report: have TypeScript's compiler infer the missing types, and show what fix would write" },
   { word: '--markdown', key: 'markdown', commands: ['diff'], text: 'diff: a text for a pull request' },
   { word: '--dts', key: 'dts', commands: ['skeleton'], text: 'skeleton: declaration files (.d.ts) in place of skeletons' },
   { word: '--with-dts', key: 'withDts', commands: ['skeleton'], text: 'skeleton: declaration files beside skeletons' },

@@ -30,6 +30,7 @@ export interface Options {
   verify?: boolean;
   noCache?: boolean;
   dry?: boolean;
+  types?: boolean;
   markdown?: boolean;
   dts?: boolean;
   withDts?: boolean;

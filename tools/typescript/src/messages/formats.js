@@ -94,7 +94,7 @@ function closing(/** @type {Summed[]} */ results) {
     '  3. its declaration files are made without a type checker.',
   ];
   const fixable = slow.find(({ code }) => FIXABLE.has(code));
-  return fixable ? [...why, `\`${NAME} fix\` writes those that the compiler infers; \`fix --dry\` shows them first.`] : why;
+  return fixable ? [...why, `\`${NAME} fix\` writes those that the compiler infers; \`fix --dry-run\` shows them first.`] : why;
 }
 
 /** How many return types single returns name, for which deno would ask, where there are some. */

@@ -1,111 +1,41 @@
 'use strict';
-// A page to look at: the source of each module beside its skeleton. It stands alone: no script, and no style from elsewhere.
+// A page to look at: the source of each module beside its skeleton. It stands alone, and is whole without its script, which filters modules by their names.
 const fs = require('fs');
 const path = require('path');
-const { labelOf } = require('../messages/codes.js');
+const { classesOf, escape, idOf, listing, message } = require('./listing.js');
 const { Marks } = require('./marks.js');
 const { withPartial } = require('../program/preview.js');
-const { printed } = require('../skeleton/write.js');
+const { count } = require('../messages/formats.js');
+const { printedModule } = require('../skeleton/write.js');
+const { Lines } = require('../tree/lines.js');
 const { parse, toTree } = require('../tree/index.js');
 const { told, ways } = require('../skeleton/reasons.js');
 
 /** @typedef {import('../program/types').World} World */
 /** @typedef {import('../program/types').SourceFile} SourceFile */
-/** @typedef {import('../skeleton/types').Printed} Printed */
-/** @typedef {import('../skeleton/types').Way} Way */
-/** @typedef {import('../skeleton/modules.js').Names} Names */
-/** @typedef {import('../messages/types').PlacedMessage} PlacedMessage */
 /** @typedef {import('../messages/types').Message} Message */
-
-/** @typedef {import('../tree/lines.js').Lines} Lines */
+/** @typedef {import('./listing.js').Written} Written */
 /** @typedef {{ found: Map<string, import('../skeleton/types').Way>, names: Map<string, import('../skeleton/modules.js').Names> }} Known */
+/** @typedef {{ file: SourceFile, messages: Message[] }} Shown */
 
-/** @type {Record<string, string>} */
-const ESCAPES = { '&': '&amp;', '<': '&lt;', '>': '&gt;', '"': '&quot;' };
-const MARKS = ['', 'kept', 'gone'];
+const LEGEND = '<p class="legend"><span class="kept">public</span><span class="gone">goes</span></p>';
+// Of more modules those folders alone are open in the list that have messages.
+const OPEN = 40;
 
-function escape(/** @type {unknown} */ text) {
-  return String(text).replace(/[&<>"]/g, (each) => ESCAPES[each]);
-}
+/** Names in the order in which people list them: `a2` before `a10`. */
+const byName = new Intl.Collator('en', { numeric: true }).compare;
 
-/** The id of a module's section. */
-function idOf(/** @type {string} */ name) {
-  return `module-${encodeURIComponent(name).replace(/%/g, '_')}`;
-}
-
-/** The class of each place of a text, in UTF-16 units: what stays and goes, and where messages point to. */
-function classesOf(/** @type {SourceFile} */ file, /** @type {Uint8Array | null} */ marks, /** @type {PlacedMessage[]} */ messages) {
-  const classes = new Array(file.text.length).fill('');
-  if (marks) {
-    let position = 1;
-    for (let at = 0; at < file.text.length; at++) {
-      classes[at] = MARKS[marks[position]];
-      position = file.lines.offsets.of(at + 1);
-    }
-  }
-  for (const { start, end, level } of messages) {
-    const wrong = level === 'Warning' ? 'wrong warning' : 'wrong';
-    for (let at = start; at < Math.max(end, start + 1) && at < classes.length; at++) classes[at] = `${classes[at]} ${wrong}`.trim();
-  }
-  return classes;
-}
-
-/** A line of text as runs of one class each. */
-function line(/** @type {string} */ text, /** @type {number} */ start, /** @type {string[]} */ classes) {
-  const indent = text.length - text.trimStart().length;
-  let made = text.slice(0, indent);
-  for (let at = indent; at < text.length;) {
-    const name = classes[start + at];
-    let end = at + 1;
-    while (end < text.length && classes[start + end] === name) end++;
-    const part = escape(text.slice(at, end));
-    made += name ? `<span class="${name}">${part}</span>` : part;
-    at = end;
-  }
-  return made;
-}
-
-/** What is said of a message besides its code and its text. */
-function more(/** @type {Message} */ each) {
-  const page = each.docs && `<a href="${escape(each.docs)}">${escape(each.docs)}</a>`;
-  return [each.hint && `hint: ${escape(each.hint)}`, ...(each.info || []).map(escape), page].filter(Boolean);
-}
-
-function message(/** @type {Message} */ each) {
-  const label = labelOf(each.code) ? `: ${labelOf(each.code)}` : '';
-  const lines = more(each).map((it) => `<div>${it}</div>`).join('');
-  return `<div class="message${each.level === 'Warning' ? ' warning' : ''}"><b>${escape(each.code)}</b> ${escape(each.message)}${escape(label)}${lines}</div>`;
-}
-
-/** A text with its line numbers, and the messages behind the lines at which they end. */
-function listing(/** @type {Lines} */ lines, /** @type {string[]} */ classes, /** @type {PlacedMessage[]} */ messages) {
-  const behind = new Map();
-  for (const each of messages) {
-    const at = lines.place(Math.max(each.start, each.end)).line;
-    behind.set(at, (behind.get(at) || '') + message(each));
-  }
-  const rows = [];
-  const last = lines.line(lines.starts.length - 1) === '' ? lines.starts.length - 1 : lines.starts.length;
-  for (let at = 0; at < last; at++) {
-    rows.push(`<span class="row" data-line="${at + 1}">${line(lines.line(at), lines.starts[at], classes)}</span>${behind.get(at) || ''}`);
-  }
-  for (const [at, text] of behind) if (at >= last) rows.push(text);
-  return `<pre>${rows.join('')}</pre>`;
-}
+const read = (/** @type {string} */ name) => fs.readFileSync(path.join(__dirname, name), 'utf8');
 
 /** Why the declarations of a module are public. */
 function reasons(/** @type {World} */ world, /** @type {Known} */ { found, names }, /** @type {string} */ specifier) {
   const declared = names.get(specifier);
-  if (!declared) return '';
-  const items = [];
-  for (const name of declared.declared.keys()) {
+  const items = [...(declared ? declared.declared.keys() : [])].map((name) => {
     const key = `${specifier}\n${name}`;
-    const way = found.has(key) ? told(world, found, key) : 'the answer does not tell why';
-    items.push(`<li><code>${escape(name)}</code> ${escape(way)}</li>`);
-  }
+    return `<li><code>${escape(name)}</code> ${escape(found.has(key) ? told(world, found, key) : 'the answer does not tell why')}</li>`;
+  });
   if (!items.length) return '';
-  const open = items.length > 8 ? '' : ' open';
-  return `<details${open}><summary>why: ${items.length} public</summary><ul class="ways">${items.join('')}</ul></details>`;
+  return `<details${items.length > 8 ? '' : ' open'}><summary>why: ${items.length} public</summary><ul class="ways">${items.join('')}</ul></details>`;
 }
 
 /** The whole tree of a module's source: the program's input leaves out what no rule looks at. */
@@ -113,54 +43,86 @@ function programOf(/** @type {SourceFile} */ file) {
   return /** @type {forms.Program} */ (toTree(parse(file.path, file.text)).program);
 }
 
+/** What stands behind the word "skeleton": which part of one a preview is. */
+function mark(/** @type {World} */ world, /** @type {Shown} */ { file, messages }) {
+  if (world.skeletons.has(file.specifier)) return '';
+  return messages.length ? ' (a preview, without what has messages)' : ' (a preview)';
+}
+
 /** A module's section: its source, its skeleton if it has one, its messages. */
-function section(/** @type {World} */ world, /** @type {{ found: Map<string, Way>; names: Map<string, Names>; }} */ known, /** @type {SourceFile} */ file, /** @type {Printed | undefined} */ skeleton) {
-  const messages = world.messages.filter((each) => each.specifier === file.specifier);
+function section(/** @type {World} */ world, /** @type {Known} */ known, /** @type {Shown} */ shown, /** @type {Written} */ written) {
+  const { file, messages } = shown;
   const placed = messages.flatMap((each) => (each.lines ? each : []));
-  const answer = world.skeletons.get(file.specifier) || (skeleton && world.preview && world.preview.skeletons.get(file.specifier));
-  const marks = answer ? new Marks(programOf(file), answer.program, Buffer.byteLength(file.text) + 1).marks : null;
-  const source = listing(file.lines, classesOf(file, marks, placed), placed);
-  const { Lines } = require('../tree/lines.js');
-  const beside = skeleton ? `<div class="pane"><h3>skeleton${skeleton.isPreview ? ' (a preview)' : ''}</h3>${listing(new Lines(skeleton.text), [], [])}</div>` : '';
-  return `<section id="${idOf(file.name)}"><h2>${escape(file.name)}</h2>
-${messages.filter((each) => !each.lines).map(message).join('')}${skeleton ? reasons(world, known, file.specifier) : ''}
-<div class="panes${skeleton ? '' : ' alone'}"><div class="pane"><h3>source</h3>${source}</div>${beside}</div></section>`;
+  const skeleton = withPartial(world).skeletons.get(file.specifier);
+  const marks = skeleton ? new Marks(programOf(file), skeleton.program, Buffer.byteLength(file.text) + 1).marks : null;
+  const source = listing(file.lines, classesOf(file, marks, placed), placed, file.name, written);
+  const text = skeleton && printedModule(file.name, skeleton, /\.d\.[cm]?ts$/.test(file.specifier));
+  const beside = text === undefined ? '' : `<div class="pane"><h3>skeleton${mark(world, shown)}</h3>${listing(new Lines(text), [], [])}</div>`;
+  return `<section id="${idOf(file.name)}" data-name="${escape(file.name)}"${messages.length ? '' : ' data-clean'}><h2>${escape(file.name)}</h2>
+${messages.filter((each) => !each.lines).map((each) => message(each)).join('')}${skeleton ? reasons(world, known, file.specifier) : ''}
+<div class="panes${beside ? '' : ' alone'}"><div class="pane"><h3>source</h3>${source}</div>${beside}</div></section>`;
 }
 
-/** The list of all modules, the public ones as links. */
-function contents(/** @type {World} */ world, /** @type {SourceFile[]} */ shown) {
-  const others = [...world.files.values()].filter((file) => !shown.includes(file)).map((file) => `<code>${escape(file.name)}</code>`);
-  const links = shown.map((file) => {
-    const count = world.messages.filter((each) => each.specifier === file.specifier).length;
-    return `<li><a href="#${idOf(file.name)}">${escape(file.name)}</a>${count ? ` (${count})` : ''}</li>`;
+/** The modules by their folders, as links. */
+function contents(/** @type {Shown[]} */ shown) {
+  /** @type {Map<string, Shown[]>} */
+  const folders = new Map();
+  for (const each of shown) {
+    const folder = path.posix.dirname(each.file.name);
+    folders.set(folder, [...(folders.get(folder) || []), each]);
+  }
+  const entry = (/** @type {Shown} */ { file, messages }) => {
+    const link = `<a href="#${idOf(file.name)}">${escape(path.posix.basename(file.name))}</a>`;
+    return `<li data-name="${escape(file.name)}"${messages.length ? '' : ' data-clean'}>${link}${messages.length ? ` (${messages.length})` : ''}</li>`;
+  };
+  const list = [...folders].map(([folder, all]) => {
+    const wrong = all.some(({ messages }) => messages.length);
+    const open = wrong || shown.length <= OPEN ? ' open' : '';
+    const name = folder === '.' ? 'the package' : `${escape(folder)}/`;
+    return `<details${open}${wrong ? '' : ' data-clean'}><summary>${name} (${all.length})</summary><ul>${all.map(entry).join('')}</ul></details>`;
   });
-  const which = others.length === 1 ? 'this file' : 'these files';
-  const what = world.skeletons.size || world.preview ? 'nothing is public' : 'nothing is public, or nothing is wrong with it';
-  const rest = others.length ? `<p>Of ${which} ${what}: ${others.join(', ')}</p>` : '';
-  return `<nav><ul>${links.join('')}</ul>${rest}</nav>`;
+  return `<nav aria-label="modules"><input type="search" id="filter" placeholder="filter modules" aria-label="filter modules" hidden>${list.join('')}</nav>`;
 }
 
-const LEGEND = '<p class="legend"><span class="kept">public</span><span class="gone">goes</span></p>';
+/** The files that have no section. */
+function others(/** @type {World} */ world, /** @type {Shown[]} */ shown) {
+  const there = new Set(shown.map(({ file }) => file));
+  const names = [...world.files.values()].filter((file) => !there.has(file)).map(({ name }) => name).sort(byName).map((name) => `<code>${escape(name)}</code>`);
+  const what = world.skeletons.size || world.preview ? 'nothing is public' : 'nothing is public, or nothing is wrong with it';
+  return names.length ? `<p class="others">Of ${names.length === 1 ? 'this file' : 'these files'} ${what}: ${names.join(', ')}</p>` : '';
+}
 
-/** The page of a folder that was analysed. */
-function page(/** @type {World} */ analysed) {
+/** What the page begins with: how many files and messages there are, and what is shown of them. */
+function summary(/** @type {World} */ world) {
+  const all = withPartial(world).skeletons.size;
+  const previewed = all > world.skeletons.size;
+  const modules = count(all, 'public module');
+  const shows = !all ? 'a package with messages has no skeletons' : previewed ? `${modules} in a preview` : modules;
+  return [count(world.files.size, 'file'), world.messages.length ? `${count(world.messages.length, 'message')}; ${shows}` : shows].join(', ');
+}
+
+/** The page of a folder that was analysed. `written` says the line that `fix` writes for a message. */
+function page(/** @type {World} */ analysed, /** @type {Written} */ written = () => undefined) {
   const world = { ...analysed, messages: [...analysed.warnings, ...analysed.broken, ...analysed.messages] };
-  const skeletons = new Map(printed(world).map((each) => [each.specifier, each]));
+  const { skeletons } = withPartial(world);
   const known = ways(withPartial(world));
-  const files = [...world.files.values()].sort((a, b) => (a.name < b.name ? -1 : 1));
-  const shown = files.filter((file) => skeletons.has(file.specifier) || world.messages.some((each) => each.specifier === file.specifier));
-  const title = world.info.packages.map(({ name, version }) => `${name}@${version}`).join(', ');
-  const modules = `${skeletons.size} public module${skeletons.size === 1 ? '' : 's'}`;
-  const previewed = [...skeletons.values()].filter((each) => each.isPreview).length;
-  const shows = !skeletons.size ? 'a package with messages has no skeletons' : previewed ? `${modules}, of which ${previewed} in a preview` : modules;
-  const said = world.messages.length ? `${world.messages.length} message${world.messages.length === 1 ? '' : 's'}; ${shows}` : shows;
-  const elsewhere = world.messages.filter((each) => !world.files.has(each.specifier || '')).map(message).join('');
+  const shown = [...world.files.values()].sort((a, b) => byName(path.posix.dirname(a.name), path.posix.dirname(b.name)) || byName(a.name, b.name))
+    .map((file) => ({ file, messages: world.messages.filter((each) => each.specifier === file.specifier) }))
+    .filter(({ file, messages }) => messages.length || skeletons.has(file.specifier));
+  const title = escape(world.info.packages.map(({ name, version }) => `${name}@${version}`).join(', '));
+  const elsewhere = world.messages.filter((each) => !world.files.has(each.specifier || '')).map((each) => message(each)).join('');
+  const some = shown.some(({ messages }) => messages.length) && shown.some(({ messages }) => !messages.length);
   return `<!DOCTYPE html>
 <html lang="en"><head><meta charset="utf-8"><meta name="viewport" content="width=device-width, initial-scale=1">
-<title>${escape(title)}</title><style>${fs.readFileSync(path.join(__dirname, 'report.css'), 'utf8')}</style></head>
-<body><h1>${escape(title)}</h1><p>${escape(`${files.length} file${files.length === 1 ? '' : 's'}, ${said}`)}</p>
-${skeletons.size ? LEGEND : ''}${elsewhere}${contents(world, shown)}
-${shown.map((file) => section(world, known, file, skeletons.get(file.specifier))).join('\n')}
+<title>${title}</title><style>${read('report.css')}</style></head>
+<body><h1>${title}</h1><p>${escape(summary(world))}</p>
+${skeletons.size ? LEGEND : ''}${elsewhere}
+${some ? '<input type="checkbox" id="wrong"><label for="wrong">with messages only</label>' : ''}
+<div class="layout">${contents(shown)}
+<main>
+${shown.map((each) => section(world, known, each, written)).join('\n')}
+${others(world, shown)}
+</main></div><script>${read('filter.js')}</script>
 </body></html>
 `;
 }

@@ -4,7 +4,7 @@ use Rattle.std.specs.BTreeMap.{is_at}
 use Rattle.std.specs.BTreeSet.{contains}
 use Rattle.std.specs.List.{list_any}
 use Rattle.std.specs.declared.alloc.Global.{Global}
-use Rattle.std.proofs.lemmas.Bool.{not-false}
+use Rattle.std.proofs.lemmas.Bool.{not-false, not-true}
 use Rattle.fast_check_symbols.specs.contracts.aliases.AliasOrd.TheImpl as order
 use Rattle.fast_check_symbols.specs.AliasKeys.{alias_seen, AreMet}
 use Rattle.fast_check_symbols.proofs.Aliased.{met_none, noted_none, noted_before, noted_new, noted_all}
@@ -31,7 +31,9 @@ loop-place-preserved c =
           subst (λ m. AreMet decls (i + 1) m c.match-alias_of.places.items) (sym w.met-is)
           (noted_new decls i x lt read met places c.loop-place.invariant w.in-Some.alias
           (ap (option_map alias_seen) (sym w.in-Some.is) ∙ c.alias_of.ensures)
-          w.insert.new.self c.match-alias_of.places.items w.in_ok-insert.ensures.updates
+          w.insert.new.self c.match-alias_of.places.items
+          (not-true (contains order.cmp-value.it met w.in-Some.alias) (sym w.in_ok-insert.ensures.added ∙ w.if-branch.true))
+          w.in_ok-insert.ensures.updates
           (ap items w.places-is ∙ w.in_ok-push.ensures.items))
       | in-Some+in_ok-insert+else-branch w ↦
           subst (λ m. AreMet decls (i + 1) m c.match-alias_of.places.items) (sym w.met-is)

@@ -7,7 +7,7 @@ use Rattle.url.specs.Parts.{serialize}
 use Rattle.fast_check_package_ranges.specs.contracts.findings.module_faults.ReportedFaultOrd.TheImpl as order
 use Rattle.fast_check_package_ranges.specs.findings.Diagnostics.{fault_reported}
 use Rattle.fast_check_package_ranges.specs.findings.ModuleFaults.{fault_of}
-use Rattle.fast_check_package_ranges.proofs.findings.Reports.{told_once}
+use Rattle.fast_check_package_ranges.proofs.findings.Reports.{told_once, told_by_place}
 use Rattle.fast_check_package_ranges.proofs.findings.module_faults.diagnostics_of.Goals as goal
 
 pub loop-fault-preserved : goal.loop-fault-preserved
@@ -26,3 +26,6 @@ returns-clause-reported c =
 pub returns-clause-once : goal.returns-clause-once
 returns-clause-once c = told_once c.args.others.entries
     (IsDistinct-from_sorted order.cmp-value.it (keys_of c.args.others.entries) c.into_iter-fault-iterator.ensures.into_iter_gives.5)
+
+pub returns-clause-by_place : goal.returns-clause-by_place
+returns-clause-by_place c = told_by_place c.args.others.entries c.into_iter-fault-iterator.ensures.into_iter_gives.5

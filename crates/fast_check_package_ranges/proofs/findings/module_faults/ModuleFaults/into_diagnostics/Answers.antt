@@ -7,5 +7,5 @@ use Rattle.fast_check_package_ranges.proofs.findings.module_faults.ModuleFaults.
 pub returns : goal.returns
 returns c = λ fs a.
     diagnosed (serialize c.args.specifier.now) fs c.args.self.is_untyped c.args.self.others.entries c.push_untyped.new.out.items a.untyped a.reported
-    c.in_ok-out.ensures.once
+    c.in_ok-out.ensures.once c.in_ok-out.ensures.by_place
     (c.in_ok-push_untyped.ensures ∙ ap (reported_with c.args.self.is_untyped) c.in_ok-out.ensures.reported)

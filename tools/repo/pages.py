@@ -1,0 +1,113 @@
+#!/usr/bin/env python3
+"""What the pages name, and is not there: links, anchors, files and names in backticks, scripts and options of commands that are shown.
+
+    tools/repo/pages.py             all pages of this repository; prints what is not there, and ends with 1 where something is not
+    tools/repo/pages.py FOLDER      the links and anchors of the pages below a folder
+"""
+import re
+import subprocess
+import sys
+from functools import cache
+from pathlib import Path
+from urllib.parse import unquote
+
+TOP = Path(__file__).resolve().parents[2]
+LINK = re.compile(r"!?\[(?:[^\]\[]|\[[^\]]*\])*\]\(([^)\s]+)\)")
+FENCED = re.compile(r"^ *(```|~~~).*?^ *\1", re.M | re.S)
+WORD = re.compile(r"[A-Za-z_][A-Za-z0-9_]*")
+FILE = re.compile(r"[\w./-]+\.(antt|rt|py|js|sh|json|txt|md)")
+# Pages that name what is gone, or stands in other projects.
+OF_OTHERS = {"CHANGELOG.md", "docs/DIFFERENCES.md", "docs/dev/evaluation.md"}
+
+
+@cache
+def listed(pattern="*"):
+    found = subprocess.run(["git", "-C", TOP, "ls-files", "-co", "--exclude-standard", pattern], check=True, capture_output=True, text=True).stdout.split("\n")
+    return [each for each in found if each and "/test/packages/" not in each and (TOP / each).is_file()]
+
+
+def pages(folder):
+    return sorted(folder.rglob("*.md")) if folder != TOP else [folder / each for each in listed("*.md")]
+
+
+def anchors(page):
+    """The anchors of a page's titles, as renderers of Markdown make them."""
+    titles = re.findall(r"^#{1,6} +(.*?)\s*#*$", FENCED.sub("", page.read_text()), re.M)
+    words = (re.sub(r"[`*]|\[([^\]]*)\]\([^)]*\)", r"\1", title) for title in titles)
+    return {re.sub(r"[^\w\- ]", "", title.lower()).replace(" ", "-") for title in words}
+
+
+def wrong_links(page):
+    text = re.sub(r"`[^`\n]*`", "", FENCED.sub("", page.read_text()))
+    for target in LINK.findall(text):
+        if re.match(r"[a-z]+:", target):
+            continue
+        path, _, anchor = target.partition("#")
+        file = (page.parent / unquote(path)).resolve() if path else page
+        if not file.exists() or anchor and file.suffix == ".md" and anchor not in anchors(file):
+            yield f"the link {target}"
+
+
+@cache
+def words_of_files():
+    """Each word of the files that are no pages."""
+    words = set()
+    for each in listed():
+        try:
+            words.update([] if each.endswith(".md") else WORD.findall((TOP / each).read_text()))
+        except UnicodeDecodeError:
+            continue
+    return words
+
+
+def wrong_names(page):
+    """Files and names in backticks that no file is called by, or has. A crate may stand without the beginning that all share."""
+    files = {Path(each).name for each in listed()} | {"deno.json"}
+    for shown in re.findall(r"`([^`\n]+)`", FENCED.sub("", page.read_text())):
+        if FILE.fullmatch(shown) and not re.search(r"NAME|CRATE|EDIT", shown) and Path(shown).name not in files:
+            yield f"the file {shown}"
+        for word in WORD.findall(shown):
+            is_name = "_" in word.strip("_") or re.search(r"[a-z][A-Z]", word)
+            there = {word, "fast_check_" + word.lstrip("_"), word + "lexer", "fast_check_source" + word}
+            if is_name and not there & words_of_files() and not Path(TOP, "crates", "fast_check_" + word).exists():
+                yield f"the name {word}"
+
+
+@cache
+def help_of(command):
+    done = subprocess.run([TOP / "fast-check-ts", "help", command], capture_output=True, text=True)
+    return done.stdout if done.returncode == 0 else None
+
+
+def wrong_commands(page):
+    """Scripts of this repository, commands and options that stand in blocks of code and are not there."""
+    text = page.read_text()
+    lines = re.findall(r"^    +(\S.*)$", text, re.M) + [line for block in FENCED.finditer(text) for line in block[0].split("\n")]
+    for line in lines:
+        words = re.sub(r"\s(#|  ).*", "", line.removeprefix("$ ").removeprefix("npx ")).split()
+        first = words[0] if words else ""
+        if re.match(r"(\./)?(bench|tools|forms|examples|\.ci)/\S+$", first) and not (TOP / first).exists():
+            yield f"the script {first}"
+        if first in ("./fast-check-ts", "fast-check-ts", "nagdrez") and len(words) > 1 and re.fullmatch(r"[a-z]+", words[1]) and words[1] != "help":
+            known = help_of(words[1])
+            if known is None:
+                yield f"the command {words[1]}"
+            for option in re.findall(r"(?<=\s)--[a-z-]+", " ".join(words)) if known else []:
+                if option not in known:
+                    yield f"the option {option} of {words[1]}"
+
+
+def main(folder):
+    checks = [wrong_links] + ([wrong_names, wrong_commands] if folder == TOP else [])
+    found = []
+    for page in pages(folder):
+        of_others = folder == TOP and str(page.relative_to(TOP)) in OF_OTHERS
+        found += [(page, each) for check in checks if not (of_others and check == wrong_names) for each in check(page)]
+    for page, each in found:
+        print(f"{page.relative_to(folder)}: {each} is not there")
+    print(f"{len(pages(folder))} pages name {len(found)} things that are not there")
+    return 1 if found else 0
+
+
+if __name__ == "__main__":
+    sys.exit(main(Path(sys.argv[1]).resolve() if len(sys.argv) > 1 else TOP))
