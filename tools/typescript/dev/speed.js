@@ -91,6 +91,7 @@ const COMPILER = process.env.TYPESCRIPT || '/usr/share/nodejs/typescript';
 
 /** @type {Row[]} */
 const ROWS = [
+  { name: 'Node alone', modules: 1, words: ['node', '--eval', ''] },
   { name: 'check of one module, nothing changed', modules: 1, words: ['check'], most: 0.2 },
   { name: 'the same with TYPESCRIPT set', modules: 1, words: ['check'], most: 0.35, environment: { TYPESCRIPT: COMPILER } },
   { name: 'check of one module of which nothing is kept', modules: 1, words: ['check'], most: 0.32, before: editOne },
@@ -109,9 +110,12 @@ function timed(/** @type {Version} */ { launcher, kept }, /** @type {Row} */ row
   const env = { ...process.env, ...row.environment, XDG_CACHE_HOME: kept };
   if (!row.environment) delete env.TYPESCRIPT;
   const begun = process.hrtime.bigint();
-  const asked = [launcher, ...row.words, folder];
-  const compiled = [process.execPath, path.join(COMPILER, 'lib/tsc.js'), ...row.words.slice(1), '--outDir', path.join(kept, 'out'), path.join(folder, 'mod.ts')];
-  const words = ['-c', 'TIMEFORMAT="%U %S"; time "$@"', 'bash', ...(row.words[0] === 'tsc' ? compiled : asked)];
+  /** @type {Record<string, string[]>} */
+  const others = {
+    node: [process.execPath, ...row.words.slice(1)],
+    tsc: [process.execPath, path.join(COMPILER, 'lib/tsc.js'), ...row.words.slice(1), '--outDir', path.join(kept, 'out'), path.join(folder, 'mod.ts')],
+  };
+  const words = ['-c', 'TIMEFORMAT="%U %S"; time "$@"', 'bash', ...(others[row.words[0]] || [launcher, ...row.words, folder])];
   const { status, stdout, stderr } = childProcess.spawnSync('bash', words, { encoding: 'utf8', env, maxBuffer: 1 << 30, stdio: ['ignore', 'pipe', 'pipe'] });
   const seconds = Number(process.hrtime.bigint() - begun) / 1e9;
   if (status !== 0) throw new Error(`${launcher} ${row.words.join(' ')} ended with ${status}: ${stdout}${stderr}`);
