@@ -38,7 +38,8 @@ cat > "$folder/tsconfig.json" <<END
 {
   "extends": "$here/tsconfig.json",
   "compilerOptions": { "typeRoots": ["$types"], "types": ["node"], "paths": { "typescript": ["$(dirname "$tsc")/typescript.d.ts"] } },
-  "include": ["$here/bin", "$here/src", "$here/dev", "$here/test/*.js", "$here/test/support"]
+  "include": ["$here/bin", "$here/src", "$here/dev", "$here/test/**/*.js"],
+  "exclude": ["$here/test/packages", "$here/test/expected"]
 }
 END
 exec node "$tsc" -p "$folder"

@@ -5,7 +5,7 @@
 //   FAST_CHECK=PROGRAM node tools/typescript/dev/speed.js [CLONE]
 //
 // Each figure is the median of nine runs in seconds of the clock, with the seconds of processor behind it; where another clone is named, it runs in turn with this one
-// and has the first column. The last line is what the program is sent.
+// and has the first column. The last column is what the clock may show at most on a quiet machine. The last line is what the program is sent.
 const childProcess = require('child_process');
 const fs = require('fs');
 const os = require('os');
@@ -77,8 +77,8 @@ function writePackage(/** @type {string} */ folder, /** @type {number} */ count)
 /** @typedef {{ launcher: string, kept: string }} Version */
 /** @typedef {{ seconds: number, processor: number }} Times */
 
-/** What is timed: its name, the modules of the package, the words, and what is done before each run. */
-/** @typedef {{ name: string, modules: number, words: string[], environment?: NodeJS.ProcessEnv, before?: (folder: string, run: number) => void }} Row */
+/** What is timed: its name, the modules of the package, the words, the seconds that it may take, and what is done before each run. */
+/** @typedef {{ name: string, modules: number, words: string[], most?: number, environment?: NodeJS.ProcessEnv, before?: (folder: string, run: number) => void }} Row */
 
 /** Edits the body of a function of a module, another way each time. */
 function editOne(/** @type {string} */ folder, /** @type {number} */ run) {
@@ -91,13 +91,13 @@ const COMPILER = process.env.TYPESCRIPT || '/usr/share/nodejs/typescript';
 
 /** @type {Row[]} */
 const ROWS = [
-  { name: 'check of one module, nothing changed', modules: 1, words: ['check'] },
-  { name: 'the same with TYPESCRIPT set', modules: 1, words: ['check'], environment: { TYPESCRIPT: COMPILER } },
-  { name: 'check of one module that changed', modules: 1, words: ['check'], before: editOne },
+  { name: 'check of one module, nothing changed', modules: 1, words: ['check'], most: 0.2 },
+  { name: 'the same with TYPESCRIPT set', modules: 1, words: ['check'], most: 0.35, environment: { TYPESCRIPT: COMPILER } },
+  { name: 'check of one module of which nothing is kept', modules: 1, words: ['check'], most: 0.32, before: editOne },
   { name: 'the same with TYPESCRIPT set', modules: 1, words: ['check'], environment: { TYPESCRIPT: COMPILER }, before: editOne },
   { name: 'check --no-cache of one module', modules: 1, words: ['check', '--no-cache'] },
-  { name: `check of ${MANY} modules, nothing changed`, modules: MANY, words: ['check'] },
-  { name: `check of ${MANY} modules, one changed`, modules: MANY, words: ['check'], before: editOne },
+  { name: `check of ${MANY} modules, nothing changed`, modules: MANY, words: ['check'], most: 0.25 },
+  { name: `check of ${MANY} modules, one changed`, modules: MANY, words: ['check'], most: 0.45, before: editOne },
   { name: `check --no-cache of ${MANY} modules`, modules: MANY, words: ['check', '--no-cache'] },
   { name: `skeleton --dts --no-cache of ${MANY} modules`, modules: MANY, words: ['skeleton', '--dts', '--no-cache'] },
   { name: `tsc --declaration of ${MANY} modules`, modules: MANY, words: ['tsc', '--declaration', '--emitDeclarationOnly', '--target', 'esnext', '--moduleResolution', 'node'] },
@@ -156,8 +156,8 @@ try {
     }
     return folder;
   };
-  for (const row of ROWS) console.log(`| ${[row.name, ...measured(row, versions, packageOf(row.modules))].join(' | ')} |`);
-  console.log(`| what is sent of ${MOST} modules | ${versions.map((it) => inputOf(it, packageOf(MOST))).join(' | ')} |`);
+  for (const row of ROWS) console.log(`| ${[row.name, ...measured(row, versions, packageOf(row.modules)), row.most || ''].join(' | ')} |`);
+  console.log(`| what is sent of ${MOST} modules | ${versions.map((it) => inputOf(it, packageOf(MOST))).join(' | ')} | 14 MB |`);
 } finally {
   fs.rmSync(top, { recursive: true, force: true });
 }

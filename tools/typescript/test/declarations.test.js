@@ -51,9 +51,34 @@ for (const name of ['re-exports', 'several-messages', 'unicode', 'workspace', 'j
     const file = path.join(folder, 'page.html');
     await run(['report', name, file]);
     const text = fs.readFileSync(file, 'utf8');
-    holds(!/<script|<link|@import|url\(|\bsrc=/.test(text), 'it stands alone');
+    holds(!/<script[^>]|<link|@import|url\(|\bsrc=/.test(text), 'it stands alone');
     holds(text.includes('width=device-width'), 'it has the width of a phone');
     const tags = (/** @type {string} */ tag) => [text.split(`<${tag}`).length, text.split(`</${tag}>`).length];
     for (const tag of ['span', 'div', 'section', 'pre', 'ul', 'li', 'details']) same(tags(tag)[0], tags(tag)[1], `the tags of ${tag}`);
   }));
 }
+
+test('the page lists modules by folders, and each line may be led to', () => withFolder(async (folder) => {
+  const names = ['a10.ts', 'a2.ts', 'part10/b.ts', 'part2/b.ts'];
+  const write = (/** @type {string} */ name, /** @type {string} */ text) => {
+    fs.mkdirSync(path.dirname(path.join(folder, name)), { recursive: true });
+    fs.writeFileSync(path.join(folder, name), text);
+  };
+  for (const name of names) write(name, name === 'a2.ts' ? 'export const a: number = 1;\nexport const b = Math.max(1);\n' : 'export const a: number = 1;\n');
+  write('mod.ts', names.map((name) => `export * from "./${name}";\n`).join(''));
+  write('deno.json', '{ "name": "@test/page", "exports": "./mod.ts" }');
+  const file = path.join(folder, 'page.html');
+  await run(['report', '--types', folder, file]);
+  const text = fs.readFileSync(file, 'utf8');
+  const places = [...text.matchAll(/<section id="module-([^"]*)"/g)].map(([, name]) => name);
+  same(places.join(' '), 'a2.ts a10.ts mod.ts part2_2Fb.ts part10_2Fb.ts', 'the order of modules');
+  for (const each of ['href="#module-a2.ts-2"', 'id="module-a2.ts-2"', 'with messages only', '<code>export const b: number = Math.max(1);</code>', '(a preview, without what has messages)']) {
+    holds(text.includes(each), `${each} stands in the page`);
+  }
+}));
+test('a page with messages everywhere has a preview and its legend', async () => withFolder(async (folder) => {
+  const file = path.join(folder, 'page.html');
+  await run(['report', 'several-messages', file]);
+  const text = fs.readFileSync(file, 'utf8');
+  holds(text.includes('class="legend"') && text.includes('skeleton (a preview'), text.slice(0, 4000));
+}));

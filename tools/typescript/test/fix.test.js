@@ -110,7 +110,7 @@ test('fix --dry writes nothing', async () => {
   const { out } = await run(['fix', '--dry', '.'], { cwd: path.dirname(file) });
   same(fs.readFileSync(file, 'utf8'), before, 'the source');
   holds(out.includes('\n+import type { Shape } from "./shapes.ts";\n'), out);
-  isShown('Types that are written', 0, out);
+  isShown('What `fix` writes', 0, out);
 });
 for (const [name, wanted] of /** @type {[string, number][]} */ ([['fixed', 1], ['fixed-workspace', 1], ['missing-return-type', 0], ['workspace-messages', 0], ['default-export-value', 0], ['empty-bodies-untyped', 0]])) {
   test(`fix of ${name}`, () => withFolder(async (folder) => {
@@ -133,7 +133,7 @@ test('fix of a member, and of its workspace', async () => {
   const wanted = ['import type { Core, Depth, Made } from "@test/kit";', 'const depth: Depth =', 'const _default: Core =', 'ask: typeof kit.hidden = kit.hidden;'];
   for (const each of wanted) holds(own.includes(each), own);
   for (const each of ['const other:', 'const hidden:', 'later():']) holds(!own.includes(each), own);
-  isShown('Types that are written', 1, own);
+  isShown('What `fix` writes', 1, own);
 });
 for (const [title, list] of [['pnpm', 'packages:\n  - "packages/*"\n'], ['a list without quotes', 'packages:\n\n# all\n- packages/*   # these\nother: 1\n']]) {
   test(`fix of a member of a workspace of pnpm: ${title}`, () => withFolder(async (folder) => {

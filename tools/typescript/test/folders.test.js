@@ -126,6 +126,9 @@ const FOLDERS = [
   ['several roots', {
     'tsconfig.json': '{ "compilerOptions": { "rootDirs": ["./src", "./gen"] } }', 'deno.json': CONFIG.replace('mod.ts', 'src/mod.ts'), 'src/mod.ts': 'export * from "./t";', 'gen/t.ts': 'export const a: 1 = 1;',
   }, 0, ['2 files, 2 public', '!missing-module']],
+  ['the folder itself as a module', { 'mod.ts': 'export * from "./a/b";', 'a/b.ts': 'export * from "../";', 'index.ts': 'export const a: 1 = 1;' }, 0, ['3 files, 3 public', '!missing-module']],
+  ['a folder whose package.json names its module', { 'mod.ts': 'export * from "./a";', 'a/package.json': '{ "types": "./b.ts" }', 'a/b.ts': 'export const a: 1 = 1;' }, 0, ['2 files, 2 public']],
+  ['a style beside the modules', { 'mod.ts': 'import "./a.css"; export {};', 'a.css': '' }, 0, ['1 file, 1 public', '!missing-module']],
   ['endings before the ending', { 'tsconfig.json': '{ "compilerOptions": { "moduleSuffixes": [".ios", ""] } }', 'mod.ts': 'export * from "./t";', 't.ios.ts': 'export const a: 1 = 1;', 't.ts': UNTYPED }, 0, ['2 files, 2 public', '!missing']],
   ['a parameter with `?` and a default', { 'mod.ts': 'export function f(a?: number = 1): void {}\nexport function g() { return Math.max(1); }\n' }, 1, ['mod.ts:1:19', 'cannot have question mark and initializer', 'mod.ts:2:17']],
   ['such a parameter in hidden code', { 'mod.ts': 'export function f(): void { function h(a?: number = 1) {} }\n' }, 0, ['1 public']],

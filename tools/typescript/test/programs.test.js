@@ -81,11 +81,15 @@ test('a run over unchanged sources loads no compiler', () => withFolder(async (f
   fs.mkdirSync(own);
   fs.writeFileSync(path.join(own, 'index.js'), `require('fs').appendFileSync(${JSON.stringify(log)}, 'loaded\\n'); module.exports = require(${JSON.stringify(COMPILER)});`);
   const environment = { TYPESCRIPT: own, XDG_CACHE_HOME: path.join(folder, 'cache') };
-  const asked = () => from(path.join(PACKAGES, 'classes'), [], environment);
-  const first = asked();
-  same(readOr(log, ''), 'loaded\n', `what is loaded at first by\n${first.stdout}${first.stderr}\nwhich`);
-  same(asked().stdout.replace(/\d\.\d\d s/, ''), first.stdout.replace(/\d\.\d\d s/, ''), 'the answer');
-  same(readOr(log, ''), 'loaded\n', 'what is loaded behind it');
+  // Of `check` the whole answer is kept, of `input` what the compiler answers: where imports lead, by aliases too, and which packages a workspace has.
+  for (const [command, name] of [['check', 'classes'], ['input', 'aliases'], ['input', 'npm-workspace'], ['input', 'file-kinds']]) {
+    const asked = () => childProcess.spawnSync(LAUNCHER, [command, path.join(PACKAGES, name)], { encoding: 'utf8', input: '', env: { ...process.env, ...environment } });
+    fs.rmSync(log, { force: true });
+    const first = asked();
+    same(readOr(log, ''), 'loaded\n', `what is loaded at first by\n${first.stdout.slice(0, 200)}${first.stderr}\nwhich`);
+    same(asked().stdout.replace(/\d\.\d\d s/, ''), first.stdout.replace(/\d\.\d\d s/, ''), 'the answer');
+    same(readOr(log, ''), 'loaded\n', `what is loaded behind it by ${command} of ${name}`);
+  }
 }));
 test('a variable TYPESCRIPT that names nothing', () => {
   const { status, stderr } = from(path.join(PACKAGES, 'aliases'), [], { TYPESCRIPT: '/nowhere' });

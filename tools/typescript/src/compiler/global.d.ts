@@ -20,6 +20,11 @@ declare module 'typescript' {
     resolveName?(name: string, location: Node, meaning: SymbolFlags, excludeGlobals: boolean): Symbol | undefined;
   }
   function skipTrivia(text: string, position: number): number;
+  function matchFiles(
+    path: string, extensions: readonly string[] | undefined, excludes: readonly string[] | undefined, includes: readonly string[] | undefined,
+    useCaseSensitiveFileNames: boolean, currentDirectory: string, depth: number | undefined,
+    getFileSystemEntries: (path: string) => { readonly files: readonly string[]; readonly directories: readonly string[] }, realpath: (path: string) => string,
+  ): string[];
   function isEntityNameExpression(node: Node): boolean;
   function isBindingPattern(node: Node): node is BindingPattern;
   function isIdentifierText(name: string, languageVersion: ScriptTarget | undefined): boolean;

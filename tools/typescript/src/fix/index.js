@@ -3,7 +3,10 @@
 const path = require('path');
 const { analyse } = require('../program/answer.js');
 const { FIXABLE } = require('../messages/codes.js');
-const { Files, isInside, isJavaScript, mediaTypeOf } = require('../package/files.js');
+const { configOf } = require('../package/config.js');
+const { Files, isJavaScript, mediaTypeOf } = require('../package/files.js');
+const { Lookup, RELATIVE } = require('../package/resolve.js');
+const { Projects } = require('../package/tsconfig.js');
 const { NotFixed, TypeWriter, applied, editsFor, importEdits } = require('./type-writer.js');
 const { Naming } = require('./naming.js');
 const { Surroundings } = require('../package/surroundings.js');
@@ -21,7 +24,6 @@ const { resolver } = require('../skeleton/modules.js');
 /** @typedef {import('./types').FoundError} FoundError */
 
 const ROUNDS = 10;
-const RELATIVE = /^\.{1,2}(\/|$)/;
 /** The ending of a file, as the compiler names it. */
 const endingOf = (/** @type {string} */ file) => (/\.d\.[cm]?ts$|\.[a-z]+$/.exec(file) || [''])[0];
 const ENDING = /(\.d)?\.[cm]?tsx?$/;
@@ -31,33 +33,27 @@ const NO_TYPE = new Set([7005, 7006, 7008, 7010, 7011, 7016, 7018, 7019, 7022, 7
 const CIRCLE = new Set([7022, 7023, 7024]);
 
 /** Where the types of elements come from, by the nearest deno.json of a folder or its workspace. */
-function ofDeno(/** @type {string} */ dir, /** @type {string} */ top) {
-  const folders = [dir, top].flatMap((it) => ['deno.json', 'deno.jsonc'].map((name) => path.join(it, name)));
-  const file = folders.find((it) => ts.sys.fileExists(it));
-  const { compilerOptions: found = {} } = (file && ts.readConfigFile(file, ts.sys.readFile).config) || {};
+function ofDeno(/** @type {string} */ dir, /** @type {string} */ top, /** @type {Files} */ files) {
+  const found = [dir, top].map((it) => configOf(it, files, []).compilerOptions).find(Boolean) || {};
   return typeof found.jsxImportSource === 'string' ? { jsxImportSource: found.jsxImportSource } : {};
 }
 
-/** The options of the nearest tsconfig.json above a folder, inside of its workspace, as far as types depend on them. */
+/** The options of the nearest tsconfig.json above a folder, inside of its workspace, as far as types depend on them. What it extends may lie anywhere. */
 function optionsOf(/** @type {string} */ dir, /** @type {string | null} */ workspace) {
-  const file = ts.findConfigFile(dir, ts.sys.fileExists);
   const top = workspace || dir;
-  const isNear = file && (path.dirname(file) === top || isInside(top, file));
-  const config = (isNear && ts.readConfigFile(file, ts.sys.readFile).config) || {};
-  // Which files it lists is not asked for.
-  const host = { ...ts.sys, readDirectory: () => [] };
-  const { options } = ts.parseJsonConfigFileContent({ ...config, files: [], include: [] }, host, isNear ? path.dirname(file) : dir, undefined, isNear ? file : undefined);
+  const files = new Files(path.parse(top).root);
+  const options = new Projects(top, files).nearest(dir);
   const written = Object.fromEntries(Object.entries(options).filter(([, value]) => value !== undefined));
   const defaults = { strict: true, target: ts.ScriptTarget.ESNext, module: ts.ModuleKind.ESNext, moduleResolution: ts.ModuleResolutionKind.NodeJs };
   const own = { noEmit: true, declaration: true, composite: false, incremental: false, skipLibCheck: true, noImplicitAny: true, allowJs: false };
-  return { allowImportingTsExtensions: true, ...defaults, jsx: ts.JsxEmit.ReactJSX, ...ofDeno(dir, top), resolveJsonModule: true, ...written, ...own };
+  return { allowImportingTsExtensions: true, ...defaults, jsx: ts.JsxEmit.ReactJSX, ...ofDeno(dir, top, files), resolveJsonModule: true, ...written, ...own };
 }
 
 /** The compiler over the modules of a folder, with texts in place of those of the files, and the packages that are found. */
 class Project {
   constructor(/** @type {string} */ dir) {
     this.dir = dir;
-    this.files = new Files(dir);
+    this.lookup = Lookup.of(dir);
     this.surroundings = new Surroundings(dir);
     this.options = optionsOf(dir, this.surroundings.workspace);
     this.host = { ...ts.createCompilerHost(this.options, true), getCurrentDirectory: () => dir };
@@ -82,8 +78,8 @@ class Project {
 
   /** A module of the folder that no other one asks for but by `import(..)`, whose ending the compiler may not read. */
   beside(/** @type {string} */ text, /** @type {string} */ from) {
-    const file = RELATIVE.test(text) ? this.files.find(path.resolve(path.dirname(from), text)) : null;
-    if (file === null || isJavaScript(mediaTypeOf(file)) || !ENDING.test(file) || this.files.refusal(file)) return undefined;
+    const file = RELATIVE.test(text) ? this.lookup.at(from, text) : null;
+    if (file === null || isJavaScript(mediaTypeOf(file)) || !ENDING.test(file) || this.lookup.files.refusal(file)) return undefined;
     return { resolvedFileName: file, extension: endingOf(file), isExternalLibraryImport: false };
   }
 
@@ -265,7 +261,7 @@ class Fixer {
   /** The edits that answer messages, by what the compiler infers. */
   edits(/** @type {World} */ world, /** @type {Map<string, string>} */ texts, /** @type {Map<string, Message[]>} */ messages) {
     const program = this.project.program(world, texts);
-    const naming = new Naming(world, program, this.project.resolverOf(world, texts));
+    const naming = new Naming(world, program, this.project.resolverOf(world, texts), this.project.lookup);
     const circles = new Set(errorsOf(program, [...texts.keys()]).filter((it) => CIRCLE.has(it.code)).map((it) => `${it.name} ${it.start}`));
     const { rejected, notes } = this;
     return [...messages].flatMap(([name, some]) => (

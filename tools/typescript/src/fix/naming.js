@@ -2,12 +2,12 @@
 // How the files of a folder name what other modules export: by a path inside of the same package, else by the name of a package that its users have too.
 const { builtinModules } = require('module');
 const path = require('path');
-const { Files, isInside } = require('../package/files.js');
+const { isInside } = require('../package/files.js');
+const { RELATIVE } = require('../package/resolve.js');
 const { ts } = require('../compiler/typescript.js');
 
 /** @typedef {import('../program/types').World} World */
 
-const RELATIVE = /^\.{1,2}(\/|$)/;
 const ENDING = /(\.d)?\.([cm]?)[jt]sx?$/;
 
 /** How sources of a folder name others, in `import(..)` too: with which ending, by what most of them have. */
@@ -29,15 +29,15 @@ function relativeSource(/** @type {string} */ from, /** @type {string} */ to, /*
   return shown.replace(/(\.d)?\.([cm]?)tsx?$/, ending === '.js' ? '.$2js' : '').replace(/\/index$/, ending === '' ? '' : '/index');
 }
 
-/** The names of modules in a folder's files, over a program of the compiler. `resolve(text, from)` is where a text of a file leads. */
+/** The names of modules in a folder's files, over a program of the compiler. `resolve(text, from)` is where a text of a file leads, `lookup` asks for files. */
 class Naming {
-  constructor(/** @type {World} */ world, /** @type {ts.Program} */ program, /** @type {(text: string, from: string) => ts.ResolvedModule | undefined} */ resolve) {
+  constructor(/** @type {World} */ world, /** @type {ts.Program} */ program, /** @type {(text: string, from: string) => ts.ResolvedModule | undefined} */ resolve, /** @type {import('../package/resolve.js').Lookup} */ lookup) {
     this.world = world;
     this.program = program;
     this.resolve = resolve;
     this.checker = program.getTypeChecker();
     this.ending = endingOf(world, program);
-    this.files = new Files(world.dir);
+    this.lookup = lookup;
     const own = program.getSourceFiles().map((it) => it.fileName).filter((it) => isInside(world.dir, it) && !it.includes('/node_modules/'));
     this.known = new Set([...own, ...[...world.files.values()].map((it) => it.path)]);
     this.byStem = new Map(program.getSourceFiles().map((it) => [it.fileName.replace(ENDING, ''), it]));
@@ -107,7 +107,7 @@ class Naming {
   /** The file of the folder's own package, or of another one, that the compiler names by its path. */
   fileAt(/** @type {string} */ text, /** @type {string} */ from) {
     const wanted = path.resolve(path.dirname(from), text);
-    const own = this.files.find(wanted);
+    const own = this.lookup.at(from, text);
     return own && this.known.has(own) ? this.program.getSourceFile(own) : this.byStem.get(wanted) || this.byStem.get(wanted.replace(ENDING, ''));
   }
 

@@ -61,4 +61,4 @@ function editsBetween(/** @type {string} */ before, /** @type {string} */ after)
   return edits.map(({ start, end, newText }) => ({ range: rangeOf(lines, start, end), newText }));
 }
 
-module.exports = { changedText, editsBetween, offsetAt, pathOf, positionAt, rangeOf };
+module.exports = { changedText, editsBetween, offsetAt, pathOf, rangeOf };

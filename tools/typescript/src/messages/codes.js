@@ -2,20 +2,46 @@
 // The codes of messages, and where they come from: from the program, from what this tool finds beside it, or from what keeps a package from being read.
 
 /** @typedef {'program' | 'own' | 'refused'} Source */
+/** @typedef {{ label?: string, message?: string }} Told what the range is to a reader, and the message with what stands for the names in it */
 
-const PROGRAM = [
-  'missing-explicit-type', 'missing-explicit-return-type', 'not-found-reference', 'unsupported-ambient-module', 'unsupported-complex-reference',
-  'unsupported-default-export-expr', 'unsupported-destructuring', 'unsupported-expando-property', 'unsupported-global-module',
-  'unsupported-javascript-entrypoint', 'unsupported-nested-javascript', 'unsupported-private-member-reference', 'unsupported-require',
-  'unsupported-super-class-expr', 'unsupported-ts-export-assignment', 'unsupported-ts-namespace-export', 'unsupported-using', 'export-not-found',
-];
+const REFERENCE = 'this is the reference';
+/** @type {Record<string, Told>} */
+const PROGRAM = {
+  'missing-explicit-type': { label: 'this symbol is missing an explicit type' },
+  'missing-explicit-return-type': { label: 'this function is missing an explicit return type' },
+  'not-found-reference': { label: REFERENCE, message: "could not resolve '{name}' referenced from '{referrer}'" },
+  'unsupported-ambient-module': {},
+  'unsupported-complex-reference': { label: REFERENCE, message: "the reference '{name}' from '{referrer}' was too complex" },
+  'unsupported-default-export-expr': {},
+  'unsupported-destructuring': {},
+  'unsupported-expando-property': {},
+  'unsupported-global-module': {},
+  'unsupported-javascript-entrypoint': {},
+  'unsupported-nested-javascript': {},
+  'unsupported-private-member-reference': {
+    label: REFERENCE, message: 'public API member ({referrer}) is referencing or transitively referencing a class private member ({name})',
+  },
+  'unsupported-require': {},
+  'unsupported-super-class-expr': { label: 'this is the superclass expression' },
+  'unsupported-ts-export-assignment': {},
+  'unsupported-ts-namespace-export': {},
+  'unsupported-using': {},
+  'export-not-found': {},
+};
+/** What the program says of a function without return type: the hint at what may be written, and of an asynchronous one that answers nothing the line that says more. */
+const RETURNS = {
+  anything: 'add an explicit return type to the function',
+  nothing: "add an explicit return type of 'void' or 'never' to the function",
+  promise: "add an explicit return type of 'Promise<void>' or 'Promise<never>' to the function",
+  promiseLine: "async function expressions without a return statement can have a return type of either 'Promise<void>' or 'Promise<never>'",
+};
 const OWN = ['built-entry-point', 'declared-otherwise', 'missing-module', 'unresolved-import', 'no-entry-point', 'shadowed-global', 'untold-type', 'widened-literal'];
 const REFUSED = ['bad-configuration', 'internal-error', 'nested-too-deep', 'refused-file', 'syntax-error'];
 
 const from = (/** @type {string[]} */ codes, /** @type {Source} */ source) => Object.fromEntries(codes.map((code) => [code, source]));
 
 /** @type {Record<string, Source>} */
-const CODES = { ...from(PROGRAM, 'program'), ...from(OWN, 'own'), ...from(REFUSED, 'refused') };
+const CODES = { ...from(Object.keys(PROGRAM), 'program'), ...from(OWN, 'own'), ...from(REFUSED, 'refused') };
 
 // Those that a written type may answer.
 const FIXABLE = new Set(['missing-explicit-return-type', 'missing-explicit-type', 'unsupported-default-export-expr', 'unsupported-destructuring']);
@@ -33,4 +59,28 @@ function mayBeAllowed(/** @type {string} */ code) {
   return isCode(code) && CODES[code] !== 'refused';
 }
 
-module.exports = { CODES, FIXABLE, isCode, mayBeAllowed };
+/** What the range of a message is to a reader, by its code; undefined where nothing is said of it. */
+function labelOf(/** @type {string} */ code) {
+  return CODES[code] === 'program' ? PROGRAM[code].label : undefined;
+}
+
+/**
+ * The names in a message of the program by what they are, as its code has them.
+ *
+ * @returns {Record<string, string>}
+ */
+function namesIn(/** @type {string} */ code, /** @type {string} */ message) {
+  const parts = (PROGRAM[code].message || '').split(/\{(\w+)\}/);
+  /** @type {Record<string, string>} */
+  const names = {};
+  let rest = message.slice(parts[0].length);
+  for (let at = 1; at < parts.length; at += 2) {
+    const behind = parts[at + 1];
+    const end = at + 2 < parts.length ? rest.indexOf(behind) : rest.length - behind.length;
+    names[parts[at]] = rest.slice(0, end);
+    rest = rest.slice(end + behind.length);
+  }
+  return names;
+}
+
+module.exports = { CODES, FIXABLE, PROGRAM, RETURNS, isCode, labelOf, mayBeAllowed, namesIn };

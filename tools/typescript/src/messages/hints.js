@@ -4,10 +4,9 @@
 /** @typedef {import('../package/types').Module} Module */
 /** @typedef {import('../program/types').Diagnostic} Diagnostic */
 
+const { RETURNS } = require('./codes.js');
 const { partsOf } = require('../tree/walk.js');
 
-const PROMISES = /'Promise<void>' or 'Promise<never>'/;
-const PLAIN = /'void' or 'never'/;
 
 /** Whether a statement returns a value, in the tree of a body that is cut short. */
 const returnsValue = (/** @type {forms.Stmt} */ { Return: it }) => Boolean(it && it.arg);
@@ -53,12 +52,11 @@ function placeOfName(/** @type {forms.Part} */ { ident, key, name }) {
  * @returns {{ hint: string | null, info: string[] }}
  */
 function hintOf(/** @type {Diagnostic} */ { code, hint, info, range }, /** @type {Module | undefined} */ module) {
-  const isAsked = code === 'missing-explicit-return-type' && module && range && [PROMISES, PLAIN].some((it) => it.test(hint || ''));
+  const isAsked = code === 'missing-explicit-return-type' && module && range && hint !== RETURNS.anything;
   const found = isAsked && module.tree.program && asyncAt(module.tree.program, range[0]);
   if (!found) return { hint, info };
-  const told = (/** @type {string} */ type) => `add an explicit return type of ${type} to the function`;
-  if (!hasValue(found)) return { hint: told("'Promise<void>' or 'Promise<never>'"), info };
-  return { hint: told("'Promise<..>'"), info: info.filter((it) => !PROMISES.test(it)) };
+  if (!hasValue(found)) return { hint: RETURNS.promise, info };
+  return { hint: "add an explicit return type of 'Promise<..>' to the function", info: info.filter((it) => it !== RETURNS.promiseLine) };
 }
 
 module.exports = { hintOf };

@@ -1,5 +1,6 @@
 'use strict';
 // Messages as people know them from `deno publish`: code, message, place, a frame of the source, hint, info and page.
+const { labelOf } = require('./codes.js');
 const { blank, visible, width } = require('../tree/lines.js');
 
 /** @typedef {import('./types').Message} Message */
@@ -7,17 +8,6 @@ const { blank, visible, width } = require('../tree/lines.js');
 /** @typedef {import('../cli/types').Paint} Paint */
 /** @typedef {import('../tree/lines.js').Lines} Lines */
 
-// What the range of a diagnostic is to a reader, by its code; of the others nothing is said.
-const REFERENCE = 'this is the reference';
-/** @type {Record<string, string>} */
-const LABELS = {
-  'not-found-reference': REFERENCE,
-  'unsupported-complex-reference': REFERENCE,
-  'unsupported-private-member-reference': REFERENCE,
-  'missing-explicit-type': 'this symbol is missing an explicit type',
-  'missing-explicit-return-type': 'this function is missing an explicit return type',
-  'unsupported-super-class-expr': 'this is the superclass expression',
-};
 // The most lines of a range that are shown whole, and the most of a line.
 const MOST_LINES = 6;
 const LONGEST = 160;
@@ -88,7 +78,7 @@ function format(/** @type {Message} */ message, /** @type {Paint} */ paint) {
   if (message.lines) {
     const { line, column } = message.lines.shown(message.start);
     out.push(`${space}${paint('blue', '-->')} ${paint('cyan', shown)}${paint('plain_yellow', `:${line}:${column}`)}`);
-    out.push(...frame(message.lines, message.start, message.end, { label: LABELS[message.code], style, paint, margin }));
+    out.push(...frame(message.lines, message.start, message.end, { label: labelOf(message.code), style, paint, margin }));
   } else if (message.file) {
     out.push(`${space}${paint('blue', '-->')} ${paint('cyan', shown)}`);
   }
@@ -116,4 +106,4 @@ function plain(/** @type {Message} */ message) {
   };
 }
 
-module.exports = { LABELS, format, frame, painter, plain };
+module.exports = { format, painter, plain };

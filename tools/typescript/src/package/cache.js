@@ -10,6 +10,7 @@ const { JsonText } = require('../program/request.js');
 
 /** @typedef {import('./types').Module} Module */
 /** @typedef {import('./types').Parts} Parts */
+/** @typedef {import('./types').KeptAnswers} KeptAnswers */
 /** @typedef {import('./types').ReadText} ReadText */
 
 // How long a file has to be unchanged before it was read, in milliseconds, so that its time says whether it changed since.
@@ -142,6 +143,8 @@ class Kept {
     this.texts = new Map();
     /** @type {Map<string, { parts: Parts, round: number }>} */
     this.parts = new Map();
+    /** @type {Map<string, KeptAnswers>} */
+    this.answers = new Map();
     this.round = 0;
     this.made = 0;
   }
@@ -193,6 +196,20 @@ class Kept {
     if (!parts) return null;
     this.parts.set(key, { parts, round: this.round });
     return parts;
+  }
+
+  /**
+   * What the compiler answered of the files of a folder, or null.
+   *
+   * @returns {KeptAnswers | null}
+   */
+  answersOf(/** @type {string} */ root) {
+    return this.answers.get(root) || (this.folder && this.folder.get(this.keyOf('answers', root)));
+  }
+
+  putAnswers(/** @type {string} */ root, /** @type {KeptAnswers} */ answers) {
+    this.answers.set(root, answers);
+    if (this.folder) this.folder.put(this.keyOf('answers', root), answers);
   }
 
   /** A module of kept parts. */

@@ -1,9 +1,8 @@
 'use strict';
 // What a folder says of its packages: names, versions and entry points.
 
-const fs = require('fs');
 const path = require('path');
-const { isDeclarationFile, isInside, isJavaScript, mediaTypeOf, readJson, readText } = require('./files.js');
+const { isDeclarationFile, isInside, isJavaScript, mediaTypeOf, readJson } = require('./files.js');
 const { placeAt } = require('../tree/lines.js');
 const { NAMES } = require('../cli/targets.js');
 const { mayBeAllowed } = require('../messages/codes.js');
@@ -14,7 +13,7 @@ const typescript = require('../compiler/typescript.js');
 /** @typedef {import('./types').Config} Config */
 /** @typedef {import('./types').Exports} Exports */
 /** @typedef {import('./files.js').Files} Files */
-/** @typedef {import('./tsconfig.js').Projects} Projects */
+/** @typedef {import('./resolve.js').Lookup} Lookup */
 /** @typedef {import('./types').FileError} FileError */
 
 const USUAL = ['mod.ts', 'index.ts', 'src/index.ts', 'index.d.ts', 'mod.tsx', 'index.tsx', 'src/mod.ts'];
@@ -61,7 +60,7 @@ function readConfig(/** @type {string} */ file, /** @type {Files} */ files, /** 
     errors.push({ path: file, code: 'refused-file', message: refusal });
     return null;
   }
-  const { text, wrong } = readText(file);
+  const { text, wrong } = files.text(file);
   const { config, error } = readJson(file, text);
   const refuse = (/** @type {number} */ offset, /** @type {string} */ message) => {
     errors.push({ path: file, ...placeAt(text, offset), message });
@@ -80,7 +79,7 @@ function readConfig(/** @type {string} */ file, /** @type {Files} */ files, /** 
 function listedByPnpm(/** @type {string} */ folder, /** @type {Files} */ files) {
   const file = path.join(folder, 'pnpm-workspace.yaml');
   if (!files.isFile(file) || files.refusal(file)) return [];
-  const text = `${readText(file).text.replace(/\r\n?/g, '\n')}\n`;
+  const text = `${files.text(file).text.replace(/\r\n?/g, '\n')}\n`;
   const [, list] = /^packages:[^\n[]*\n((?:[ \t]*(?:-[^\n]*|#[^\n]*)?\n)*)/m.exec(text) || [];
   const [, inLine] = /^packages:\s*\[([^\]]*)\]/m.exec(text) || [];
   const lines = [...(list || '').matchAll(/^[ \t]*-[ \t]*(["']?)([^"'#\n]+?)\1[ \t]*(?:#.*)?$/gm)].map(([, , path]) => path);
@@ -157,14 +156,19 @@ function writtenExports(/** @type {Exports} */ exports) {
   });
 }
 
-function filesBelow(/** @type {string} */ dir, /** @type {string[]} */ found = []) {
-  for (const it of fs.readdirSync(dir, { withFileTypes: true })) {
-    if (it.name === 'node_modules' || it.name.startsWith('.')) continue;
-    const file = path.join(dir, it.name);
-    if (it.isDirectory()) filesBelow(file, found);
-    else found.push(file);
-  }
-  return found;
+/**
+ * The files below a folder, but for those in `node_modules` and behind names that begin with a dot.
+ *
+ * @returns {string[]}
+ */
+function filesBelow(/** @type {string} */ dir, /** @type {Files} */ files) {
+  const names = files.names(dir).filter(({ name }) => name !== 'node_modules' && !name.startsWith('.'));
+  return names.flatMap(({ name, kind, isLink }) => (kind === 'folder' && !isLink ? filesBelow(path.join(dir, name), files) : path.join(dir, name)));
+}
+
+/** The sources of a folder by the files that the compiler writes for them. */
+function builtFiles(/** @type {string} */ dir, /** @type {Pick<PackageContext, 'projects' | 'answers'>} */ { projects, answers }) {
+  return new Map(answers.of(`built files of ${dir}`, () => projects.builtFiles(dir)));
 }
 
 /**
@@ -172,14 +176,13 @@ function filesBelow(/** @type {string} */ dir, /** @type {string[]} */ found = [
  *
  * @returns {[string, string][]}
  */
-function expanded(/** @type {string} */ dir, /** @type {[key: string, path: string]} */ [key, written], /** @type {Projects} */ projects) {
+function expanded(/** @type {string} */ dir, /** @type {[key: string, path: string]} */ [key, written], /** @type {PackageContext} */ context) {
   if (!written.includes('*')) return [[key, written]];
   const [before, after] = written.replace(/^\.\//, '').split('*');
   const isFitting = (/** @type {string} */ it) => it.startsWith(before) && it.endsWith(after) && it.length > before.length + after.length && mediaTypeOf(it) !== 'Unknown';
   const fitting = (/** @type {string[]} */ files) => files.map((it) => path.relative(dir, it)).filter(isFitting).sort();
-  const files = filesBelow(dir);
-  const found = fitting(files);
-  const all = found.length ? found : fitting([...projects.builtFiles(dir).keys()]);
+  const found = fitting(filesBelow(dir, context.files));
+  const all = found.length ? found : fitting([...builtFiles(dir, context).keys()]);
   return all.map((it) => /** @type {[string, string]} */ ([key.replace('*', () => it.slice(before.length, it.length - after.length)), `./${it}`]));
 }
 
@@ -202,10 +205,10 @@ const BUILT = { message: 'is a built file, and nothing of src/ is read', more: {
  *
  * @returns {FileError}
  */
-function faultOf(/** @type {string} */ text, /** @type {Wrong} */ wrong, /** @type {{ dir: string } & Pick<EntryContext, 'config' | 'given' | 'isQuiet'>} */ { dir, config, given, isQuiet }) {
+function faultOf(/** @type {string} */ text, /** @type {Wrong} */ wrong, /** @type {{ dir: string } & EntryContext} */ { dir, config, given, isQuiet, files }) {
   const fault = { path: dir, code: 'no-entry-point', message: `the entry point ${text} ${wrong.message}`, ...wrong.more };
   for (const file of (given === undefined && !isQuiet && config.read) || []) {
-    const source = readText(file).text;
+    const source = files.text(file).text;
     const offset = placeOfPath(file, source, text);
     if (offset !== undefined) return { ...fault, path: file, ...placeAt(source, offset), length: text.length + 2 };
   }
@@ -225,9 +228,9 @@ function namesake(/** @type {string} */ dir, /** @type {string} */ wanted, /** @
 }
 
 /** Whether a file is one of a build: it lies in a folder for builds, or is not there, and no source stands in its place. */
-function isBuilt(/** @type {string} */ dir, /** @type {string} */ wanted, /** @type {Files} */ files) {
+function isBuilt(/** @type {string} */ dir, /** @type {string} */ wanted, /** @type {Lookup} */ lookup) {
   const [first, ...rest] = path.relative(dir, wanted).split(path.sep);
-  const found = files.find(wanted);
+  const found = lookup.file(wanted);
   const isDeclared = !found || isDeclarationFile(mediaTypeOf(found)) || isJavaScript(mediaTypeOf(found));
   return rest.length > 0 && BUILDS.has(first) && BUILT_FILE.test(wanted) && isDeclared;
 }
@@ -236,9 +239,10 @@ function isBuilt(/** @type {string} */ dir, /** @type {string} */ wanted, /** @t
  * The sources that stand for entry points of which all are files of a build, by their paths: those of the same names in `src`, and for a whole package in one
  * file `src/index.ts`. Null where they are none, or some have no source.
  */
-function sourcesOfBuild(/** @type {string} */ dir, /** @type {[key: string, path: string][]} */ entries, /** @type {Files} */ files) {
+function sourcesOfBuild(/** @type {string} */ dir, /** @type {[key: string, path: string][]} */ entries, /** @type {Lookup} */ lookup) {
+  const { files } = lookup;
   const paths = entries.map(([, text]) => path.resolve(dir, text)).filter((it) => BUILT_FILE.test(it));
-  if (!paths.length || !paths.every((it) => isBuilt(dir, it, files))) return null;
+  if (!paths.length || !paths.every((it) => isBuilt(dir, it, lookup))) return null;
   const whole = ['index.ts', 'index.tsx', 'index.mts'].map((name) => path.join(dir, 'src', name)).find((it) => files.isFile(it));
   /** @type {Map<string, string>} */
   const found = new Map();
@@ -250,41 +254,42 @@ function sourcesOfBuild(/** @type {string} */ dir, /** @type {[key: string, path
 }
 
 /** The written entry points that are modules, as `[key, path]`, what is wrong with the others, and which are taken in place of those that are written. */
-function modulesOf(/** @type {string} */ dir, /** @type {[key: string, path: string][]} */ written, /** @type {EntryContext} */ { config, given, files, projects, errors, isQuiet }) {
+function modulesOf(/** @type {string} */ dir, /** @type {[key: string, path: string][]} */ written, /** @type {EntryContext} */ context) {
+  const { given, lookup, errors } = context;
   /** @type {[[string, string][], FileError[], import('./types').Taken[]]} */
   const [found, wrong, taken] = [[], [], []];
-  const refuse = (/** @type {string} */ text, /** @type {Wrong} */ how) => wrong.push(faultOf(text, how, { dir, config, given, isQuiet }));
-  const each = written.map((it) => /** @type {const} */ ([it, expanded(dir, it, projects)]));
+  const refuse = (/** @type {string} */ text, /** @type {Wrong} */ how) => wrong.push(faultOf(text, how, { dir, ...context }));
+  const each = written.map((it) => /** @type {const} */ ([it, expanded(dir, it, context)]));
   for (const [[, text], some] of each) if (!some.length) refuse(text, NO_FILE);
   const entries = each.flatMap(([, some]) => some);
-  const build = given === undefined ? sourcesOfBuild(dir, entries, files) : null;
+  const isOwn = given === undefined && entries.length > 0;
+  const [build, built] = isOwn ? [sourcesOfBuild(dir, entries, lookup), builtFiles(dir, context)] : [null, new Map()];
   for (const [key, text] of entries) {
     const wanted = path.resolve(dir, text);
-    const source = isInside(dir, wanted) && given === undefined ? projects.builtFiles(dir).get(wanted) || (build && build.get(wanted)) || null : null;
-    const file = source || files.find(wanted);
+    const source = isInside(dir, wanted) ? built.get(wanted) || (build && build.get(wanted)) || null : null;
+    const file = source || lookup.file(wanted);
     if (source) taken.push({ written: text, dir, file: source });
     const isOutside = path.isAbsolute(text) || !isInside(dir, wanted);
     if (isOutside) errors.push({ path: dir, message: `the entry point ${text} lies outside of the package` });
     else if (!file) refuse(text, ABSENT);
     else if (mediaTypeOf(file) === 'Unknown') refuse(text, NO_MODULE);
     else if (!file.endsWith('.json') || given !== undefined) found.push([key, file]);
-    if (file && !source && isUnread(dir, wanted, { files, given })) refuse(text, BUILT);
+    if (file && !source && isUnread(dir, wanted, context)) refuse(text, BUILT);
   }
   return { found, wrong, taken };
 }
 
 /** Whether an entry point is a declaration file of a build beside sources in `src`. */
-function isUnread(/** @type {string} */ dir, /** @type {string} */ wanted, /** @type {Pick<EntryContext, 'files' | 'given'>} */ { files, given }) {
-  if (given !== undefined || !isInside(dir, wanted) || !isBuilt(dir, wanted, files)) return false;
-  const src = path.join(dir, 'src');
-  return files.kind(src) === 'folder' && filesBelow(src).some((it) => ['TypeScript', 'Tsx', 'Mts', 'Cts'].includes(mediaTypeOf(it)));
+function isUnread(/** @type {string} */ dir, /** @type {string} */ wanted, /** @type {EntryContext} */ { files, lookup, given }) {
+  if (given !== undefined || !isInside(dir, wanted) || !isBuilt(dir, wanted, lookup)) return false;
+  return filesBelow(path.join(dir, 'src'), files).some((it) => ['TypeScript', 'Tsx', 'Mts', 'Cts'].includes(mediaTypeOf(it)));
 }
 
 /** The entry point of a package in whose configuration none is there, or null. */
-function usualEntry(/** @type {string} */ dir, /** @type {Config} */ config, /** @type {Files} */ files) {
+function usualEntry(/** @type {string} */ dir, /** @type {Config} */ config, /** @type {Lookup} */ lookup) {
   const written = [config.module, config.main].filter(isText);
-  const usual = USUAL.find((it) => files.isFile(path.join(dir, it))) || written.find((it) => files.find(path.join(dir, it)));
-  return usual ? files.find(path.join(dir, usual)) : null;
+  const usual = USUAL.find((it) => lookup.files.isFile(path.join(dir, it))) || written.find((it) => lookup.file(path.join(dir, it)));
+  return usual ? lookup.file(path.join(dir, usual)) : null;
 }
 
 /**
@@ -293,7 +298,7 @@ function usualEntry(/** @type {string} */ dir, /** @type {Config} */ config, /**
  * @returns {[string, string][]}
  */
 function entryPoints(/** @type {string} */ dir, /** @type {Config} */ config, /** @type {Exports} */ given, /** @type {PackageContext} */ context) {
-  const { files, errors, faults } = context;
+  const { lookup, errors, faults } = context;
   const written = writtenExports(given === undefined ? config.exports : given);
   const types = config.types || config.typings;
   if (written.length === 0 && typeof types === 'string') written.push(['.', types]);
@@ -303,7 +308,7 @@ function entryPoints(/** @type {string} */ dir, /** @type {Config} */ config, /*
     context.taken.push(...taken);
     return found;
   }
-  const usual = given === undefined || wrong.length === 0 ? usualEntry(dir, config, files) : null;
+  const usual = given === undefined || wrong.length === 0 ? usualEntry(dir, config, lookup) : null;
   if (usual) {
     context.taken.push(...written.slice(0, 1).map(([, text]) => ({ written: text, dir, file: usual })));
     return [['.', usual]];
@@ -325,17 +330,17 @@ function withoutBraces(/** @type {string} */ pattern) {
 }
 
 /** The folders below another one that have a configuration and fit one of some patterns, as the compiler matches paths. */
-function foldersThatFit(/** @type {string} */ dir, /** @type {string[]} */ patterns, /** @type {string[]} */ without) {
-  const { ts } = typescript;
-  const wanted = patterns.flatMap((it) => NAMES.map((name) => `${it}/${name}`));
-  const found = ts.sys.readDirectory(dir, ['.json', '.jsonc'], ['**/node_modules', ...without], wanted);
+function foldersThatFit(/** @type {string} */ dir, /** @type {string[]} */ patterns, /** @type {string[]} */ without, /** @type {Pick<PackageContext, 'files' | 'answers'>} */ { files, answers }) {
+  const includes = patterns.flatMap((it) => NAMES.map((name) => `${it}/${name}`));
+  const excludes = ['**/node_modules', ...without];
+  const found = answers.of(`files of ${dir} by ${includes.join()} and not ${excludes.join()}`, () => files.matching(dir, { endings: ['.json', '.jsonc'], excludes, includes }));
   return [...new Set(found.map((file) => path.dirname(path.resolve(file))))].filter((it) => it !== dir).sort();
 }
 
 const isPattern = (/** @type {string} */ text) => /[*?]/.test(text);
 
 /** The folders of a workspace's members, of deno's (`workspace`) and of npm's (`workspaces`), in which a path behind `!` is left out. A pattern that fits nothing is a fault. */
-function membersOf(/** @type {string} */ dir, /** @type {Config} */ config, /** @type {FileError[]} */ faults = []) {
+function membersOf(/** @type {string} */ dir, /** @type {Config} */ config, /** @type {Pick<PackageContext, 'files' | 'answers' | 'faults'>} */ context) {
   const listed = (/** @type {unknown} */ value, /** @type {string} */ name) => /** @type {string[]} */ (Array.isArray(value) ? value : (isMap(value) && value[name]) || []);
   const texts = [...listed(config.workspace, 'members'), ...listed(config.workspaces, 'packages')];
   const plain = (/** @type {string[]} */ list) => list.flatMap(withoutBraces).map((it) => it.replace(/^\.\//, '').replace(/\/+$/, ''));
@@ -344,8 +349,8 @@ function membersOf(/** @type {string} */ dir, /** @type {Config} */ config, /** 
   const folders = texts.filter((it) => !it.startsWith('!')).flatMap((text) => {
     const all = plain([text]);
     const patterns = all.filter(isPattern);
-    const found = patterns.length ? foldersThatFit(dir, patterns, without) : [];
-    if (patterns.length && !found.length) faults.push({ path: dir, code: 'no-entry-point', level: 'Warning', message: `${text} of the workspace fits no folder with a package` });
+    const found = patterns.length ? foldersThatFit(dir, patterns, without, context) : [];
+    if (patterns.length && !found.length) context.faults.push({ path: dir, code: 'no-entry-point', level: 'Warning', message: `${text} of the workspace fits no folder with a package` });
     return [...all.filter((it) => !isPattern(it)).map((it) => path.resolve(dir, it)), ...found];
   });
   return [...new Set(folders)].filter((it) => !left.has(it));
@@ -399,9 +404,10 @@ function rangesOf(/** @type {Config} */ config) {
 const VERSION = /^\d+\.\d+\.\d+(-[0-9A-Za-z.-]+)?(\+[0-9A-Za-z.-]+)?$/;
 
 /** The folders of a folder's packages: itself where it has entry points, and the members of its workspace, which have to lie within it. */
-function foldersOf(/** @type {string} */ dir, /** @type {Config} */ config, /** @type {ReadOptions} */ options, /** @type {PackageContext} */ { errors, faults }) {
-  const members = options.members || (options.exports === undefined ? membersOf(dir, config, faults) : []);
-  const isThere = (/** @type {string} */ folder) => fs.existsSync(folder);
+function foldersOf(/** @type {string} */ dir, /** @type {Config} */ config, /** @type {ReadOptions} */ options, /** @type {PackageContext} */ context) {
+  const { files, errors, faults } = context;
+  const members = options.members || (options.exports === undefined ? membersOf(dir, config, context) : []);
+  const isThere = (/** @type {string} */ folder) => files.kind(folder) !== 'none';
   for (const folder of members) {
     if (!isInside(dir, folder)) errors.push({ path: folder, code: 'no-entry-point', message: 'this member of the workspace lies outside of the folder' });
     else if (!isThere(folder)) {
@@ -427,7 +433,7 @@ function isNoPackage(/** @type {ConfiguredPackage} */ { dir, exports }, /** @typ
 }
 
 /**
- * The packages of a folder. `context` has `files` and `projects`, and lists that are filled: what keeps a package from being read (`errors`), what is wrong with
+ * The packages of a folder. `context` has what looks files up, and lists that are filled: what keeps a package from being read (`errors`), what is wrong with
  * one that is read (`faults`), and which entry points are taken in place of those that are written (`taken`). Where it `isQuiet`, no places are looked for.
  *
  * @returns {ConfiguredPackage[]}

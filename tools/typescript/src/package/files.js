@@ -1,9 +1,16 @@
 'use strict';
 // Files of a package: kinds by their names, and where a source text leads.
 
+const crypto = require('crypto');
 const fs = require('fs');
 const path = require('path');
 const typescript = require('../compiler/typescript.js');
+
+/** @typedef {import('./trace.js').Asked} Asked */
+/** @typedef {import('./types').ReadText} ReadText */
+/** @typedef {import('./types').Patterns} Patterns */
+
+const hashOf = (/** @type {string} */ text) => crypto.createHash('sha256').update(text).digest('base64');
 
 /** @type {[string, import('./types').MediaType][]} */
 const MEDIA_TYPES = [
@@ -31,16 +38,6 @@ function isDeclarationFile(/** @type {string} */ mediaType) {
 function isJavaScript(/** @type {string} */ mediaType) {
   return SCRIPTS.has(mediaType);
 }
-
-// What TypeScript looks for in place of the ending that is written, in this order.
-/** @type {[string, string[]][]} */
-const INSTEAD = [
-  ['.js', ['.ts', '.tsx', '.d.ts', '.js', '.jsx']],
-  ['.mjs', ['.mts', '.d.mts', '.mjs']],
-  ['.cjs', ['.cts', '.d.cts', '.cjs']],
-  ['.jsx', ['.tsx', '.ts', '.d.ts', '.jsx', '.js']],
-];
-const ADDED = ['.ts', '.tsx', '.d.ts', '.mts', '.cts', '.js', '.jsx', '.mjs', '.json'];
 
 /** What stands at a path; null where there is nothing, as behind links that lead in a circle and names that are too long. */
 function statOf(/** @type {string} */ file) {
@@ -85,7 +82,7 @@ function orderOf(bytes) {
 /**
  * The text of a file without its mark of byte order, and where it is no text (`wrong`, else -1). Beside UTF-8 the compiler reads UTF-16 with its mark.
  *
- * @returns {import('./types').ReadText}
+ * @returns {ReadText}
  */
 function readText(/** @type {string} */ file) {
   const bytes = bytesOf(file);
@@ -193,7 +190,7 @@ function isInside(/** @type {string} */ root, /** @type {string} */ file) {
   return inside !== '' && inside !== '..' && !inside.startsWith(`..${path.sep}`) && !path.isAbsolute(inside);
 }
 
-/** Looks files of a folder up, each once, and says which are not read. */
+/** Looks files of a folder up, each once, and says which are not read. Remembers what it was asked. */
 class Files {
   constructor(/** @type {string} */ root) {
     this.root = root;
@@ -202,9 +199,13 @@ class Files {
     this.kinds = new Map();
     /** @type {Map<string, string>} */
     this.reals = new Map();
+    /** @type {Map<string, { name: string, kind: string, isLink: boolean }[]>} */
+    this.folders = new Map();
+    /** @type {Map<string, ReadText>} */
+    this.texts = new Map();
   }
 
-  /** The path of a file behind all links, which is asked for once. */
+  /** The path of a file behind all links. */
   real(/** @type {string} */ file) {
     const found = this.reals.get(file) || fs.realpathSync(file);
     this.reals.set(file, found);
@@ -221,6 +222,58 @@ class Files {
     return kind;
   }
 
+  /** The names in a folder in order, each with what stands there, also behind a link; none where it is no folder. */
+  names(/** @type {string} */ folder) {
+    let names = this.folders.get(folder);
+    if (!names) {
+      const all = this.kind(folder) === 'folder' ? fs.readdirSync(folder, { withFileTypes: true }) : [];
+      const kindOf = (/** @type {fs.Dirent} */ it) => (it.isDirectory() ? 'folder' : it.isFile() ? 'file' : this.kind(path.join(folder, it.name)));
+      names = all.map((it) => ({ name: it.name, kind: kindOf(it), isLink: it.isSymbolicLink() })).sort((a, b) => (a.name < b.name ? -1 : 1));
+      this.folders.set(folder, names);
+    }
+    return names;
+  }
+
+  /** The text of a file that others depend on, as a configuration. */
+  text(/** @type {string} */ file) {
+    const found = this.texts.get(file) || readText(file);
+    this.texts.set(file, found);
+    return found;
+  }
+
+  /**
+   * What was asked, with the answers.
+   *
+   * @returns {Asked[]}
+   */
+  get asked() {
+    const [kinds, reals, names, texts] = [this.kinds, this.reals, this.folders, this.texts].map((it) => [...it.keys()]);
+    /** @type {(question: Asked[0]) => (file: string) => Asked} */
+    const answered = (question) => (file) => [question, file, this.answer(question, file)];
+    return [...kinds.map(answered('kind')), ...reals.map(answered('real')), ...names.map(answered('names')), ...texts.map(answered('text'))];
+  }
+
+  answer(/** @type {Asked[0]} */ question, /** @type {string} */ file) {
+    if (question === 'kind') return this.kind(file);
+    if (question === 'real') return this.real(file);
+    return hashOf(question === 'names' ? this.names(file).map((it) => `${it.name}\n${it.kind}`).join('\n') : this.text(file).text);
+  }
+
+  /** Whether the files are as they were when something was asked. */
+  isSame(/** @type {Asked[]} */ asked) {
+    try {
+      return asked.every(([question, file, answer]) => this.answer(question, file) === answer);
+    } catch {
+      // A file is gone, or may not be read any more.
+      return false;
+    }
+  }
+
+  /** Whether a path is that of the folder, or lies below it. */
+  isBelow(/** @type {string} */ file) {
+    return file === this.root || isInside(this.root, file);
+  }
+
   /** Whether a file stands there, whatever may be in it. */
   isFile(/** @type {string} */ file) {
     return this.kind(file) === 'file' || this.kind(file) === 'other';
@@ -233,20 +286,19 @@ class Files {
     return isInside(this.root, file) ? 'this link leads out of the folder' : 'this file lies outside of the folder';
   }
 
-  firstOf(/** @type {string} */ stem, /** @type {string[]} */ endings) {
-    const ending = endings.find((it) => this.isFile(stem + it));
-    return ending === undefined ? null : stem + ending;
+  isReadable(/** @type {string} */ file) {
+    return this.isFile(file) && !this.refusal(file);
   }
 
-  /** The file that a path without or with an ending stands for, as TypeScript finds it, or null. */
-  find(/** @type {string} */ wanted) {
-    const instead = INSTEAD.find(([ending]) => wanted.endsWith(ending));
-    if (instead) {
-      const found = this.firstOf(wanted.slice(0, -instead[0].length), instead[1]);
-      if (found) return found;
-    }
-    if (this.isFile(wanted)) return wanted;
-    return this.firstOf(wanted, ADDED) || this.firstOf(path.join(wanted, 'index'), ADDED);
+  /** The files below a folder that fit some patterns, as the compiler matches paths, without what lies outside. */
+  matching(/** @type {string} */ folder, /** @type {Patterns} */ { endings, excludes, includes, depth }) {
+    const { ts } = typescript;
+    const entriesOf = (/** @type {string} */ at) => {
+      const names = this.isBelow(at) && (at === this.root || !this.refusal(at)) ? this.names(at) : [];
+      const ofKind = (/** @type {boolean} */ isFolder) => names.filter(({ kind }) => (isFolder ? kind === 'folder' : kind === 'file' || kind === 'other')).map(({ name }) => name);
+      return { files: ofKind(false), directories: ofKind(true) };
+    };
+    return ts.matchFiles(folder, endings, excludes, includes, true, folder, depth, entriesOf, (file) => this.real(file));
   }
 }
 

@@ -1,9 +1,9 @@
 'use strict';
 // Reads a package: its entry points, and all modules that they lead to inside of the folder.
 
-const { builtinModules } = require('module');
 const path = require('path');
-const { Files, isInside, readText, mediaTypeOf, isDeclarationFile, isJavaScript, namedTypes, selfTypes } = require('./files.js');
+const { Answers } = require('./answers.js');
+const { Files, isInside, readText, mediaTypeOf, isDeclarationFile, isJavaScript } = require('./files.js');
 const { packagesOf } = require('./config.js');
 const { internalText, isKnown, isTooDeep } = require('../cli/exit.js');
 const { writeExports } = require('../tables/ambient.js');
@@ -11,7 +11,8 @@ const { hasEffects } = require('../skeleton/effects.js');
 const { NO_COMPILER } = require('../compiler/find.js');
 const { Kept } = require('./cache.js');
 const { placeAt } = require('../tree/lines.js');
-const { Projects, bestKey } = require('./tsconfig.js');
+const { Lookup, RELATIVE, Resolver, SCHEME, packageName } = require('./resolve.js');
+const { Projects } = require('./tsconfig.js');
 
 /** @typedef {import('../cli/types').KnownError} KnownError */
 /** @typedef {import('./types').ReadOptions} ReadOptions */
@@ -19,11 +20,6 @@ const { Projects, bestKey } = require('./tsconfig.js');
 /** @typedef {import('../tree/types').TreeSource} TreeSource */
 /** @typedef {import('./types').Module} Module */
 /** @typedef {import('./types').ConfiguredPackage} ConfiguredPackage */
-
-const RELATIVE = /^\.{1,2}(\/|$)/;
-/** @type {Pick<ConfiguredPackage, 'imports' | 'dependencies'>} */
-const NO_PACKAGE = { imports: {}, dependencies: new Set() };
-const SCHEME = /^[a-z][a-z0-9+.-]*:/i;
 
 /** The URL of a file: its path below the folder that was named. */
 function urlOf(/** @type {string} */ root, /** @type {string} */ file) {
@@ -35,22 +31,15 @@ function urlPath(/** @type {string} */ folder, /** @type {string} */ file) {
   return path.relative(folder, file).split(path.sep).map(encodeURIComponent).join('/').replace(/%40/g, '@');
 }
 
-/** The name of the package that a source text begins with, as `@scope/name` or `npm:name`; of `@/x` and `#x/y` the part before the stroke. */
-function packageName(/** @type {string} */ text) {
-  const [, scheme, rest] = /** @type {RegExpExecArray} */ (/^((?:npm|jsr):\/?|)(.*)$/s.exec(text));
-  if (!scheme && SCHEME.test(text)) return text;
-  const [first, second] = rest.split('/');
-  const name = first.length > 1 && first.startsWith('@') && second ? `${first}/${second}` : first;
-  return scheme.replace('/', '') + (scheme ? name.replace(/(.)@.*/s, '$1') : name);
-}
-
 class Reader {
   constructor(/** @type {string} */ dir, /** @type {ReadOptions} */ options) {
     this.root = path.resolve(dir);
     this.options = options;
     this.isQuiet = Boolean(options.isQuiet);
     this.files = new Files(this.root);
+    this.answers = new Answers(this.files, options.kept);
     this.projects = new Projects(this.root, this.files);
+    this.lookup = new Lookup(this.files, this.projects, this.answers);
     /** @type {import('./types').FileError[]} */
     this.errors = [];
     /** @type {import('./types').FileError[]} */
@@ -60,6 +49,7 @@ class Reader {
     /** @type {string[]} */
     this.waiting = [];
     this.packages = packagesOf(this.root, options, this);
+    this.resolver = new Resolver(this.root, this.packages, this.lookup);
     /** @type {Map<string, Module>} */
     this.modules = new Map();
     /** @type {Map<string, import('./types').Script>} */
@@ -78,124 +68,17 @@ class Reader {
     this.times = { parse: 0, tree: 0 };
   }
 
-  /** @returns {ConfiguredPackage | null} */
-  packageAt(/** @type {string} */ file) {
-    const inside = this.packages.filter((it) => it.dir === this.root || isInside(it.dir, file));
-    return inside.sort((a, b) => b.dir.length - a.dir.length)[0] || null;
-  }
-
-  /** The file behind links, as the compiler finds it, if it lies in the folder; else the file as it is named. */
-  behindLinks(/** @type {string} */ file) {
-    if (this.files.refusal(file)) return file;
-    return path.join(this.root, path.relative(this.files.realRoot, this.files.real(file)));
-  }
-
-  /** The declaration file of JavaScript, or the file itself. */
-  typed(/** @type {string} */ file) {
-    if (!isJavaScript(mediaTypeOf(file))) return file;
-    const beside = this.files.find(file.replace(/\.jsx$/, '.js'));
-    if (beside && isDeclarationFile(mediaTypeOf(beside))) return beside;
-    const named = this.files.refusal(file) ? null : selfTypes(readText(file).text);
-    const found = named && named.startsWith('.') ? this.files.find(path.resolve(path.dirname(file), named)) : null;
-    return found || file;
-  }
-
-  /**
-   * The entry points of a package: the key and the file of each.
-   *
-   * @returns {[string, string][]}
-   */
-  entriesOf(/** @type {ConfiguredPackage} */ it) {
-    return it.exports.map(([key, file]) => {
-      const behind = this.behindLinks(file);
-      return [key, this.typed(isInside(it.dir, behind) ? behind : file)];
-    });
-  }
-
-  /**
-   * The paths that a text which is no relative path may stand for: by the map of imports, by an alias of tsconfig.json, or by a package's name.
-   *
-   * @returns {string[]}
-   */
-  mapped(/** @type {string} */ from, /** @type {string} */ text) {
-    const { imports } = this.packageAt(from) || NO_PACKAGE;
-    const best = bestKey(imports, text);
-    const target = best && imports[best.key];
-    if (best) return target === null ? [] : [target.replace('*', () => best.rest)];
-    const [folder] = Object.keys(imports).filter((it) => it.endsWith('/') && text.startsWith(it)).sort((a, b) => b.length - a.length);
-    const above = folder === undefined ? null : imports[folder];
-    if (folder !== undefined) return above === null ? [] : [path.join(above, text.slice(folder.length))];
-    const own = this.ofPackage(text.replace(/^(jsr|npm):\/?/, ''));
-    return [...this.projects.paths(from, text), ...(own ? [own] : [])];
-  }
-
-  ofPackage(/** @type {string} */ text) {
-    for (const it of this.packages) {
-      if (text !== it.name && !text.startsWith(`${it.name}/`) && !text.startsWith(`${it.name}@`)) continue;
-      const below = text.slice(it.name.length).replace(/^@[^/]*/, '');
-      const found = it.exports.find(([key]) => key === `.${below}`);
-      if (found) return found[1];
-    }
-    return null;
-  }
-
-  /**
-   * The paths that a relative text may stand for.
-   *
-   * @returns {string[]}
-   */
-  relative(/** @type {string} */ from, /** @type {string} */ text) {
-    const resolved = this.projects.resolved(from, text);
-    return [...(resolved ? [resolved] : []), path.resolve(path.dirname(from), text)];
-  }
-
-  /** The file that a source text leads to, or null where it leads out of the folder. */
-  resolve(/** @type {string} */ from, /** @type {string} */ text, /** @type {string | null} */ comment = null) {
-    const named = comment && namedTypes(comment);
-    if (named && named.startsWith('.')) {
-      const found = this.files.find(path.resolve(path.dirname(from), named));
-      if (found) return found;
-    }
-    const wanted = RELATIVE.test(text) ? this.relative(from, text) : this.mapped(from, text);
-    for (const each of wanted) {
-      const found = this.files.find(each);
-      if (found && isInside(this.root, found)) return this.typed(this.behindLinks(found));
-    }
-    return null;
-  }
-
-  /** Whether a package, an import map or the system explains a text that leads out of the folder. */
-  isExplained(/** @type {string} */ from, /** @type {string} */ text) {
-    if (SCHEME.test(text) || builtinModules.includes(text)) return true;
-    const { imports, dependencies } = this.packageAt(from) || NO_PACKAGE;
-    const name = packageName(text);
-    const isMapped = [text, name].some((it) => imports[it] === null) || Object.keys(imports).some((it) => imports[it] === null && bestKey({ [it]: 1 }, text));
-    return isMapped || dependencies.has(name) || this.isInstalled(path.dirname(from), name);
-  }
-
-  /**
-   * Whether a package lies in a `node_modules` of the folder, above a file.
-   *
-   * @returns {boolean}
-   */
-  isInstalled(/** @type {string} */ folder, /** @type {string} */ name) {
-    if (name === '' || name.startsWith('#')) return false;
-    if (this.files.kind(path.join(folder, 'node_modules', name)) === 'folder') return true;
-    return folder !== this.root && isInside(this.root, folder) && this.isInstalled(path.dirname(folder), name);
-  }
-
   follow(/** @type {Module} */ module, /** @type {TreeSource} */ source) {
     const { text, offset } = source;
-    const file = this.resolve(module.path, text, source.comment);
+    const file = this.resolver.resolve(module.path, text, source.comment);
     if (file) {
       this.resolutions.push([module.specifier, text, urlOf(this.root, file)]);
       this.waiting.push(file);
     } else if (RELATIVE.test(text)) {
-      const outside = this.files.find(path.resolve(path.dirname(module.path), text));
-      this.missing.push({ path: module.path, offset, text, isOutside: outside !== null });
+      this.missing.push({ path: module.path, offset, text, isOutside: !this.files.isBelow(path.resolve(path.dirname(module.path), text)) });
     } else {
       const specifier = SCHEME.test(text) ? text : `npm:${text}`;
-      this.externals.push({ path: module.path, offset, text, specifier, name: packageName(text), isExplained: this.isExplained(module.path, text) });
+      this.externals.push({ path: module.path, offset, text, specifier, name: packageName(text), isExplained: this.resolver.isExplained(module.path, text) });
       this.resolutions.push([module.specifier, text, specifier]);
     }
   }
@@ -274,7 +157,7 @@ class Reader {
   }
 
   read() {
-    const entries = this.packages.flatMap((it) => this.entriesOf(it).map(([, file]) => file));
+    const entries = this.packages.flatMap((it) => this.resolver.entriesOf(it).map(([, file]) => file));
     this.waiting = entries.reverse();
     for (let file = this.waiting.pop(); file !== undefined; file = this.waiting.pop()) {
       try {
@@ -301,6 +184,7 @@ class Reader {
 function readPackage(/** @type {string} */ dir, /** @type {ReadOptions} */ options = {}) {
   const reader = new Reader(dir, options);
   reader.read();
+  reader.answers.keep();
   const packages = reader.packages.map((it) => ({
     name: it.name,
     version: it.version,
@@ -310,8 +194,8 @@ function readPackage(/** @type {string} */ dir, /** @type {ReadOptions} */ optio
     allow: it.allow,
     baseline: it.baseline,
     needed: it.needed,
-    exports: reader.entriesOf(it).map(([key, file]) => /** @type {[string, string]} */ ([key, `./${urlPath(it.dir, file)}`])),
-    entryPoints: reader.entriesOf(it).map(([, file]) => urlOf(reader.root, file)),
+    exports: reader.resolver.entriesOf(it).map(([key, file]) => /** @type {[string, string]} */ ([key, `./${urlPath(it.dir, file)}`])),
+    entryPoints: reader.resolver.entriesOf(it).map(([, file]) => urlOf(reader.root, file)),
     url: it.dir === reader.root ? 'file:///' : `${urlOf(reader.root, it.dir)}/`,
   }));
   return {
@@ -326,7 +210,7 @@ function readPackage(/** @type {string} */ dir, /** @type {ReadOptions} */ optio
     faults: reader.faults,
     taken: reader.taken,
     times: reader.times,
-    dirOf: (/** @type {string} */ file) => (reader.packageAt(file) || { dir: null }).dir,
+    dirOf: (/** @type {string} */ file) => (reader.resolver.packageAt(file) || { dir: null }).dir,
     caught: (/** @type {string} */ file, /** @type {KnownError} */ error) => reader.caught(file, error),
   };
 }
@@ -334,7 +218,7 @@ function readPackage(/** @type {string} */ dir, /** @type {ReadOptions} */ optio
 /** Where the texts of files of a workspace with these `members` lead inside of it, as `(from, text) -> path`, or null. */
 function resolverOf(/** @type {string} */ dir, /** @type {string[]} */ members) {
   const reader = new Reader(dir, { isQuiet: true, members });
-  return (/** @type {string} */ from, /** @type {string} */ text) => reader.resolve(from, text);
+  return (/** @type {string} */ from, /** @type {string} */ text) => reader.resolver.resolve(from, text);
 }
 
 module.exports = { packageName, readPackage, resolverOf };

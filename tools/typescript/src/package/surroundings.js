@@ -3,18 +3,21 @@
 const fs = require('fs');
 const { builtinModules } = require('module');
 const path = require('path');
+const { Answers } = require('./answers.js');
 const { configOf, membersOf } = require('./config.js');
 const { Files, isInside, isJavaScript, mediaTypeOf } = require('./files.js');
 const { resolverOf } = require('./read.js');
+const { RELATIVE } = require('./resolve.js');
+const { resolvedModule } = require('../compiler/resolve.js');
 const { ts } = require('../compiler/typescript.js');
 
-const RELATIVE = /^\.{1,2}(\/|$)/;
 // Where Debian's Node finds packages beside those of the variable NODE_PATH.
 const SYSTEM = ['/usr/share/nodejs', '/usr/lib/nodejs'];
 
 /** The folders of the members of a workspace. */
 function allMembers(/** @type {string} */ folder) {
-  return membersOf(folder, configOf(folder, new Files(folder), []));
+  const files = new Files(folder);
+  return membersOf(folder, configOf(folder, files, []), { files, answers: new Answers(files, null), faults: [] });
 }
 
 /** The innermost workspace that a folder, or one around it, is a member of: its folder, null where there is none, and those of its members. */
@@ -28,8 +31,8 @@ function workspaceAround(/** @type {string} */ dir) {
 
 /** What the compiler finds at a path, as it finds a package in `node_modules`. */
 function moduleAt(/** @type {string} */ file, /** @type {string} */ from, /** @type {ts.CompilerOptions} */ options) {
-  const { resolvedModule } = ts.resolveModuleName(file, from, options, ts.sys);
-  return resolvedModule && { ...resolvedModule, isExternalLibraryImport: true };
+  const found = resolvedModule(file, from, options, ts.sys);
+  return found && { ...found, isExternalLibraryImport: true };
 }
 
 const isTyped = (/** @type {ts.ResolvedModule | null | undefined} */ found) => Boolean(found && !isJavaScript(mediaTypeOf(found.resolvedFileName)));
@@ -74,8 +77,8 @@ class Surroundings {
   resolve(/** @type {string} */ text, /** @type {string} */ from, /** @type {ts.CompilerOptions} */ options, /** @type {ts.ModuleResolutionHost} */ host) {
     const near = this.ofWorkspace(text, from);
     if (near) return near;
-    const { resolvedModule } = ts.resolveModuleName(text, from, options, host);
-    return (isTyped(resolvedModule) ? null : this.ofSystem(text, from, options)) || resolvedModule;
+    const found = resolvedModule(text, from, options, host);
+    return (isTyped(found) ? null : this.ofSystem(text, from, options)) || found;
   }
 
   /** The declarations of Node's own modules among the packages of the system, for a folder that uses some and has none in its `node_modules`. */

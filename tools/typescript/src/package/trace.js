@@ -66,13 +66,13 @@ class Trace {
     return [...this.all.values()];
   }
 
-  /** Remembers a question with its answer, which is asked for where it is not at hand. */
-  note(/** @type {Question} */ question, /** @type {unknown} */ of, /** @type {string | null} */ answer = null) {
+  /** Remembers a question with its answer, which is asked for where it is not known yet. */
+  note(/** @type {Question} */ question, /** @type {unknown} */ of, answer = answerTo) {
     if (typeof of !== 'string') return;
     const file = path.resolve(of);
     const key = `${question} ${file}`;
     if (this.all.has(key) || this.without.some((it) => file.startsWith(it))) return;
-    this.all.set(key, [question, file, answer === null ? answerTo(question, file) : answer]);
+    this.all.set(key, [question, file, answer(question, file)]);
   }
 
   /**
@@ -103,7 +103,7 @@ class Trace {
     replace('readFileSync', (own, words) => {
       const file = typeof words[0] === 'number' ? trace.opened.get(words[0]) : words[0];
       const found = own(...words);
-      trace.note('text', file, hashOf(found));
+      trace.note('text', file, () => hashOf(found));
       return found;
     });
     try {

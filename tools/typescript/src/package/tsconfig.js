@@ -1,18 +1,16 @@
 'use strict';
-// What the tsconfig.json files of a folder say, as the compiler reads them: aliases (`paths`, `baseUrl`), how imports are resolved (`rootDirs`, `moduleSuffixes`),
-// and which files a build writes for which sources. What lies outside of the folder is not read.
-const fs = require('fs');
+// What the tsconfig.json files of a folder say, as the compiler reads them: its options, and which files a build writes for which sources. What lies outside of the
+// folder is not read.
 const path = require('path');
-const { isInside, mediaTypeOf, readJson, readText } = require('./files.js');
+const { isInside, readJson } = require('./files.js');
 const typescript = require('../compiler/typescript.js');
 
-/** @typedef {import('./types').ProjectOptions} ProjectOptions */
 /** @typedef {import('./types').RawConfig} RawConfig */
 /** @typedef {import('./files.js').Files} Files */
 
 const NAME = 'tsconfig.json';
-/** @type {ProjectOptions} */
-const NOTHING = { options: {}, from: null };
+/** @type {ts.CompilerOptions} */
+const NOTHING = {};
 const CONFIG_DIR = '${configDir}';
 
 /** @type {(value: unknown) => value is Record<string, unknown>} */
@@ -21,32 +19,21 @@ const isMap = (value) => value !== null && typeof value === 'object' && !Array.i
 const isText = (value) => typeof value === 'string';
 
 /**
- * What a pattern with at most one `*` leaves of a text, or null where it does not fit.
+ * Paths of options in which an older compiler leaves `${configDir}`, the folder of the outermost configuration.
  *
- * @returns {string | null}
+ * @template T
+ * @param {T} value
+ * @param {string} folder
+ * @returns {T}
  */
-function fits(/** @type {string} */ pattern, /** @type {string} */ text) {
-  const [before, after] = pattern.split('*');
-  if (after === undefined) return pattern === text ? '' : null;
-  const isLong = text.length >= before.length + after.length;
-  return isLong && text.startsWith(before) && text.endsWith(after) ? text.slice(before.length, text.length - after.length) : null;
-}
-
-/** The key of a map that fits a text best: the text itself, else the one with the longest part before its `*`; and what the `*` stands for. */
-function bestKey(/** @type {object} */ map, /** @type {string} */ text) {
-  const fitting = Object.keys(map).flatMap((key) => {
-    const rest = fits(key, text);
-    return rest === null ? [] : { key, rest };
-  });
-  const length = (/** @type {{ key: string }} */ { key }) => (key.includes('*') ? key.indexOf('*') : Infinity);
-  return fitting.sort((a, b) => length(b) - length(a))[0] || null;
-}
-
-/** A path of an option in which an older compiler leaves `${configDir}`, the folder of the outermost configuration. */
-function withFolder(/** @type {unknown} */ value, /** @type {string | undefined} */ folder) {
-  if (!isText(value)) return undefined;
-  if (!folder || !value.includes(CONFIG_DIR)) return value;
-  return path.join(folder, value.slice(value.indexOf(CONFIG_DIR) + CONFIG_DIR.length));
+function withFolder(value, folder) {
+  /** @type {(value: unknown) => unknown} */
+  const replaced = (it) => {
+    if (isText(it)) return it.includes(CONFIG_DIR) ? path.join(folder, it.slice(it.indexOf(CONFIG_DIR) + CONFIG_DIR.length)) : it;
+    if (Array.isArray(it)) return it.map(replaced);
+    return isMap(it) ? Object.fromEntries(Object.entries(it).map(([key, each]) => [key, replaced(each)])) : it;
+  };
+  return /** @type {T} */ (replaced(value));
 }
 
 /** The innermost folder that some files lie in; undefined of no files. */
@@ -57,42 +44,28 @@ function commonFolder(/** @type {string[]} */ files) {
 }
 
 class Projects {
-  /** `files` looks files up, and says which may be read. */
+  /** `files` looks files up, and says which may be read; `root` is the last folder in which a configuration is looked for. */
   constructor(/** @type {string} */ root, /** @type {Files} */ files) {
     this.root = root;
     this.files = files;
-    /** @type {Map<string, ProjectOptions>} */
+    /** @type {Map<string, ts.CompilerOptions>} */
     this.ofFile = new Map();
-    /** @type {Map<string, ProjectOptions>} */
+    /** @type {Map<string, ts.CompilerOptions>} */
     this.ofFolder = new Map();
-    /** @type {Map<string, Map<string, string>>} */
-    this.outputs = new Map();
-  }
-
-  isReadable(/** @type {string} */ file) {
-    return this.files.isFile(file) && !this.files.refusal(file);
-  }
-
-  isBelow(/** @type {string} */ file) {
-    return file === this.root || isInside(this.root, file);
   }
 
   /**
-   * The compiler's view of the files of the folder; with `lists`, of the sources that a configuration takes too.
+   * The compiler's view of configurations; with `lists`, of the sources that one takes too.
    *
-   * @returns {ts.ParseConfigHost & ts.ModuleResolutionHost}
+   * @returns {ts.ParseConfigHost}
    */
   host(/** @type {boolean} */ lists) {
-    const { ts } = typescript;
-    const insideOf = (/** @type {string} */ folder) => (/** @type {string} */ pattern) => this.isBelow(path.resolve(folder, pattern.replace(/[*?].*$/, '')));
+    const { files } = this;
     return {
       useCaseSensitiveFileNames: true,
-      getCurrentDirectory: () => this.root,
-      fileExists: (file) => this.isReadable(file),
-      directoryExists: (folder) => this.isBelow(folder) && this.files.kind(folder) === 'folder',
-      readFile: (file) => (this.isReadable(file) ? readText(file).text : undefined),
-      readDirectory: (folder, endings, excludes, includes, depth) => (
-        lists && this.isBelow(folder) ? ts.sys.readDirectory(folder, endings, excludes, (includes || ['**/*']).filter(insideOf(folder)), depth) : []),
+      fileExists: (file) => files.isReadable(file),
+      readFile: (file) => (files.isReadable(file) ? files.text(file).text : undefined),
+      readDirectory: (folder, endings, excludes, includes, depth) => (lists ? files.matching(folder, { endings, excludes, includes, depth }) : []),
     };
   }
 
@@ -102,8 +75,8 @@ class Projects {
    * @returns {RawConfig | null}
    */
   object(/** @type {string} */ file) {
-    if (!this.isReadable(file)) return null;
-    const { config } = readJson(file, readText(file).text);
+    if (!this.files.isReadable(file)) return null;
+    const { config } = readJson(file, this.files.text(file).text);
     return isMap(config) ? config : null;
   }
 
@@ -112,7 +85,7 @@ class Projects {
     return [written].flat().filter(isText).flatMap((text) => {
       const isPath = /^\.{1,2}(\/|$)/.test(text) || path.isAbsolute(text);
       const wanted = isPath ? path.resolve(path.dirname(file), text) : path.join(this.root, 'node_modules', text);
-      return [wanted, `${wanted}.json`, path.join(wanted, NAME)].find((it) => this.isReadable(it)) || [];
+      return [wanted, `${wanted}.json`, path.join(wanted, NAME)].find((it) => this.files.isReadable(it)) || [];
     });
   }
 
@@ -136,22 +109,21 @@ class Projects {
     const { ts } = typescript;
     const parse = (/** @type {RawConfig} */ each) => ts.parseJsonConfigFileContent(each, this.host(lists), path.dirname(file), undefined, file);
     if (typescript.isFrom(5, 0) || !this.extendsLists(object, file)) return parse(object);
-    const above = this.extended(object, file).map((each) => this.config(each).options);
+    const above = this.extended(object, file).map((each) => this.config(each));
     const own = parse({ ...object, extends: undefined });
     return { ...own, options: Object.assign({}, ...above, own.options) };
   }
 
-  /** The options of a tsconfig file, and the folder that `paths` begin at. */
+  /** The options of a tsconfig file. */
   config(/** @type {string} */ file) {
-    if (!this.ofFile.has(file)) {
-      // Of files that extend each other in a circle the first counts for nothing.
-      this.ofFile.set(file, NOTHING);
-      const object = this.object(file);
-      const { options } = object ? this.parsed(object, file, false) : NOTHING;
-      const { pathsBasePath } = /** @type {{ pathsBasePath?: string }} */ (options);
-      this.ofFile.set(file, object ? { options, from: pathsBasePath || path.dirname(file) } : NOTHING);
-    }
-    return this.ofFile.get(file) || NOTHING;
+    const known = this.ofFile.get(file);
+    if (known) return known;
+    // Of files that extend each other in a circle the first counts for nothing.
+    this.ofFile.set(file, NOTHING);
+    const object = this.object(file);
+    const options = object ? this.parsed(object, file, false).options : NOTHING;
+    this.ofFile.set(file, options);
+    return options;
   }
 
   /** The files of the projects that a tsconfig file refers to. */
@@ -166,68 +138,43 @@ class Projects {
 
   /** The options of a project: those of its own file, else, where it has no aliases, of the first project that it refers to and that has some. */
   project(/** @type {string} */ file) {
-    const hasAliases = (/** @type {ProjectOptions} */ { options }) => options.paths || options.baseUrl;
+    const hasAliases = (/** @type {ts.CompilerOptions} */ { paths, baseUrl }) => paths || baseUrl;
     const own = this.config(file);
     return hasAliases(own) ? own : this.references(file).map((each) => this.config(each)).find(hasAliases) || own;
   }
 
   /**
-   * The options of the nearest tsconfig.json above a file, with the folder that it lies in.
+   * The options of the nearest tsconfig.json in a folder or above it.
    *
-   * @returns {ProjectOptions}
+   * @returns {ts.CompilerOptions}
    */
   nearest(/** @type {string} */ folder) {
-    if (!this.ofFolder.has(folder)) {
-      const file = path.join(folder, NAME);
-      const isTop = folder === this.root || path.dirname(folder) === folder;
-      const found = this.files.isFile(file) ? { ...this.project(file), folder } : isTop ? NOTHING : this.nearest(path.dirname(folder));
-      this.ofFolder.set(folder, found);
-    }
-    return this.ofFolder.get(folder) || NOTHING;
-  }
-
-  /** The paths that a bare text in a file may stand for, the first that is there counts. */
-  paths(/** @type {string} */ from, /** @type {string} */ text) {
-    const { options, from: written, folder = '' } = this.nearest(path.dirname(from));
-    const { paths = {}, baseUrl } = options;
-    const base = withFolder(baseUrl, folder);
-    const best = bestKey(paths, text);
-    const targets = best && Array.isArray(paths[best.key]) ? paths[best.key].filter(isText) : [];
-    const made = targets.map((it) => path.resolve(base || written || '', it.replace(CONFIG_DIR, folder).replace('*', () => (best ? best.rest : ''))));
-    return base ? [...made, path.resolve(base, text)] : made;
-  }
-
-  /** Where a relative text of a file leads by options that change it, as the compiler finds it; null where none does, or nothing is found. */
-  resolved(/** @type {string} */ from, /** @type {string} */ text) {
-    const { options } = this.nearest(path.dirname(from));
-    if (!options.rootDirs && !options.moduleSuffixes) return null;
-    const { ts } = typescript;
-    const { Bundler } = /** @type {{ Bundler?: ts.ModuleResolutionKind }} */ (ts.ModuleResolutionKind);
-    const moduleResolution = Bundler || ts.ModuleResolutionKind.NodeJs;
-    const asked = { ...options, moduleResolution, module: ts.ModuleKind.ESNext, allowImportingTsExtensions: true, noEmit: true };
-    const { resolvedModule } = ts.resolveModuleName(text, from, asked, this.host(false));
-    return resolvedModule && mediaTypeOf(resolvedModule.resolvedFileName) !== 'Unknown' ? resolvedModule.resolvedFileName : null;
+    const known = this.ofFolder.get(folder);
+    if (known) return known;
+    const file = path.join(folder, NAME);
+    const isTop = folder === this.root || path.dirname(folder) === folder;
+    const found = this.files.isFile(file) ? withFolder(this.project(file), folder) : isTop ? NOTHING : this.nearest(path.dirname(folder));
+    this.ofFolder.set(folder, found);
+    return found;
   }
 
   /** The tsconfig files by which a folder may be built: its own, those for builds beside it, those of its `src`, and the projects that they refer to. */
   buildFiles(/** @type {string} */ dir) {
     const below = (/** @type {string} */ folder) => {
-      if (this.files.kind(folder) !== 'folder') return [];
-      const others = fs.readdirSync(folder).filter((name) => /^tsconfig\..+\.json$/.test(name)).sort();
-      return [NAME, ...others].map((name) => path.join(folder, name)).filter((file) => this.isReadable(file));
+      const others = this.files.names(folder).map(({ name }) => name).filter((name) => /^tsconfig\..+\.json$/.test(name));
+      return [NAME, ...others].map((name) => path.join(folder, name)).filter((file) => this.files.isReadable(file));
     };
     const own = [...below(dir), ...below(path.join(dir, 'src'))];
-    return [...new Set([...own, ...own.flatMap((file) => this.references(file)).filter((file) => this.isReadable(file))])];
+    return [...new Set([...own, ...own.flatMap((file) => this.references(file)).filter((file) => this.files.isReadable(file))])];
   }
 
   /**
-   * The sources of a folder by the files that the compiler writes for them.
+   * The files that the compiler writes for the sources of a folder, with these: `[written, source]`.
    *
-   * @returns {Map<string, string>}
+   * @returns {[string, string][]}
    */
   builtFiles(/** @type {string} */ dir) {
-    if (!this.outputs.has(dir)) this.outputs.set(dir, new Map(this.buildFiles(dir).reverse().flatMap((file) => this.written(file))));
-    return this.outputs.get(dir) || new Map();
+    return this.buildFiles(dir).reverse().flatMap((file) => this.written(file));
   }
 
   /**
@@ -238,18 +185,18 @@ class Projects {
   written(/** @type {string} */ file) {
     const { ts } = typescript;
     const folder = path.dirname(file);
-    const { options, fileNames } = this.parsed(this.object(file) || {}, file, true);
-    const folders = Object.fromEntries(['outDir', 'declarationDir', 'rootDir'].map((name) => [name, withFolder(options[name], folder)]));
-    if (!folders.outDir && !folders.declarationDir) return [];
+    const { options: parsed, fileNames } = this.parsed(this.object(file) || {}, file, true);
+    const options = withFolder(parsed, folder);
+    if (!options.outDir && !options.declarationDir) return [];
     const sources = fileNames.filter((name) => !/\.d\.[cm]?ts$|\.json$/.test(name));
     // Without `rootDir` compilers before 6.0 begin at the folder that all sources have in common, and later ones at that of the configuration.
-    const roots = folders.rootDir ? [folders.rootDir] : [commonFolder(sources), undefined];
+    const roots = options.rootDir ? [options.rootDir] : [commonFolder(sources), undefined];
     const written = (/** @type {string} */ source, /** @type {string | undefined} */ rootDir) => {
-      const asked = { options: { ...options, ...folders, rootDir, declaration: true, noEmit: false }, fileNames: sources, errors: [] };
+      const asked = { options: { ...options, rootDir, declaration: true, noEmit: false }, fileNames: sources, errors: [] };
       return ts.getOutputFileNames(asked, source, false).map((each) => /** @type {[string, string]} */ ([path.resolve(each), source]));
     };
-    return roots.flatMap((root) => sources.flatMap((source) => written(source, root))).filter(([each, source]) => each !== source && this.isBelow(each));
+    return roots.flatMap((root) => sources.flatMap((source) => written(source, root))).filter(([each, source]) => each !== source && this.files.isBelow(each));
   }
 }
 
-module.exports = { Projects, bestKey };
+module.exports = { Projects };

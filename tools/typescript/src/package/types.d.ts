@@ -1,8 +1,11 @@
 import { JsonText } from '../program/request.js';
 import { OwnTables } from '../tables/types';
 import { Tree } from '../tree/types';
+import { Answers } from './answers.js';
 import { Kept } from './cache.js';
 import { Files } from './files.js';
+import { Lookup } from './resolve.js';
+import { Asked } from './trace.js';
 import { Projects } from './tsconfig.js';
 
 export type MediaType =
@@ -83,6 +86,8 @@ export interface Package {
 export interface PackageContext {
   files: Files;
   projects: Projects;
+  answers: Answers;
+  lookup: Lookup;
   errors: FileError[];
   faults: FileError[];
   taken: Taken[];
@@ -196,11 +201,18 @@ export interface RawConfig {
   references?: unknown;
 }
 
-/** The options of a tsconfig.json file, and the folder that its `paths` begin at. */
-export interface ProjectOptions {
-  options: ts.CompilerOptions;
-  from: string | null;
-  folder?: string;
+/** Which files the compiler takes, as it is asked for them. */
+export interface Patterns {
+  endings?: readonly string[];
+  excludes?: readonly string[];
+  includes?: readonly string[];
+  depth?: number;
+}
+
+/** Answers of the compiler about files of a folder by names, and what was asked of the file system for them. */
+export interface KeptAnswers {
+  asked: Asked[];
+  found: [name: string, answer: unknown][];
 }
 
 /** What is kept of a module. */

@@ -2,6 +2,7 @@
 // Skeletons of the modules that nothing is wrong with, of packages of which something is wrong elsewhere: a preview. The program is asked again, without the
 // items that its messages point to. What these items refer to stays public, so far as a reference was found.
 
+const { namesIn } = require('../messages/codes.js');
 const { sourceOf } = require('./request.js');
 const { Names } = require('../skeleton/modules.js');
 const { partsOf, variantOf } = require('../tree/walk.js');
@@ -63,7 +64,7 @@ class Lessened {
     if (JAVASCRIPT.has(code) || !range) return this.withoutModule(specifier);
     if (!REFERENCES.has(code)) return this.change((it) => it === specifier, (module) => this.withoutItem(module, range));
     // The message names what was asked for, and its place is where that was sought, in whatever module.
-    const [, name] = /'([^']+)'/.exec(message) || /\(([^()]*)\)$/.exec(message) || ['', ''];
+    const { name } = namesIn(code, message);
     const last = (/** @type {string} */ text) => text.split('.').pop();
     const all = () => true;
     return this.change(all, (module) => this.withoutReferences(module, (it) => it === name))

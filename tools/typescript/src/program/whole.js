@@ -6,7 +6,7 @@ const path = require('path');
 const { chosen, candidateFiles } = require('../compiler/find.js');
 const { Trace, isSame } = require('../package/trace.js');
 const { seconds } = require('../cli/progress.js');
-const { VERSION } = require('../cli/installed.js');
+const { PROGRAM, VERSION, isClone } = require('../cli/installed.js');
 
 /** @typedef {import('../cli/types').Context} Context */
 /** @typedef {import('../cli/types').Options} Options */
@@ -43,7 +43,7 @@ class Whole {
    * @returns {Whole | null}
    */
   static of(/** @type {Target[]} */ targets, /** @type {Options} */ options, /** @type {Context} */ context) {
-    const { kept, environment: { FAST_CHECK: program } } = context;
+    const { kept, environment: { FAST_CHECK: program = isClone ? '' : PROGRAM } } = context;
     const isOpen = options.watch || options.verify || options.fix || options.baseline || options.format === 'sarif' || options.texts;
     if (!kept || !kept.folder || !program || isOpen) return null;
     const without = [TOOL, kept.folder.folder, ...candidateFiles().map((file) => path.dirname(path.dirname(file)))];

@@ -95,9 +95,9 @@ function others(/** @type {World} */ world, /** @type {Shown[]} */ shown) {
 /** What the page begins with: how many files and messages there are, and what is shown of them. */
 function summary(/** @type {World} */ world) {
   const all = withPartial(world).skeletons.size;
-  const previewed = all - world.skeletons.size;
+  const previewed = all > world.skeletons.size;
   const modules = count(all, 'public module');
-  const shows = !all ? 'a package with messages has no skeletons' : previewed ? `${modules}, of which ${previewed} in a preview` : modules;
+  const shows = !all ? 'a package with messages has no skeletons' : previewed ? `${modules} in a preview` : modules;
   return [count(world.files.size, 'file'), world.messages.length ? `${count(world.messages.length, 'message')}; ${shows}` : shows].join(', ');
 }
 

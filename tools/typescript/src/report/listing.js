@@ -1,6 +1,6 @@
 'use strict';
 // A text as lines of HTML, each with its number, and the messages behind the lines at which they end.
-const { LABELS } = require('../messages/message.js');
+const { labelOf } = require('../messages/codes.js');
 
 /** @typedef {import('../program/types').SourceFile} SourceFile */
 /** @typedef {import('../messages/types').PlacedMessage} PlacedMessage */
@@ -62,7 +62,7 @@ function more(/** @type {Message} */ each, /** @type {string | undefined} */ wri
 
 /** A message, whose code leads to its line where it has one. */
 function message(/** @type {Message} */ each, /** @type {string | undefined} */ written = undefined, href = '') {
-  const label = LABELS[each.code] ? `: ${LABELS[each.code]}` : '';
+  const label = labelOf(each.code) ? `: ${labelOf(each.code)}` : '';
   const lines = more(each, written).map((it) => `<div>${it}</div>`).join('');
   const code = href ? `<a href="#${href}">${escape(each.code)}</a>` : escape(each.code);
   return `<div class="message${each.level === 'Warning' ? ' warning' : ''}"><b>${code}</b> ${escape(each.message)}${escape(label)}${lines}</div>`;

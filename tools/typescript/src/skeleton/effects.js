@@ -39,7 +39,11 @@ function keepsName(tree, own = new Set()) {
   const values = [tree.init, tree.value, tree.right];
   if (values.some((it) => isPart(it) && hasName(it, own))) return true;
   const names = tree.TsEnum ? memberNames(tree.TsEnum) : own;
-  return Object.entries(tree).some(([key, each]) => isPart(each) && !PASSED_OVER.has(key) && keepsName(each, names));
+  for (const key in tree) {
+    const each = /** @type {Record<string, unknown>} */ (tree)[key];
+    if (isPart(each) && !PASSED_OVER.has(key) && keepsName(each, names)) return true;
+  }
+  return false;
 }
 
 /** Whether a source imports a module for its effects alone, which may change the types of others, or refers to one by a comment. */

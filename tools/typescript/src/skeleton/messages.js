@@ -60,6 +60,20 @@ function placeOf(/** @type {forms.Part} */ { ident, key, name }) {
   return (named && isWritten(named.span) && named.span) || null;
 }
 
+/** @typedef {{ node: forms.Part, around: Around | null }} Around a part with those that it lies in */
+
+/**
+ * The place of the innermost name of a declaration or a member around a part, else of the outermost part that has one.
+ *
+ * @returns {forms.Span | null}
+ */
+function placeIn(/** @type {Around} */ { node, around }) {
+  const named = placeOf(node);
+  if (named) return named;
+  const outer = around && placeIn(around);
+  return outer === null && node.span && isWritten(node.span) ? node.span : outer;
+}
+
 /**
  * Calls back for each reference to a type by a name that the program wrote, with the names of types that are seen there, and the place around it.
  *
@@ -68,12 +82,12 @@ function placeOf(/** @type {forms.Part} */ { ident, key, name }) {
  * @param {(name: string, seen: Set<string>, span: forms.Span | null) => void} call
  */
 function eachMade(items, names, call) {
-  /** @type {(node: forms.Part, seen: Set<string>, place: forms.Span | null) => void} */
-  const walk = (node, seen, place) => {
-    const { TsTypeRef: type, span, type_params: parameters } = node;
+  /** @type {(node: forms.Part, seen: Set<string>, around: Around | null) => void} */
+  const walk = (node, seen, around) => {
+    const { TsTypeRef: type, type_params: parameters } = node;
     const name = type && !isWritten(type.span) && type.type_name.Ident;
-    const here = placeOf(node) || (place === null && span && isWritten(span) ? span : place);
-    if (name && !isWritten(name.span)) call(name.sym, seen, here);
+    const here = { node, around };
+    if (name && !isWritten(name.span)) call(name.sym, seen, placeIn(here));
     const own = /** @type {forms.Part[]} */ ((parameters && parameters.params) || []).flatMap(({ name: it }) => (it && typeof it === 'object' && 'sym' in it ? it.sym : []));
     const inside = own.length ? new Set([...seen, ...own]) : seen;
     for (const each of partsOf(node)) walk(each, inside, here);

@@ -2,8 +2,7 @@
 // The types of the values that stay in skeletons, by the form of each alone. Where the form does not say the type that TypeScript's compiler finds, the value has none
 // here, and that is reported.
 
-const { Writer } = require('../tree/print/writer.js');
-const print = require('../tree/print/types.js');
+const { printType, spanOf } = require('../tree/print/index.js');
 const { variantOf } = require('../tree/walk.js');
 
 /** @typedef {import('./types').Holder} Holder */
@@ -51,9 +50,7 @@ const annotated = (type_ann) => ({ span: NONE, type_ann });
  * @returns {string}
  */
 function textOf(/** @type {forms.TsType} */ type) {
-  const w = new Writer(null);
-  print.type(w, type);
-  return w.text().trimEnd();
+  return printType(type).trimEnd();
 }
 
 const isPrimitive = (/** @type {forms.TsType} */ type) => Boolean(type.TsKeywordType || type.TsLitType);
@@ -236,7 +233,7 @@ class ValueTypes {
     const inner = value.Cond || value.Paren ? holder : OTHERWISE[holder] || holder;
     const own = /** @type {Partial<Record<string, (node: object, holder: Holder, value: forms.Expr) => forms.TsType>>} */ (/** @type {unknown} */ (this))[variant];
     if (own) return own.call(this, node, inner, value);
-    throw new Untold(print.spanOf(value), 'the form of the value does not say its type');
+    throw new Untold(spanOf(value), 'the form of the value does not say its type');
   }
 
   /** @returns {forms.TsType} */
@@ -363,7 +360,7 @@ class ValueTypes {
    */
   named(/** @type {forms.Expr} */ value, /** @type {Holder} */ holder) {
     const name = entityOf(value);
-    const span = print.spanOf(value);
+    const span = spanOf(value);
     if (!name) throw new Untold(span, 'the type of a member of a value that has no name');
     const found = this.scope.find(value);
     if (found.isSaid && found.type) return found.type;
@@ -470,7 +467,7 @@ class ValueTypes {
     const type = found.form === 'value' && !found.nodes && found.scope && found.value ? new ValueTypes(found.scope).of(found.value, CONSTANT) : written;
     const elements = type && elementTypes(type);
     if (holder === FROZEN || !elements || !elements.every(isPrimitive)) {
-      throw new Untold(print.spanOf(value), 'the array has elements of another one, whose types its form does not say');
+      throw new Untold(spanOf(value), 'the array has elements of another one, whose types its form does not say');
     }
     return elements;
   }

@@ -2,14 +2,21 @@
 // TypeScript's tree to the program's (docs/FORMATS.md): swc's forms, positions in bytes, and scope numbers.
 
 const { ts } = require('../compiler/typescript.js');
-const { Converter, form, TOP, UNRESOLVED } = require('./from-typescript/converter.js');
-const { items } = require('./from-typescript/declarations.js');
+const { classIn, functionIn, functionOf } = require('./from-typescript/classes.js');
 const { commentsOf } = require('./from-typescript/comments.js');
+const { Converter, form, TOP, UNRESOLVED } = require('./from-typescript/converter.js');
+const { declaration, items } = require('./from-typescript/declarations.js');
+const { expression, propName } = require('./from-typescript/expressions.js');
+const { parts } = require('./from-typescript/parts.js');
+const { bodyOf, functionBody } = require('./from-typescript/statements.js');
+const { annotation } = require('./from-typescript/types.js');
 
 /** @typedef {import('./types').TreeOptions} TreeOptions */
 /** @typedef {import('./offsets.js').Offsets} Offsets */
 
 const { SyntaxKind: K } = ts;
+
+Object.assign(parts, { annotation, bodyOf, classIn, declaration, expression, functionBody, functionIn, functionOf, propName });
 
 /** Whether a file is a module: it imports, exports, is a namespace to others, or has `import.meta` or an `await` that stands in no function. */
 function isModule(/** @type {ts.SourceFile} */ sourceFile) {
@@ -87,9 +94,9 @@ function toTree(/** @type {ts.SourceFile} */ sourceFile, /** @type {TreeOptions}
 const { JSDocParsingMode: MODES } = /** @type {{ JSDocParsingMode?: { ParseNone: number } }} */ (ts);
 const PARSED = { languageVersion: ts.ScriptTarget.ESNext, ...(MODES && { jsDocParsingMode: MODES.ParseNone }) };
 
-/** Parses a text as the compiler does a file of that name. */
+/** Parses a text as the compiler does a file of that name. The nodes do not know what is around them, which takes a third of the time less. */
 function parse(/** @type {string} */ name, /** @type {string} */ text) {
-  return ts.createSourceFile(name, text, PARSED, true);
+  return ts.createSourceFile(name, text, PARSED, false);
 }
 
-module.exports = { toTree, parse, isModule };
+module.exports = { toTree, parse };

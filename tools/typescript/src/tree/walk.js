@@ -20,7 +20,10 @@ const isPlace = (/** @type {object} */ it) => Array.isArray(it) && typeof it[0] 
 function partsOf(/** @type {object} */ part) {
   /** @type {forms.Part[]} */
   const found = [];
-  for (const each of Object.values(part)) if (each !== null && typeof each === 'object' && !isPlace(each)) found.push(each);
+  for (const name in part) {
+    const each = /** @type {Record<string, forms.Part>} */ (part)[name];
+    if (each !== null && typeof each === 'object' && !isPlace(each)) found.push(each);
+  }
   return found;
 }
 

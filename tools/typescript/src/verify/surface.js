@@ -4,6 +4,7 @@
 
 const path = require('path');
 const { hasModifier, modifiersOf } = require('../compiler/modifiers.js');
+const { resolvedModule } = require('../compiler/resolve.js');
 const { rewritten } = require('../compiler/rewrite.js');
 const { ts } = require('../compiler/typescript.js');
 const { resolver } = require('../skeleton/modules.js');
@@ -33,23 +34,11 @@ const OPTIONS = {
   types: [],
 };
 
+/** @type {{ resolvedFileName?: string }} */
+const NOWHERE = {};
 const LIBRARIES = path.dirname(ts.getDefaultLibFilePath(OPTIONS));
 /** @type {Map<string, ts.SourceFile | undefined>} */
 const libraries = new Map();
-const ENDINGS = ['', '.ts', '.tsx', '.d.ts', '.mts', '.d.mts', '.cts', '.d.cts', '.json', '/index.ts', '/index.tsx', '/index.d.ts'];
-
-/** Where a relative text leads among the texts. */
-function resolveIn(/** @type {Map<string, string>} */ texts, /** @type {string} */ from, /** @type {string} */ text) {
-  if (!/^\.{1,2}(\/|$)/.test(text)) return undefined;
-  const wanted = path.resolve(path.dirname(from), text);
-  const stems = [wanted, wanted.replace(/\.[cm]?jsx?$/, ''), wanted.replace(/\.([cm]?)tsx?$/, '.d.$1ts'), wanted.replace(/\.[cm]?tsx?$/, '')];
-  for (const stem of stems) {
-    const ending = ENDINGS.find((it) => texts.has(stem + it));
-    if (ending !== undefined) return stem + ending;
-  }
-  return undefined;
-}
-
 function extensionOf(/** @type {string} */ name) {
   return (/\.d\.[cm]?ts$|\.[a-z]+$/.exec(name) || [''])[0];
 }
@@ -407,6 +396,7 @@ function surfaceOf(/** @type {ts.Program} */ program, /** @type {Map<string, str
  */
 function resolverOf(/** @type {ResolvedWorld} */ world, /** @type {Map<string, string>} */ texts) {
   const resolve = resolver(world);
+  const host = { fileExists: (/** @type {string} */ name) => texts.has(name), readFile: (/** @type {string} */ name) => texts.get(name), getCurrentDirectory: () => '/' };
   const known = [...world.files.values(), ...(world.info.jsonModules || [])];
   const paths = new Map(known.map((it) => [it.specifier, it.path]));
   /** @type {Map<string, string>} */
@@ -417,7 +407,7 @@ function resolverOf(/** @type {ResolvedWorld} */ world, /** @type {Map<string, s
     const target = own === undefined ? undefined : resolve(own, text);
     const to = target === undefined ? undefined : paths.get(target);
     const names = to ? [to, declarationName(to)] : [];
-    return names.find((it) => texts.has(it)) || resolveIn(texts, from, text);
+    return names.find((it) => texts.has(it)) || (resolvedModule(text, from, OPTIONS, host) || NOWHERE).resolvedFileName;
   };
 }
 

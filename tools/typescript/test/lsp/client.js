@@ -5,17 +5,27 @@ const path = require('path');
 const { pathToFileURL } = require('url');
 const { Framing } = require('../../src/lsp/connection.js');
 
+/** @typedef {import('../../src/lsp/types').RpcMessage} RpcMessage */
+/** @typedef {import('../../src/lsp/types').Diagnostic} Diagnostic */
+/** @typedef {import('../../src/lsp/types').TextChange} TextChange */
+/** @typedef {{ resolve: (result: unknown) => void, reject: (error: Error) => void }} Asked */
+
 const TOOL = path.resolve(__dirname, '../../bin/fast-check-ts.js');
 
 class Client {
   /** Starts a server for a folder. */
-  constructor(folder) {
+  constructor(/** @type {string} */ folder) {
     this.folder = folder;
     this.child = childProcess.spawn(process.execPath, [TOOL, 'lsp'], { cwd: folder, stdio: ['pipe', 'pipe', 'pipe'] });
+    /** @type {Map<string, Diagnostic[]>} */
     this.diagnostics = new Map();
+    /** @type {{ type: number, message: string }[]} */
     this.logs = [];
+    /** @type {{ code: number }[]} */
     this.refusals = [];
+    /** @type {Map<unknown, Asked>} */
     this.asked = new Map();
+    /** @type {Set<() => void>} */
     this.waiting = new Set();
     this.next = 1;
     this.said = '';
@@ -26,74 +36,90 @@ class Client {
     this.status = new Promise((resolve) => this.child.on('exit', (code, signal) => resolve(signal || code)));
   }
 
-  receive({ id, method, params, result, error }) {
+  receive(/** @type {RpcMessage} */ { id, method, params, result, error }) {
+    const told = /** @type {{ uri: string, diagnostics: Diagnostic[], type: number, message: string }} */ (params);
     if (method !== undefined && id !== undefined) this.send({ id, result: null });
-    else if (id === null) this.refusals.push(error);
+    else if (id === null) this.refusals.push(error || { code: 0 });
     else if (id !== undefined) {
-      const { resolve, reject } = this.asked.get(id);
+      const { resolve, reject } = /** @type {Asked} */ (this.asked.get(id));
       if (error) reject(Object.assign(new Error(error.message), error));
       else resolve(result);
-    } else if (method === 'textDocument/publishDiagnostics') this.diagnostics.set(params.uri, params.diagnostics);
-    else if (method === 'window/logMessage') this.logs.push(params);
+    } else if (method === 'textDocument/publishDiagnostics') this.diagnostics.set(told.uri, told.diagnostics);
+    else if (method === 'window/logMessage') this.logs.push(told);
     for (const look of this.waiting) look();
   }
 
-  write(bytes) {
+  write(/** @type {string | Buffer} */ bytes) {
     this.child.stdin.write(bytes);
   }
 
-  send(message) {
+  send(/** @type {RpcMessage} */ message) {
     const text = JSON.stringify({ jsonrpc: '2.0', ...message });
     this.write(`Content-Length: ${Buffer.byteLength(text)}\r\n\r\n${text}`);
   }
 
-  /** Asks the server; the promise has the id of the request as `id`. */
+  /**
+   * Asks the server; the promise has the id of the request as `id`.
+   *
+   * @template R
+   * @param {string} method
+   * @param {object} [params]
+   * @returns {Promise<R> & { id: number }}
+   */
   request(method, params) {
     const id = this.next++;
-    const answer = new Promise((resolve, reject) => this.asked.set(id, { resolve, reject }));
+    /** @type {Promise<R>} */
+    const answer = new Promise((resolve, reject) => this.asked.set(id, { resolve: (result) => resolve(/** @type {R} */ (result)), reject }));
     this.send({ id, method, params });
     return Object.assign(answer, { id });
   }
 
-  notify(method, params) {
+  notify(/** @type {string} */ method, /** @type {object} */ params = {}) {
     this.send({ method, params });
   }
 
-  /** Waits until a test of what was received holds. */
+  /**
+   * Waits until a test of what was received holds.
+   *
+   * @param {() => unknown} test
+   * @param {string} what
+   * @returns {Promise<void>}
+   */
   until(test, what, seconds = 60) {
     return new Promise((resolve, reject) => {
-      const end = (call, value) => {
+      const end = (/** @type {() => void} */ call) => {
         clearTimeout(timer);
         this.waiting.delete(look);
-        call(value);
+        call();
       };
       const look = () => test() && end(resolve);
-      const timer = setTimeout(() => end(reject, new Error(`${what} did not come in ${seconds} seconds\n${this.said}${JSON.stringify(this.logs)}`)), seconds * 1000);
+      const timer = setTimeout(() => end(() => reject(new Error(`${what} did not come in ${seconds} seconds\n${this.said}${JSON.stringify(this.logs)}`))), seconds * 1000);
       this.waiting.add(look);
       look();
     });
   }
 
-  uri(name) {
+  uri(/** @type {string} */ name) {
     return pathToFileURL(path.join(this.folder, name)).href;
   }
 
   /** The diagnostics of a file as `code line:character`. */
-  shown(name) {
+  shown(/** @type {string} */ name) {
     return (this.diagnostics.get(this.uri(name)) || []).map(({ code, range: { start } }) => `${code} ${start.line}:${start.character}`);
   }
 
   async begin(capabilities = {}, others = {}) {
+    /** @type {{ capabilities: { positionEncoding: string }, serverInfo: { name: string } }} */
     const result = await this.request('initialize', { processId: process.pid, capabilities, workspaceFolders: [{ uri: pathToFileURL(this.folder).href, name: 'it' }], ...others });
     this.notify('initialized', {});
     return result;
   }
 
-  open(name, text) {
+  open(/** @type {string} */ name, /** @type {string} */ text) {
     this.notify('textDocument/didOpen', { textDocument: { uri: this.uri(name), languageId: 'typescript', version: 1, text } });
   }
 
-  change(name, ...contentChanges) {
+  change(/** @type {string} */ name, /** @type {TextChange[]} */ ...contentChanges) {
     this.notify('textDocument/didChange', { textDocument: { uri: this.uri(name), version: 2 }, contentChanges });
   }
 

@@ -10,9 +10,14 @@ const { changedText, editsBetween, offsetAt } = require('../../src/lsp/documents
 const { Lines } = require('../../src/tree/lines.js');
 const { Client } = require('./client.js');
 
+/** @typedef {import('../../src/lsp/types').CodeAction} CodeAction */
+/** @typedef {import('../../src/lsp/types').Diagnostic} Diagnostic */
+/** @typedef {import('../../src/lsp/types').TextEdit} TextEdit */
+/** @typedef {CodeAction & { edit: NonNullable<CodeAction['edit']> }} Resolved */
+
 const RESOLVES = { textDocument: { codeAction: { resolveSupport: { properties: ['edit'] } } } };
 const SLOW = 'missing-explicit-return-type';
-let cache;
+let cache = '';
 
 before(() => {
   cache = fs.mkdtempSync(path.join(os.tmpdir(), 'fast-check-cache-'));
@@ -21,7 +26,7 @@ before(() => {
 after(() => fs.rmSync(cache, { recursive: true, force: true }));
 
 /** Calls with a client of a folder with some files, and ends both. */
-async function withFiles(files, call) {
+async function withFiles(/** @type {Record<string, string>} */ files, /** @type {(client: Client, folder: string) => Promise<void>} */ call) {
   const folder = fs.mkdtempSync(path.join(os.tmpdir(), 'fast-check-editor-'));
   for (const [name, text] of Object.entries({ 'deno.json': '{"name": "@me/it", "version": "1.0.0", "exports": "./mod.ts"}', ...files })) {
     fs.mkdirSync(path.dirname(path.join(folder, name)), { recursive: true });
@@ -38,7 +43,7 @@ async function withFiles(files, call) {
 }
 
 /** A text behind edits, which do not overlap. */
-function edited(text, edits) {
+function edited(/** @type {string} */ text, /** @type {TextEdit[]} */ edits) {
   const lines = new Lines(text);
   const sorted = [...edits].sort((a, b) => offsetAt(lines, b.range.start) - offsetAt(lines, a.range.start));
   return sorted.reduce((made, { range, newText }) => made.slice(0, offsetAt(lines, range.start)) + newText + made.slice(offsetAt(lines, range.end)), text);
@@ -57,11 +62,11 @@ describe('diagnostics', () => {
     await client.until(() => client.shown('mod.ts').length && client.shown('two.ts').length, 'diagnostics');
     assert.deepStrictEqual(client.shown('mod.ts'), ['missing-explicit-type 1:13']);
     assert.deepStrictEqual(client.shown('two.ts'), [`${SLOW} 1:26`]);
-    const [found] = client.diagnostics.get(client.uri('two.ts'));
+    const [found] = client.diagnostics.get(client.uri('two.ts')) || [];
     assert.strictEqual(found.severity, 1);
-    assert.match(found.codeDescription.href, /^https:/);
+    assert.match((found.codeDescription || { href: '' }).href, /^https:/);
     assert.match(found.message, /hint: add an explicit return type/);
-    const [{ location }] = found.relatedInformation;
+    const [{ location }] = /** @type {NonNullable<Diagnostic['relatedInformation']>} */ (found.relatedInformation);
     assert.deepStrictEqual([location.uri, location.range.start], [client.uri('mod.ts'), { line: 0, character: 20 }]);
   }));
 
@@ -106,7 +111,7 @@ describe('diagnostics', () => {
 });
 
 describe('actions', () => {
-  const at = (line, character) => ({ start: { line, character }, end: { line, character } });
+  const at = (/** @type {number} */ line, /** @type {number} */ character) => ({ start: { line, character }, end: { line, character } });
 
   it('write one type, or all of a file', () => withFiles(FILES, async (client) => {
     await client.begin(RESOLVES);
@@ -114,12 +119,15 @@ describe('actions', () => {
     client.open('mod.ts', text);
     await client.until(() => client.shown('mod.ts').length === 2, 'both messages');
     const textDocument = { uri: client.uri('mod.ts') };
+    /** @type {CodeAction[]} */
     const found = await client.request('textDocument/codeAction', { textDocument, range: at(2, 15), context: { diagnostics: [] } });
     assert.deepStrictEqual(found.map(({ title, edit }) => [title, edit]), [['Write the missing type', undefined], ['Write all missing types in this file', undefined]]);
+    /** @type {Resolved[]} */
     const [one, all] = await Promise.all(found.map((action) => client.request('codeAction/resolve', action)));
-    const textOf = ({ edit }) => edited(text, edit.changes[textDocument.uri]);
+    const textOf = (/** @type {Resolved} */ { edit }) => edited(text, edit.changes[textDocument.uri]);
     assert.strictEqual(textOf(one), text.replace('other =', 'other: number ='));
     assert.strictEqual(textOf(all), text.replace('other =', 'other: number =').replace('() =>', '(): number =>'));
+    /** @type {CodeAction[]} */
     const onSave = await client.request('textDocument/codeAction', { textDocument, range: at(0, 0), context: { diagnostics: [], only: ['source.fixAll'] } });
     assert.deepStrictEqual(onSave.map(({ kind }) => kind), ['source.fixAll.nagdrez']);
     assert.deepStrictEqual(await client.request('textDocument/codeAction', { textDocument, range: at(3, 0), context: { diagnostics: [], only: ['quickfix'] } }), []);
@@ -129,6 +137,7 @@ describe('actions', () => {
     await client.begin();
     client.open('mod.ts', FILES['mod.ts']);
     await client.until(() => client.shown('mod.ts').length, 'the message');
+    /** @type {Resolved[]} */
     const [{ edit }] = await client.request('textDocument/codeAction', { textDocument: { uri: client.uri('mod.ts') }, range: at(1, 14), context: { diagnostics: [] } });
     assert.match(edited(FILES['mod.ts'], edit.changes[client.uri('mod.ts')]), /one: number = /);
   }));
@@ -206,10 +215,11 @@ describe('a file whose tree alone is handed over', () => {
     let count = 0;
     for (const name of fs.readdirSync(packages)) {
       const cwd = path.join(packages, name);
-      const asked = (treesOf) => analyse(cwd, { treesOf }, { cwd, environment: process.env, progress: new Progress({ write() {} }, false) });
-      const messagesOf = (world, file) => [...world.warnings, ...world.broken, ...world.messages].map(plain).filter((it) => it.file && path.resolve(cwd, it.file) === file);
+      const asked = (/** @type {Set<string> | undefined} */ treesOf) => analyse(cwd, { treesOf }, { cwd, environment: process.env, progress: new Progress({ write: () => true }, false) });
+      const messagesOf = (/** @type {import('../../src/program/types').World} */ world, /** @type {string} */ file) => [...world.warnings, ...world.broken, ...world.messages].map(plain).filter((it) => it.file && path.resolve(cwd, it.file) === file);
       const whole = await asked(undefined).catch(() => null);
-      for (const { path: file } of whole ? [...whole.files.values()].slice(0, 6) : []) {
+      if (!whole) continue;
+      for (const { path: file } of [...whole.files.values()].slice(0, 6)) {
         assert.deepStrictEqual(messagesOf(await asked(new Set([file])), file), messagesOf(whole, file), `${name} ${file}`);
         count += 1;
       }
@@ -220,9 +230,9 @@ describe('a file whose tree alone is handed over', () => {
 
 describe('edits and cancels without end', () => {
   /** Random numbers of a seed. */
-  function randomOf(seed) {
+  function randomOf(/** @type {number} */ seed) {
     let state = seed;
-    return (below) => {
+    return (/** @type {number} */ below) => {
       state = (Math.imul(state, 1664525) + 1013904223) >>> 0;
       return Math.floor((state / 2 ** 32) * below);
     };

@@ -1,5 +1,5 @@
 'use strict';
-// The pages that explain codes: each code has one, and their examples are what they say.
+// Codes: the pages that explain them, of which each code has one with examples that are what they say, and the program's texts.
 const assert = require('assert');
 const childProcess = require('child_process');
 const fs = require('fs');
@@ -7,14 +7,14 @@ const os = require('os');
 const path = require('path');
 const { describe, it } = require('node:test');
 const { check } = require('../../src/api/index.js');
-const { CODES } = require('../../src/messages/codes.js');
+const { CODES, PROGRAM, RETURNS, namesIn } = require('../../src/messages/codes.js');
 
 const ERRORS = path.resolve(__dirname, '../../../../docs/errors');
 const TOOL = path.resolve(__dirname, '../../bin/fast-check-ts.js');
-const pageOf = (code) => fs.readFileSync(path.join(ERRORS, `${code}.md`), 'utf8');
+const pageOf = (/** @type {string} */ code) => fs.readFileSync(path.join(ERRORS, `${code}.md`), 'utf8');
 
 /** The codes of the messages about a module. */
-async function codesOf(text) {
+async function codesOf(/** @type {string} */ text) {
   const folder = fs.mkdtempSync(path.join(os.tmpdir(), 'fast-check-page-'));
   try {
     fs.writeFileSync(path.join(folder, 'mod.ts'), text);
@@ -45,7 +45,7 @@ describe('docs/errors', () => {
 });
 
 describe('explain', () => {
-  const run = (...words) => childProcess.spawnSync(process.execPath, [TOOL, 'explain', ...words], { encoding: 'utf8' });
+  const run = (/** @type {string[]} */ ...words) => childProcess.spawnSync(process.execPath, [TOOL, 'explain', ...words], { encoding: 'utf8' });
 
   it('prints the page', () => {
     assert.strictEqual(run('missing-explicit-type').stdout, pageOf('missing-explicit-type'));
@@ -56,5 +56,29 @@ describe('explain', () => {
     const { status, stderr } = run('missing-explicit-typo');
     assert.strictEqual(status, 2);
     assert.match(stderr, /there is no code missing-explicit-typo; did you mean missing-explicit-type\?/);
+  });
+});
+
+describe('the table of codes', () => {
+  const read = (/** @type {string} */ file) => fs.readFileSync(path.resolve(__dirname, '../../../../crates/fast_check_diagnostics/src', file), 'utf8');
+
+  it('has the texts of the program', () => {
+    const texts = read('diagnostics/texts.rt');
+    const [, reference = ''] = /IS_REFERENCE: &str = "(.*)"/.exec(texts) || [];
+    const rows = [...texts.matchAll(/ code: "(.*)",[^]*? range_description: (?:None|Some\((?:"(.*)"|IS_REFERENCE)\)),/g)];
+    const label = (/** @type {RegExpMatchArray} */ [whole, , written]) => written || (whole.includes('IS_REFERENCE') ? reference : undefined);
+    const known = rows.filter(([, code]) => PROGRAM[code]);
+    assert.deepStrictEqual(known.map((row) => [row[1], label(row)]).sort(), Object.entries(PROGRAM).map(([code, it]) => [code, it.label]).sort());
+    const written = read('diagnostics.rt');
+    for (const { message } of Object.values(PROGRAM)) assert.ok(message === undefined || written.includes(`"${message}"`), message);
+    const shown = read('diagnostics/shown.rt');
+    for (const text of Object.values(RETURNS)) assert.ok(shown.includes(`"${text}"`), text);
+  });
+
+  it('finds names in messages', () => {
+    assert.deepStrictEqual(namesIn('not-found-reference', "could not resolve 'N.A' referenced from 'f'"), { name: 'N.A', referrer: 'f' });
+    const text = 'public API member (C.part) is referencing or transitively referencing a class private member (C.own)';
+    assert.deepStrictEqual(namesIn('unsupported-private-member-reference', text), { referrer: 'C.part', name: 'C.own' });
+    assert.deepStrictEqual(namesIn('export-not-found', 'export not found: a'), {});
   });
 });

@@ -12,26 +12,31 @@ const { requestText } = require('../../src/program/request.js');
 const TOP = path.resolve(__dirname, '../../../..');
 const PACKAGES = path.resolve(__dirname, '../packages');
 const TOOL = path.resolve(__dirname, '../../bin/fast-check-ts.js');
+/** @typedef {((value: unknown) => boolean) & { errors: object[] }} Validate */
+/** @typedef {{ getSchema(name: string): Validate | undefined, compile(schema: object): Validate, errorsText(errors: object[]): string }} Checker */
+/** @type {(new (options: object) => Checker) | null} */
 let Ajv = null;
 try {
-  Ajv = require('ajv');
+  // Its types are not there.
+  const name = 'ajv';
+  Ajv = require(name);
 } catch {
   // It is not there: the tests are skipped.
 }
 
-const read = (file) => JSON.parse(fs.readFileSync(path.join(TOP, file), 'utf8'));
+const read = (/** @type {string} */ file) => JSON.parse(fs.readFileSync(path.join(TOP, file), 'utf8'));
 
 /** The lines that a command prints, as JSON. */
-function linesOf(words, cwd, input = '') {
+function linesOf(/** @type {string[]} */ words, /** @type {string} */ cwd, input = '') {
   const { stdout } = childProcess.spawnSync(process.execPath, [TOOL, ...words], { cwd, input, encoding: 'utf8', maxBuffer: 1 << 28 });
   return stdout.split('\n').filter(Boolean).map((line) => JSON.parse(line));
 }
 
 describe('schemas', { skip: Ajv ? false : "Debian's node-ajv is not there" }, () => {
-  const ajv = Ajv && new Ajv({ schemas: ['program', 'tool', 'settings'].map((name) => ({ $id: `${name}.json`, ...read(`tools/schemas/${name}.json`) })) });
+  const ajv = /** @type {Checker} */ (Ajv && new Ajv({ schemas: ['program', 'tool', 'settings'].map((name) => ({ $id: `${name}.json`, ...read(`tools/schemas/${name}.json`) })) }));
 
   /** What is wrong with a value by a definition; null where nothing is. */
-  function wrong(definition, value) {
+  function wrong(/** @type {string} */ definition, /** @type {unknown} */ value) {
     const validate = ajv.getSchema(definition) || ajv.compile({ $ref: definition });
     return validate(value) ? null : ajv.errorsText(validate.errors.slice(0, 3));
   }
@@ -54,6 +59,7 @@ describe('schemas', { skip: Ajv ? false : "Debian's node-ajv is not there" }, ()
 
   it('refuse what is none', () => {
     const input = read('examples/first.json');
+    /** @type {((it: any) => void)[]} */
     const changes = [
       (it) => delete it.module.specifier, (it) => { it.module.source.media_type = 'Text'; }, (it) => { it.ranges = [[1]]; }, (it) => { it.graph = null; },
       (it) => { it.module.source.program = { Module: { span: [1, 2], body: [{ Stmt: { Nothing: {} } }] } }; }, (it) => { it.module.symbols[0].id = '0'; },

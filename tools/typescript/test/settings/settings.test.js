@@ -7,16 +7,19 @@ const os = require('os');
 const path = require('path');
 const { describe, it } = require('node:test');
 
+/** @typedef {(...words: string[]) => { status: number | null, stdout: string, stderr: string, codes: string[] }} Run */
+
 const TOOL = path.resolve(__dirname, '../../bin/fast-check-ts.js');
 const SLOW = 'export const a = Math.random();\nexport function b() { return a; }\n';
 
 /** Calls with a function that runs commands in a folder of some files. */
-function withFiles(files, call) {
+function withFiles(/** @type {Record<string, string | object>} */ files, /** @type {(run: Run, folder: string) => void} */ call) {
   const folder = fs.mkdtempSync(path.join(os.tmpdir(), 'fast-check-settings-'));
   for (const [name, text] of Object.entries(files)) {
     fs.mkdirSync(path.dirname(path.join(folder, name)), { recursive: true });
     fs.writeFileSync(path.join(folder, name), typeof text === 'string' ? text : JSON.stringify(text));
   }
+  /** @type {Run} */
   const run = (...words) => {
     const { status, stdout, stderr } = childProcess.spawnSync(process.execPath, [TOOL, ...words, '--no-cache'], { cwd: folder, encoding: 'utf8' });
     return { status, stdout, stderr, codes: stdout.split('\n').filter((line) => line.startsWith('{')).map((line) => JSON.parse(line).code).filter(Boolean) };
@@ -28,7 +31,7 @@ function withFiles(files, call) {
   }
 }
 
-const config = (nagdrez) => ({ name: '@me/it', version: '1.0.0', exports: './built.d.ts', nagdrez });
+const config = (/** @type {object} */ nagdrez) => ({ name: '@me/it', version: '1.0.0', exports: './built.d.ts', nagdrez });
 
 describe('settings', () => {
   it('name entry points, allowed codes and a baseline', () => withFiles({ 'package.json': config({ exports: './code/it.ts', allow: ['missing-explicit-type'] }), 'code/it.ts': SLOW }, (run, folder) => {

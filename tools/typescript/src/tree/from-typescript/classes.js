@@ -124,7 +124,7 @@ function classIn(/** @type {Converter} */ c, /** @type {ts.ClassLikeDeclaration}
     span: c.range(start, node.end),
     ctxt: scope.number,
     decorators: decorators(c, node),
-    body: withStaticNames(c, node.members.map((it) => member(c, it))),
+    body: withStaticNames(c, c.each(node.members, (it) => member(c, it))),
     super_class: superClass && expression(c, superClass.expression),
     is_abstract: hasModifier(node, K.AbstractKeyword),
     type_params: types.typeParams(c, node),
@@ -294,4 +294,4 @@ function member(/** @type {Converter} */ c, /** @type {ts.ClassElement} */ node)
   return { Empty: { span: c.span(node) } };
 }
 
-module.exports = { functionIn, functionOf, classIn, classOf, decorators, implemented, heritage };
+module.exports = { functionIn, functionOf, classIn, classOf, implemented, heritage };

@@ -72,6 +72,12 @@ class Converter {
     /** @type {import('../types').TreeSource[]} */
     this.sources = [];
     this.lastScope = UNRESOLVED;
+    // What stands beside the node that is converted: the statements of a body, or the members of a class or an object. The compiler's nodes know none around them.
+    /** @type {readonly ts.Node[]} */
+    this.list = [];
+    // What the statement that is converted assigns to.
+    /** @type {ts.Node | null} */
+    this.assigned = null;
     /** @type {Map<ts.Node, { block: ts.Node, scope: Scope, shown: Scope }>} */
     this.blocks = new Map();
     /** @type {Map<number, Scope>} */
@@ -101,6 +107,22 @@ class Converter {
     } finally {
       this.scope = outer;
     }
+  }
+
+  /**
+   * What a call makes of each node of a list.
+   *
+   * @template {ts.Node} N
+   * @template R
+   * @param {readonly N[]} list
+   * @param {(node: N) => R} call
+   */
+  each(list, call) {
+    const outer = this.list;
+    this.list = list;
+    const made = list.map(call);
+    this.list = outer;
+    return made;
   }
 
   start(/** @type {ts.Node} */ node) {

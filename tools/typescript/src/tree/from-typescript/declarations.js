@@ -153,7 +153,7 @@ function exportedScope(/** @type {Converter} */ c, /** @type {ts.EnumDeclaration
 /**
  * Whether a statement is a block of a namespace or an enum of a name.
  *
- * @param {ts.Statement} it
+ * @param {ts.Node} it
  * @param {ts.EnumDeclaration | ts.ModuleDeclaration} node
  * @returns {it is ts.EnumDeclaration | ts.ModuleDeclaration}
  */
@@ -165,8 +165,7 @@ function isBlockOf(it, node) {
 function sharedScope(/** @type {Converter} */ c, /** @type {ts.EnumDeclaration | ts.ModuleDeclaration} */ node) {
   const known = c.blocks.get(node);
   if (known) return known.scope;
-  const beside = node.parent && 'statements' in node.parent ? /** @type {readonly ts.Statement[]} */ (node.parent.statements) : [];
-  const blocks = beside.flatMap((it) => (isBlockOf(it, node) ? it : []));
+  const blocks = c.list.flatMap((it) => (isBlockOf(it, node) ? it : []));
   if (!blocks.includes(node)) blocks.push(node);
   const made = blocks.map((block) => {
     const scope = c.newScope(c.scope);
@@ -192,7 +191,7 @@ function moduleBlock(/** @type {Converter} */ c, /** @type {ts.ModuleBlock} */ n
  */
 function innerNamespace(/** @type {Converter} */ c, /** @type {ts.ModuleDeclaration} */ node) {
   const id = names.binding(c, /** @type {ts.Identifier} */ (node.name), NAMESPACE);
-  const body = /** @type {forms.TsNamespaceBody} */ (namespaceBody(c, node));
+  const [body] = c.each([node], (it) => /** @type {forms.TsNamespaceBody} */ (namespaceBody(c, it)));
   return { TsNamespaceDecl: form({ span: c.span(node), id, body }) };
 }
 
@@ -299,9 +298,9 @@ function importSpecifiers(/** @type {Converter} */ c, /** @type {ts.ImportClause
  *
  * @returns {forms.Str}
  */
-function source(/** @type {Converter} */ c, /** @type {ts.Expression} */ node) {
+function source(/** @type {Converter} */ c, /** @type {ts.Expression} */ node, /** @type {ts.Node} */ around) {
   if (ts.isStringLiteral(node)) {
-    c.sources.push({ text: node.text, offset: c.start(node), comment: commentBefore(c, node.parent) });
+    c.sources.push({ text: node.text, offset: c.start(node), comment: commentBefore(c, around) });
     return names.str(c, node);
   }
   c.refuse(node, 'a source that is no text');
@@ -324,7 +323,7 @@ function importDeclaration(/** @type {Converter} */ c, /** @type {ts.ImportDecla
     Import: form({
       span: c.span(node),
       specifiers: importSpecifiers(c, clause),
-      src: source(c, node.moduleSpecifier),
+      src: source(c, node.moduleSpecifier, node),
       type_only: Boolean(clause && clause.isTypeOnly),
       with: attributes(c, node),
       phase: phaseOf(/** @type {{ phaseModifier?: ts.SyntaxKind } | undefined} */ (/** @type {unknown} */ (clause))),
@@ -345,7 +344,7 @@ function exportDeclaration(/** @type {Converter} */ c, /** @type {ts.ExportDecla
   const clause = node.exportClause;
   const shared = {
     span: c.span(node),
-    src: node.moduleSpecifier ? source(c, node.moduleSpecifier) : null,
+    src: node.moduleSpecifier ? source(c, node.moduleSpecifier, node) : null,
     type_only: node.isTypeOnly,
     with: attributes(c, node),
   };
@@ -361,7 +360,7 @@ function exportDeclaration(/** @type {Converter} */ c, /** @type {ts.ExportDecla
 /** @returns {forms.TsModuleRef} */
 function moduleReference(/** @type {Converter} */ c, /** @type {ts.ModuleReference} */ node) {
   if (!ts.isExternalModuleReference(node)) return { TsEntityName: types.entity(c, node, ANY) };
-  return { TsExternalModuleRef: { span: c.span(node), expr: source(c, node.expression) } };
+  return { TsExternalModuleRef: { span: c.span(node), expr: source(c, node.expression, node) } };
 }
 
 /** @returns {forms.ModuleDecl} */
@@ -438,7 +437,7 @@ function item(/** @type {Converter} */ c, /** @type {ts.Statement} */ node) {
 
 /** @returns {forms.ModuleItem[]} */
 function items(/** @type {Converter} */ c, /** @type {readonly ts.Statement[]} */ list) {
-  return list.map((it) => item(c, it));
+  return c.each(list, (it) => item(c, it));
 }
 
-module.exports = { declaration, item, items };
+module.exports = { declaration, items };

@@ -4,15 +4,14 @@
 const { hasModifier } = require('../../compiler/modifiers.js');
 const { ts } = require('../../compiler/typescript.js');
 const { NEWER, converterOf, form, oneOf } = require('./converter.js');
-const { VALUE, TYPE, bindPattern } = require('./scopes.js');
+const { NAMESPACE, TYPE, VALUE } = require('./scopes.js');
 const names = require('./names.js');
+const { parts } = require('./parts.js');
 const patterns = require('./patterns.js');
 const types = require('./types.js');
 
 const { SyntaxKind: K } = ts;
 
-const statements = () => require('./statements.js');
-const classes = () => require('./classes.js');
 
 /** @typedef {import('./converter.js').Converter} Converter */
 /** @typedef {import('./scopes.js').Scope} Scope */
@@ -49,7 +48,7 @@ function objectMember(/** @type {Converter} */ c, /** @type {ts.ObjectLiteralEle
     case K.PropertyAssignment:
       return { Prop: { KeyValue: { key: propName(c, node.name), value: expression(c, node.initializer) } } };
     case K.MethodDeclaration:
-      return { Prop: { Method: { key: propName(c, node.name), function: classes().functionOf(c, node) } } };
+      return { Prop: { Method: { key: propName(c, node.name), function: parts.functionOf(c, node) } } };
     case K.GetAccessor:
     case K.SetAccessor:
       return { Prop: accessor(c, node) };
@@ -63,7 +62,7 @@ function accessor(/** @type {Converter} */ c, /** @type {ts.AccessorDeclaration}
   const key = propName(c, node.name);
   return c.within((scope) => {
     for (const it of node.parameters) patterns.bindParameter(scope, it);
-    const body = statements().functionBody(c, node);
+    const body = parts.functionBody(c, node);
     if (ts.isGetAccessorDeclaration(node)) {
       return { Getter: form({ span: c.span(node), key, type_ann: types.annotation(c, node.type), body }) };
     }
@@ -78,17 +77,12 @@ function accessor(/** @type {Converter} */ c, /** @type {ts.AccessorDeclaration}
 
 // ---- members and calls
 
-/** Whether a statement assigns to a member: cut short, one under a text is one behind a dot, since no other one is converted. */
-function isAssigned(/** @type {ts.ElementAccessExpression} */ node) {
-  const { parent } = node;
-  return ts.isBinaryExpression(parent) && parent.left === node && ts.isExpressionStatement(parent.parent);
-}
-
 /** @returns {forms.MemberProp} */
 function memberProp(/** @type {Converter} */ c, /** @type {ts.PropertyAccessExpression | ts.ElementAccessExpression} */ node) {
   if (ts.isElementAccessExpression(node)) {
     const { argumentExpression: key } = node;
-    if (c.short && isAssigned(node) && ts.isStringLiteralLike(key)) return { Ident: { span: c.span(key), sym: key.text } };
+    // Cut short, no other member under a text is assigned to by a statement than one that may stand behind a dot.
+    if (c.short && c.assigned === node && ts.isStringLiteralLike(key)) return { Ident: { span: c.span(key), sym: key.text } };
     const open = c.text.lastIndexOf('[', node.argumentExpression.pos);
     return { Computed: { span: c.range(open, node.end), expr: expression(c, node.argumentExpression) } };
   }
@@ -231,7 +225,7 @@ function arrow(/** @type {Converter} */ c, /** @type {ts.ArrowFunction} */ node)
     const params = node.parameters.map((it) => patterns.parameter(c, it));
     const type_params = types.typeParams(c, node);
     const return_type = types.annotation(c, node.type);
-    const body = ts.isBlock(node.body) ? { BlockStmt: statements().bodyOf(c, node) } : { Expr: arrowValue(c, node, node.body) };
+    const body = ts.isBlock(node.body) ? { BlockStmt: parts.bodyOf(c, node) } : { Expr: arrowValue(c, node, node.body) };
     return { Arrow: form({ span: c.span(node), ctxt: scope.number, params, body, is_async: isAsync(node), type_params, return_type }) };
   });
 }
@@ -250,7 +244,7 @@ function functionExpression(/** @type {Converter} */ c, /** @type {ts.FunctionEx
   return c.within((scope) => {
     if (node.name) scope.bind(node.name.text, VALUE);
     const ident = node.name && names.binding(c, node.name, VALUE);
-    return { Fn: form({ ident, function: classes().functionIn(c, node, scope) }) };
+    return { Fn: form({ ident, function: parts.functionIn(c, node, scope) }) };
   });
 }
 
@@ -259,7 +253,7 @@ function classExpression(/** @type {Converter} */ c, /** @type {ts.ClassExpressi
   return c.within((scope) => {
     if (node.name) scope.bind(node.name.text, VALUE | TYPE);
     const ident = node.name && names.binding(c, node.name, VALUE);
-    return { Class: form({ ident, class: classes().classIn(c, node, scope, c.start(node)) }) };
+    return { Class: form({ ident, class: parts.classIn(c, node, scope, c.start(node)) }) };
   });
 }
 
@@ -332,7 +326,7 @@ const EXPRESSIONS = {
   [K.RegularExpressionLiteral]: literal,
   [K.ArrayLiteralExpression]: array,
   [K.ObjectLiteralExpression]: (c, node) => ({
-    Object: form({ span: c.span(node), props: node.properties.map((it) => objectMember(c, it)) }),
+    Object: form({ span: c.span(node), props: c.each(node.properties, (it) => objectMember(c, it)) }),
   }),
   [K.FunctionExpression]: functionExpression,
   [K.ArrowFunction]: arrow,
@@ -405,11 +399,10 @@ function heritageName(/** @type {Converter} */ c, /** @type {ts.Expression} */ n
 
 /** @returns {forms.Expr} */
 function heritageSpace(/** @type {Converter} */ c, /** @type {ts.Expression} */ node) {
-  const { NAMESPACE } = require('./scopes.js');
   if (ts.isPropertyAccessExpression(node) && !isChained(node)) {
     return { Member: { span: c.span(node), obj: heritageSpace(c, node.expression), prop: memberProp(c, node) } };
   }
   return ts.isIdentifier(node) ? { Ident: names.reference(c, node, NAMESPACE) } : expression(c, node);
 }
 
-module.exports = { expression, propName, heritageName, isAsync, bindPattern };
+module.exports = { expression, propName, heritageName, isAsync };

@@ -110,3 +110,16 @@ export interface Nodes {
 
 /** For kinds of nodes what makes a form of them. */
 export type Converters<R> = { [K in keyof Nodes]?: (c: Converter, node: Nodes[K]) => R };
+
+/** What one file of the conversion asks of another that stands on it. */
+export interface Parts {
+  annotation: typeof import('./types.js').annotation;
+  bodyOf: typeof import('./statements.js').bodyOf;
+  classIn: typeof import('./classes.js').classIn;
+  declaration: typeof import('./declarations.js').declaration;
+  expression: typeof import('./expressions.js').expression;
+  functionBody: typeof import('./statements.js').functionBody;
+  functionIn: typeof import('./classes.js').functionIn;
+  functionOf: typeof import('./classes.js').functionOf;
+  propName: typeof import('./expressions.js').propName;
+}

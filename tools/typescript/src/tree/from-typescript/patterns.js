@@ -5,12 +5,11 @@ const { ts } = require('../../compiler/typescript.js');
 const { form } = require('./converter.js');
 const { VALUE, bindPattern, eachName } = require('./scopes.js');
 const names = require('./names.js');
+const { parts } = require('./parts.js');
 
 const { SyntaxKind: K } = ts;
 
 // Types and expressions hold patterns, which hold types and expressions.
-const types = () => require('./types.js');
-const expressions = () => require('./expressions.js');
 
 /** @typedef {import('./converter.js').Converter} Converter */
 /** @typedef {import('./scopes.js').Scope} Scope */
@@ -23,13 +22,13 @@ function bindParameter(/** @type {Scope} */ scope, /** @type {ts.ParameterDeclar
 /** @returns {forms.Pat} */
 function identPattern(/** @type {Converter} */ c, /** @type {ts.Identifier} */ node, /** @type {boolean} */ optional, /** @type {ts.TypeNode | undefined} */ type) {
   const id = form({ ...names.binding(c, node, VALUE), optional });
-  return { Ident: form({ id, type_ann: types().annotation(c, type) }) };
+  return { Ident: form({ id, type_ann: parts.annotation(c, type) }) };
 }
 
 /** @returns {forms.Pat} */
 function withDefault(/** @type {Converter} */ c, /** @type {ts.ParameterDeclaration | ts.BindingElement} */ node, /** @type {forms.Pat} */ left) {
   if (!node.initializer) return left;
-  const right = c.told(expressions().expression(c, node.initializer), node.initializer);
+  const right = c.told(parts.expression(c, node.initializer), node.initializer);
   return { Assign: { span: c.range(c.start(node.name), node.initializer.end), left, right } };
 }
 
@@ -47,10 +46,10 @@ function objectProperty(/** @type {Converter} */ c, /** @type {ts.BindingElement
     return { Rest: { span: c.span(node), dot3_token: c.span(node.dotDotDotToken), arg: pattern(c, node.name) } };
   }
   if (node.propertyName) {
-    const key = expressions().propName(c, node.propertyName);
+    const key = parts.propName(c, node.propertyName);
     return { KeyValue: { key, value: withDefault(c, node, pattern(c, node.name)) } };
   }
-  const value = node.initializer && expressions().expression(c, node.initializer);
+  const value = node.initializer && parts.expression(c, node.initializer);
   return { Assign: form({ span: c.span(node), key: { id: names.binding(c, /** @type {ts.Identifier} */ (node.name), VALUE) }, value }) };
 }
 
@@ -62,7 +61,7 @@ function objectProperty(/** @type {Converter} */ c, /** @type {ts.BindingElement
 function pattern(/** @type {Converter} */ c, /** @type {ts.BindingName} */ node, optional = false, /** @type {ts.TypeNode | undefined} */ type = undefined) {
   if (ts.isIdentifier(node)) return identPattern(c, node, optional, type);
   const span = c.range(c.start(node), type ? type.end : node.end);
-  const type_ann = types().annotation(c, type);
+  const type_ann = parts.annotation(c, type);
   if (ts.isObjectBindingPattern(node)) {
     return { Object: form({ span, props: node.elements.map((it) => objectProperty(c, it)), optional, type_ann }) };
   }
@@ -86,7 +85,7 @@ function parameter(/** @type {Converter} */ c, /** @type {ts.ParameterDeclaratio
         span: c.range(c.start(node.dotDotDotToken), end),
         dot3_token: c.span(node.dotDotDotToken),
         arg: pattern(c, node.name),
-        type_ann: types().annotation(c, node.type),
+        type_ann: parts.annotation(c, node.type),
       }),
     };
   }
@@ -125,11 +124,11 @@ function restOf(/** @type {Converter} */ c, /** @type {ts.SpreadElement | ts.Spr
 function assignedProperty(/** @type {Converter} */ c, /** @type {ts.ObjectLiteralElementLike} */ node) {
   if (ts.isSpreadAssignment(node)) return restOf(c, node);
   if (ts.isShorthandPropertyAssignment(node)) {
-    const value = node.objectAssignmentInitializer && expressions().expression(c, node.objectAssignmentInitializer);
+    const value = node.objectAssignmentInitializer && parts.expression(c, node.objectAssignmentInitializer);
     return { Assign: form({ span: c.span(node), key: { id: names.reference(c, node.name) }, value }) };
   }
   if (ts.isPropertyAssignment(node)) {
-    return { KeyValue: { key: expressions().propName(c, node.name), value: assigned(c, node.initializer) } };
+    return { KeyValue: { key: parts.propName(c, node.name), value: assigned(c, node.initializer) } };
   }
   c.refuse(node, `no form for ${K[node.kind]} in a pattern`);
   return c.invalid(node);
@@ -149,10 +148,10 @@ function assigned(/** @type {Converter} */ c, /** @type {ts.Expression} */ node)
     return { Object: form({ span: c.span(node), props: node.properties.map((it) => assignedProperty(c, it)) }) };
   }
   if (ts.isBinaryExpression(node) && node.operatorToken.kind === K.EqualsToken) {
-    const right = expressions().expression(c, node.right);
+    const right = parts.expression(c, node.right);
     return { Assign: { span: c.span(node), left: assigned(c, node.left), right } };
   }
-  return { Expr: expressions().expression(c, node) };
+  return { Expr: parts.expression(c, node) };
 }
 
 function isLiteralPattern(/** @type {ts.Expression} */ node) {

@@ -112,11 +112,11 @@ function bindStatement(/** @type {Scope} */ scope, /** @type {ts.Statement} */ s
   }
 }
 
-/** Calls back for each list behind `var` of a statement, however deep in blocks, but not in functions, classes or namespaces. */
-function eachVarList(/** @type {ts.Node} */ node, /** @type {(list: ts.VariableDeclarationList) => void} */ call) {
+/** Calls back for each list behind `var` of a statement, with what stands around it, however deep in blocks, but not in functions, classes or namespaces. */
+function eachVarList(/** @type {ts.Node} */ node, /** @type {(list: ts.VariableDeclarationList, around: ts.Node) => void} */ call, around = node) {
   switch (node.kind) {
     case K.VariableDeclarationList:
-      if (isVar(/** @type {ts.VariableDeclarationList} */ (node))) call(/** @type {ts.VariableDeclarationList} */ (node));
+      if (isVar(/** @type {ts.VariableDeclarationList} */ (node))) call(/** @type {ts.VariableDeclarationList} */ (node), around);
       return;
     case K.VariableStatement:
     case K.ForStatement:
@@ -134,7 +134,7 @@ function eachVarList(/** @type {ts.Node} */ node, /** @type {(list: ts.VariableD
     case K.LabeledStatement:
     case K.TryStatement:
     case K.CatchClause:
-      ts.forEachChild(node, (child) => eachVarList(child, call));
+      ts.forEachChild(node, (child) => eachVarList(child, call, node));
       return;
     default:
   }

@@ -4,8 +4,9 @@
 const { hasModifier } = require('../../compiler/modifiers.js');
 const { ts } = require('../../compiler/typescript.js');
 const { converterOf, form, oneOf } = require('./converter.js');
-const { VALUE, bindPattern, bindBody, bindStatements, eachVarList, isVar } = require('./scopes.js');
+const { bindPattern, bindBody, bindStatements, eachVarList, isVar } = require('./scopes.js');
 const names = require('./names.js');
+const { parts } = require('./parts.js');
 const patterns = require('./patterns.js');
 const types = require('./types.js');
 const { expression } = require('./expressions.js');
@@ -20,8 +21,6 @@ const { SyntaxKind: K } = ts;
 
 /** @typedef {ts.FunctionLikeDeclaration | ts.ClassStaticBlockDeclaration} Functional */
 /** @typedef {ts.ExpressionStatement & { expression: ts.CallExpression }} SuperCall */
-
-const declarations = () => require('./declarations.js');
 
 // ---- bodies
 
@@ -64,9 +63,7 @@ function isOfSetter(/** @type {Converter} */ c, /** @type {Functional} */ node, 
   if (!ts.isGetAccessorDeclaration(node) || !naming) return false;
   const isStatic = (/** @type {ts.AccessorDeclaration} */ it) => hasModifier(it, K.StaticKeyword);
   const keyOf = (/** @type {ts.AccessorDeclaration} */ it) => c.written(it.name);
-  /** @type {readonly ts.Node[]} */
-  const beside = 'members' in node.parent ? node.parent.members : node.parent.properties;
-  const setters = beside.flatMap((it) => (ts.isSetAccessorDeclaration(it) ? it : []));
+  const setters = c.list.flatMap((it) => (ts.isSetAccessorDeclaration(it) ? it : []));
   const setter = setters.find((it) => keyOf(it) === keyOf(node) && isStatic(it) === isStatic(node));
   const type = setter && setter.parameters.length === 1 && setter.parameters[0].type;
   const named = /** @type {{ type?: ts.TypeNode }} */ (naming).type;
@@ -156,7 +153,7 @@ function constructorBody(/** @type {Converter} */ c, /** @type {ts.ConstructorDe
 
 /** @returns {forms.Stmt[]} */
 function statements(/** @type {Converter} */ c, /** @type {readonly ts.Statement[]} */ list) {
-  return list.map((it) => statement(c, it));
+  return c.each(list, (it) => statement(c, it));
 }
 
 /** @returns {forms.BlockStmt} */
@@ -321,7 +318,10 @@ const STATEMENTS = {
   [K.ForStatement]: (c, node) => ({ For: forStatement(c, node) }),
   [K.ForInStatement]: (c, node) => ({ ForIn: forEach(c, node) }),
   [K.ForOfStatement]: (c, node) => ({ ForOf: forEach(c, node) }),
-  [K.ExpressionStatement]: (c, node) => ({ Expr: { span: c.span(node), expr: expression(c, node.expression) } }),
+  [K.ExpressionStatement]: (c, node) => {
+    c.assigned = ts.isBinaryExpression(node.expression) ? node.expression.left : null;
+    return { Expr: { span: c.span(node), expr: expression(c, node.expression) } };
+  },
 };
 
 /** Whether a statement may declare a property of what it assigns to: `object.name = value;`. */
@@ -347,8 +347,8 @@ function isNameText(/** @type {ts.Expression} */ node) {
 function hoisted(/** @type {Converter} */ c, /** @type {ts.Statement} */ node) {
   /** @type {forms.VarDeclarator[]} */
   const decls = [];
-  eachVarList(node, (list) => {
-    const isGiven = ts.isForInStatement(list.parent) || ts.isForOfStatement(list.parent);
+  eachVarList(node, (list, around) => {
+    const isGiven = ts.isForInStatement(around) || ts.isForOfStatement(around);
     const made = list.declarations.map((it) => declarator(c, it));
     decls.push(...made.map((it) => (isGiven ? { ...it, init: c.hidden(list) } : it)));
   });
@@ -363,7 +363,7 @@ function hoisted(/** @type {Converter} */ c, /** @type {ts.Statement} */ node) {
 function statement(/** @type {Converter} */ c, /** @type {ts.Statement} */ node) {
   const convert = converterOf(STATEMENTS, node);
   if (!convert) {
-    const decl = declarations().declaration(c, node);
+    const decl = parts.declaration(c, node);
     if (decl) return { Decl: decl };
     c.unknown(node, 'a statement');
     return { Empty: { span: c.span(node) } };
@@ -371,4 +371,4 @@ function statement(/** @type {Converter} */ c, /** @type {ts.Statement} */ node)
   return c.short && !isExpando(node) ? hoisted(c, node) : convert(c, node);
 }
 
-module.exports = { bodyOf, functionBody, constructorBody, statement, declarator, KINDS, VALUE };
+module.exports = { bodyOf, functionBody, constructorBody, statement, declarator, KINDS };

@@ -6,6 +6,7 @@ const { ts } = require('../../compiler/typescript.js');
 const { converterOf, form, oneOf } = require('./converter.js');
 const { TYPE, VALUE, NAMESPACE } = require('./scopes.js');
 const names = require('./names.js');
+const { parts } = require('./parts.js');
 const patterns = require('./patterns.js');
 
 /** @typedef {import('./converter.js').Converter} Converter */
@@ -323,9 +324,8 @@ function type(/** @type {Converter} */ c, /** @type {ts.TypeNode} */ node) {
  * @returns {{ key: forms.Expr, computed?: boolean }}
  */
 function signatureKey(/** @type {Converter} */ c, /** @type {ts.PropertyName} */ name) {
-  const { expression } = require('./expressions.js');
   if (ts.isIdentifier(name)) return { key: { Ident: names.plain(c, name) } };
-  if (ts.isComputedPropertyName(name)) return { key: expression(c, name.expression), computed: true };
+  if (ts.isComputedPropertyName(name)) return { key: parts.expression(c, name.expression), computed: true };
   const literal = names.literal(c, name);
   return { key: literal ? { Lit: literal } : c.unknown(name, 'the key of a signature') };
 }

@@ -2,13 +2,13 @@
 // Prints expressions, and the members of classes.
 
 const { variantOf } = require('../walk.js');
+const { parts } = require('./parts.js');
 const t = require('./types.js');
 
 /** @typedef {import('./writer.js').Writer} Writer */
 
 /** @typedef {import('./printers').Spanned} Spanned */
 
-const statements = () => require('./statements.js');
 const { at, printBy } = t;
 
 // ---- keys and properties
@@ -203,7 +203,7 @@ function body(/** @type {Writer} */ w, /** @type {forms.BlockStmt | null | undef
     return;
   }
   w.write(' ');
-  statements().block(w, node);
+  parts.block(w, node);
 }
 
 /** `function`, its name, signature and body. */
@@ -225,7 +225,7 @@ function arrow(/** @type {Writer} */ w, /** @type {forms.ArrowExpr} */ node) {
   t.parameters(w, node.params);
   t.annotation(w, node.return_type);
   w.write(' => ');
-  if (node.body.BlockStmt) statements().block(w, node.body.BlockStmt);
+  if (node.body.BlockStmt) parts.block(w, node.body.BlockStmt);
   else expression(w, node.body.Expr);
 }
 
@@ -300,7 +300,7 @@ const EXPRESSIONS = {
     tpl(w, node.tpl);
   },
   Arrow: arrow,
-  Class: (w, node) => at(w, node.class, () => statements().classOf(w, node.ident, node.class)),
+  Class: (w, node) => at(w, node.class, () => parts.classOf(w, node.ident, node.class)),
   Yield: (w, node) => {
     w.write(node.delegate ? 'yield*' : 'yield');
     if (!node.arg) return;
@@ -359,4 +359,4 @@ function decorators(/** @type {Writer} */ w, /** @type {forms.Decorator[] | unde
   }
 }
 
-module.exports = { expression, propName, property, functionOf, signature, body, decorators };
+module.exports = { expression, propName, functionOf, signature, body, decorators };

@@ -2,9 +2,14 @@
 // The program's trees to TypeScript: two spaces, one item a line, comments where they stood.
 
 const { Writer } = require('./writer.js');
-const { items } = require('./statements.js');
+const { decorators, expression, propName } = require('./expressions.js');
+const { parts } = require('./parts.js');
+const { block, classOf, items } = require('./statements.js');
+const { spanOf, type } = require('./types.js');
 const { needsList } = require('../../tables/ambient.js');
 const { writable } = require('../../skeleton/reserved.js');
+
+Object.assign(parts, { block, classOf, decorators, expression, propName });
 
 // Files in which `<T>` before an arrow is an element, or is reserved for one.
 const ANGLE_RESERVED = /\.(tsx|[cm]ts)$/;
@@ -44,4 +49,11 @@ function print(program, comments, { isDeclaration = false, asWritten = false, na
   return w.text();
 }
 
-module.exports = { print };
+/** The text of a type. */
+function printType(/** @type {forms.TsType} */ node) {
+  const w = new Writer(null);
+  type(w, node);
+  return w.text();
+}
+
+module.exports = { print, printType, spanOf };

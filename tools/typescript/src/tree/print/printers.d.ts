@@ -16,3 +16,12 @@ export type Parameter = (forms.Pat & { pat?: undefined }) | forms.Param;
 export type Named =
   | (forms.ImportNamedSpecifier & { orig?: undefined })
   | (forms.ExportNamedSpecifier & { local?: undefined, imported?: undefined });
+
+/** What one file of the printer asks of another that stands on it. */
+export interface Parts {
+  block: typeof import('./statements.js').block;
+  classOf: typeof import('./statements.js').classOf;
+  decorators: typeof import('./expressions.js').decorators;
+  expression: typeof import('./expressions.js').expression;
+  propName: typeof import('./expressions.js').propName;
+}

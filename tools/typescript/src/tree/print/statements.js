@@ -668,4 +668,4 @@ function items(/** @type {Writer} */ w, /** @type {forms.ModuleItem[]} */ list) 
   }
 }
 
-module.exports = { block, classOf, statement, declaration, items };
+module.exports = { block, classOf, items };

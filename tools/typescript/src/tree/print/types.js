@@ -6,9 +6,8 @@
 /** @typedef {import('./printers').Spanned} Spanned */
 /** @typedef {import('./printers').Parameter} Parameter */
 
+const { parts } = require('./parts.js');
 const { variantOf } = require('../walk.js');
-
-const expressions = () => require('./expressions.js');
 
 /** @type {forms.Span} */
 const NOWHERE = [0, 0];
@@ -428,7 +427,7 @@ function type(/** @type {Writer} */ w, /** @type {forms.TsType} */ choice) {
 
 function signatureKey(/** @type {Writer} */ w, /** @type {{ key: forms.Expr, computed?: boolean }} */ node) {
   if (node.computed) w.write('[');
-  expressions().expression(w, node.key);
+  parts.expression(w, node.key);
   if (node.computed) w.write(']');
 }
 
@@ -526,7 +525,7 @@ function memberLines(/** @type {Writer} */ w, /** @type {forms.TsTypeElement[]} 
 function objectPatternProp(/** @type {Writer} */ w, /** @type {forms.ObjectPatProp} */ choice) {
   const [variant, node] = variantOf(choice);
   if (variant === 'KeyValue') {
-    expressions().propName(w, node.key);
+    parts.propName(w, node.key);
     w.write(': ');
     pattern(w, node.value);
   } else if (variant === 'Assign') {
@@ -542,7 +541,7 @@ function objectPatternProp(/** @type {Writer} */ w, /** @type {forms.ObjectPatPr
 function withDefault(/** @type {Writer} */ w, /** @type {forms.Expr | null | undefined} */ value) {
   if (!value) return;
   w.write(' = ');
-  expressions().expression(w, value);
+  parts.expression(w, value);
 }
 
 function binding(/** @type {Writer} */ w, /** @type {forms.BindingIdent} */ node) {
@@ -595,18 +594,18 @@ function pattern(/** @type {Writer} */ w, /** @type {Parameter} */ choice) {
   if (choice.pat) {
     const { pat, decorators } = choice;
     at(w, choice, () => {
-      expressions().decorators(w, decorators, ' ');
+      parts.decorators(w, decorators, ' ');
       pattern(w, pat);
     });
     return;
   }
   const [variant, node] = variantOf(/** @type {forms.Pat} */ (choice));
   if (variant === 'Ident') binding(w, node);
-  else if (variant === 'Expr') expressions().expression(w, node);
+  else if (variant === 'Expr') parts.expression(w, node);
   else at(w, node, () => printBy(PATTERNS, w, variant, node));
 }
 
 module.exports = {
-  printBy, at, isWide, separated, listed, spanOf, quoted, str, ident, name, privateName, literal, template, entity, annotation,
+  printBy, at, isWide, separated, listed, spanOf, str, ident, name, privateName, literal, template, entity, annotation,
   typeArguments, typeParameters, parameters, afterLast, startOf, type, indexSignature, memberLines, pattern,
 };
