@@ -21,4 +21,6 @@ for word; do [[ $word != *.test.js ]] || files+=("$word"); done
 [ ${#files[@]} -gt 0 ] || set -- "$@" "$here"/test/*.test.js "$here"/test/*/*.test.js
 # Where Debian's packages of Node lie.
 export NODE_PATH=${NODE_PATH-}:/usr/share/nodejs
-exec node --test --test-reporter "$here/test/support/reporter.js" --test-reporter-destination stdout "$@"
+# On all processors, where Node lets it be said: else one is left out.
+jobs=$(node --help | grep -o -m 1 -- --test-concurrency) && jobs=$jobs=$(nproc)
+exec node --test ${jobs:+"$jobs"} --test-reporter "$here/test/support/reporter.js" --test-reporter-destination stdout "$@"

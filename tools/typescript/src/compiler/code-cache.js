@@ -1,5 +1,6 @@
 'use strict';
 // Loads a large module with the code that V8 has compiled of it in an earlier run, which takes a third of the time.
+const { isAscii } = require('buffer');
 const crypto = require('crypto');
 const fs = require('fs');
 const Module = require('module');
@@ -11,7 +12,7 @@ const vm = require('vm');
 /** The compiled code of a file in a folder, by what may change it: the file, and the version of Node. */
 function entryOf(/** @type {string} */ folder, /** @type {string} */ file) {
   const { mtimeMs, size } = fs.statSync(file);
-  const key = crypto.createHash('sha256').update(`${file} ${mtimeMs} ${size} ${process.version} ${process.arch}`).digest('hex');
+  const key = crypto.createHash('sha256').update(`ascii ${file} ${mtimeMs} ${size} ${process.version} ${process.arch}`).digest('hex');
   return path.join(folder, 'code', key);
 }
 
@@ -21,6 +22,34 @@ function readOr(/** @type {string} */ file) {
   } catch {
     return undefined;
   }
+}
+
+// About how many bytes are looked at together, and what ends them.
+const CHUNK = 1 << 12;
+const NEWLINE = 10;
+
+/** A text with an escape for each unit that is no ASCII, as bytes. */
+function escaped(/** @type {string} */ text) {
+  return Buffer.from(text.replace(/[^\x00-\x7f]/g, (it) => `\\u${it.charCodeAt(0).toString(16).padStart(4, '0')}`));
+}
+
+/**
+ * The text of a file of JavaScript in which what is no ASCII stands as an escape: V8 reads a text of one byte a character in less than half the time. Where an escape
+ * would say something else, and before Node 18.15, the text as it is.
+ */
+function codeOf(/** @type {string} */ file) {
+  const bytes = fs.readFileSync(file);
+  if (!isAscii) return bytes.toString();
+  const parts = [];
+  for (let at = 0; at < bytes.length;) {
+    const line = bytes.indexOf(NEWLINE, at + CHUNK);
+    const part = bytes.subarray(at, line < 0 ? bytes.length : line + 1);
+    const isPlain = isAscii(/** @type {Uint8Array} */ (part));
+    if (!isPlain && /\\[^\x00-\x7f]|String\.raw/.test(part.toString())) return bytes.toString();
+    parts.push(isPlain ? part : escaped(part.toString()));
+    at += part.length;
+  }
+  return Buffer.concat(/** @type {Uint8Array[]} */ (parts)).toString('latin1');
 }
 
 /** Writes compiled code beside its place, and moves it there. Where that fails, the next run compiles anew. */
@@ -41,7 +70,7 @@ function requireCompiled(/** @type {string} */ file, /** @type {string} */ folde
   if (known) return known.exports;
   const entry = entryOf(folder, file);
   const cachedData = readOr(entry);
-  const script = new vm.Script(Module.wrap(fs.readFileSync(file, 'utf8')), { filename: file, cachedData });
+  const script = new vm.Script(Module.wrap(codeOf(file)), { filename: file, cachedData });
   const module = new Module(file);
   module.filename = file;
   module.paths = Module.createRequire(file).resolve.paths('typescript') || [];

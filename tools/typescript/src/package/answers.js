@@ -35,9 +35,9 @@ class Answers {
     return /** @type {R} */ (this.found.get(name));
   }
 
-  /** Keeps what was asked, for later runs. */
+  /** Keeps what was asked, for later runs, and what is known besides: another entry point may ask for it. */
   keep() {
-    if (this.kept && this.isNew) this.kept.putAnswers(this.files.root, { asked: this.files.asked, found: [...this.found] });
+    if (this.kept && this.isNew) this.kept.putAnswers(this.files.root, { asked: this.files.asked, found: [...new Map([...this.known, ...this.found])] });
     this.isNew = false;
   }
 }

@@ -204,7 +204,9 @@ class Kept {
    * @returns {KeptAnswers | null}
    */
   answersOf(/** @type {string} */ root) {
-    return this.answers.get(root) || (this.folder && this.folder.get(this.keyOf('answers', root)));
+    const found = this.answers.get(root) || (this.folder && this.folder.get(this.keyOf('answers', root)));
+    if (found) this.answers.set(root, found);
+    return found;
   }
 
   putAnswers(/** @type {string} */ root, /** @type {KeptAnswers} */ answers) {

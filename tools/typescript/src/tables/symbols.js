@@ -419,8 +419,7 @@ function expando(/** @type {Tables} */ t, /** @type {forms.Expr} */ choice) {
 
 function markOverloads(/** @type {GrowingSymbol} */ symbol) {
   const functions = symbol.decls.filter((it) => it.has_body !== undefined);
-  const isOverloaded = functions.length > 1;
-  for (const it of functions) it.has_overloads = isOverloaded;
+  if (functions.length > 1) for (const it of functions) it.has_overloads = true;
 }
 
 /** The symbol of an id, or undefined. */
@@ -461,7 +460,10 @@ function finished(/** @type {Tables} */ t, /** @type {GrowingSymbol} */ symbol) 
   markOverloads(symbol);
   for (const it of symbol.decls) {
     const node = it.kind.Definition;
-    if (node) node.deps = pruned(t, symbol.enum ? depsOfEnum(symbol.enum) : node.deps || []);
+    if (!node) continue;
+    const deps = pruned(t, symbol.enum ? depsOfEnum(symbol.enum) : node.deps || []);
+    if (deps.length) node.deps = deps;
+    else delete node.deps;
   }
   const { ident, exports, enum: around, ...rest } = symbol;
   /** @type {import('./types').Symbol} */
