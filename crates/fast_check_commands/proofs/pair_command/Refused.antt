@@ -6,7 +6,7 @@ use Rattle.fast_check_requests.specs.Run.{IsOfBytes}
 use Rattle.fast_check_modules.specs.EsModule.{EsModule}
 use Rattle.fast_check_modules.specs.diagnostics.PublicRanges.{PublicRanges}
 use Rattle.fast_check_transform_command.specs.Transform.{IsModuleOf}
-use Rattle.fast_check_transformer.specs.Transformed.{ModuleAnswer}
+use Rattle.fast_check_transformer.specs.Transformed.{TransformResult}
 use Rattle.fast_check_commands.specs.declared.pair_command.request.PairRequest.{PairRequest}
 use Rattle.fast_check_commands.specs.declared.pair_command.request.Side.{Side}
 use Rattle.fast_check_requests.specs.Input.{Lacks}
@@ -53,7 +53,7 @@ second_refused refusals.Unreadable asked a made refuses = absurd refuses
 second_refused refusals.InvalidExport asked a made refuses = absurd refuses
 second_refused refusals.Unwritable asked a made refuses = absurd refuses
 
-zero_or_one : (x y : ModuleAnswer) → status_of x y < 2
+zero_or_one : (x y : TransformResult) → status_of x y < 2
 zero_or_one (Ok m) (Ok n) = lit< tt
 zero_or_one (Ok m) (Err es) = lit< tt
 zero_or_one (Err ds) (Ok n) = lit< tt

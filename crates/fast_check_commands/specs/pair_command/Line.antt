@@ -7,14 +7,14 @@ use Rattle.fast_check_modules.specs.diagnostics.PublicRanges.{PublicRanges}
 use Rattle.fast_check_print.specs.Answer.{answer_data}
 use Rattle.fast_check_print.specs.Pieces.{pair_data}
 use Rattle.fast_check_transform_command.specs.Line.{line_of_data}
-use Rattle.fast_check_transformer.specs.Transformed.{ModuleAnswer, IsTransformed}
+use Rattle.fast_check_transformer.specs.Transformed.{TransformResult, IsTransformed}
 
 -- both answers as an array of two, the first module's first
-abbrev pub answers_data : ModuleAnswer → ModuleAnswer → Data
+abbrev pub answers_data : TransformResult → TransformResult → Data
 answers_data first second = pair_data (answer_data first) (answer_data second)
 
 -- 0 where both are skeletons, else 1
-abbrev pub status_of : ModuleAnswer → ModuleAnswer → ℕ
+abbrev pub status_of : TransformResult → TransformResult → ℕ
 status_of (Ok m) (Ok n) = 0
 status_of _ _ = 1
 
@@ -22,8 +22,8 @@ status_of _ _ = 1
 pub record IsPairAnswer (graph : ModuleGraph) (a : EsModule) (ranges_a : PublicRanges) (b : EsModule)
     (ranges_b : PublicRanges) (first_alone : Bool)
     (line : List ℕ) (status : ℕ) : Type 0 where
-  pub first : ModuleAnswer
-  pub second : ModuleAnswer
+  pub first : TransformResult
+  pub second : TransformResult
   pub is_first : IsTransformed graph a ranges_a first_alone first
   pub is_second : IsTransformed graph b ranges_b first_alone second
   pub text : line ≡ line_of_data (answers_data first second)
