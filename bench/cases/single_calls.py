@@ -93,9 +93,9 @@ DEPTHS = [(0, 0), (1, 1), (500, 0), (1000, 0), (0, 1000), (1000, 1000)]
 
 def array_type(arrays):
     """The type of so many arrays of numbers, each at the value."""
-    made = keyword("TsNumberKeyword", [16, 17])
+    made = keyword("TsNumberKeyword", [18, 19])
     for _ in range(arrays):
-        made = {"TsArrayType": {"span": [16, 17], "elem_type": made}}
+        made = {"TsArrayType": {"span": [18, 19], "elem_type": made}}
     return made
 
 
@@ -108,7 +108,7 @@ def deep():
         made = copy.deepcopy(module.answer()["Ok"]["program"])
         if arrays:
             named = made["body"][0]["ModuleDecl"]["ExportDecl"]["decl"]["Var"]["decls"][0]["name"]["Ident"]
-            named["type_ann"] = {"span": [16, 17], "type_ann": array_type(arrays)}
+            named["type_ann"] = {"span": [18, 19], "type_ann": array_type(arrays)}
         lines += [f"{parentheses} {arrays}", "    " + line(made).rstrip("\n"), "    its copy is equal to it: true"]
     depths = "".join(f"{parentheses} {arrays}\n" for parentheses, arrays in DEPTHS)
     return {"deep": depths, "deep.json": line(module.request())}, "\n".join(lines) + "\n"

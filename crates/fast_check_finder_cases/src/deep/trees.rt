@@ -1,4 +1,4 @@
-//! The module `export let x = 1;` with a deeper tree: so many parentheses around its value, or a type of so many arrays. The text stays that of
+//! The module `export const x = 1;` with a deeper tree: so many parentheses around its value, or a type of so many arrays. The text stays that of
 //! the module that is read, so each level has the range of the value.
 
 use fast_check_cases::Said;
@@ -34,7 +34,7 @@ fn number(alloc: Global, span: SourceRange) -> Result<Tree, AllocError> {
 
 /// The value, in so many parentheses.
 fn value(alloc: Global, parentheses: u32, said: &mut Said) -> Tree {
-    let span = range(16, 17);
+    let span = range(18, 19);
     let mut expr = noted(number(alloc, span), said);
     for _ in 0..parentheses {
         expr = noted(ParenExpr { span, expr }.into_tree(alloc), said);
@@ -47,7 +47,7 @@ fn written_type(alloc: Global, arrays: u32, said: &mut Said) -> Tree {
     if arrays == 0 {
         return Tree::Absent;
     }
-    let span = range(16, 17);
+    let span = range(18, 19);
     let kind = Tree::Word(Word::TsNumberKeyword);
     let mut type_ann = noted(TsKeywordType { span, kind }.into_tree(alloc), said);
     for _ in 0..arrays {
@@ -60,7 +60,7 @@ fn written_type(alloc: Global, arrays: u32, said: &mut Said) -> Tree {
 fn ident(alloc: Global) -> Result<Tree, AllocError> {
     let sym = Atom::from_str(alloc, "x")?;
     Ident {
-        span: range(12, 13),
+        span: range(14, 15),
         ctxt: SyntaxContext(0),
         sym,
         optional: false,
@@ -85,7 +85,7 @@ fn declarator(alloc: Global, parentheses: u32, arrays: u32, said: &mut Said) -> 
     let name = name(alloc, arrays, said);
     let init = value(alloc, parentheses, said);
     let declarator = VarDeclarator {
-        span: range(12, 17),
+        span: range(14, 19),
         name,
         init,
         definite: false,
@@ -95,9 +95,9 @@ fn declarator(alloc: Global, parentheses: u32, arrays: u32, said: &mut Said) -> 
 
 fn variable(alloc: Global, declarator: Tree, said: &mut Said) -> Tree {
     let variable = VarDecl {
-        span: range(8, 18),
+        span: range(8, 20),
         ctxt: SyntaxContext(0),
-        kind: Tree::Word(Word::Let),
+        kind: Tree::Word(Word::Const),
         declare: false,
         decls: list_of(alloc, declarator, said),
     };
@@ -105,7 +105,7 @@ fn variable(alloc: Global, declarator: Tree, said: &mut Said) -> Tree {
 }
 
 fn module(alloc: Global, decl: Tree, said: &mut Said) -> Tree {
-    let span = range(1, 18);
+    let span = range(1, 20);
     let export = noted(ExportDecl { span, decl }.into_tree(alloc), said);
     let module = Module {
         span,
