@@ -35,7 +35,10 @@ CHAPTERS = {
     },
     "program": {"fast_check_commands": None},
     "forms": {"fast_check_forms": None},
-    "source": {"fast_check_source_lexer": None, "fast_check_source_grammar": None},
+    "source": {
+        "fast_check_source_lexer": None, "fast_check_source_grammar": None, "fast_check_source_heights": None, "fast_check_source_ranges": None,
+        "fast_check_source_parser": None,
+    },
 }
 # The laws of std's traits. What an `impl` gives for one is a proof, which the check reads and nobody has to believe.
 LAWS = {"laws", "total", "matches_eq", "matches_partial_cmp", "respects_eq"}
