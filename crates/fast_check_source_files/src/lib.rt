@@ -1,0 +1,11 @@
+//! The packages of a folder, and where the texts lead by which their modules name others.
+#![tactic(auto)]
+
+pub mod config;
+pub mod files;
+mod globs;
+mod jsonc;
+pub mod messages;
+mod pnpm;
+pub mod resolve;
+pub mod tsconfig;
