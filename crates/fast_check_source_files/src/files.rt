@@ -1,0 +1,295 @@
+//! Files below a folder, by their paths from it.
+use fast_check_diagnostics::parsed_source::MediaType;
+use std::alloc::{AllocError, Global};
+use std::fs;
+
+const DECLARED: [(&str, MediaType); 3] = [
+    (".d.ts", MediaType::Dts),
+    (".d.mts", MediaType::Dmts),
+    (".d.cts", MediaType::Dcts),
+];
+
+const WRITTEN: [(&str, MediaType); 8] = [
+    (".ts", MediaType::TypeScript),
+    (".mts", MediaType::Mts),
+    (".cts", MediaType::Cts),
+    (".tsx", MediaType::Tsx),
+    (".js", MediaType::JavaScript),
+    (".mjs", MediaType::Mjs),
+    (".cjs", MediaType::Cjs),
+    (".jsx", MediaType::Jsx),
+];
+
+/// What a file is written in, by its name.
+pub fn media_type(name: &str) -> MediaType {
+    for (ending, media_type) in DECLARED {
+        if name.ends_with(ending) {
+            return media_type;
+        }
+    }
+    for (ending, media_type) in WRITTEN {
+        if name.ends_with(ending) {
+            return media_type;
+        }
+    }
+    MediaType::Unknown
+}
+
+// What TypeScript looks for in place of an ending that is written.
+fn instead(name: &str) -> (&str, &'static [&'static str]) {
+    if let Some(stem) = name.strip_suffix(".js") {
+        return (stem, &[".ts", ".tsx", ".d.ts", ".js", ".jsx"]);
+    }
+    if let Some(stem) = name.strip_suffix(".mjs") {
+        return (stem, &[".mts", ".d.mts", ".mjs"]);
+    }
+    if let Some(stem) = name.strip_suffix(".cjs") {
+        return (stem, &[".cts", ".d.cts", ".cjs"]);
+    }
+    if let Some(stem) = name.strip_suffix(".jsx") {
+        return (stem, &[".tsx", ".ts", ".d.ts", ".jsx", ".js"]);
+    }
+    (name, &[])
+}
+
+const ADDED: [&str; 9] = [
+    ".ts", ".tsx", ".d.ts", ".mts", ".cts", ".js", ".jsx", ".mjs", ".json",
+];
+
+/// What stands at a path.
+#[derive(Clone, Copy, PartialEq, Eq, Debug)]
+pub enum Standing {
+    Nothing,
+    Folder,
+    File,
+    /// What is no regular file, as a pipe.
+    Other,
+}
+
+/// One text behind another.
+pub fn joined(alloc: Global, first: &str, second: &str) -> Result<String, AllocError> {
+    let mut made = String::from_str(alloc, first)?;
+    made.push_str(second)?;
+    Ok(made)
+}
+
+/// A path that is written in a folder, as a path from the folder that was named. None where it leads out of that.
+pub fn below(alloc: Global, folder: &str, path: &str) -> Result<Option<String>, AllocError> {
+    let mut parts: Vec<&str> = Vec::new(alloc);
+    for part in folder.split('/').chain(path.split('/')) {
+        match part {
+            "" | "." => {}
+            ".." => {
+                if parts.pop().is_none() {
+                    return Ok(None);
+                }
+            }
+            _ => parts.push(part)?,
+        }
+    }
+    let mut made = String::new(alloc);
+    for part in parts.iter() {
+        if !made.is_empty() {
+            made.push_str("/")?;
+        }
+        made.push_str(*part)?;
+    }
+    Ok(Some(made))
+}
+
+/// The folder of a file.
+pub fn folder_of(path: &str) -> &str {
+    match path.rfind("/") {
+        Some(end) => match path.get(..end) {
+            Some(folder) => folder,
+            None => "",
+        },
+        None => "",
+    }
+}
+
+/// The name of a file in its folder.
+pub fn name_of(path: &str) -> &str {
+    match path.rsplit_once('/') {
+        Some((_, name)) => name,
+        None => path,
+    }
+}
+
+/// The files of a folder.
+#[derive(Drop)]
+pub struct Files<'a> {
+    pub rt: &'a HostRuntime,
+    root: &'a str,
+    // The folder behind all links.
+    real: String,
+}
+
+impl<'a> Files<'a> {
+    pub fn new(rt: &'a HostRuntime, root: &'a str) -> Result<Files<'a>, AllocError> {
+        let real = match fs::canonicalize(rt, root) {
+            Ok(path) => path.into_string(),
+            Err(_) => String::from_str(rt.alloc(), root)?,
+        };
+        Ok(Files { rt, root, real })
+    }
+
+    pub fn alloc(&self) -> Global {
+        self.rt.alloc()
+    }
+
+    /// The name of the folder that was named.
+    pub fn name(&self) -> &str {
+        name_of(self.real.as_str())
+    }
+
+    /// A path as the system takes it.
+    pub fn whole(&self, path: &str) -> Result<String, AllocError> {
+        let mut name = joined(self.alloc(), self.root, "/")?;
+        name.push_str(path)?;
+        Ok(name)
+    }
+
+    /// What stands at a path, behind links.
+    pub fn standing(&self, path: &str) -> Result<Standing, AllocError> {
+        let name = self.whole(path)?;
+        Ok(match fs::metadata(self.rt, name.as_str()) {
+            Ok(found) => if found.is_dir() {
+                Standing::Folder
+            } else if found.is_file() {
+                Standing::File
+            } else {
+                Standing::Other
+            },
+            Err(_) => Standing::Nothing,
+        })
+    }
+
+    pub fn is_file(&self, path: &str) -> Result<bool, AllocError> {
+        Ok(matches!(self.standing(path)?, Standing::File | Standing::Other))
+    }
+
+    /// The path behind links, if it lies in the folder.
+    pub fn behind_links(&self, path: &str) -> Result<Option<String>, AllocError> {
+        let name = self.whole(path)?;
+        let Ok(found) = fs::canonicalize(self.rt, name.as_str()) else {
+            return Ok(None);
+        };
+        let real = found.into_string();
+        let Some(rest) = real.as_str().strip_prefix(self.real.as_str()) else {
+            return Ok(None);
+        };
+        match rest.strip_prefix("/") {
+            Some(own) => Ok(Some(String::from_str(self.alloc(), own)?)),
+            None => Ok(None),
+        }
+    }
+
+    /// Why a file that is there is not read.
+    pub fn refusal(&self, path: &str) -> Result<Option<&'static str>, AllocError> {
+        if self.standing(path)? == Standing::Other {
+            return Ok(Some("this is no regular file"));
+        }
+        if self.behind_links(path)?.is_none() {
+            return Ok(Some("this link leads out of the folder"));
+        }
+        Ok(None)
+    }
+
+    /// The text of a file without its mark of byte order, if it is there and may be read.
+    pub fn read(&self, path: &str) -> Result<Option<String>, AllocError> {
+        if !self.is_file(path)? || self.refusal(path)?.is_some() {
+            return Ok(None);
+        }
+        let name = self.whole(path)?;
+        match fs::read_to_string(self.rt, name.as_str()) {
+            Ok(text) => match text.as_str().strip_prefix("\u{feff}") {
+                Some(rest) => Ok(Some(String::from_str(self.alloc(), rest)?)),
+                None => Ok(Some(text)),
+            },
+            Err(_) => Ok(None),
+        }
+    }
+
+    fn first_of(&self, stem: &str, endings: &[&str]) -> Result<Option<String>, AllocError> {
+        for ending in endings {
+            let path = joined(self.alloc(), stem, *ending)?;
+            if self.is_file(path.as_str())? {
+                return Ok(Some(path));
+            }
+        }
+        Ok(None)
+    }
+
+    /// The file that a path without or with an ending stands for, as TypeScript finds it.
+    pub fn find(&self, wanted: &str) -> Result<Option<String>, AllocError> {
+        let (stem, endings) = instead(wanted);
+        if let Some(found) = self.first_of(stem, endings)? {
+            return Ok(Some(found));
+        }
+        if self.is_file(wanted)? {
+            return Ok(Some(String::from_str(self.alloc(), wanted)?));
+        }
+        if let Some(found) = self.first_of(wanted, &ADDED)? {
+            return Ok(Some(found));
+        }
+        let index = joined(self.alloc(), wanted, "/index")?;
+        self.first_of(index.as_str(), &ADDED)
+    }
+
+    /// The paths of what lies in a folder, but for what is hidden and for `node_modules`.
+    fn push_listed(&self, folder: &str, out: &mut Vec<String>) -> Result<(), AllocError> {
+        let name = self.whole(folder)?;
+        let Ok(entries) = fs::read_dir(self.rt, name.as_str()) else {
+            return Ok(());
+        };
+        for entry in entries {
+            let Ok(entry) = entry else {
+                break;
+            };
+            let own = entry.file_name();
+            if !own.starts_with(".") && own != "node_modules" {
+                let path = if folder.is_empty() {
+                    String::from_str(self.alloc(), own)?
+                } else {
+                    let mut path = joined(self.alloc(), folder, "/")?;
+                    path.push_str(own)?;
+                    path
+                };
+                out.push(path)?;
+            }
+        }
+        Ok(())
+    }
+
+    /// The paths of the files (or of the folders) below a folder, in order.
+    pub fn all_below(&self, folder: &str, wanted: Standing) -> Result<Vec<String>, AllocError> {
+        let mut waiting = Vec::new(self.alloc());
+        self.push_listed(folder, &mut waiting)?;
+        let mut found = Vec::new(self.alloc());
+        for _turn in 0..u64::MAX {
+            let Some(path) = waiting.pop() else {
+                break;
+            };
+            let standing = self.standing(path.as_str())?;
+            let is_own = self.is_own(path.as_str())?;
+            if standing == Standing::Folder && is_own {
+                self.push_listed(path.as_str(), &mut waiting)?;
+            }
+            if standing == wanted {
+                found.push(path)?;
+            }
+        }
+        found.sort()?;
+        Ok(found)
+    }
+
+    // Whether what stands at a path is no link.
+    fn is_own(&self, path: &str) -> Result<bool, AllocError> {
+        let name = self.whole(path)?;
+        Ok(match fs::symlink_metadata(self.rt, name.as_str()) {
+            Ok(found) => !found.is_symlink(),
+            Err(_) => false,
+        })
+    }
+}
