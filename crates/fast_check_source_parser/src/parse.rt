@@ -1,0 +1,181 @@
+//! All rules together.
+ghost use Rattle.std.specs.Prelude.{◌≡◌, ◌≤◌, ◌+◌, IfOk, length, true};
+ghost use Rattle.fast_check_syntax.specs.Height.{height};
+ghost use Rattle.fast_check_source_ranges.specs.Ranges.{is_nested as lies};
+
+use fast_check_program_forms::{Module, Script};
+use fast_check_source_expressions::Expressions;
+use fast_check_source_grammar::{Grammar, MAX_HEIGHT, ParseError, Rule, Tokens};
+use fast_check_source_heights::is_at_most;
+use fast_check_source_lexer::TokenKind;
+use fast_check_source_ranges::is_nested;
+use fast_check_source_statements::Statements;
+use fast_check_source_types::Types;
+use fast_check_source_values::Values;
+use fast_check_syntax::{Atom, Items, Kind, SourcePos, SourceRange, Tree};
+use std::alloc::{AllocError, Global};
+
+/// How deep rules may nest, which bounds the stack.
+const MAX_DEPTH: usize = 500;
+
+fn parse(
+    alloc: Global,
+    tokens: &mut Tokens<'_>,
+    depth: usize,
+    rule: Rule,
+) -> Result<Tree, ParseError> {
+    if depth == 0 {
+        return Err(ParseError::TooDeep(tokens.at.start()));
+    }
+    let grammar = Grammar {
+        alloc,
+        depth: depth - 1,
+        parse,
+    };
+    let types = Types { grammar };
+    let values = Values { types };
+    let expressions = Expressions { values };
+    let statements = Statements { expressions };
+    match rule {
+        Rule::Type => types.any_type(tokens),
+        Rule::Operated => types.operated(tokens),
+        Rule::Element => types.element(tokens),
+        Rule::TypeParam => types.type_param(tokens),
+        Rule::Member => types.member(tokens),
+        Rule::SignatureParam => types.param(tokens),
+        Rule::ElementPattern => types.element_pattern(tokens),
+        Rule::PropertyPattern => types.property_pattern(tokens),
+        Rule::Param => values.function_param(tokens),
+        Rule::Assigned => expressions.assigned(tokens, false),
+        Rule::Branch => expressions.assigned(tokens, true),
+        Rule::Expression => expressions.expression(tokens),
+        Rule::Operand(least) => expressions.operand(tokens, least),
+        Rule::Unary => expressions.unary(tokens),
+        Rule::Postfixed => expressions.postfixed(tokens),
+        Rule::Decorated => expressions.decorated(tokens),
+        Rule::Constructed => expressions.constructor_value(tokens),
+        Rule::Heir => expressions.heir(tokens),
+        Rule::Argument => expressions.argument(tokens),
+        Rule::Property => values.property(tokens),
+        Rule::TargetElement => values.target_element(tokens),
+        Rule::TargetProperty => values.target_property(tokens),
+        Rule::Jsx => values.nested_jsx(tokens),
+        Rule::ClassValue => statements.class_value(tokens),
+        Rule::ConstructorParam => statements.constructor_param(tokens),
+        Rule::Statement => statements.statement(tokens),
+        Rule::Item => statements.item(tokens),
+        Rule::Body => statements.block(tokens),
+        Rule::EnumMember => statements.enum_member(tokens),
+        Rule::ClassMember => statements.class_member(tokens),
+    }
+}
+
+// Whether an item makes a module of its file.
+fn is_module_item(item: &Tree) -> bool {
+    match item {
+        Tree::Node(kind, _) => matches!(
+            *kind,
+            Kind::ImportDecl
+                | Kind::ExportDecl
+                | Kind::NamedExport
+                | Kind::ExportDefaultDecl
+                | Kind::ExportDefaultExpr
+                | Kind::ExportAll
+                | Kind::TsImportEqualsDecl
+                | Kind::TsExportAssignment
+                | Kind::TsNamespaceExportDecl
+        ),
+        _ => false,
+    }
+}
+
+// The first line behind `#!`, if the text begins with these.
+fn shebang(alloc: Global, text: &str) -> Result<Tree, AllocError> {
+    if !text.starts_with("#!") {
+        return Ok(Tree::Absent);
+    }
+    let end = match text.find("\n") {
+        Some(end) => end,
+        None => text.len(),
+    };
+    let line = match text.get(2..end) {
+        Some(line) => line,
+        None => "",
+    };
+    Ok(Tree::Text(Atom::from_str(alloc, line.trim_end_matches('\r'))?))
+}
+
+fn file(
+    alloc: Global,
+    span: SourceRange,
+    body: Tree,
+    shebang: Tree,
+    is_module: bool,
+) -> Result<Tree, AllocError> {
+    if is_module {
+        Module {
+            span,
+            body,
+            shebang,
+        }
+        .into_tree(alloc)
+    } else {
+        Script {
+            span,
+            body,
+            shebang,
+        }
+        .into_tree(alloc)
+    }
+}
+
+/// The tree of a file that has this text, which may hold JSX or not. It is no higher than 4,000 nodes. Each range lies in the text and in that of the
+/// node around it, and the items of each list stand behind one another; the decorators of a class may stand before it.
+pub fn parse_program(alloc: Global, text: &str, jsx: bool) -> Result<Tree, ParseError>
+    ensures low { IfOk result (λ tree. height tree ≤ 4000) }
+    ensures nested { IfOk result (λ tree. lies tree 1 (length text.now + 1) ≡ true) }
+{
+    if text.len() >= 4294967295 {
+        return Err(ParseError::TooLong);
+    }
+    let Some(mut tokens) = Tokens::new(alloc, text, jsx) else {
+        return Err(ParseError::TooLong);
+    };
+    let is_empty = tokens.at.is(TokenKind::End);
+    let start = if is_empty {
+        SourcePos(1)
+    } else {
+        tokens.at.start()
+    };
+    let mut items = Items::new(alloc);
+    let mut is_module = false;
+    for _turn in 0..tokens.at.left() {
+        if tokens.at.is(TokenKind::End) {
+            break;
+        }
+        let item = parse(alloc, &mut tokens, MAX_DEPTH, Rule::Item)?;
+        is_module = is_module || is_module_item(&item);
+        items.push(item)?;
+    }
+    let span = if is_empty {
+        SourceRange { start, end: start }
+    } else {
+        tokens.at.from(start)
+    };
+    let is_module = is_module || tokens.is_module();
+    let tree = file(
+        alloc,
+        span,
+        Tree::list(items),
+        shebang(alloc, text)?,
+        is_module,
+    )?;
+    if !is_at_most(&tree, MAX_HEIGHT) {
+        return Err(ParseError::TooDeep(start));
+    }
+    let end = (text.len() + 1) as u32;
+    if !is_nested(&tree, 1, end) {
+        return Err(ParseError::Unexpected(start));
+    }
+    Ok(tree)
+}
