@@ -1,12 +1,14 @@
 //! All rules together.
-ghost use Rattle.std.specs.Prelude.{◌≤◌, IfOk};
+ghost use Rattle.std.specs.Prelude.{◌≡◌, ◌≤◌, ◌+◌, IfOk, length, true};
 ghost use Rattle.fast_check_syntax.specs.Height.{height};
+ghost use Rattle.fast_check_source_ranges.specs.Ranges.{is_nested as lies};
 
 use fast_check_program_forms::{Module, Script};
 use fast_check_source_expressions::Expressions;
 use fast_check_source_grammar::{Grammar, MAX_HEIGHT, ParseError, Rule, Tokens};
 use fast_check_source_heights::is_at_most;
 use fast_check_source_lexer::TokenKind;
+use fast_check_source_ranges::is_nested;
 use fast_check_source_statements::Statements;
 use fast_check_source_types::Types;
 use fast_check_source_values::Values;
@@ -127,10 +129,15 @@ fn file(
     }
 }
 
-/// The tree of a file that has this text, which may hold JSX or not.
+/// The tree of a file that has this text, which may hold JSX or not. It is no higher than 4,000 nodes. Each range lies in the text and in that of the
+/// node around it, and the items of each list stand behind one another; the decorators of a class may stand before it.
 pub fn parse_program(alloc: Global, text: &str, jsx: bool) -> Result<Tree, ParseError>
     ensures low { IfOk result (λ tree. height tree ≤ 4000) }
+    ensures nested { IfOk result (λ tree. lies tree 1 (length text.now + 1) ≡ true) }
 {
+    if text.len() >= 4294967295 {
+        return Err(ParseError::TooLong);
+    }
     let Some(mut tokens) = Tokens::new(alloc, text, jsx) else {
         return Err(ParseError::TooLong);
     };
@@ -163,9 +170,12 @@ pub fn parse_program(alloc: Global, text: &str, jsx: bool) -> Result<Tree, Parse
         shebang(alloc, text)?,
         is_module,
     )?;
-    if is_at_most(&tree, MAX_HEIGHT) {
-        Ok(tree)
-    } else {
-        Err(ParseError::TooDeep(start))
+    if !is_at_most(&tree, MAX_HEIGHT) {
+        return Err(ParseError::TooDeep(start));
     }
+    let end = (text.len() + 1) as u32;
+    if !is_nested(&tree, 1, end) {
+        return Err(ParseError::Unexpected(start));
+    }
+    Ok(tree)
 }

@@ -1,0 +1,220 @@
+//! Scopes, and which of them binds a name.
+use fast_check_syntax::Atom;
+use std::alloc::{AllocError, Global};
+use std::collections::BTreeMap;
+
+/// As what a name is bound, or looked up: as a value, as a type, or as a namespace.
+#[derive(Clone, Copy, PartialEq, Eq, Debug)]
+pub struct Meaning {
+    pub value: bool,
+    pub is_type: bool,
+    pub namespace: bool,
+}
+
+pub const VALUE: Meaning = Meaning {
+    value: true,
+    is_type: false,
+    namespace: false,
+};
+
+pub const TYPE: Meaning = Meaning {
+    value: false,
+    is_type: true,
+    namespace: false,
+};
+
+pub const NAMESPACE: Meaning = Meaning {
+    value: false,
+    is_type: false,
+    namespace: true,
+};
+
+pub const ANY: Meaning = Meaning {
+    value: true,
+    is_type: true,
+    namespace: true,
+};
+
+impl Meaning {
+    pub fn with(self, other: Meaning) -> Meaning {
+        Meaning {
+            value: self.value || other.value,
+            is_type: self.is_type || other.is_type,
+            namespace: self.namespace || other.namespace,
+        }
+    }
+
+    fn meets(self, other: Meaning) -> bool {
+        (self.value && other.value)
+            || (self.is_type && other.is_type)
+            || (self.namespace && other.namespace)
+    }
+}
+
+/// The number of a scope among those of a module.
+#[derive(Clone, Copy, PartialEq, Eq, Debug)]
+pub struct ScopeNo(pub usize);
+
+#[derive(Drop)]
+struct Scope {
+    parent: Option<ScopeNo>,
+    names: BTreeMap<Atom, Meaning>,
+    // What its block exports to the other blocks of the same namespace or enum.
+    shown: BTreeMap<Atom, Meaning>,
+    // The blocks of that namespace or enum, this one among them.
+    joined: Option<GroupNo>,
+}
+
+/// The number of a namespace or an enum that is written in several blocks.
+#[derive(Clone, Copy, PartialEq, Eq, Debug)]
+pub struct GroupNo(pub usize);
+
+/// The scopes of a module. The first one is that of its top.
+#[derive(Drop)]
+pub struct Scopes {
+    alloc: Global,
+    scopes: Vec<Scope>,
+    groups: Vec<Vec<ScopeNo>>,
+}
+
+fn holds(names: &BTreeMap<Atom, Meaning>, name: &Atom, meaning: Meaning) -> bool {
+    match names.get(name) {
+        Some(bound) => bound.meets(meaning),
+        None => false,
+    }
+}
+
+fn bind_in(
+    names: &mut BTreeMap<Atom, Meaning>,
+    alloc: Global,
+    name: &str,
+    meaning: Meaning,
+) -> Result<(), AllocError> {
+    let name = Atom::from_str(alloc, name)?;
+    let bound = match names.get(&name) {
+        Some(bound) => bound.with(meaning),
+        None => meaning,
+    };
+    let _ = names.insert(name, bound)?;
+    Ok(())
+}
+
+impl Scopes {
+    pub fn new(alloc: Global) -> Scopes {
+        Scopes {
+            alloc,
+            scopes: Vec::new(alloc),
+            groups: Vec::new(alloc),
+        }
+    }
+
+    pub fn alloc(&self) -> Global {
+        self.alloc
+    }
+
+    pub fn open(&mut self, parent: Option<ScopeNo>) -> Result<ScopeNo, AllocError> {
+        let no = ScopeNo(self.scopes.len());
+        self.scopes.push(Scope {
+            parent,
+            names: BTreeMap::new(self.alloc),
+            shown: BTreeMap::new(self.alloc),
+            joined: None,
+        })?;
+        Ok(no)
+    }
+
+    pub fn bind(&mut self, scope: ScopeNo, name: &str, meaning: Meaning) -> Result<(), AllocError> {
+        let alloc = self.alloc;
+        if let Some(found) = self.scopes.get_mut(scope.0) {
+            bind_in(&mut found.names, alloc, name, meaning)?;
+        }
+        Ok(())
+    }
+
+    /// Binds a name that a block shows to the other blocks of its namespace or enum.
+    pub fn show(&mut self, scope: ScopeNo, name: &str, meaning: Meaning) -> Result<(), AllocError> {
+        let alloc = self.alloc;
+        if let Some(found) = self.scopes.get_mut(scope.0) {
+            bind_in(&mut found.shown, alloc, name, meaning)?;
+        }
+        Ok(())
+    }
+
+    /// Shows what a scope binds.
+    pub fn show_all(&mut self, scope: ScopeNo, from: ScopeNo) -> Result<(), AllocError> {
+        let mut names: BTreeMap<Atom, Meaning> = BTreeMap::new(self.alloc);
+        if let Some(found) = self.scopes.get_mut(from.0) {
+            std::mem::swap(&mut names, &mut found.names);
+        }
+        if let Some(found) = self.scopes.get_mut(scope.0) {
+            found.shown = names;
+        }
+        Ok(())
+    }
+
+    pub fn group(&mut self) -> Result<GroupNo, AllocError> {
+        let no = GroupNo(self.groups.len());
+        self.groups.push(Vec::new(self.alloc))?;
+        Ok(no)
+    }
+
+    /// Joins the scope of a block with those of a group.
+    pub fn join(&mut self, group: GroupNo, scope: ScopeNo) -> Result<(), AllocError> {
+        if let Some(found) = self.groups.get_mut(group.0) {
+            found.push(scope)?;
+        }
+        if let Some(found) = self.scopes.get_mut(scope.0) {
+            found.joined = Some(group);
+        }
+        Ok(())
+    }
+
+    // The scope, or one that it is joined with, where that binds the name.
+    fn own(&self, scope: ScopeNo, name: &Atom, meaning: Meaning) -> Option<ScopeNo> {
+        let found = self.scopes.get(scope.0)?;
+        if holds(&found.names, name, meaning) {
+            return Some(scope);
+        }
+        let group = found.joined?;
+        for other in self.groups.get(group.0)?.as_slice() {
+            if *other != scope && holds(&self.scopes.get(other.0)?.shown, name, meaning) {
+                return Some(*other);
+            }
+        }
+        None
+    }
+
+    /// The number that a name has that is looked up from a scope on: 1 where nothing binds it.
+    pub fn find(&self, scope: ScopeNo, name: &str, meaning: Meaning) -> Result<u32, AllocError> {
+        let name = Atom::from_str(self.alloc, name)?;
+        let mut at = Some(scope);
+        for _turn in 0..self.scopes.len() {
+            let Some(here) = at else {
+                break;
+            };
+            if let Some(found) = self.own(here, &name, meaning) {
+                return Ok(number_of(found));
+            }
+            at = match self.scopes.get(here.0) {
+                Some(scope) => scope.parent,
+                None => None,
+            };
+        }
+        Ok(1)
+    }
+
+    pub fn parent(&self, scope: ScopeNo) -> ScopeNo {
+        match self.scopes.get(scope.0) {
+            Some(found) => match found.parent {
+                Some(parent) => parent,
+                None => scope,
+            },
+            None => scope,
+        }
+    }
+}
+
+/// The number of a scope as swc has it: 2 is that of the top.
+pub fn number_of(scope: ScopeNo) -> u32 {
+    (scope.0.min(4294967293) as u32).saturating_add(2)
+}
