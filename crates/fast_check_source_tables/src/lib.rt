@@ -1,0 +1,8 @@
+//! The tables of a module by its tree: its symbols with their exports, members and declarations, and what these refer to.
+#![tactic(auto)]
+
+mod ambient;
+mod finish;
+
+pub use ambient::with_exports;
+pub use finish::tables_of;
