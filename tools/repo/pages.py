@@ -3,10 +3,13 @@
 
     tools/repo/pages.py             all pages of this repository; prints what is not there, and ends with 1 where something is not
     tools/repo/pages.py FOLDER      the links and anchors of the pages below a folder
+    tools/repo/pages.py --run       runs the commands that read this repository alone, by the program of FAST_CHECK, each for at most two minutes
 """
+import os
 import re
 import subprocess
 import sys
+import tempfile
 from functools import cache
 from pathlib import Path
 from urllib.parse import unquote
@@ -16,6 +19,8 @@ LINK = re.compile(r"!?\[(?:[^\]\[]|\[[^\]]*\])*\]\(([^)\s]+)\)")
 FENCED = re.compile(r"^ *(```|~~~).*?^ *\1", re.M | re.S)
 WORD = re.compile(r"[A-Za-z_][A-Za-z0-9_]*")
 FILE = re.compile(r"[\w./-]+\.(antt|rt|py|js|sh|json|txt|md)")
+# Commands that read files of this repository alone, and write nothing in it.
+RUN = r"(\./fast-check(-ts)?|bench/check/(stored|edits|fragments|definitions)\.py|forms/write\.py --|tools/repo/pages\.py$)"
 # Pages that name what is gone, or stands in other projects.
 OF_OTHERS = {"CHANGELOG.md", "docs/DIFFERENCES.md", "docs/dev/evaluation.md"}
 
@@ -79,12 +84,16 @@ def help_of(command):
     return done.stdout if done.returncode == 0 else None
 
 
-def wrong_commands(page):
-    """Scripts of this repository, commands and options that stand in blocks of code and are not there."""
+def commands(page):
+    """The words of each line that stands in a block of code, without the remark behind it."""
     text = page.read_text()
     lines = re.findall(r"^    +(\S.*)$", text, re.M) + [line for block in FENCED.finditer(text) for line in block[0].split("\n")]
-    for line in lines:
-        words = re.sub(r"\s(#|  ).*", "", line.removeprefix("$ ").removeprefix("npx ")).split()
+    return [re.sub(r"\s(#|  ).*", "", line.removeprefix("$ ").removeprefix("npx ")).split() for line in lines]
+
+
+def wrong_commands(page):
+    """Scripts of this repository, commands and options that stand in blocks of code and are not there."""
+    for words in commands(page):
         first = words[0] if words else ""
         if re.match(r"(\./)?(bench|tools|forms|examples|\.ci)/\S+$", first) and not (TOP / first).exists():
             yield f"the script {first}"
@@ -95,6 +104,22 @@ def wrong_commands(page):
             for option in re.findall(r"(?<=\s)--[a-z-]+", " ".join(words)) if known else []:
                 if option not in known:
                     yield f"the option {option} of {words[1]}"
+
+
+def run_commands():
+    """Runs each command that is shown whole and reads files of this repository alone. One fails whose status is no answer's."""
+    shown = {" ".join(words) for page in pages(TOP) for words in commands(page) if words and re.match(RUN, " ".join(words))}
+    failed = 0
+    with tempfile.TemporaryDirectory() as folder:
+        for command in sorted(shown):
+            made = re.sub(r"\bPROGRAM\b|\$program\b", os.environ["FAST_CHECK"], command).replace(" out", f" {folder}/out")
+            if re.search(r"\b[A-Z]{3,}\b|\.\.( |$)|HEAD|[|>;]", made.replace(os.environ["FAST_CHECK"], "")):
+                continue
+            done = subprocess.run(made, shell=True, cwd=TOP, capture_output=True, text=True, timeout=120)
+            failed += done.returncode > 1
+            print(f"{done.returncode}  {command}" + (f"\n{done.stderr[-300:]}" if done.returncode > 1 else ""))
+    print(f"{failed} commands fail")
+    return min(failed, 1)
 
 
 def main(folder):
@@ -110,4 +135,4 @@ def main(folder):
 
 
 if __name__ == "__main__":
-    sys.exit(main(Path(sys.argv[1]).resolve() if len(sys.argv) > 1 else TOP))
+    sys.exit(run_commands() if sys.argv[1:] == ["--run"] else main(Path(sys.argv[1]).resolve() if len(sys.argv) > 1 else TOP))
