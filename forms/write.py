@@ -11,7 +11,6 @@ from pathlib import Path
 # what stands here is read anew each time: it takes less than a second, and leaves no files behind
 sys.dont_write_bytecode = True
 
-from cases import write_cases
 from choices import write_choices
 from form_crates import write_form_crates
 from json_schema import write_json_schema
@@ -88,7 +87,7 @@ def written_above(lines):
 
 def write_all(table):
     out = Output()
-    for part in (write_form_crates, write_choices, write_schema, write_places, write_names, write_cases, write_page, write_rules, write_proofs, write_types, write_json_schema):
+    for part in (write_form_crates, write_choices, write_schema, write_places, write_names, write_page, write_rules, write_proofs, write_types, write_json_schema):
         part(table, out)
     return out
 
