@@ -73,7 +73,7 @@ def functions():
     yield Case("functions_of_an_api", [
         func("twice", [name("n", "number"), default(name("log"), lit("false"))], if_(ref("log"), run(call(ref("f"), ref("n")))),
             returned(binary(lit("2"), "*", ref("n"))), ret="number"),
-        const(name("api"), object_(shorthand("twice"), pair("half", half)))],
+        const("api", object_(shorthand("twice"), pair("half", half)))],
                "export function twice(n: number, log?: boolean): number { return {} as never; } "
                "export const api = { twice, half: (n?: number): number => ({} as never) };")
     yield Case("function_without_value", [func("f")], "export function f(): void {}")

@@ -32,7 +32,7 @@ def shown_types():
                "export const t = ({} as never) as [() => void?]; export const s = ({} as never) as [...() => void]; "
                "export const i = ({} as never) as string & () => void; export const k = ({} as never) as keyof () => void;")
     imported = call(ref("f"))
-    imported["Call"]["callee"] = {"Import": form(phase="Evaluation")}
+    imported["Call"]["callee"] = {"Import": form(phase="evaluation")}
     yield Case("calls_that_make_no_symbol", [const("s", call(free("Symbol"), TEXT, TEXT)), const("i", imported)], ["type s", "type i"])
 
 
