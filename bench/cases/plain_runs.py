@@ -59,10 +59,6 @@ def variables():
 # ---- values and types beyond literals: each node as it is written, with what stands for it
 
 
-def text_type(value, raw):
-    return {"TsLitType": {"span": DUMMY, "lit": {"Str": {"span": DUMMY, "value": value, "raw": raw}}}}
-
-
 def quasi(text, tail=True):
     return {"span": [2, 3], "tail": tail, "cooked": text, "raw": text}
 

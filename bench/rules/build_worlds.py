@@ -230,11 +230,11 @@ class Symbols:
 
 class Module:
     """A module by its items, which stands at `word` below the host, or at a URL. `deps` has further dependencies of symbols, `answers` the exported
-    names that other modules answer, `resolved` what texts resolve to that lead nowhere by themselves."""
+    names that other modules answer, `resolved` what texts resolve to that lead nowhere by themselves, and `read` the items and the text where they are read."""
 
-    def __init__(self, word, *items, media_type="TypeScript", deps=None, answers=(), resolved=None):
+    def __init__(self, word, *items, media_type="TypeScript", deps=None, answers=(), resolved=None, read=None):
         self.url, self.media_type = url_of(word), media_type
-        self.items, self.text = lay_items(list(items))
+        self.items, self.text = read or lay_items(list(items))
         self.tables = Symbols(self.items, deps or {}).tables()
         own = [[name, self.url] for name, _ in self.tables["symbols"][0]["exports"]]
         self.tables["resolved_exports"] = own + [[name, url_of(other)] for name, other in answers]

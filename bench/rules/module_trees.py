@@ -25,11 +25,6 @@ def source(value):
     return text(value) if isinstance(value, str) else value
 
 
-def written_as(value, raw):
-    """A text that is written in another way."""
-    return form(value=value, raw=raw)
-
-
 def attributes(**pairs):
     props = [{"Prop": {"KeyValue": {"key": {"Ident": ident_name(key)}, "value": {"Lit": {"Str": text(value)}}}}} for key, value in pairs.items()]
     return form(props=props)
@@ -135,9 +130,6 @@ def default_interface(name, *members):
 def property_signature(name, written):
     return {"TsPropertySignature": form(key=ref(name), computed=False, readonly=False, optional=False, type_ann=ann(written))}
 
-
-def method_signature(name, params, written):
-    return {"TsMethodSignature": form(key=ref(name), computed=False, optional=False, params=list(params), type_ann=ann(written), type_params=None)}
 
 
 # ---- `using`
