@@ -13,9 +13,9 @@ import cache_cases
 import cached_builds
 import forms
 import packages
-import search_cases  # which adds to the worlds, as reference_cases does
-from package_cases import CASES as WORLDS
+import search_cases  # which adds to the worlds
 from runs import EXAMPLES, FILES, Module, keyword, line
+from worlds import CASES as WORLDS
 
 STATED = os.path.join(os.path.dirname(os.path.abspath(__file__)), "stated")
 
