@@ -10,9 +10,9 @@ import functools
 import os
 from urllib.parse import urljoin
 
-from build_worlds import JsonModule, Module, World
-from case_files import HERE, SOURCES, as_module, listed, media_type, text_of
-from package_worlds import url_of
+from bench.cases.case_files import HERE, SOURCES, as_module, listed, media_type, text_of
+from bench.oracle.build_worlds import JsonModule, Module, World
+from bench.oracle.package_worlds import url_of
 
 
 class BuildFile:

@@ -2,17 +2,17 @@
 `build_worlds` and by what docs/proofs/rules.md says of the cache."""
 import json
 
-import build_files
-import random_builds
-from odd_builds import single
-from build_worlds import JsonModule, Module, World, sources_of
-from cache_cases import OWN, RULES, hash_of
-from items import const, func, let, unknown
-from module_trees import export, export_all
-from package_accounts import Closure, without_nested
-from package_rules import World as Rules, join, order_of
-from package_worlds import nv_of, url_of
-from trees import lit, returned
+from bench.cases import build_files
+from bench.cases.cache_cases import OWN, RULES, hash_of
+from bench.cases.odd_builds import single
+from bench.check import random_builds
+from bench.oracle.build_worlds import JsonModule, Module, World, sources_of
+from bench.oracle.items import const, func, let, unknown
+from bench.oracle.module_trees import export, export_all
+from bench.oracle.package_accounts import Closure, without_nested
+from bench.oracle.package_rules import World as Rules, join, order_of
+from bench.oracle.package_worlds import nv_of, url_of
+from bench.oracle.trees import lit, returned
 
 NODES = ("Js", "Json", "Wasm")
 # random workspaces by their seeds, each with a package whose sources are changed: it is found again beside others whose items are used. In all but the

@@ -22,11 +22,11 @@ for each fault as `case` says it. Lines before that begin with `//`, and say wha
 import json
 import os
 
-import front_end
-from case import Case
-from known_tables import TABLES, known
-from runs import DATA
-from trees import MODULE
+from bench.cases import front_end
+from bench.cases.case import Case
+from bench.cases.known_tables import TABLES, known
+from bench.cases.runs import DATA
+from bench.oracle.trees import MODULE
 
 HERE = os.path.dirname(os.path.abspath(__file__))
 
@@ -76,7 +76,6 @@ class Sources:
             if program is None:
                 program, self.stored = stored_program(name, text), self.stored + 1
             self.programs[file, text] = program
-
 
     def told(self):
         """How many texts were read, and by what."""

@@ -6,11 +6,11 @@ and the text of its range where it has one: `missing-explicit-type p/u.ts a`.
 import json
 from dataclasses import dataclass
 
-from build_worlds import JsonModule, Module, World
-from items import ONE, THROW, const, func, let, put, unknown
-from module_trees import default_value, export, export_all, import_, named_export
-from package_worlds import HOST, nv_of, url_of
-from trees import class_method, class_stmt, declarator, exported, lit, named, prop, returned, unexported, var_stmt
+from bench.oracle.build_worlds import JsonModule, Module, World
+from bench.oracle.items import ONE, THROW, const, func, let, put, unknown
+from bench.oracle.module_trees import default_value, export, export_all, import_, named_export
+from bench.oracle.package_worlds import HOST, nv_of, url_of
+from bench.oracle.trees import class_method, class_stmt, declarator, exported, lit, named, prop, returned, unexported, var_stmt
 
 
 @dataclass

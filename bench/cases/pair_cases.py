@@ -3,9 +3,9 @@
 Where it is hidden both answers have to be the same under a renaming. Beside each hidden pair stands the nearest edit that is not: its answers are the
 same under none.
 """
-from refused_runs import definition, expando_request, with_tables
-from renamings import are_same
-from runs import case, first_module, line, put as put_file, put_example, title
+from bench.cases.refused_runs import definition, expando_request, with_tables
+from bench.cases.runs import case, first_module, line, put as put_file, put_example, title
+from bench.oracle.renamings import are_same
 
 
 def request_of(a, b):

@@ -1,6 +1,6 @@
 """Runs of `transform` whose trees are written out: variables, values, types and comments."""
-from runs import Module, NEVER, answered, first_module, ident, keyword, missing_type, module_answer, program, request, title, transforms
-from trees import DUMMY
+from bench.cases.runs import Module, NEVER, answered, first_module, ident, keyword, missing_type, module_answer, program, request, title, transforms
+from bench.oracle.trees import DUMMY
 
 
 def variables():

@@ -5,7 +5,7 @@ several that accounts give.
 """
 import os
 
-from package_worlds import world
+from bench.oracle.package_worlds import world
 
 CASES = []
 

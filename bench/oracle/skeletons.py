@@ -2,11 +2,11 @@
 
 Trees are JSON as `trees` makes them. No tree is changed: what is answered is made anew, of parts of the source.
 """
-from class_skeletons import Classes
-from expando_skeletons import Expandos
-from module_skeletons import Modules, range_of_default
-from nodes import EMPTY_OBJECT, NEVER, NEVER_ARRAY, NEVER_IN_PARENTHESES, annotated, keyword, new, variant
-from trees import DUMMY
+from bench.oracle.class_skeletons import Classes
+from bench.oracle.expando_skeletons import Expandos
+from bench.oracle.module_skeletons import Modules, range_of_default
+from bench.oracle.nodes import EMPTY_OBJECT, NEVER, NEVER_ARRAY, NEVER_IN_PARENTHESES, annotated, keyword, new, variant
+from bench.oracle.trees import DUMMY
 
 
 def name_of(text):

@@ -1,6 +1,6 @@
 """What a class is in a skeleton, by rules of its own. `Skeleton` of `skeletons` has the rest."""
-from nodes import EMPTY_ARRAY, NEVER, annotated, keyword, new, variant
-from trees import DUMMY
+from bench.oracle.nodes import EMPTY_ARRAY, NEVER, annotated, keyword, new, variant
+from bench.oracle.trees import DUMMY
 
 NEVER_ARRAY_IN_PARENTHESES = new("Paren", expr=new("TsAs", expr=EMPTY_ARRAY, type_ann=new("TsArrayType", elem_type=keyword("never"))))
 HASH_MARK = new("PrivateProp", ctxt=0, key={"span": DUMMY, "name": "private"}, value=None, type_ann=annotated(keyword("unknown")), is_static=False,

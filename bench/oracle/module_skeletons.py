@@ -1,8 +1,8 @@
 """What imports, exports and default exports are in a skeleton, by rules of its own. `Skeleton` of `skeletons` has the rest."""
 from urllib.parse import urlsplit
 
-from class_skeletons import range_of
-from nodes import variant
+from bench.oracle.class_skeletons import range_of
+from bench.oracle.nodes import variant
 
 
 def range_of_specifier(specifier):

@@ -6,13 +6,13 @@ chapters 16 to 18. No output of the program is taken for right.
 """
 import sys
 
-from module_skeletons import range_of_default, range_of_specifier, sources_of
-from nodes import variant
-from package_accounts import Closure, mismatch, without_nested
-from package_rules import World as Rules, order_of
-from package_worlds import HOST, nv_of, url_of
-from skeletons import Skeleton, diagnostic
-from trees import FREE, MODULE, lay_items
+from bench.oracle.module_skeletons import range_of_default, range_of_specifier, sources_of
+from bench.oracle.nodes import variant
+from bench.oracle.package_accounts import Closure, mismatch, without_nested
+from bench.oracle.package_rules import World as Rules, order_of
+from bench.oracle.package_worlds import HOST, nv_of, url_of
+from bench.oracle.skeletons import Skeleton, diagnostic
+from bench.oracle.trees import FREE, MODULE, lay_items
 
 KINDS = ["unsupported-private-member-reference", "not-found-reference", "unsupported-complex-reference"]
 BUG = "this error may be the result of a bug in Deno - if you think this is the case, please open an issue"

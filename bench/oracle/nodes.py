@@ -1,5 +1,5 @@
 """New nodes of skeletons: no text stands for them, so their ranges are 0 to 0."""
-from trees import DUMMY, KEYWORDS
+from bench.oracle.trees import DUMMY, KEYWORDS
 
 
 def new(variant, **fields):

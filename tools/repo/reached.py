@@ -7,7 +7,7 @@ and `fast-check`, whole and with one command, are compiled without being proved,
 on all that it reads, with what it prints compared, the others on the examples and on a file whose name is not text. A generic function is reached if it is at
 one type. Where one has no code in these programs, nothing calls it.
 
-Usage: bench/check/reached.py [--all]     with `--all` a line for each call; about six minutes of one processor. Needs `rt` and `cc`
+Usage: tools/repo/reached.py [--all]     with `--all` a line for each call; about six minutes of one processor. Needs `rt` and `cc`
 """
 import os
 import re

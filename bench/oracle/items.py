@@ -1,5 +1,5 @@
 """Items and values that random modules, workspaces and cases share."""
-from trees import (
+from bench.oracle.trees import (
     MODULE, assign_to, call, class_stmt, declarator, exported, fn_stmt, form, ident, ident_name, lit, member, name, named, ref, run, stmt, thrown,
     unexported, var_stmt,
 )

@@ -8,7 +8,7 @@ there is an account that gives exactly that if and only if this one does.
 """
 from collections import defaultdict
 
-from package_rules import ALL, BOTH, NESTED, STAR, WHOLE_DEFAULT
+from bench.oracle.package_rules import ALL, BOTH, NESTED, STAR, WHOLE_DEFAULT
 
 
 def demands_default(names):

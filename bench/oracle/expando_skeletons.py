@@ -1,7 +1,7 @@
 """What assignments that are statements are in a skeleton, by rules of its own. `Skeleton` of `skeletons` has the rest."""
-from class_skeletons import range_of
-from nodes import new, variant
-from trees import DUMMY
+from bench.oracle.class_skeletons import range_of
+from bench.oracle.nodes import new, variant
+from bench.oracle.trees import DUMMY
 
 
 def name_of(text):

@@ -1,7 +1,7 @@
 """The ranges that are handed in for a case: what is public of its items, and what is an implementation behind overloads."""
-from class_skeletons import range_of
-from module_skeletons import range_of_default, range_of_specifier
-from nodes import variant
+from bench.oracle.class_skeletons import range_of
+from bench.oracle.module_skeletons import range_of_default, range_of_specifier
+from bench.oracle.nodes import variant
 
 
 def ranges_of_item(item, by=None, hidden=()):

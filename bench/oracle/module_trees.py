@@ -4,7 +4,7 @@ They are made and laid out as those of `trees` are.
 """
 import json
 
-from trees import LAYOUTS, ann, braces, form, ident, ident_name, lay, lay_as, lay_class, lay_function, many, one, ref, text, when
+from bench.oracle.trees import LAYOUTS, ann, braces, form, ident, ident_name, lay, lay_as, lay_class, lay_function, many, one, ref, text, when
 
 
 def item(variant, **fields):
