@@ -4,8 +4,8 @@ from layout import brackets, indented, snake, use_list
 
 BASE = "crates/fast_check_cases/src/forms/every"
 # The crates, each with the file of its forms. What is not of a crate is of the next one.
-FILES = {"program_forms": "programs", "statement_forms": "statements", "expression_forms": "expressions",
-         "class_forms": "classes", "type_forms": "types"}
+FILES = {"tree_forms_programs": "programs", "tree_forms_statements": "statements", "tree_forms_expressions": "expressions",
+         "tree_forms_classes": "classes", "tree_forms_types": "types"}
 # The most lines of a `match`.
 MOST = 30
 VALUES = {"range": "span({})", "scope": "SyntaxContext({})", "flag": "true", "text": "text(alloc)?", None: "part({})"}
@@ -73,7 +73,7 @@ def uses_of(crate, forms, helpers, behind, taken):
     if behind:
         uses.append([f"use crate::forms::every::{behind};"])
     uses.append(use_list(f"use fast_check_{crate}::{{", sorted(form.name for form in forms), "};"))
-    uses.append(["use fast_check_syntax::{" + ", ".join(taken) + "};"])
+    uses.append(["use fast_check_tree_syntax::{" + ", ".join(taken) + "};"])
     return [line for use in sorted(uses, key=lambda use: use[0].replace("{", "~")) for line in use]
 
 

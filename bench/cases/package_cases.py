@@ -1,4 +1,4 @@
-"""Worlds of `fast_check_finder_cases`, as package_worlds reads them: packages, their entry points, and whose a module is.
+"""Worlds of `fast_check_cases_finder`, as package_worlds reads them: packages, their entry points, and whose a module is.
 
 Each shows a rule, which its name says. An answer that is stated is one of several that accounts give.
 """

@@ -1,4 +1,4 @@
-"""More worlds of `fast_check_finder_cases`: what leaves a module, widening, circles, and what is inside of a module."""
+"""More worlds of `fast_check_cases_finder`: what leaves a module, widening, circles, and what is inside of a module."""
 from package_cases import case
 
 # ---- what leaves a module

@@ -1,17 +1,19 @@
 //! What is public in packages.
 
 ghost use Rattle.std.specs.Prelude.{◌≡◌, ⊤, map, MatchOption, IfOk, IfErr};
-ghost use Rattle.fast_check_packages.specs.Package.{nv_of};
-ghost use Rattle.fast_check_packages.specs.MembersIn.{members_in};
-ghost use Rattle.fast_check_range_finder.specs.Lent.{with_cache};
-ghost use Rattle.fast_check_range_finder.specs.Refusals.{IsRefusal};
+ghost use Rattle.fast_check_tables_packages.specs.Package.{nv_of};
+ghost use Rattle.fast_check_tables_packages.specs.MembersIn.{members_in};
+ghost use Rattle.fast_check_finder_loop.specs.Lent.{with_cache};
+ghost use Rattle.fast_check_finder_loop.specs.Refusals.{IsRefusal};
 ghost use Rattle.fast_check_build.specs.Found.{known_of, IsFound};
 
-use fast_check_cache::{FastCheckCache, PackagePublicRanges};
-use fast_check_graph::{ModuleGraph, RootSymbol};
-use fast_check_package_ranges::package_ranges;
-use fast_check_packages::{BuildFault, IndexedMembers, JsrUrlProvider, PackageNv, WorkspaceMember};
-use fast_check_range_finder::{FinderInput, GraphFacts, find_all};
+use fast_check_finder_loop::{FinderInput, GraphFacts, find_all};
+use fast_check_finder_ranges::package_ranges;
+use fast_check_tables_cache::{FastCheckCache, PackagePublicRanges};
+use fast_check_tables_graph::{ModuleGraph, RootSymbol};
+use fast_check_tables_packages::{
+    BuildFault, IndexedMembers, JsrUrlProvider, PackageNv, WorkspaceMember,
+};
 use std::alloc::Global;
 use std::collections::{BTreeMap, VecDeque};
 

@@ -1,20 +1,20 @@
 //! The skeletons of packages, or what is wrong with them: `build_fast_check_type_graph`.
 ghost use Rattle.std.specs.Prelude.{◌≡◌, ⊤, map, MatchOption, IfOk, IfErr};
-ghost use Rattle.fast_check_packages.specs.Package.{nv_of};
-ghost use Rattle.fast_check_cache.specs.CachedPackages.{used_item};
-ghost use Rattle.fast_check_range_finder.specs.demands.facts.GraphFacts.{with_used};
-ghost use Rattle.fast_check_range_finder.specs.Refusals.{IsRefusal};
+ghost use Rattle.fast_check_tables_packages.specs.Package.{nv_of};
+ghost use Rattle.fast_check_tables_cache.specs.CachedPackages.{used_item};
+ghost use Rattle.fast_check_finder_loop.specs.demands.facts.GraphFacts.{with_used};
+ghost use Rattle.fast_check_finder_loop.specs.Refusals.{IsRefusal};
 ghost use Rattle.fast_check_build.specs.Found.{known_of};
 ghost use Rattle.fast_check_build.specs.Build.{IsBuilt, IsBuiltWith, IsStopped};
 ghost use Rattle.fast_check_build.specs.Lent.{OldNew};
 
 use crate::finder::{find_public_ranges, find_seeded};
-use fast_check_cache::FastCheckCache;
-use fast_check_graph::{ModuleGraph, RootSymbol};
-use fast_check_package_answers::transform::TransformOptions;
-use fast_check_package_answers::{BuildInput, ModuleAnswer, answer_all, answer_and_set_all};
-use fast_check_packages::{BuildFault, IndexedMembers, JsrUrlProvider, PackageNv};
-use fast_check_range_finder::{FinderInput, GraphFacts};
+use fast_check_build_answers::transform_module::TransformOptions;
+use fast_check_build_answers::{BuildInput, ModuleAnswer, answer_all, answer_and_set_all};
+use fast_check_finder_loop::{FinderInput, GraphFacts};
+use fast_check_tables_cache::FastCheckCache;
+use fast_check_tables_graph::{ModuleGraph, RootSymbol};
+use fast_check_tables_packages::{BuildFault, IndexedMembers, JsrUrlProvider, PackageNv};
 use std::alloc::Global;
 use std::collections::VecDeque;
 

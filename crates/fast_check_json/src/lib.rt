@@ -4,8 +4,8 @@
 
 mod law;
 
+pub use fast_check_json_tables::{read_graph, read_module_tables};
 pub use fast_check_print::{print_comments, print_tree};
 pub use fast_check_read::schema::{Choice, Form};
 pub use fast_check_read::{InputFault, ReadError, read_comments, read_input, read_tree};
-pub use fast_check_read_tables::{read_graph, read_module_tables};
 pub use law::{order, places, words};

@@ -15,7 +15,7 @@ use crate::forms::every::programs::made_programs;
 use crate::forms::every::read_programs::is_read_programs;
 use crate::said::Said;
 use fast_check_read::schema::Form;
-use fast_check_syntax::{Atom, Kind, Part, SourcePos, SourceRange, SyntaxContext, Tree};
+use fast_check_tree_syntax::{Atom, Kind, Part, SourcePos, SourceRange, SyntaxContext, Tree};
 use std::alloc::{AllocError, Global};
 
 /// The range of a field by its place.

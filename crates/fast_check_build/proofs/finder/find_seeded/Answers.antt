@@ -1,12 +1,12 @@
 use Rattle.std.proofs.Common.{◌∙◌, sym, subst, List, map}
 use Rattle.std.proofs.lemmas.Result.{err_from_is_err_and}
-use Rattle.fast_check_packages.specs.Package.{nv_of}
-use Rattle.fast_check_packages.specs.declared.package.PackageNv.{PackageNv}
-use Rattle.fast_check_packages.specs.MembersIn.{members_in}
-use Rattle.fast_check_cache.specs.CachedPackages.{used_item}
-use Rattle.fast_check_range_finder.specs.Lent.{used_of}
-use Rattle.fast_check_range_finder.specs.demands.facts.GraphFacts.{with_used}
-use Rattle.fast_check_range_finder.specs.Refusals.{IsRefusal}
+use Rattle.fast_check_tables_packages.specs.Package.{nv_of}
+use Rattle.fast_check_tables_packages.specs.declared.package.PackageNv.{PackageNv}
+use Rattle.fast_check_tables_packages.specs.MembersIn.{members_in}
+use Rattle.fast_check_tables_cache.specs.CachedPackages.{used_item}
+use Rattle.fast_check_finder_loop.specs.Lent.{used_of}
+use Rattle.fast_check_finder_loop.specs.demands.facts.GraphFacts.{with_used}
+use Rattle.fast_check_finder_loop.specs.Refusals.{IsRefusal}
 use Rattle.fast_check_build.specs.Found.{known_of, IsFound}
 use Rattle.fast_check_build.proofs.Said.{found_public}
 use Rattle.fast_check_build.proofs.finder.find_seeded.Goals as goal

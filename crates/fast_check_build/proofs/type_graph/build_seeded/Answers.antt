@@ -1,7 +1,7 @@
 use Rattle.std.proofs.Common.{◌∙◌, map}
-use Rattle.fast_check_packages.specs.Package.{nv_of}
-use Rattle.fast_check_cache.specs.CachedPackages.{used_item}
-use Rattle.fast_check_range_finder.specs.demands.facts.GraphFacts.{with_used}
+use Rattle.fast_check_tables_packages.specs.Package.{nv_of}
+use Rattle.fast_check_tables_cache.specs.CachedPackages.{used_item}
+use Rattle.fast_check_finder_loop.specs.demands.facts.GraphFacts.{with_used}
 use Rattle.fast_check_build.specs.Found.{known_of}
 use Rattle.fast_check_build.proofs.Built.{all_owned}
 use Rattle.fast_check_build.proofs.type_graph.build_seeded.Goals as goal

@@ -3,11 +3,11 @@
 
 use crate::forms::every::types::made_types;
 use crate::forms::every::{part, span};
-use fast_check_class_forms::{
+use fast_check_tree_forms_classes::{
     AutoAccessor, Class, ClassMethod, ClassProp, Constructor, Decorator, Function, Param,
     PrivateMethod, PrivateProp, StaticBlock, TsIndexSignature, TsParamProp,
 };
-use fast_check_syntax::{Kind, SyntaxContext, Tree};
+use fast_check_tree_syntax::{Kind, SyntaxContext, Tree};
 use std::alloc::{AllocError, Global};
 
 /// The node of a form of these, or of one behind them, by its kind.

@@ -3,7 +3,7 @@
 
 use crate::forms::every::classes::made_classes;
 use crate::forms::every::{part, span, text};
-use fast_check_expression_forms::{
+use fast_check_tree_forms_expressions::{
     ArrayLit, ArrayPat, ArrowExpr, AssignExpr, AssignPat, AssignPatProp, AssignProp, AwaitExpr,
     BinExpr, CallExpr, ClassExpr, ComputedPropName, CondExpr, ExprOrSpread, FnExpr, GetterProp,
     Import, Invalid, JSXElement, JSXEmpty, JSXFragment, JSXMember, JSXNamespacedName,
@@ -13,7 +13,7 @@ use fast_check_expression_forms::{
     TsConstAssertion, TsInstantiation, TsNonNullExpr, TsSatisfiesExpr, TsTypeAssertion, UnaryExpr,
     UpdateExpr, YieldExpr,
 };
-use fast_check_syntax::{Kind, SyntaxContext, Tree};
+use fast_check_tree_syntax::{Kind, SyntaxContext, Tree};
 use std::alloc::{AllocError, Global};
 
 /// The node of a form of these, or of one behind them, by its kind.

@@ -3,14 +3,14 @@
 
 use crate::forms::every::statements::made_statements;
 use crate::forms::every::{part, span, text};
-use fast_check_program_forms::{
+use fast_check_tree_forms_programs::{
     BigInt, BindingIdent, Bool, ExportAll, ExportDecl, ExportDefaultDecl, ExportDefaultExpr,
     ExportDefaultSpecifier, ExportNamedSpecifier, ExportNamespaceSpecifier, Ident, IdentName,
     ImportDecl, ImportDefaultSpecifier, ImportNamedSpecifier, ImportStarAsSpecifier, JSXText,
     Module, NamedExport, Null, Number, PrivateName, Regex, Script, Str, TsExportAssignment,
     TsExternalModuleRef, TsImportEqualsDecl, TsNamespaceExportDecl,
 };
-use fast_check_syntax::{Kind, SyntaxContext, Tree};
+use fast_check_tree_syntax::{Kind, SyntaxContext, Tree};
 use std::alloc::{AllocError, Global};
 
 /// The node of a form of these, or of one behind them, by its kind.

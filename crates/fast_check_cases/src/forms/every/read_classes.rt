@@ -3,11 +3,11 @@
 
 use crate::forms::every::read_types::is_read_types;
 use crate::forms::every::{Seen, are_as_made};
-use fast_check_class_forms::{
+use fast_check_tree_forms_classes::{
     AutoAccessor, Class, ClassMethod, ClassProp, Constructor, Decorator, Function, Param,
     PrivateMethod, PrivateProp, StaticBlock, TsIndexSignature, TsParamProp,
 };
-use fast_check_syntax::{Kind, Part};
+use fast_check_tree_syntax::{Kind, Part};
 
 fn is_read_function(node: Part<'_>) -> bool {
     let Function {

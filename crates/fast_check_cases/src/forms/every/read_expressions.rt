@@ -3,7 +3,7 @@
 
 use crate::forms::every::read_classes::is_read_classes;
 use crate::forms::every::{Seen, are_as_made};
-use fast_check_expression_forms::{
+use fast_check_tree_forms_expressions::{
     ArrayLit, ArrayPat, ArrowExpr, AssignExpr, AssignPat, AssignPatProp, AssignProp, AwaitExpr,
     BinExpr, CallExpr, ClassExpr, ComputedPropName, CondExpr, ExprOrSpread, FnExpr, GetterProp,
     Import, Invalid, JSXElement, JSXEmpty, JSXFragment, JSXMember, JSXNamespacedName,
@@ -13,7 +13,7 @@ use fast_check_expression_forms::{
     TsConstAssertion, TsInstantiation, TsNonNullExpr, TsSatisfiesExpr, TsTypeAssertion, UnaryExpr,
     UpdateExpr, YieldExpr,
 };
-use fast_check_syntax::{Kind, Part};
+use fast_check_tree_syntax::{Kind, Part};
 
 fn is_read_this_expr(node: Part<'_>) -> bool {
     let ThisExpr { span } = ThisExpr::of(node);

@@ -3,14 +3,14 @@
 
 use crate::forms::every::read_statements::is_read_statements;
 use crate::forms::every::{Seen, are_as_made};
-use fast_check_program_forms::{
+use fast_check_tree_forms_programs::{
     BigInt, BindingIdent, Bool, ExportAll, ExportDecl, ExportDefaultDecl, ExportDefaultExpr,
     ExportDefaultSpecifier, ExportNamedSpecifier, ExportNamespaceSpecifier, Ident, IdentName,
     ImportDecl, ImportDefaultSpecifier, ImportNamedSpecifier, ImportStarAsSpecifier, JSXText,
     Module, NamedExport, Null, Number, PrivateName, Regex, Script, Str, TsExportAssignment,
     TsExternalModuleRef, TsImportEqualsDecl, TsNamespaceExportDecl,
 };
-use fast_check_syntax::{Kind, Part};
+use fast_check_tree_syntax::{Kind, Part};
 
 fn is_read_ident(node: Part<'_>) -> bool {
     let Ident {

@@ -3,14 +3,14 @@
 
 use crate::forms::every::read_expressions::is_read_expressions;
 use crate::forms::every::{Seen, are_as_made};
-use fast_check_statement_forms::{
+use fast_check_tree_forms_statements::{
     BlockStmt, BreakStmt, CatchClause, ClassDecl, ContinueStmt, DebuggerStmt, DoWhileStmt,
     EmptyStmt, ExprStmt, FnDecl, ForInStmt, ForOfStmt, ForStmt, IfStmt, LabeledStmt, ReturnStmt,
     SwitchCase, SwitchStmt, ThrowStmt, TryStmt, TsEnumDecl, TsEnumMember, TsExprWithTypeArgs,
     TsInterfaceBody, TsInterfaceDecl, TsModuleBlock, TsModuleDecl, TsNamespaceDecl,
     TsTypeAliasDecl, UsingDecl, VarDecl, VarDeclarator, WhileStmt, WithStmt,
 };
-use fast_check_syntax::{Kind, Part};
+use fast_check_tree_syntax::{Kind, Part};
 
 fn is_read_block_stmt(node: Part<'_>) -> bool {
     let BlockStmt { span, ctxt, stmts } = BlockStmt::of(node);

@@ -2,8 +2,7 @@
 // Written by forms/write.py from forms/forms.txt.
 
 use crate::forms::every::{Seen, are_as_made};
-use fast_check_syntax::{Kind, Part};
-use fast_check_type_forms::{
+use fast_check_tree_forms_types::{
     TsArrayType, TsCallSignatureDecl, TsConditionalType, TsConstructSignatureDecl,
     TsConstructorType, TsFnType, TsGetterSignature, TsImportType, TsIndexedAccessType, TsInferType,
     TsIntersectionType, TsKeywordType, TsLitType, TsMappedType, TsMethodSignature, TsOptionalType,
@@ -12,6 +11,7 @@ use fast_check_type_forms::{
     TsTypeParam, TsTypeParamDecl, TsTypeParamInstantiation, TsTypePredicate, TsTypeQuery,
     TsTypeRef, TsUnionType,
 };
+use fast_check_tree_syntax::{Kind, Part};
 
 fn is_read_ts_keyword_type(node: Part<'_>) -> bool {
     let TsKeywordType { span, kind } = TsKeywordType::of(node);

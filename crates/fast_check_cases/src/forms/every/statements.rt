@@ -3,14 +3,14 @@
 
 use crate::forms::every::expressions::made_expressions;
 use crate::forms::every::{part, span};
-use fast_check_statement_forms::{
+use fast_check_tree_forms_statements::{
     BlockStmt, BreakStmt, CatchClause, ClassDecl, ContinueStmt, DebuggerStmt, DoWhileStmt,
     EmptyStmt, ExprStmt, FnDecl, ForInStmt, ForOfStmt, ForStmt, IfStmt, LabeledStmt, ReturnStmt,
     SwitchCase, SwitchStmt, ThrowStmt, TryStmt, TsEnumDecl, TsEnumMember, TsExprWithTypeArgs,
     TsInterfaceBody, TsInterfaceDecl, TsModuleBlock, TsModuleDecl, TsNamespaceDecl,
     TsTypeAliasDecl, UsingDecl, VarDecl, VarDeclarator, WhileStmt, WithStmt,
 };
-use fast_check_syntax::{Kind, SyntaxContext, Tree};
+use fast_check_tree_syntax::{Kind, SyntaxContext, Tree};
 use std::alloc::{AllocError, Global};
 
 /// The node of a form of these, or of one behind them, by its kind.
