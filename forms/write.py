@@ -1,5 +1,5 @@
 #!/usr/bin/env python3
-"""Writes all that says of the syntax tree no more than forms.txt says: README.md beside it names the files.
+"""Writes all that says of the syntax tree no more than forms.txt says, and of diagnostics no more than diagnostics.txt: README.md beside it names the files.
 
     forms/write.py            writes the files
     forms/write.py --check    compares them, and names the first difference of each
@@ -13,6 +13,7 @@ sys.dont_write_bytecode = True
 
 from cases import write_cases
 from choices import write_choices
+from diagnostics import write_diagnostics
 from form_crates import write_form_crates
 from json_schema import write_json_schema
 from layout import imports
@@ -88,7 +89,7 @@ def written_above(lines):
 
 def write_all(table):
     out = Output()
-    for part in (write_form_crates, write_choices, write_schema, write_places, write_names, write_cases, write_page, write_rules, write_proofs, write_types, write_json_schema):
+    for part in (write_form_crates, write_choices, write_schema, write_places, write_names, write_cases, write_page, write_rules, write_proofs, write_types, write_json_schema, write_diagnostics):
         part(table, out)
     return out
 

@@ -6,4 +6,5 @@ pub mod Report
 pub mod Diagnostic
 pub mod DiagnosticCopy
 pub mod KindTexts
+pub mod PinnedTexts
 pub mod parsed_source

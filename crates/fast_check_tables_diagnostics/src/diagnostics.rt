@@ -225,6 +225,7 @@ impl fmt::Display for FastCheckDiagnostic {
 
     ghost output = { λ diagnostic. Some (report_of diagnostic).message };
 
+    // Written by forms/write.py from forms/diagnostics.txt, up to the closing bracket.
     fn fmt<W: fmt::Write>(&self, f: &mut fmt::Formatter<W>) -> fmt::Result {
         match self {
             Self::NotFoundReference { name, referrer, .. } => write!(

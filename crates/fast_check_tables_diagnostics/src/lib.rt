@@ -2,6 +2,7 @@
 #![tactic(auto)]
 
 mod diagnostics;
+mod law;
 pub mod parsed_source;
 mod public_ranges;
 
@@ -9,4 +10,5 @@ pub use diagnostics::{
     Diagnostic, DiagnosticLevel, DiagnosticLocation, DiagnosticSnippet, FastCheckDiagnostic,
     FastCheckDiagnosticRange,
 };
+pub use law::pinned_texts;
 pub use public_ranges::{ModulePublicRanges, range_set};

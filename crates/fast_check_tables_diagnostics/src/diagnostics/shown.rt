@@ -5,7 +5,7 @@ ghost use Rattle.std.specs.String.{string_bytes};
 ghost use Rattle.fast_check_tables_diagnostics.specs.Diagnostic.{hint_of_return_type, info_of_return_type};
 
 use crate::diagnostics::{
-    Diagnostic, DiagnosticLevel, DiagnosticLocation, DiagnosticSnippet, FastCheckDiagnostic,
+    Diagnostic, DiagnosticLevel, DiagnosticLocation, DiagnosticSnippet, FastCheckDiagnostic, texts,
 };
 use std::alloc::{AllocError, Global};
 
@@ -64,10 +64,10 @@ impl Diagnostic for FastCheckDiagnostic {
                 let hint = return_type_hint(*is_definitely_void_or_never, *is_async);
                 optional(alloc, Some(hint))
             }
+            // Written by forms/write.py from forms/diagnostics.txt, up to the default.
             Self::UnsupportedExpandoProperty { reference_name, .. } => {
                 let hint = format!(in alloc;
-                    "rename '{reference_name}' to something else to avoid conflicts or create a temporary variable \
-                     with a different name to use in the expando property reference"
+                    "rename '{reference_name}' to something else to avoid conflicts or create a temporary variable with a different name to use in the expando property reference"
                 )?;
                 Ok(Some(hint))
             }
@@ -101,11 +101,11 @@ fn return_type_hint(is_definitely_void_or_never: bool, is_async: bool) -> &'stat
     ensures { result.now ≡ hint_of_return_type is_definitely_void_or_never is_async }
 {
     if is_definitely_void_or_never {
-        "add an explicit return type of 'void' or 'never' to the function"
+        texts::RETURN_NOTHING
     } else if is_async {
-        "add an explicit return type of 'Promise<void>' or 'Promise<never>' to the function"
+        texts::RETURN_PROMISE
     } else {
-        "add an explicit return type to the function"
+        texts::RETURN_TYPE
     }
 }
 
@@ -117,18 +117,18 @@ fn return_type_info(
 ) -> Result<Vec<String>, AllocError>
     ensures { IfOk result (λ lines. map string_bytes lines.items ≡ info_of_return_type is_definitely_void_or_never is_async) }
 {
-    let wanted = "all functions in the public API must have an explicit return type";
     if !is_definitely_void_or_never {
-        return lines(alloc, &[wanted]);
+        return lines(alloc, &[texts::NEEDS_RETURN_TYPE]);
     }
     let offered = if is_async {
-        "async function expressions without a return statement can have a return type of either 'Promise<void>' or 'Promise<never>'"
+        texts::PROMISE_RETURNED
     } else {
-        "function expressions without a return statement can have a return type of either 'void' or 'never'"
+        texts::NOTHING_RETURNED
     };
-    let reason =
-        "this function has no return statements, so a return type could not be inferred automatically";
-    lines(alloc, &[wanted, offered, reason])
+    lines(
+        alloc,
+        &[texts::NEEDS_RETURN_TYPE, offered, texts::NO_RETURNS],
+    )
 }
 
 fn optional(alloc: Global, text: Option<&str>) -> Result<Option<String>, AllocError>

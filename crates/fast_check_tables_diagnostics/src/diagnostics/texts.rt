@@ -14,19 +14,41 @@ pub(crate) struct Texts {
     pub info: &'static [&'static str],
 }
 
-const MAY_BE_A_BUG: &str =
+// What follows is written by forms/write.py from forms/diagnostics.txt.
+
+pub(crate) const MAY_BE_A_BUG: &str =
     "this error may be the result of a bug in Deno - if you think this is the case, please open an issue";
 
-const IS_A_BUG: &str =
+pub(crate) const IS_A_BUG: &str =
     "this error is the result of a bug in Deno and you don't be seeing it - please open an issue if one doesn't exist";
 
-const NEEDS_INFERENCE: &str =
+pub(crate) const NEEDS_INFERENCE: &str =
     "JavaScript files with no corresponding declaration require type inference to be type checked";
 
-const DECLARE_OR_REWRITE: &str =
+pub(crate) const DECLARE_OR_REWRITE: &str =
     "add a type declaration (d.ts) for the JavaScript module, or rewrite it to TypeScript";
 
-const IS_REFERENCE: &str = "this is the reference";
+pub(crate) const IS_REFERENCE: &str = "this is the reference";
+
+pub(crate) const RETURN_TYPE: &str = "add an explicit return type to the function";
+
+pub(crate) const RETURN_NOTHING: &str =
+    "add an explicit return type of 'void' or 'never' to the function";
+
+pub(crate) const RETURN_PROMISE: &str =
+    "add an explicit return type of 'Promise<void>' or 'Promise<never>' to the function";
+
+pub(crate) const NEEDS_RETURN_TYPE: &str =
+    "all functions in the public API must have an explicit return type";
+
+pub(crate) const NO_RETURNS: &str =
+    "this function has no return statements, so a return type could not be inferred automatically";
+
+pub(crate) const NOTHING_RETURNED: &str =
+    "function expressions without a return statement can have a return type of either 'void' or 'never'";
+
+pub(crate) const PROMISE_RETURNED: &str =
+    "async function expressions without a return statement can have a return type of either 'Promise<void>' or 'Promise<never>'";
 
 pub(crate) static NOT_FOUND_REFERENCE: Texts = Texts {
     code: "not-found-reference",
