@@ -43,8 +43,7 @@ fn answer_tree(
         (with_tree (specifier, public_ranges.now) (Some (AnyModuleInfo.Esm es_module_info.now))) answers.old.items answers.new.items) }
     ensures stay { OnOk result (take (length answers.old.items) answers.new.items ≡ answers.old.items) }
 {
-    // Ranges of the module's own tables are admitted.
-    let _ = es_module_info.admits(public_ranges);
+    es_module_info.own_ranges_are_admitted();
     match transform(
         alloc,
         input.graph,

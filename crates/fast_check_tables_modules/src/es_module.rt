@@ -46,6 +46,7 @@ impl EsModuleInfo {
     ghost use Rattle.fast_check_tables_symbols.specs.Tables.{symbol_of_swc, resolved_export, answered_names};
     ghost use Rattle.fast_check_tables_symbols.specs.WellFormed.{AreMadeOf};
     ghost use Rattle.fast_check_tables_modules.specs.FitProgram.{FitProgram, IsModuleFault};
+    ghost use Rattle.fast_check_tables_diagnostics.specs.PublicRanges.{PublicRanges};
     ghost use Rattle.fast_check_tables_modules.specs.EsModule.{Admits, AreOwnRanges};
     ghost use Rattle.fast_check_tables_symbols.specs.Symbols.{symbol_of, place_of};
 
@@ -156,6 +157,13 @@ impl EsModuleInfo {
         ensures own { AreOwnRanges self.now.tables public_ranges.now → IsTrue result }
     {
         !any_public_unbound(&self.tables, public_ranges, &self.expando_statements)
+    }
+
+    /// The law that ranges of the module's own tables are admitted. It holds of every value, and does nothing when it is called.
+    pub fn own_ranges_are_admitted(&self)
+        ensures { (public : PublicRanges) → AreOwnRanges self.now.tables public → Admits self.now public }
+    {
+        let _ = &self.expando_statements;
     }
 }
 
