@@ -11,7 +11,6 @@ from pathlib import Path
 # what stands here is read anew each time: it takes less than a second, and leaves no files behind
 sys.dont_write_bytecode = True
 
-from cases import write_cases
 from choices import write_choices
 from diagnostics import write_diagnostics
 from form_crates import write_form_crates
@@ -27,6 +26,10 @@ HERE = Path(__file__).resolve().parent
 ROOT = HERE.parent
 
 
+WRITERS = (
+    write_form_crates, write_choices, write_schema, write_places, write_names, write_page, write_rules, write_proofs, write_types, write_json_schema,
+    write_diagnostics,
+)
 WRITTEN = "Written by forms/write.py from forms/forms.txt"
 
 
@@ -89,8 +92,8 @@ def written_above(lines):
 
 def write_all(table):
     out = Output()
-    for part in (write_form_crates, write_choices, write_schema, write_places, write_names, write_cases, write_page, write_rules, write_proofs, write_types, write_json_schema, write_diagnostics):
-        part(table, out)
+    for write_part in WRITERS:
+        write_part(table, out)
     return out
 
 

@@ -52,8 +52,6 @@ def field(text):
 
 
 FORMS, CHOICES, WORDS = tables()
-# The marks: variants whose content stands under a node of its own.
-MARKS = {("AssignTarget", "Pat"): "TargetPat", ("Pat", "Expr"): "PatExpr"}
 
 
 def has_default(field):
@@ -149,16 +147,18 @@ MADE = {
     "ts_readonly": {"span": [0, 0], "op": "ReadOnly", "type_ann": VOID}, "ts_tuple_element": {"span": [0, 0], "label": None, "ty": VOID},
 }
 
+# forms that have a field of each kind, none and the most fields, and no range or two
+OF_EACH_KIND = ["Null", "Ident", "Regex", "ImportDecl", "FnDecl", "VarDecl", "TplElement", "RestPat", "Function", "ClassProp", "TsKeywordType"]
+
 
 def forms_are_made():
     remark("types that no transform makes, and an identifier of a copied id")
     for name, made in MADE.items():
         case(f"make {name}", text_of(made))
-    remark("every form and every mark, made of fields that tell their places, and read: those of ranges in brackets, flags are true")
-    for form, fields in FORMS.items():
-        case(f"form {form}", " ".join([form] + [place_told(place, field) for place, field in enumerate(fields)]) + ", as read")
-    for mark in MARKS.values():
-        case(f"form {mark}", f"{mark} 0, as read")
+    remark("forms with each kind of field, made of fields that tell their places, and read: those of ranges in brackets, flags are true")
+    for form in OF_EACH_KIND:
+        case(f"form {form}", " ".join([form] + [place_told(place, field) for place, field in enumerate(FORMS[form])]) + ", as read")
+    case("form PatExpr", "PatExpr 0, as read")
 
 
 def place_told(place, field):

@@ -8,7 +8,7 @@
 //!
 //! What is not of its form is `refused`.
 mod cases;
-mod every;
+mod fields;
 mod made;
 mod names;
 mod odd;

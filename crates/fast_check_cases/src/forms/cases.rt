@@ -1,6 +1,6 @@
 //! The words of a case.
 
-use crate::forms::every::say_every;
+use crate::forms::fields::say_made_and_read;
 use crate::forms::made::made;
 use crate::forms::names::form_named;
 use crate::forms::odd::odd_tree;
@@ -26,7 +26,7 @@ pub fn say_case(alloc: Global, line: &str, said: &mut Said) {
 
 fn say_form(alloc: Global, name: &str, said: &mut Said) {
     match form_named(alloc, name) {
-        Ok(form) => say_every(alloc, form, name, said),
+        Ok(form) => say_made_and_read(alloc, form, said),
         Err(_) => said.lack(),
     }
 }

@@ -1,18 +1,10 @@
-//! Every form, made of fields that tell their places, and read.
+//! A dozen forms that have a field of each kind, made of fields that tell their places, and read. All forms are written by one script.
 
-mod classes;
-mod expressions;
-mod programs;
-mod read_classes;
-mod read_expressions;
-mod read_programs;
-mod read_statements;
-mod read_types;
-mod statements;
-mod types;
+mod made;
+mod read;
 
-use crate::forms::every::programs::made_programs;
-use crate::forms::every::read_programs::is_read_programs;
+use crate::forms::fields::made::made;
+use crate::forms::fields::read::is_read;
 use crate::said::Said;
 use fast_check_read::schema::Form;
 use fast_check_tree_syntax::{Atom, Kind, Part, SourcePos, SourceRange, SyntaxContext, Tree};
@@ -69,22 +61,21 @@ fn are_as_made(fields: &[Seen<'_>]) -> bool {
     true
 }
 
-/// The kind of a form, or of a mark by its name.
-fn kind_of(form: Option<Form>, name: &str) -> Kind {
+/// The kind of a form, or else that of the mark.
+fn kind_of(form: Option<Form>) -> Kind {
     match form {
         Some(Form::Struct(kind)) => kind,
-        _ if name == "TargetPat" => Kind::TargetPat,
         _ => Kind::PatExpr,
     }
 }
 
-/// Says the fields of a form that is made, which stands under this name, and whether they are read as they are made.
-pub fn say_every(alloc: Global, form: Option<Form>, name: &str, said: &mut Said) {
-    let kind = kind_of(form, name);
-    match made_programs(alloc, kind) {
+/// Says the fields of a form that is made, and whether they are read as they are made.
+pub fn say_made_and_read(alloc: Global, form: Option<Form>, said: &mut Said) {
+    let kind = kind_of(form);
+    match made(alloc, kind) {
         Ok(tree) => {
             say_fields(alloc, &tree, said);
-            said.say(if is_read_programs(tree.read(), kind) {
+            said.say(if is_read(tree.read(), kind) {
                 ", as read"
             } else {
                 ", not as read"
