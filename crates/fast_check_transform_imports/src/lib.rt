@@ -2,7 +2,7 @@
 #![tactic(auto)]
 
 mod imports_exports;
-mod module_facts;
+pub mod module_facts;
 mod relative;
 mod sources;
 

@@ -5,7 +5,7 @@ mod assignments;
 mod declarations;
 mod functions;
 mod namespaces;
-mod transform_declarations;
+pub mod transform_declarations;
 
 pub use assignments::transform_assignment;
 pub use declarations::{transform_standing, transform_statement, transform_using};
