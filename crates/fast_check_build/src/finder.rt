@@ -6,7 +6,7 @@ ghost use Rattle.fast_check_finder_loop.specs.Lent.{with_cache};
 ghost use Rattle.fast_check_finder_loop.specs.Refusals.{IsRefusal};
 ghost use Rattle.fast_check_build.specs.Found.{known_of, IsFound};
 
-use fast_check_finder_loop::{FinderInput, GraphFacts, find_all};
+use fast_check_finder_loop::{FinderOptions, GraphFacts, find_all};
 use fast_check_finder_ranges::package_ranges;
 use fast_check_tables_cache::{FastCheckCache, PackagePublicRanges};
 use fast_check_tables_graph::{ModuleGraph, RootSymbol};
@@ -55,11 +55,17 @@ pub fn find_public_ranges<'a>(
         root_symbol,
         workspace_members: &members,
     };
-    let input = FinderInput { facts, seed };
+    let lent = FinderOptions {
+        alloc,
+        facts,
+        seed,
+        provider: jsr_url_provider,
+        cache,
+    };
     // Each module is found by its own name.
     root_symbol.own_names_find();
     let roots = pending_nvs.into_vec();
-    let found = find_all(alloc, input, jsr_url_provider, cache, roots.as_slice())?;
+    let found = find_all(lent, roots.as_slice())?;
     let answers = package_ranges(alloc, found)?;
     Ok(answers)
 }

@@ -6,7 +6,7 @@ use Rattle.fast_check_tables_cache.specs.Cache.{ItemView}
 use Rattle.fast_check_tables_cache.specs.CachedPackages.{used_item}
 use Rattle.fast_check_finder_demands.specs.asked.Demands.{Text}
 use Rattle.fast_check_finder_demands.specs.facts.GraphFacts.{Used, none_used, Known, known, with_used}
-use Rattle.fast_check_finder_loop.specs.declared.options.FinderInput.{FinderInput}
+use Rattle.fast_check_finder_demands.specs.declared.facts.graph_facts.GraphFacts.{GraphFacts}
 
 -- by the cache, if one is lent
 abbrev pub used_of : {C : Type 0} → Option C → (C → Used) → Used
@@ -18,6 +18,6 @@ abbrev pub with_cache : {C : Type 0} → Option C → (C → Nv → List Text �
 with_cache cache hash stored k = with_used (used_of cache (λ c. used_item (hash c) (stored c) k.graph)) k
 
 -- for a finder
-abbrev pub known_with : {C : Type 0} → FinderInput → (Nv → Parts) → (Text → Option Nv) → Option C →
+abbrev pub known_with : {C : Type 0} → GraphFacts → List ℕ → (Nv → Parts) → (Text → Option Nv) → Option C →
     (C → List ℕ → Nv → List Text → ℕ) → (C → ℕ → Option ItemView) → Known
-known_with i url_of nv_at cache hash stored = with_cache cache (λ c. hash c i.seed.now) stored (known i.facts url_of nv_at)
+known_with facts seed url_of nv_at cache hash stored = with_cache cache (λ c. hash c seed) stored (known facts url_of nv_at)

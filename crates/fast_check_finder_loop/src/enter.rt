@@ -18,7 +18,7 @@ ghost use Rattle.fast_check_finder_loop.specs.Rules.{entry_demands, unless_fault
 ghost use Rattle.fast_check_finder_loop.specs.Yields.{entered_yields, entry_yields, demand_yields};
 
 use crate::finder::Finder;
-use crate::options::{FinderInput, Lent};
+use crate::options::Lent;
 use fast_check_finder_demands::asked::copy_of;
 use fast_check_finder_demands::facts::GraphFacts;
 use fast_check_finder_demands::name_demands::NameDemand;
@@ -111,7 +111,7 @@ impl<'a> Finder<'a> {
         nv: &PackageNv,
         entry_points: Rc<BTreeSet<Url>>,
     ) -> Result<(), AllocError>
-        ensures { let i = lent.entry.input in
+        ensures { let i = lent.entry in
             let used = used_of lent.entry.cache (λ c. used_item (hash_of c.now i.seed.now) (stored c.now) i.facts.graph.now) in
             let urls = entry_points.value.keys in
             OnOk result ((g : ModuleGraphSeen) (r : RootSymbolSeen) → IsSound g r self.old → CanEnter (nv_of nv.now) self.old
@@ -119,9 +119,9 @@ impl<'a> Finder<'a> {
             (entered_yields i.facts.graph.now (nv_of nv.now) urls (used (nv_of nv.now) urls))
             self.old self.new) }
     {
-        let FinderInput { facts, seed } = lent.input;
-        match look_up(lent.cache, seed, facts.graph, nv, &entry_points)? {
-            None => self.enter_at(lent.alloc, facts.graph, nv, entry_points),
+        let graph = lent.facts.graph;
+        match look_up(lent.cache, lent.seed, graph, nv, &entry_points)? {
+            None => self.enter_at(lent.alloc, graph, nv, entry_points),
             Some(item) => self.enter_cached(nv, entry_points, item),
         }
     }
@@ -134,19 +134,19 @@ impl<'a> Finder<'a> {
         nv: &PackageNv,
         members: &mut MemberEntries,
     ) -> Result<(), BuildFault>
-        ensures entered { let k = known_with lent.entry.input (url_of lent.entry.provider.now) (nv_at lent.entry.provider.now)
+        ensures entered { let k = known_with lent.entry.facts lent.entry.seed.now (url_of lent.entry.provider.now) (nv_at lent.entry.provider.now)
             lent.entry.cache (λ c. hash_of c.now) (λ c. stored c.now) in
             let d = of_package (nv_of nv.now) in
             OnOk result (AreMemberEntries k.workspace_members members.old → AreMemberEntries k.workspace_members members.new × (IsSound k.graph k.root_symbol self.old
             → CanEnter (nv_of nv.now) self.old → Goes k.graph k.root_symbol (followers k d) (demand_yields k d) self.old self.new)) }
         ensures refused { IfErr result (DiagnosesRefused (nv_of nv.now)
-            (entrance_at (known lent.entry.input.facts (url_of lent.entry.provider.now) (nv_at lent.entry.provider.now)) (nv_of nv.now))) }
+            (entrance_at (known lent.entry.facts (url_of lent.entry.provider.now) (nv_at lent.entry.provider.now)) (nv_of nv.now))) }
     {
         let GraphFacts {
             graph,
             workspace_members,
             ..
-        } = lent.input.facts;
+        } = lent.facts;
         match entry_points(
             lent.alloc,
             graph,

@@ -15,12 +15,11 @@ ghost use Rattle.fast_check_finder_loop.specs.Rules.{followers};
 ghost use Rattle.fast_check_finder_loop.specs.Yields.{demand_yields};
 
 use crate::finder::Finder;
-use crate::options::{FinderInput, FinderOptions, Lent};
+use crate::options::Lent;
 use fast_check_finder_demands::asked::copy_of;
 use fast_check_finder_ranges::entries::MemberEntries;
 use fast_check_finder_ranges::findings::FoundPackage;
-use fast_check_tables_cache::FastCheckCache;
-use fast_check_tables_packages::{BuildFault, JsrUrlProvider, PackageNv};
+use fast_check_tables_packages::{BuildFault, PackageNv};
 use indexmap::IndexMap;
 use std::alloc::{AllocError, Global};
 
@@ -42,13 +41,13 @@ impl<'a> Finder<'a> {
         lent: Lent<'a, '_>,
         members: &mut MemberEntries,
     ) -> Result<bool, BuildFault>
-        requires sound { IsSound lent.input.facts.graph.now lent.input.facts.root_symbol.now self.old }
+        requires sound { IsSound lent.facts.graph.now lent.facts.root_symbol.now self.old }
         requires no_symbols { self.old.symbols.items ≡ [] }
         requires no_names { self.old.names.items ≡ [] }
-        ensures turned { let k = known_with lent.entry.input (url_of lent.entry.provider.now) (nv_at lent.entry.provider.now)
+        ensures turned { let k = known_with lent.entry.facts lent.entry.seed.now (url_of lent.entry.provider.now) (nv_at lent.entry.provider.now)
             lent.entry.cache (λ c. hash_of c.now) (λ c. stored c.now) in
             IfOk result (λ more. AreMemberEntries k.workspace_members members.old → TurnsTo k more self.old self.new × AreMemberEntries k.workspace_members members.new) }
-        ensures refused { let k = known_with lent.entry.input (url_of lent.entry.provider.now) (nv_at lent.entry.provider.now)
+        ensures refused { let k = known_with lent.entry.facts lent.entry.seed.now (url_of lent.entry.provider.now) (nv_at lent.entry.provider.now)
             lent.entry.cache (λ c. hash_of c.now) (λ c. stored c.now) in
             IfErr result (IsRefusedOf k (map nv_of self.old.packages)) }
     {
@@ -71,26 +70,19 @@ impl<'a> Finder<'a> {
 /// A package whose exports neither the graph nor a member of the workspace has is passed over. An export text that does not join refuses the
 /// build: `InvalidExport` has the first one of its package. `OutOfMemory` if memory runs out, or a URL comes to 4 GB.
 pub fn find_all<'a>(
-    alloc: Global,
-    input: FinderInput<'a>,
-    provider: &dyn JsrUrlProvider,
-    cache: Option<&dyn FastCheckCache>,
+    lent: Lent<'a, '_>,
     roots: &[PackageNv],
 ) -> Result<IndexMap<PackageNv, FoundPackage<'a>>, BuildFault>
-    ensures found { let k = known_with input.entry (url_of provider.now) (nv_at provider.now) cache.entry (λ c. hash_of c.now) (λ c. stored c.now) in
+    ensures found { let k = known_with lent.entry.facts lent.entry.seed.now (url_of lent.entry.provider.now) (nv_at lent.entry.provider.now)
+        lent.entry.cache (λ c. hash_of c.now) (λ c. stored c.now) in
         IfOk result (λ found. (account : Account) × IsAccount (followers k) (map nv_of roots.now) account
         × IsYield (demand_yields k) account (found_yields found.entries) × JoinAll k account × HasHomes account) }
-    ensures refused { let k = known_with input.entry (url_of provider.now) (nv_at provider.now) cache.entry (λ c. hash_of c.now) (λ c. stored c.now) in
+    ensures refused { let k = known_with lent.entry.facts lent.entry.seed.now (url_of lent.entry.provider.now) (nv_at lent.entry.provider.now)
+        lent.entry.cache (λ c. hash_of c.now) (λ c. stored c.now) in
         IfErr result (IsRefusal k (map nv_of roots.now)) }
 {
-    let lent = FinderOptions {
-        alloc,
-        input,
-        provider,
-        cache,
-    };
-    let mut finder = begin(alloc, roots)?;
-    let mut members = MemberEntries::new(alloc);
+    let mut finder = begin(lent.alloc, roots)?;
+    let mut members = MemberEntries::new(lent.alloc);
     'turns: loop {
         match finder.symbols.pop_front() {
             Some(at) => finder.follow_symbol(lent, at)?,
@@ -104,5 +96,5 @@ pub fn find_all<'a>(
             },
         }
     }
-    Ok(finder.into_found(alloc)?)
+    Ok(finder.into_found(lent.alloc)?)
 }

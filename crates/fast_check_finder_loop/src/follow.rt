@@ -169,11 +169,11 @@ impl<'a> Finder<'a> {
         url: &Url,
         names: NameDemand<'a>,
     ) -> Result<(), AllocError>
-        ensures { let k = known lent.entry.input.facts (url_of lent.entry.provider.now) (nv_at lent.entry.provider.now) in
+        ensures { let k = known lent.entry.facts (url_of lent.entry.provider.now) (nv_at lent.entry.provider.now) in
             let ws = file_at (nv_of nv.now) (serialize url.now) (asked_by (names_of names.entry)) (k.owner (serialize url.now)) in
             OnOk result (IsSound k.graph k.root_symbol self.old → Goes k.graph k.root_symbol ws (dependencies (nv_of nv.now) ws) self.old self.new) }
     {
-        match owner_of(lent.input.facts, lent.provider, url)? {
+        match owner_of(lent.facts, lent.provider, url)? {
             None => Ok(()),
             Some(owner) => {
                 if is_same_package(nv, &owner) {
@@ -192,11 +192,11 @@ impl<'a> Finder<'a> {
         info: &'a AnyModuleInfo,
         dependency: FileDependency<'a>,
     ) -> Result<(), AllocError>
-        ensures { let k = known lent.entry.input.facts (url_of lent.entry.provider.now) (nv_at lent.entry.provider.now) in
+        ensures { let k = known lent.entry.facts (url_of lent.entry.provider.now) (nv_at lent.entry.provider.now) in
             let ws = file_followers k (nv_of nv.now) (traced_as k info.now) (file_demand_of dependency.entry) in
             OnOk result (IsSound k.graph k.root_symbol self.old → Goes k.graph k.root_symbol ws (dependencies (nv_of nv.now) ws) self.old self.new) }
     {
-        let graph = lent.input.facts.graph;
+        let graph = lent.facts.graph;
         match graph.resolve_dependency(dependency.specifier, info.specifier()) {
             None => Ok(()),
             Some(url) => self.ask_file(lent, nv, url, dependency.names),
@@ -211,11 +211,11 @@ impl<'a> Finder<'a> {
         url: &Url,
         names: NameDemand<'a>,
     ) -> Result<(), AllocError>
-        ensures { let k = known lent.entry.input.facts (url_of lent.entry.provider.now) (nv_at lent.entry.provider.now) in
+        ensures { let k = known lent.entry.facts (url_of lent.entry.provider.now) (nv_at lent.entry.provider.now) in
             let ws = behind (nv_of nv.now) (serialize url.now) (asked_by (names_of names.entry)) (k.owner (serialize url.now)) in
             OnOk result (IsSound k.graph k.root_symbol self.old → Goes k.graph k.root_symbol ws (dependencies (nv_of nv.now) ws) self.old self.new) }
     {
-        match owner_of(lent.input.facts, lent.provider, url)? {
+        match owner_of(lent.facts, lent.provider, url)? {
             None => Ok(()),
             Some(owner) => {
                 self.ask_names(lent.alloc, &owner, url, names)?;
@@ -235,14 +235,14 @@ impl<'a> Finder<'a> {
         info: &'a AnyModuleInfo,
         demand: ReExportDemand<'a>,
     ) -> Result<(), AllocError>
-        ensures { let k = known lent.entry.input.facts (url_of lent.entry.provider.now) (nv_at lent.entry.provider.now) in
+        ensures { let k = known lent.entry.facts (url_of lent.entry.provider.now) (nv_at lent.entry.provider.now) in
             let ws = re_export_followers k (nv_of nv.now) (traced_as k info.now) (module_demand_of demand.entry) in
             OnOk result (IsSound k.graph k.root_symbol self.old → Goes k.graph k.root_symbol ws (dependencies (nv_of nv.now) ws) self.old self.new) }
     {
         match demand {
             ReExportDemand::Answered(url, names) => self.ask_behind(lent, nv, url, names),
             ReExportDemand::ReExported(text) => {
-                let graph = lent.input.facts.graph;
+                let graph = lent.facts.graph;
                 match graph.resolve_dependency(text, info.specifier()) {
                     None => Ok(()),
                     Some(url) => self.ask_behind(lent, nv, url, NameDemand::AllButDefault),
@@ -278,7 +278,7 @@ impl<'a> Finder<'a> {
     /// Follows a demand of a symbol.
     pub fn follow_symbol(&mut self, lent: Lent<'a, '_>, at: SymbolAt<'a>) -> Result<(), AllocError>
         requires { at.place < length self.old.modules.entries }
-        ensures { let k = known lent.entry.input.facts (url_of lent.entry.provider.now) (nv_at lent.entry.provider.now) in
+        ensures { let k = known lent.entry.facts (url_of lent.entry.provider.now) (nv_at lent.entry.provider.now) in
             OnOk result ((e : Followed) → slice_get self.old.modules.entries at.entry.place ≡ Some e → IsSound k.graph k.root_symbol self.old
             → let d = of_symbol (place_nv e) (place_text e) (demand_of at.entry.demand) in
             Goes k.graph k.root_symbol (followers k d) (demand_yields k d) self.old self.new) }
@@ -330,14 +330,14 @@ impl<'a> Finder<'a> {
         nv: PackageNv,
         names: NameDemand<'a>,
     ) -> Result<(), AllocError>
-        requires sound { IsSound lent.input.facts.graph.now lent.input.facts.root_symbol.now self.old }
-        requires own { named_at lent.input.facts.root_symbol.now (serialize (specifier_of info.now)) ≡ Some info.now }
-        ensures { let k = known lent.entry.input.facts (url_of lent.entry.provider.now) (nv_at lent.entry.provider.now) in
+        requires sound { IsSound lent.facts.graph.now lent.facts.root_symbol.now self.old }
+        requires own { named_at lent.facts.root_symbol.now (serialize (specifier_of info.now)) ≡ Some info.now }
+        ensures { let k = known lent.entry.facts (url_of lent.entry.provider.now) (nv_at lent.entry.provider.now) in
             OnOk result (let m = traced_as k info.now in let d = names_of names.entry in
             Goes k.graph k.root_symbol (names_followers k (nv_of nv) d m) (names_yields k (nv_of nv) d m) self.old self.new) }
     {
         let place = place_of(lent.alloc, &mut self.modules, copy_of(&nv)?, info)?;
-        let demands = self.follow_names_at(lent.alloc, lent.input.facts, place, names)?;
+        let demands = self.follow_names_at(lent.alloc, lent.facts, place, names)?;
         for demand in demands.as_slice() {
             self.ask_re_exported(lent, &nv, info, *demand)?;
         }
@@ -346,8 +346,8 @@ impl<'a> Finder<'a> {
 
     /// Follows names of a module, if it has tables. One whose types are not known is noted.
     pub fn follow_names(&mut self, lent: Lent<'a, '_>, at: NamesAt<'a>) -> Result<(), AllocError>
-        requires { IsSound lent.input.facts.graph.now lent.input.facts.root_symbol.now self.old }
-        ensures { let k = known lent.entry.input.facts (url_of lent.entry.provider.now) (nv_at lent.entry.provider.now) in
+        requires { IsSound lent.facts.graph.now lent.facts.root_symbol.now self.old }
+        ensures { let k = known lent.entry.facts (url_of lent.entry.provider.now) (nv_at lent.entry.provider.now) in
             let d = names_seen at.entry in OnOk result (Goes k.graph k.root_symbol (followers k d) (demand_yields k d) self.old self.new) }
     {
         let NamesAt {
@@ -359,7 +359,7 @@ impl<'a> Finder<'a> {
             graph,
             root_symbol,
             ..
-        } = lent.input.facts;
+        } = lent.facts;
         match info_of(graph, root_symbol, &specifier) {
             Some(info) => {
                 // Each module is found by its own name.

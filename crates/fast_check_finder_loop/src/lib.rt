@@ -18,4 +18,4 @@ pub use fast_check_tables_packages::{BuildFault, PackageNv, WorkspaceMember};
 pub use find::find_all;
 pub use finder::{Finder, FollowedModule};
 pub use names::ask_names;
-pub use options::{FinderInput, FinderOptions, Lent};
+pub use options::{FinderOptions, Lent};

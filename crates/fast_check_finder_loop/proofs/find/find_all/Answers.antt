@@ -17,13 +17,13 @@ use Rattle.fast_check_finder_loop.proofs.find.find_all.Goals as goal
 
 pub turns-init : goal.turns-init
 turns-init g c =
-    let m = goal.JsrUrlProvider-dyn g c.args.provider.now in
-    let k = known_with c.args.input (m.url_of c.args.provider.now.1) (m.nv_at c.args.provider.now.1) c.args.cache
+    let m = goal.JsrUrlProvider-dyn g c.args.lent.provider.now in
+    let k = known_with c.args.lent.facts c.args.lent.seed.now (m.url_of c.args.lent.provider.now.1) (m.nv_at c.args.lent.provider.now.1) c.args.lent.cache
     (λ x. (goal.FastCheckCache-dyn g x.now).hash_of x.now.1) (λ x. (goal.FastCheckCache-dyn g x.now).stored x.now.1) in
     record {
       done = [];
       on = on_begun k (map nv_of c.args.roots.now) c.in_ok-finder.finder (c.in_ok-finder.ensures k.graph k.root_symbol);
-      members = c.new-members.ensures (members_in c.args.input.facts.workspace_members.now);
+      members = c.new-members.ensures (members_in c.args.lent.facts.workspace_members.now);
     }
 
 pub follow_symbol-requires : goal.follow_symbol-requires
@@ -34,8 +34,8 @@ pub turns-smaller-in_ok-follow_symbol-in-Some : goal.turns-smaller-in_ok-follow_
 turns-smaller-in_ok-follow_symbol-in-Some g c =
     let i = c.turns.invariant in
     let mid : Finder = record c.turns.finder { symbols = c.pop_front.new.self } in
-    let has = has_lent c.args.cache (λ x. (goal.FastCheckCache-dyn g x.now).hash_of x.now.1 c.args.input.seed.now)
-    (λ x. (goal.FastCheckCache-dyn g x.now).stored x.now.1) c.args.input.facts.graph.now in
+    let has = has_lent c.args.lent.cache (λ x. (goal.FastCheckCache-dyn g x.now).hash_of x.now.1 c.args.lent.seed.now)
+    (λ x. (goal.FastCheckCache-dyn g x.now).stored x.now.1) c.args.lent.facts.graph.now in
     less_left i.on (after_symbol i.on mid c.follow_symbol.new.self refl c.in-Some.at c.in-Some.ensures.items c.in_ok-follow_symbol-in-Some.ensures)
     _ has
 
@@ -51,8 +51,8 @@ turns-smaller-in_ok-follow_names-in-Some-pop g c =
     let i = c.turns.invariant in
     let one : Finder = record c.turns.finder { symbols = c.pop_front.new.self } in
     let two : Finder = record one { names = c.pop.new.self } in
-    let has = has_lent c.args.cache (λ x. (goal.FastCheckCache-dyn g x.now).hash_of x.now.1 c.args.input.seed.now)
-    (λ x. (goal.FastCheckCache-dyn g x.now).stored x.now.1) c.args.input.facts.graph.now in
+    let has = has_lent c.args.lent.cache (λ x. (goal.FastCheckCache-dyn g x.now).hash_of x.now.1 c.args.lent.seed.now)
+    (λ x. (goal.FastCheckCache-dyn g x.now).stored x.now.1) c.args.lent.facts.graph.now in
     less_left i.on (after_names i.on one two c.follow_names.new.self refl c.in-None.ensures.items refl c.in-Some-pop.at c.in-Some-pop.ensures.items
     c.in_ok-follow_names-in-Some-pop.ensures) _ has
 
@@ -70,8 +70,8 @@ turns-smaller g c =
     let i = c.turns.invariant in
     let one : Finder = record c.turns.finder { symbols = c.pop_front.new.self } in
     let two : Finder = record one { names = c.pop.new.self } in
-    let has = has_lent c.args.cache (λ x. (goal.FastCheckCache-dyn g x.now).hash_of x.now.1 c.args.input.seed.now)
-    (λ x. (goal.FastCheckCache-dyn g x.now).stored x.now.1) c.args.input.facts.graph.now in
+    let has = has_lent c.args.lent.cache (λ x. (goal.FastCheckCache-dyn g x.now).hash_of x.now.1 c.args.lent.seed.now)
+    (λ x. (goal.FastCheckCache-dyn g x.now).stored x.now.1) c.args.lent.facts.graph.now in
     less_left i.on (after_package i.on one two c.enter_next.new.self refl c.in-None.ensures.items refl c.in-None-pop.ensures.items true
     (rw c.if-not-branch.false at (c.in_ok-enter_next-in-None-pop.ensures.turned i.members).0)) _ has
 
@@ -96,8 +96,8 @@ returns-clause-found g c =
 
 pub returns-in_err-enter_next-in-None-pop-clause-refused : goal.returns-in_err-enter_next-in-None-pop-clause-refused
 returns-in_err-enter_next-in-None-pop-clause-refused g c =
-    let m = goal.JsrUrlProvider-dyn g c.args.provider.now in
-    let k = known_with c.args.input (m.url_of c.args.provider.now.1) (m.nv_at c.args.provider.now.1) c.args.cache
+    let m = goal.JsrUrlProvider-dyn g c.args.lent.provider.now in
+    let k = known_with c.args.lent.facts c.args.lent.seed.now (m.url_of c.args.lent.provider.now.1) (m.nv_at c.args.lent.provider.now.1) c.args.lent.cache
     (λ x. (goal.FastCheckCache-dyn g x.now).hash_of x.now.1) (λ x. (goal.FastCheckCache-dyn g x.now).stored x.now.1) in
     let rs = map nv_of c.args.roots.now in
     let f = c.in_err-enter_next-in-None-pop.field-0.0 in

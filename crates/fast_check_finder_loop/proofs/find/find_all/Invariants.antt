@@ -14,21 +14,21 @@ use Rattle.fast_check_finder_loop.proofs.find.find_all.Given as goal
 
 abbrev pub invariant-turns : goal.invariant-turns
 invariant-turns g l =
-    let m = goal.JsrUrlProvider-dyn g l.provider.now in
-    let used = used_of l.cache (λ x. let n = goal.FastCheckCache-dyn g x.now in
-    used_item (n.hash_of x.now.1 l.input.seed.now) (n.stored x.now.1) l.input.facts.graph.now) in
-    let k = with_used used (known l.input.facts (m.url_of l.provider.now.1) (m.nv_at l.provider.now.1)) in
+    let m = goal.JsrUrlProvider-dyn g l.lent.provider.now in
+    let used = used_of l.lent.cache (λ x. let n = goal.FastCheckCache-dyn g x.now in
+    used_item (n.hash_of x.now.1 l.lent.seed.now) (n.stored x.now.1) l.lent.facts.graph.now) in
+    let k = with_used used (known l.lent.facts (m.url_of l.lent.provider.now.1) (m.nv_at l.lent.provider.now.1)) in
     record {
       done : List Demand;
       on : IsOn k (map nv_of l.roots) done l.finder;
-      members : AreMemberEntries (members_in l.input.facts.workspace_members.now) l.members;
+      members : AreMemberEntries (members_in l.lent.facts.workspace_members.now) l.members;
     }
 
 abbrev pub decreases-turns : goal.decreases-turns
 decreases-turns g l =
-    let m = goal.JsrUrlProvider-dyn g l.provider.now in
-    let used = used_of l.cache (λ x. let n = goal.FastCheckCache-dyn g x.now in
-    used_item (n.hash_of x.now.1 l.input.seed.now) (n.stored x.now.1) l.input.facts.graph.now) in
-    let k = with_used used (known l.input.facts (m.url_of l.provider.now.1) (m.nv_at l.provider.now.1)) in
-    let ds = lent_dependencies l.cache (λ x. (goal.FastCheckCache-dyn g x.now).stored x.now.1) in
+    let m = goal.JsrUrlProvider-dyn g l.lent.provider.now in
+    let used = used_of l.lent.cache (λ x. let n = goal.FastCheckCache-dyn g x.now in
+    used_item (n.hash_of x.now.1 l.lent.seed.now) (n.stored x.now.1) l.lent.facts.graph.now) in
+    let k = with_used used (known l.lent.facts (m.url_of l.lent.provider.now.1) (m.nv_at l.lent.provider.now.1)) in
+    let ds = lent_dependencies l.lent.cache (λ x. (goal.FastCheckCache-dyn g x.now).stored x.now.1) in
     left (reach k ds (map nv_of l.roots)) (search_of l.finder)

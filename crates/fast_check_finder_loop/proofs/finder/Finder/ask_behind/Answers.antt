@@ -18,7 +18,7 @@ returns-in-None g c sound =
 pub returns-else-is_same_package : goal.returns-else-is_same_package
 returns-else-is_same_package g c =
     let m = goal.JsrUrlProvider-dyn g c.args.lent.provider.now in
-    let k = known c.args.lent.input.facts (m.url_of c.args.lent.provider.now.1) (m.nv_at c.args.lent.provider.now.1) in
+    let k = known c.args.lent.facts (m.url_of c.args.lent.provider.now.1) (m.nv_at c.args.lent.provider.now.1) in
     let t = serialize c.args.url.now in
     let w = asked_by (names_of c.args.names) in
     let nv = nv_of c.args.nv.now in

@@ -13,7 +13,7 @@ use Rattle.fast_check_finder_loop.proofs.finder.Finder.ask_dependency.Goals as g
 pub returns-in-None : goal.returns-in-None
 returns-in-None g c sound =
     let m = goal.JsrUrlProvider-dyn g c.args.lent.provider.now in
-    let k = known c.args.lent.input.facts (m.url_of c.args.lent.provider.now.1) (m.nv_at c.args.lent.provider.now.1) in
+    let k = known c.args.lent.facts (m.url_of c.args.lent.provider.now.1) (m.nv_at c.args.lent.provider.now.1) in
     let nv = nv_of c.args.nv.now in
     let w = c.args.dependency in
     asks_none k.graph k.root_symbol nv (λ (url : Parts). file_at nv (serialize url) (asked_by (names_of w.names)) (k.owner (serialize url)))

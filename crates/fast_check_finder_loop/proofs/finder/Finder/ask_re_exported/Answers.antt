@@ -15,7 +15,7 @@ use Rattle.fast_check_finder_loop.proofs.finder.Finder.ask_re_exported.Goals as 
 pub returns-in-None : goal.returns-in-None
 returns-in-None g c sound =
     let m = goal.JsrUrlProvider-dyn g c.args.lent.provider.now in
-    let k = known c.args.lent.input.facts (m.url_of c.args.lent.provider.now.1) (m.nv_at c.args.lent.provider.now.1) in
+    let k = known c.args.lent.facts (m.url_of c.args.lent.provider.now.1) (m.nv_at c.args.lent.provider.now.1) in
     let nv = nv_of c.args.nv.now in
     subst (λ (w : ReExportDemand). AsksFor k.graph k.root_symbol nv (re_export_followers k nv (traced_as k c.args.info.now) (module_demand_of w)) c.args.self.now c.args.self.now)
     (sym c.in-ReExported.is)

@@ -14,8 +14,8 @@ pub returns-in-None-clause-entered : goal.returns-in-None-clause-entered
 returns-in-None-clause-entered g c mine =
     let m = goal.JsrUrlProvider-dyn g c.args.lent.provider.now in
     let used = used_of c.args.lent.cache (λ x. let n = goal.FastCheckCache-dyn g x.now in
-    used_item (n.hash_of x.now.1 c.args.lent.input.seed.now) (n.stored x.now.1) c.args.lent.input.facts.graph.now) in
-    let k = with_used used (known c.args.lent.input.facts (m.url_of c.args.lent.provider.now.1) (m.nv_at c.args.lent.provider.now.1)) in
+    used_item (n.hash_of x.now.1 c.args.lent.seed.now) (n.stored x.now.1) c.args.lent.facts.graph.now) in
+    let k = with_used used (known c.args.lent.facts (m.url_of c.args.lent.provider.now.1) (m.nv_at c.args.lent.provider.now.1)) in
     let nv = nv_of c.args.nv.now in (
       c.in_ok-entry_points.ensures.kept mine,
       λ sound can. subst (λ (e : Entrance). Goes k.graph k.root_symbol (entry_followers k.graph used nv e) (entry_yields k.graph used nv e)
@@ -27,8 +27,8 @@ pub returns-in_ok-enter_known-in-Some-clause-entered : goal.returns-in_ok-enter_
 returns-in_ok-enter_known-in-Some-clause-entered g c mine =
     let m = goal.JsrUrlProvider-dyn g c.args.lent.provider.now in
     let used = used_of c.args.lent.cache (λ x. let n = goal.FastCheckCache-dyn g x.now in
-    used_item (n.hash_of x.now.1 c.args.lent.input.seed.now) (n.stored x.now.1) c.args.lent.input.facts.graph.now) in
-    let k = with_used used (known c.args.lent.input.facts (m.url_of c.args.lent.provider.now.1) (m.nv_at c.args.lent.provider.now.1)) in
+    used_item (n.hash_of x.now.1 c.args.lent.seed.now) (n.stored x.now.1) c.args.lent.facts.graph.now) in
+    let k = with_used used (known c.args.lent.facts (m.url_of c.args.lent.provider.now.1) (m.nv_at c.args.lent.provider.now.1)) in
     let nv = nv_of c.args.nv.now in (
       c.in_ok-entry_points.ensures.kept mine,
       λ sound can. subst (λ (e : Entrance). Goes k.graph k.root_symbol (entry_followers k.graph used nv e) (entry_yields k.graph used nv e)

@@ -21,8 +21,8 @@ pub returns-in_err-enter-clause-refused : goal.returns-in_err-enter-clause-refus
 returns-in_err-enter-clause-refused g c =
     let m = goal.JsrUrlProvider-dyn g c.args.lent.provider.now in
     let used = used_of c.args.lent.cache (λ x. let n = goal.FastCheckCache-dyn g x.now in
-    used_item (n.hash_of x.now.1 c.args.lent.input.seed.now) (n.stored x.now.1) c.args.lent.input.facts.graph.now) in
-    let k = with_used used (known c.args.lent.input.facts (m.url_of c.args.lent.provider.now.1) (m.nv_at c.args.lent.provider.now.1)) in
+    used_item (n.hash_of x.now.1 c.args.lent.seed.now) (n.stored x.now.1) c.args.lent.facts.graph.now) in
+    let k = with_used used (known c.args.lent.facts (m.url_of c.args.lent.provider.now.1) (m.nv_at c.args.lent.provider.now.1)) in
     let f = c.in_err-enter.field-0.0 in
     passed_on c.from_residual-in_err-enter.result f (IsRefusedOf k (map nv_of c.args.self.now.packages)) c.from_residual-in_err-enter.ensures.1
     (refused_of k c.args.self.now.packages c.args.self.now.entered c.at.result.now (nv_of c.in_ok-nv.nv)
@@ -32,8 +32,8 @@ pub returns-clause-turned : goal.returns-clause-turned
 returns-clause-turned g c mine =
     let m = goal.JsrUrlProvider-dyn g c.args.lent.provider.now in
     let used = used_of c.args.lent.cache (λ x. let n = goal.FastCheckCache-dyn g x.now in
-    used_item (n.hash_of x.now.1 c.args.lent.input.seed.now) (n.stored x.now.1) c.args.lent.input.facts.graph.now) in
-    let k = with_used used (known c.args.lent.input.facts (m.url_of c.args.lent.provider.now.1) (m.nv_at c.args.lent.provider.now.1)) in
+    used_item (n.hash_of x.now.1 c.args.lent.seed.now) (n.stored x.now.1) c.args.lent.facts.graph.now) in
+    let k = with_used used (known c.args.lent.facts (m.url_of c.args.lent.provider.now.1) (m.nv_at c.args.lent.provider.now.1)) in
     let f = c.args.self.now in
     let n = f.entered in
     let ps = map nv_of f.packages in

@@ -27,7 +27,7 @@ pub follow_names_at-requires-clause-sound : goal.follow_names_at-requires-clause
 follow_names_at-requires-clause-sound g c =
     let f = c.args.self.now in
     let b : Finder = record f { modules = c.place_of.new.modules } in
-    (placed_goes c.args.lent.input.facts.graph.now c.args.lent.input.facts.root_symbol.now f b c.requires.sound (nv_of c.in_ok-copy_of.field-0) c.args.info.now c.requires.own
+    (placed_goes c.args.lent.facts.graph.now c.args.lent.facts.root_symbol.now f b c.requires.sound (nv_of c.in_ok-copy_of.field-0) c.args.info.now c.requires.own
     c.in_ok-place.place c.in_ok-place.ensures
     (record { packages = refl; entered = refl; handled = refl; names = refl; symbols = refl; entrances = refl; dependencies = refl; untyped = refl })).sound
 
@@ -37,7 +37,7 @@ loop-demand-init g c sound = goes_nowhere _ _ c.follow_names_at.new.self sound
 pub loop-demand-preserved : goal.loop-demand-preserved
 loop-demand-preserved g c sound =
     let m = goal.JsrUrlProvider-dyn g c.args.lent.provider.now in
-    let k = known c.args.lent.input.facts (m.url_of c.args.lent.provider.now.1) (m.nv_at c.args.lent.provider.now.1) in
+    let k = known c.args.lent.facts (m.url_of c.args.lent.provider.now.1) (m.nv_at c.args.lent.provider.now.1) in
     let nv = nv_of c.args.nv in
     let h = re_export_followers k nv (traced_as k c.args.info.now) in
     let xs = c.as_slice-demand-items.result.now in
@@ -54,7 +54,7 @@ loop-demand-preserved g c sound =
 pub returns : goal.returns
 returns g c =
     let m = goal.JsrUrlProvider-dyn g c.args.lent.provider.now in
-    let k = known c.args.lent.input.facts (m.url_of c.args.lent.provider.now.1) (m.nv_at c.args.lent.provider.now.1) in
+    let k = known c.args.lent.facts (m.url_of c.args.lent.provider.now.1) (m.nv_at c.args.lent.provider.now.1) in
     let f = c.args.self.now in
     let b : Finder = record f { modules = c.place_of.new.modules } in
     let nv = nv_of c.args.nv in

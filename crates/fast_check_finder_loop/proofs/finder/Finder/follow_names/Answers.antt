@@ -18,13 +18,13 @@ use Rattle.fast_check_finder_loop.proofs.finder.Finder.follow_names.Goals as goa
 pub follow_module-requires-clause-own : goal.follow_module-requires-clause-own
 follow_module-requires-clause-own g c =
     let m = goal.JsrUrlProvider-dyn g c.args.lent.provider.now in
-    let k = known c.args.lent.input.facts (m.url_of c.args.lent.provider.now.1) (m.nv_at c.args.lent.provider.now.1) in
+    let k = known c.args.lent.facts (m.url_of c.args.lent.provider.now.1) (m.nv_at c.args.lent.provider.now.1) in
     named_own k c.own_names_find.ensures (serialize c.args.at.specifier) c.in-Some.info.now (sym c.info_of.ensures ∙ ap option_copied c.in-Some.is)
 
 pub returns-in-Some : goal.returns-in-Some
 returns-in-Some g c =
     let m = goal.JsrUrlProvider-dyn g c.args.lent.provider.now in
-    let k = known c.args.lent.input.facts (m.url_of c.args.lent.provider.now.1) (m.nv_at c.args.lent.provider.now.1) in
+    let k = known c.args.lent.facts (m.url_of c.args.lent.provider.now.1) (m.nv_at c.args.lent.provider.now.1) in
     on_ok_weaker c.follow_module.result
     (λ goes. names_of_module k c.args.self.now c.follow_module.new.self (nv_of c.args.at.package) (serialize c.args.at.specifier)
     (names_of c.args.at.names) c.in-Some.info.now (sym c.info_of.ensures ∙ ap option_copied c.in-Some.is) goes)
@@ -33,7 +33,7 @@ returns-in-Some g c =
 pub returns-in_ok-push-in-None : goal.returns-in_ok-push-in-None
 returns-in_ok-push-in-None g c =
     let m = goal.JsrUrlProvider-dyn g c.args.lent.provider.now in
-    let k = known c.args.lent.input.facts (m.url_of c.args.lent.provider.now.1) (m.nv_at c.args.lent.provider.now.1) in
+    let k = known c.args.lent.facts (m.url_of c.args.lent.provider.now.1) (m.nv_at c.args.lent.provider.now.1) in
     let f = c.args.self.now in
     let b : Finder = record f { untyped = c.push.new.self } in
     let nv = nv_of c.args.at.package in
@@ -47,7 +47,7 @@ returns-in_ok-push-in-None g c =
 pub returns-else-is_untyped : goal.returns-else-is_untyped
 returns-else-is_untyped g c =
     let m = goal.JsrUrlProvider-dyn g c.args.lent.provider.now in
-    let k = known c.args.lent.input.facts (m.url_of c.args.lent.provider.now.1) (m.nv_at c.args.lent.provider.now.1) in
+    let k = known c.args.lent.facts (m.url_of c.args.lent.provider.now.1) (m.nv_at c.args.lent.provider.now.1) in
     let f = c.args.self.now in
     let nv = nv_of c.args.at.package in
     let t = serialize c.args.at.specifier in

@@ -23,7 +23,7 @@ loop-dependency-init g c sound = goes_nowhere _ _ c.follow_at.new.self sound
 pub loop-dependency-preserved : goal.loop-dependency-preserved
 loop-dependency-preserved g c sound =
     let m = goal.JsrUrlProvider-dyn g c.args.lent.provider.now in
-    let k = known c.args.lent.input.facts (m.url_of c.args.lent.provider.now.1) (m.nv_at c.args.lent.provider.now.1) in
+    let k = known c.args.lent.facts (m.url_of c.args.lent.provider.now.1) (m.nv_at c.args.lent.provider.now.1) in
     let nv = nv_of c.in_ok-nv.nv in
     let h = file_followers k nv (traced_as k c.in-Some.followed.now.found.info.now) in
     let xs = c.as_slice-dependency-items.result.now in
@@ -40,7 +40,7 @@ loop-dependency-preserved g c sound =
 pub returns : goal.returns
 returns g c e here sound =
     let m = goal.JsrUrlProvider-dyn g c.args.lent.provider.now in
-    let k = known c.args.lent.input.facts (m.url_of c.args.lent.provider.now.1) (m.nv_at c.args.lent.provider.now.1) in
+    let k = known c.args.lent.facts (m.url_of c.args.lent.provider.now.1) (m.nv_at c.args.lent.provider.now.1) in
     let x : Followed = (c.in-Some.place.now, c.in-Some.followed.now) in
     let same : e ≡ x = some_is e x (sym here ∙ (sym c.get_index.ensures.entry ∙ ap (option_map deref_pair) c.in-Some.is)) in
     let nv = nv_of c.in_ok-nv.nv in
