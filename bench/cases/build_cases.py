@@ -7,8 +7,7 @@ import json
 from dataclasses import dataclass
 
 from build_worlds import JsonModule, Module, World
-from expando_cases import put
-from function_cases import F, ONE, THROW, const, func, unknown
+from items import F, ONE, THROW, const, func, let, part_of, put, unknown
 from module_trees import (
     attributes, default_decl, default_import, default_value, export, export_all, import_, interface, named_export, named_import, property_signature,
     star_import,
@@ -39,18 +38,9 @@ class Refused:
     word: str = "bad-form"
 
 
-def let(name_, written=None, value=None):
-    return exported(var_stmt("Let", declarator(name(name_, written) if written else name_, value)))
-
-
 def secret():
     """`const secret = f();`, which nothing asks for, and which shows no type."""
     return unexported(var_stmt("Const", declarator("secret", unknown())))
-
-
-def part_of(left, right):
-    """The type `left.right`."""
-    return {"TsTypeRef": form(type_name={"TsQualifiedName": form(left={"Ident": ident(left)}, right=ident_name(right))}, type_params=None)}
 
 
 # ---- worlds that several cases are made of

@@ -1,8 +1,8 @@
 """Runs of `fast-check build` that show what modules and packages ask of each other, and that the call ends: names that no module has, rings of re-exports and
 of aliases, `default` beside all other names, a member of the workspace under another version, and two hundred packages."""
-from build_cases import SINGLE, Build, let, part_of
+from build_cases import SINGLE, Build
 from build_worlds import Module, World
-from function_cases import ONE, const, func, unknown
+from items import ONE, const, func, let, part_of, unknown
 from module_trees import (
     alias, default_import, default_value, export, export_all, import_, interface, named_export, property_signature, star_export, star_import,
 )

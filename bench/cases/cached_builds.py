@@ -3,10 +3,10 @@
 import json
 
 import random_builds
-from build_cases import drawing, faulty, let, single
+from build_cases import drawing, faulty, single
 from build_worlds import JsonModule, Module, World, sources_of
 from cache_cases import OWN, RULES, hash_of
-from function_cases import const, func, unknown
+from items import const, func, let, unknown
 from module_trees import export, export_all
 from package_accounts import Closure, without_nested
 from package_rules import World as Rules, join, order_of

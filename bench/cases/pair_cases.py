@@ -3,17 +3,15 @@
 Where it is hidden both answers have to be the same under a renaming. Beside each hidden pair stands the nearest edit that is not: its answers are the
 same under none.
 """
-import os
-import shutil
 from dataclasses import dataclass
 
-from class_cases import public
-from expando_cases import known, own, put
-from function_cases import Case, ONE, T, THROW, const, func, unknown
+from case import Case
+from items import ONE, T, THROW, const, func, public_class as public, put, unknown
+from known_tables import known
 from module_trees import default_value, export_all, export, import_, interface, method_signature, namespace, property_signature
 from refused_runs import definition, expando_request, with_tables
 from renamings import are_same
-from runs import DATA, EXAMPLES, case, first_module, line, put as put_file, title
+from runs import case, first_module, line, put as put_file, put_example, title
 from trees import (
     array, array_pattern, arrow, as_, as_const, binary, block, call, class_method, class_stmt, constructor, declarator, decorated, decorator, default,
     empty_member, exported, fn_stmt, hash_method, hash_prop, lit, member, name, named, new, object_, object_pattern, pair, param_prop, prop, ref, returned,
@@ -21,6 +19,10 @@ from trees import (
 )
 
 TWO, TEXT = lit("2"), lit('"a"')
+
+
+def own(name="f"):
+    return unexported({"Decl": func(name)["ModuleDecl"]["ExportDecl"]["decl"]})
 
 
 @dataclass
@@ -253,8 +255,6 @@ def pairs(laid_out, agree):
             (a, first), (b, second) = laid_out(each.first), laid_out(each.second)
             agree(each.name, "pair", each.hidden, are_same(first, second))
             answered(each.name, request_of(a, b), first, second)
-    name, example = EXAMPLE
-    shutil.copy(os.path.join(DATA, f"{name}.json"), os.path.join(EXAMPLES, f"{example}.json"))
     options()
     refusals()
 
@@ -263,8 +263,7 @@ def answered(name, content, first, second):
     put_file(f"{name}.json", content)
     case(f"pair {name}.json", int("Err" in first or "Err" in second), line([first, second]))
     if name == EXAMPLE[0]:
-        with open(os.path.join(EXAMPLES, f"{EXAMPLE[1]}.answer.json"), "w") as file:
-            file.write(line([first, second]))
+        put_example(EXAMPLE[1], name, [first, second])
 
 
 def refused(name, content, word="bad-form"):

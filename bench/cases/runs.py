@@ -164,6 +164,8 @@ with open(os.path.join(TOP, "crates/fast_check_tables_diagnostics/specs/Report.a
 # ---- the bench
 
 CASES, STDOUT = [], []
+# all files that are written, by their paths
+FILES = {}
 # for each request of a transform the answer with all its faults, and the source text
 RUNS = {}
 
@@ -183,11 +185,17 @@ def case(words, status, output, is_told=True):
     STDOUT.append(f"$ fast-check {words}\n{output}status {status}\n{told}")
 
 
-def put(name, content):
-    if os.path.exists(os.path.join(DATA, name)):
+def put(name, content, folder=DATA):
+    path = os.path.join(folder, name)
+    if path in FILES:
         sys.exit(f"{name} is written twice")
-    with open(os.path.join(DATA, name), "wb") as file:
-        file.write(content if isinstance(content, bytes) else json.dumps(content, separators=(",", ":"), ensure_ascii=False).encode())
+    FILES[path] = content if isinstance(content, bytes) else json.dumps(content, separators=(",", ":"), ensure_ascii=False).encode()
+
+
+def put_example(name, stored, answers):
+    """A stored run as an example."""
+    put(f"{name}.json", FILES[os.path.join(DATA, f"{stored}.json")], EXAMPLES)
+    put(f"{name}.answer.json", line(answers).encode(), EXAMPLES)
 
 
 def transforms(name, module, first=False, **more):

@@ -15,7 +15,7 @@ import forms
 import packages
 import search_cases  # which adds to the worlds, as reference_cases does
 from package_cases import CASES as WORLDS
-from runs import EXAMPLES, Module, keyword, line
+from runs import EXAMPLES, FILES, Module, keyword, line
 
 STATED = os.path.join(os.path.dirname(os.path.abspath(__file__)), "stated")
 
@@ -130,8 +130,7 @@ def worlds():
 
 def built():
     """What is printed of `build_hello.json`: the answer that the run of this request has too."""
-    with open(os.path.join(EXAMPLES, "build_hello.answer.json")) as file:
-        return file.read()
+    return FILES[os.path.join(EXAMPLES, "build_hello.answer.json")].decode()
 
 
 def parts(runs):

@@ -1,16 +1,14 @@
 #!/usr/bin/env python3
 """Writes what `crates/fast_check_vectors` reads (`data/`), and what it must print (`stdout`): runs of the program, and single calls (`single_calls`).
 
-Each run stands here as TypeScript with what is public of it and what has to come out. The trees of the sources and of
-the skeletons are laid out by the rules of this script and its modules alone (`trees`, `skeletons`, `runs`, `plain_runs`, `refused_runs`,
-`function_cases`, `new_cases`, `return_cases`, `value_cases`, `class_cases`, `module_cases`, `namespace_cases`, `build_cases`, `build_demand_cases`,
-`hostile_cases`, `pair_cases`): the
-program's own output is nowhere taken for right.
+Most runs stand in the folders beside this script as TypeScript, with what has to come out (`case_files`); their trees are those that tools/typescript reads.
+Trees that no text is read as, and odd tables, are made by Python (`odd_cases`, `plain_runs`, `refused_runs`, `hostile_cases`). What a skeleton has to be follows
+from the rules of `bench/rules` alone: the program's own output is nowhere taken for right.
 
-Usage: bench/cases/vectors.py
+Usage: bench/cases/vectors.py             writes them. What the installed TypeScript does not read is taken as it is stored
+       bench/cases/vectors.py --check     compares them with what is stored, and names what differs
 """
 import os
-import shutil
 import sys
 
 sys.dont_write_bytecode = True
@@ -18,24 +16,19 @@ sys.path[:0] = [os.path.join(os.path.dirname(os.path.dirname(os.path.abspath(__f
 
 import build_cases
 import build_demand_cases
-import class_cases
-import expando_cases
-import function_cases
 import hostile_cases
-import module_cases
-import namespace_cases
-import new_cases
+import odd_cases
 import pair_cases
-import return_cases
 import single_calls
-import value_cases
+from case_files import SOURCES, Folder
 from plain_runs import comments, types, values, variables
-from ranges import class_of, public_ranges, ranges_of_members, ranges_within
+from ranges import public_ranges, ranges_of_members, ranges_within
 from refused_runs import defaults, refusals, tables, with_tables
 from runs import (
-    CASES, CRATE, DATA, DOCS, EXAMPLES, NO_GRAPH, RUNS, SPECIFIER, STDOUT, answered, case, line, module_answer, program, put, request, title,
+    CASES, CRATE, DATA, DOCS, FILES, NO_GRAPH, RUNS, SPECIFIER, STDOUT, answered, case, line, module_answer, program, put, put_example, request, title,
 )
 from skeletons import Skeleton, diagnostic
+from programs import TOP
 from trees import lay_items
 
 # ---- functions and values of all forms: what is stated by hand has to agree with what the rules give
@@ -77,17 +70,13 @@ def graph_of(case, specifier):
     return {**NO_GRAPH, "resolutions": [[specifier, text, url] for text, url in (resolved or {}).items()]}
 
 
-def function_case(case):
-    """Lays a case out, and writes its request and its answer."""
-    answered(case.name, *laid_out(case))
-
-
 def laid_out(case):
     """The request of a case, and its answer, which has to be the one that is stated."""
-    case.items, text = lay_items(case.items)
-    more, specifier = case.more, case.more.get("specifier", SPECIFIER)
+    if case.program is None:
+        case.items, case.text = lay_items(case.items)
+        case.program = program(case.items, case.text)
+    text, more, specifier = case.text, case.more, case.more.get("specifier", SPECIFIER)
     media_type, first = more.get("media_type", "TypeScript"), more.get("first", False)
-    agree(case.name, "source", case.source or text, text)
     ranges = public_ranges(case, [place for place in range(len(case.items)) if place not in case.private], case.own_ranges)
     ranges += ranges_within(case)
     impls = public_ranges(case, case.implementations) + ranges_of_members(case)
@@ -101,17 +90,17 @@ def laid_out(case):
     content = request(text, case.items, ranges, media_type, impls=impls, first=first, graph=graph_of(case, specifier))
     content["module"]["specifier"] = specifier
     with_tables(content, **more.get("tables", {}))
-    if more.get("is_script"):
-        content["module"]["source"]["program"] = {"Script": dict(program([item["Stmt"] for item in case.items], text))}
+    content["module"]["source"]["program"] = {"Script" if more.get("is_script") else "Module": case.program}
     if "levels" in more:
         agree(case.name, "depth", more["levels"], levels(content))
-    answer = {"Err": [diagnostic(fault, specifier, DOCS) for fault in faults]} if faults else {"Ok": module_answer(program(made.items, text))}
+    answer = {"Err": [diagnostic(fault, specifier, DOCS) for fault in faults]} if faults else {"Ok": module_answer(dict(case.program, body=made.items))}
     if "sources" in more:
         agree(case.name, "sources", more["sources"], told_sources(answer, text))
     if "comments" in more:
-        goes = more["comments"](case.items)
-        content["module"]["source"]["comments"] = {"leading": documented([at for at, _ in goes]), "trailing": documented([at for at, _ in goes])}
-        answer["Ok"]["comments"] = {"leading": documented([at for at, stays in goes if stays]), "trailing": documented([at for at, _ in goes])}
+        at, stay = [at for at, _ in more["comments"]], [at for at, stays in more["comments"] if stays]
+        trailing = [] if more.get("are_leading") else documented(at)
+        content["module"]["source"]["comments"] = {"leading": documented(at), "trailing": trailing}
+        answer["Ok"]["comments"] = {"leading": documented(stay), "trailing": trailing}
     return content, answer
 
 
@@ -125,42 +114,12 @@ def told_sources(answer, text):
     return found
 
 
-def comments_of_functions():
-    title("comments before functions that stay, and within them, stay")
-    hidden, shown = function_cases.func("h", [], function_cases.THROW), function_cases.func("f", [], function_cases.THROW)
-    (hidden, shown), text = lay_items([hidden, shown])
-    case = function_cases.Case("comments_of_functions", [hidden, shown], None)
-    start = lambda item: item["ModuleDecl"]["ExportDecl"]["span"][0]
-    inside = lambda item: item["ModuleDecl"]["ExportDecl"]["decl"]["Fn"]["function"]["body"]["stmts"][0]["Throw"]["span"][0]
-    ranges = public_ranges(case, [1])
-    content, answer = request(text, case.items, ranges), {"Ok": module_answer(program(Skeleton(case.items, ranges).items, text))}
-    places = [start(hidden), inside(hidden), start(shown), inside(shown)]
-    content["module"]["source"]["comments"] = {"leading": documented(places), "trailing": []}
-    answer["Ok"]["comments"]["leading"] = documented(places[1:])
-    answered(case.name, content, answer)
-
-
-def comments_of_classes():
-    title("comments before members that go, go with them, but for those of ambient classes")
-    for case_name, declare in [("comments_of_members", False), ("comments_of_members_of_an_ambient_class", True)]:
-        members = class_cases.members_with_comments()
-        items, text = lay_items([class_cases.public(*[member for member, _ in members], declare=declare)])
-        case = function_cases.Case(case_name, items, None)
-        ranges = public_ranges(case, [0])
-        content, answer = request(text, items, ranges), {"Ok": module_answer(program(Skeleton(items, ranges).items, text))}
-        starts = [next(iter(member.values()))["span"][0] for member in class_of(items[0])["body"]]
-        stay = [declare or not goes for _, goes in members]
-        content["module"]["source"]["comments"] = {"leading": documented(starts), "trailing": documented(starts)}
-        answer["Ok"]["comments"] = {"leading": documented([start for start, stays in zip(starts, stay) if stays]), "trailing": documented(starts)}
-        answered(case_name, content, answer)
-
-
-def groups_of_cases(groups):
-    """Each group of cases, with what it shows."""
-    for words, cases in groups:
+def transform_cases(folder):
+    """Each group of cases of a folder, with what it shows."""
+    for words, cases in folder.cases():
         title(words)
-        for case in cases():
-            function_case(case)
+        for case in cases:
+            answered(case.name, *laid_out(case))
 
 
 def builds():
@@ -177,7 +136,7 @@ def builds():
             put(f"{each.name}.json", each.request or each.world.request())
             case(f"build {each.name}.json", int(any("Err" in answer for _, answer in answers)), line(answers))
             if each.name in build_cases.EXAMPLES:
-                example(each.name, answers)
+                put_example(each.name, each.name, answers)
 
 
 def hostile_builds():
@@ -187,13 +146,6 @@ def hostile_builds():
         put(f"{name}.json", made)
         is_refused = isinstance(answers, str)
         case(f"build {name}.json", 2 if is_refused else 0, f"error: input refused: {answers}\n" if is_refused else line(answers))
-
-
-def example(name, answers):
-    """A build with its answer, as an example."""
-    shutil.copy(os.path.join(DATA, f"{name}.json"), os.path.join(EXAMPLES, f"{name}.json"))
-    with open(os.path.join(EXAMPLES, f"{name}.answer.json"), "w") as file:
-        file.write(line(answers))
 
 
 def words():
@@ -232,23 +184,15 @@ def streams():
     case("pair pair_values_that_are_refused.json >closed 2>closed", 4, "", is_told=False)
 
 
-def main():
-    shutil.rmtree(DATA, ignore_errors=True)
-    os.makedirs(DATA)
+def make():
+    """Makes all files."""
+    folders = {name: Folder(name, odd_cases.CASES) for name in ("functions", "new", "returns", "values", "classes", "modules", "namespaces", "expandos")}
     variables()
     values()
     types()
     comments()
-    groups_of_cases(function_cases.GROUPS)
-    groups_of_cases(new_cases.GROUPS)
-    groups_of_cases(return_cases.GROUPS)
-    groups_of_cases(value_cases.GROUPS)
-    comments_of_functions()
-    groups_of_cases(class_cases.GROUPS)
-    comments_of_classes()
-    groups_of_cases(module_cases.GROUPS)
-    groups_of_cases(namespace_cases.GROUPS)
-    groups_of_cases(expando_cases.GROUPS)
+    for folder in folders.values():
+        transform_cases(folder)
     defaults()
     refusals()
     tables()
@@ -262,9 +206,41 @@ def main():
         STDOUT.append(printed)
         for name, content in files.items():
             put(name, content.encode())
-    with open(os.path.join(CRATE, "stdout"), "w") as file:
-        file.write("".join(STDOUT))
-    print(f"{sum(not text.startswith('#') for text in CASES)} cases")
+    put("stdout", "".join(STDOUT).encode(), CRATE)
 
 
-main()
+def differing():
+    """The files that are not there as they are made, and those that are there and not made."""
+    for path, content in FILES.items():
+        if not os.path.exists(path) or open(path, "rb").read() != content:
+            yield path
+    yield from (path for path in (os.path.join(DATA, name) for name in os.listdir(DATA)) if path not in FILES)
+
+
+def main(arguments):
+    if arguments not in ([], ["--check"]):
+        print(__doc__, file=sys.stderr)
+        return 2
+    make()
+    differ = list(differing())
+    if arguments:
+        for path in differ:
+            print(f"{os.path.relpath(path, TOP)}: is stored otherwise")
+    else:
+        for path in differ:
+            write(path)
+    print(f"{sum(not text.startswith('#') for text in CASES)} cases, {SOURCES.told()}; {len(differ)} files {'differ' if arguments else 'written'}")
+    return int(bool(arguments and differ))
+
+
+def write(path):
+    """Writes a file, or takes it away where it is none."""
+    if path not in FILES:
+        os.remove(path)
+        return
+    with open(path, "wb") as file:
+        file.write(FILES[path])
+
+
+if __name__ == "__main__":
+    sys.exit(main(sys.argv[1:]))

@@ -4,7 +4,7 @@ What an edit adds has no numbers, and so is never public. `edit` changes a modul
 where an edit stands in a list, whether a body is one of the same kind, and whether a value shows the same type.
 """
 from class_skeletons import is_hash_named
-from expando_cases import put
+from items import put
 from module_trees import export_all, import_, interface, named_export, named_import, namespace, property_signature
 from nodes import variant
 from skeletons import names_type, return_class, shown, single_return_arg

@@ -23,9 +23,8 @@ sys.path[:0] = [os.path.join(os.path.dirname(os.path.dirname(os.path.abspath(__f
 
 from program_path import program_path
 import packages as finders
-from build_cases import part_of
 from build_worlds import JsonModule, Module, World
-from function_cases import ONE, THROW, func, unknown
+from items import ONE, THROW, func, part_of, unknown
 from module_trees import (
     default_import, default_value, export, export_all, import_, interface, named_export, named_import, property_signature, star_export, star_import,
 )

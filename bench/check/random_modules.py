@@ -19,7 +19,7 @@ sys.path[:0] = [os.path.join(os.path.dirname(os.path.dirname(os.path.abspath(__f
 
 from program_path import program_path
 import programs
-from expando_cases import put
+from items import put
 from module_skeletons import range_of_default, range_of_specifier, sources_of
 from module_trees import (
     alias, ambient_module, default_decl, default_import, default_interface, default_value, export, export_all, export_assignment, global_module, import_,

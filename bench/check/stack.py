@@ -19,7 +19,7 @@ sys.path[:0] = [os.path.join(os.path.dirname(os.path.dirname(os.path.abspath(__f
 
 from program_path import program_path
 import hostile_shapes
-from function_cases import ONE, const, func, if_
+from items import ONE, const, func, if_
 from module_trees import namespace
 from runs import request
 from trees import (

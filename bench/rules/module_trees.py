@@ -4,7 +4,7 @@ They are made and laid out as those of `trees` are.
 """
 import json
 
-from trees import DECORATORS, HERITAGE, LAYOUTS, ann, braces, form, ident, ident_name, lay, lay_as, lay_function, many, one, ref, text, when
+from trees import LAYOUTS, ann, braces, form, ident, ident_name, lay, lay_as, lay_class, lay_function, many, one, ref, text, when
 
 
 def item(variant, **fields):
@@ -209,8 +209,7 @@ def lay_phase(source, node):
 
 
 def lay_default_class(source, node):
-    named = lambda source, _: lay_as(source, "ident", node["ident"])
-    lay(source, [*DECORATORS, when("is_abstract", "abstract "), "class", " " if node["ident"] else "", named, *HERITAGE], node["class"])
+    lay_class(source, node, "abstract " * node["class"]["is_abstract"])
 
 
 def lay_default_function(source, node):
@@ -224,7 +223,7 @@ def lay_module_word(source, node):
 def lay_module_body(source, node):
     """A block behind a blank, the next name behind a dot, or an end."""
     body = node["body"]
-    source.write(";" if body is None else " " if "TsModuleBlock" in body else "")
+    source.write(";" if body is None else " " if "TsModuleBlock" in body else ".")
     if body is not None:
         lay_as(source, "namespace_body", body)
 
@@ -250,7 +249,7 @@ LAYOUTS["entity"]["TsQualifiedName"] = [one("left", "entity"), ".", one("right",
 LAYOUTS["decl"]["Using"] = [when("is_await", "await "), "using ", many("decls", "declarator"), ";"]
 LAYOUTS["decl"]["TsInterface"] = INTERFACE
 LAYOUTS["decl"]["TsModule"] = [when("declare", "declare "), lay_module_word, one("id", "export_name"), lay_module_body]
-LAYOUTS["namespace_body"]["TsNamespaceDecl"] = [".", one("id", "ident"), lay_module_body]
+LAYOUTS["namespace_body"]["TsNamespaceDecl"] = [one("id", "ident"), lay_module_body]
 LAYOUTS["module_decl"].update({
     "Import": ["import ", when("type_only", "type "), lay_phase, clause, one("src", "source"), *ATTRIBUTES, ";"],
     "ExportNamed": ["export ", when("type_only", "type "), specifiers("export_specifier", "export_specifier"), from_source, *ATTRIBUTES, ";"],

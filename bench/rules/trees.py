@@ -590,9 +590,18 @@ def lay_declared(source, node):
 
 
 def lay_declared_class(source, node):
-    named = lambda source, _: lay_as(source, "ident", node["ident"])
-    declare = "declare " if node["declare"] else ""
-    lay(source, [*DECORATORS, declare, when("is_abstract", "abstract "), "class ", named, *HERITAGE], node["class"])
+    lay_class(source, node, "declare " * node["declare"] + "abstract " * node["class"]["is_abstract"])
+
+
+def lay_class(source, node, words):
+    """A class behind its name. Its range takes in its decorators where no other word stands before `class`."""
+    is_bare = not words and not source.text.endswith(("export ", "default "))
+    start = source.here()
+    lay(source, [*DECORATORS], {"decorators": node["class"]["decorators"]})
+    name = lambda source, _: (source.write(" "), lay_as(source, "ident", node["ident"])) if node["ident"] else None
+    lay(source, [words, "class", name, *HERITAGE], node["class"])
+    if is_bare:
+        node["class"]["span"][0] = start
 
 
 def accessibility(source, node):
@@ -600,7 +609,7 @@ def accessibility(source, node):
 
 
 def lay_class_method(source, node):
-    function = node["function"]
+    function, start = node["function"], source.here()
     lay(source, [*DECORATORS], {"decorators": function["decorators"]})
     for piece in [accessibility, *when_all("static", "abstract", "override")]:
         piece(source, node)
@@ -609,6 +618,13 @@ def lay_class_method(source, node):
     lay_as(source, "hash_name" if "name" in node["key"] else "key", node["key"])
     source.write("?" if node["is_optional"] else "")
     lay(source, SIGNATURE, function)
+    function["span"] = [start, source.here()]
+
+
+def lay_index_parameters(source, node):
+    """The parameter of an index signature, whose name takes in its type."""
+    many("params", "pattern")(source, node)
+    node["params"][0]["Ident"]["id"]["span"][1] = source.here()
 
 
 def when_all(*flags):
@@ -658,7 +674,7 @@ MEMBERS = {
     "PrivateProp": [*DECORATORS, accessibility, *when_all("static", "override"), when("readonly", "readonly "), one("key", "hash_name"),
                     when("is_optional", "?"), *MARKS],
     "AutoAccessor": [*DECORATORS, accessibility, *when_all("static", "abstract", "override"), "accessor ", one("key", "accessor_key"), *MARKS],
-    "TsIndexSignature": [when("is_static", "static "), when("readonly", "readonly "), "[", many("params", "pattern"), "]", one("type_ann", "ann"), ";"],
+    "TsIndexSignature": [when("is_static", "static "), when("readonly", "readonly "), "[", lay_index_parameters, "]", one("type_ann", "ann"), ";"],
     "StaticBlock": ["static ", one("body", "block")], "Empty": [";"]}
 JSX = [word("raw")]
 LAYOUTS = {
@@ -668,7 +684,7 @@ LAYOUTS = {
     "literal": {"Str": [word("raw")], "Bool": [lambda source, node: source.write("true" if node["value"] else "false")], "Null": ["null"], "Num": [word("raw")],
                 "Number": [word("raw")], "BigInt": [word("raw")], "Regex": ["/", word("exp"), "/", word("flags")], "JSXText": JSX},
     "ann": [": ", one("type_ann", "type")],
-    "result": [one("type_ann", "type")],
+    "result": ["=> ", one("type_ann", "type")],
     "type": {"TsKeywordType": [keyword_text], "TsTypeRef": [one("type_name", "entity"), one("type_params", "instantiation")],
              "TsArrayType": [one("elem_type", "type"), "[]"], "TsTupleType": ["[", many("elem_types", "tuple_element"), "]"],
              "TsUnionOrIntersectionType": "union", "TsFnOrConstructorType": "function_type",
@@ -676,7 +692,7 @@ LAYOUTS = {
              "TsLitType": [one("lit", "literal")], "TsTypeOperator": [lambda source, node: source.write(f"{node['op'].lower()} "), one("type_ann", "type")]},
     "tuple_element": [one("ty", "type")],
     "union": {"TsUnionType": [many("types", "type", " | ")], "TsIntersectionType": [many("types", "type", " & ")]},
-    "function_type": {"TsFnType": ["(", many("params", "pattern"), ") => ", one("type_ann", "result")]},
+    "function_type": {"TsFnType": ["(", many("params", "pattern"), ") ", one("type_ann", "result")]},
     "entity": {"Ident": "ident"},
     "instantiation": ["<", many("params", "type"), ">"],
     "type_params": ["<", many("params", "type_param"), ">"],
@@ -734,12 +750,12 @@ LAYOUTS = {
         "Break": ["break;"], "Continue": ["continue;"],
         "If": ["if (", one("test", "expr"), ") ", one("cons", "stmt"), when("alt", " else "), one("alt", "stmt")],
         "Switch": ["switch (", one("discriminant", "expr"), ") ", braces("cases", "case", " ")], "Throw": ["throw ", one("arg", "expr"), ";"],
-        "Try": ["try ", one("block", "block"), one("handler", "handler"), when("finalizer", " finally "), one("finalizer", "block")],
+        "Try": ["try ", one("block", "block"), when("handler", " "), one("handler", "handler"), when("finalizer", " finally "), one("finalizer", "block")],
         "While": ["while (", one("test", "expr"), ") ", one("body", "stmt")], "DoWhile": ["do ", one("body", "stmt"), " while (", one("test", "expr"), ");"],
         "For": ["for (;;) ", one("body", "stmt")], "ForIn": ["for (", one("left", "head"), " in ", one("right", "expr"), ") ", one("body", "stmt")],
         "ForOf": ["for (", one("left", "head"), " of ", one("right", "expr"), ") ", one("body", "stmt")], "Decl": "decl", "Expr": [one("expr", "expr"), ";"]},
-    "case": [lambda source, node: source.write("case " if node["test"] else "default"), one("test", "expr"), ": ", many("cons", "stmt", " ")],
-    "handler": [" catch ", one("body", "block")],
+    "case": [lambda source, node: source.write("case " if node["test"] else "default"), one("test", "expr"), ":", when("cons", " "), many("cons", "stmt", " ")],
+    "handler": ["catch ", one("body", "block")],
     "head": {"VarDecl": "head_variables", "Pat": "pattern"},
     "head_variables": [lambda source, node: source.write(node["kind"].lower() + " "), many("decls", "declarator")],
     "decl": {"Var": [when("declare", "declare "), lambda source, node: source.write(node["kind"].lower() + " "), many("decls", "declarator"), ";"],

@@ -31,7 +31,7 @@ sys.path[:0] = [os.path.join(os.path.dirname(os.path.dirname(os.path.abspath(__f
 from program_path import program_path
 import tables
 from build_worlds import Module, World
-from function_cases import ONE, const, func, if_
+from items import ONE, const, func, if_
 from module_trees import export, export_all, import_, interface, named_export, named_import, property_signature
 from package_worlds import HOST
 from programs import fast_check

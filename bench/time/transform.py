@@ -19,8 +19,7 @@ import time
 sys.dont_write_bytecode = True
 sys.path[:0] = [os.path.join(os.path.dirname(os.path.dirname(os.path.abspath(__file__))), folder) for folder in ("rules", "cases", "check", "time")]
 
-import class_cases
-import function_cases as cases
+import items as cases
 import module_trees
 import programs
 import trees
@@ -93,7 +92,7 @@ def classes():
         trees.class_method("size", [], *body, trees.returned(call), kind="Getter", ret="number"), trees.accessor("d", value=one),
         trees.prop("e", value=trees.array(one, first)), trees.index_signature("k", "string", "any"), trees.static_block(*body)]
     ambient = [trees.prop("a", "string"), trees.class_method("m", [string], body=False, ret="void")]
-    return trees.lay_items([class_cases.public(*members, super_class=trees.ref("B")), class_cases.public(*ambient, name="D", declare=True)])
+    return trees.lay_items([cases.public_class(*members, super_class=trees.ref("B")), cases.public_class(*ambient, name="D", declare=True)])
 
 
 def imports_and_re_exports(number):

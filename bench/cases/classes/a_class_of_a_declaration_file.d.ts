@@ -1,0 +1,1 @@
+export class C extends f() { private a = f(); private [k]: number; private [k](a) {} private accessor [k]: number; private m(a); #x; accessor #y; private m(); private constructor(private b); [k]: number; static {} [k: string]: any; }

@@ -1,0 +1,1 @@
+export function f() { class C extends f() { x = f(); } }

@@ -1,0 +1,1 @@
+export class C { constructor(a: string); constructor(a: any) {} }

@@ -1,0 +1,1 @@
+export class C { a: number; #x: number; }

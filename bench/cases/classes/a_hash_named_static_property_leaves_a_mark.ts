@@ -1,0 +1,1 @@
+export class C { a: number; static #x = f(); }

@@ -1,0 +1,1 @@
+export class C { constructor(public a: string) {} #x; }

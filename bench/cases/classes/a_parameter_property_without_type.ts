@@ -1,0 +1,1 @@
+export class Q { constructor(public a = []) {} }

@@ -1,0 +1,1 @@
+export class C { x; constructor(a, public [b] = f(), public { c } = f) {} y; }

@@ -1,0 +1,1 @@
+export class C { static accessor x: number; }

@@ -1,0 +1,1 @@
+export class C { accessor a = "t"; accessor b = f as string; }

@@ -1,0 +1,1 @@
+export class T { accessor #h = 1; }

@@ -1,0 +1,1 @@
+export class C {} export class D extends C {}

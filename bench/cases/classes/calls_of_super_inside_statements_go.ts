@@ -1,0 +1,1 @@
+export class C extends B { constructor() { { super(1); } (super(1)); return super(1); } }

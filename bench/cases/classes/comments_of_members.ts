@@ -1,0 +1,1 @@
+export class C { #x; a: number; private m() {} private m() {} static {} ; private constructor(); private constructor() {} [k: string]: any; accessor #y; }

@@ -1,0 +1,1 @@
+export class C { accessor m; accessor m = [1]; }

@@ -1,0 +1,1 @@
+export class C { accessor "a b"; accessor "a b" = [1]; }

@@ -1,0 +1,1 @@
+export class C { accessor 1; accessor 1 = [1]; }

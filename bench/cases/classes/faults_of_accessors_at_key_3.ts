@@ -1,0 +1,1 @@
+export class C { accessor 2n; accessor 2n = [1]; }

@@ -1,0 +1,1 @@
+export class C { 2n() { return f(); } }

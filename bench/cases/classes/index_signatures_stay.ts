@@ -1,0 +1,1 @@
+export class C { [k: string]: number; static readonly [k: number]: any; }

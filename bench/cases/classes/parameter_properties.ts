@@ -1,0 +1,1 @@
+export class P { constructor(private a: string, readonly b = 1) {} }

@@ -1,0 +1,1 @@
+export class C { private accessor m: number; private accessor m = f(); }

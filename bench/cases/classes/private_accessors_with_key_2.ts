@@ -1,0 +1,1 @@
+export class C { private accessor 1: number; private accessor 1 = f(); }

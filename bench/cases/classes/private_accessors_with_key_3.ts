@@ -1,0 +1,1 @@
+export class C { private accessor 2n: number; private accessor 2n = f(); }

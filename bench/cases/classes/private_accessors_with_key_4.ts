@@ -1,0 +1,1 @@
+export class C { private accessor [k]: number; private accessor [k] = f(); }

@@ -1,0 +1,1 @@
+export class C { private [k](a) {} private [k]() { return 1; } }

@@ -1,0 +1,1 @@
+export class C { private "a b": number; private "a b" = f(); }

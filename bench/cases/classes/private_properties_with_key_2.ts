@@ -1,0 +1,1 @@
+export class C { private 1: number; private 1 = f(); }

@@ -1,0 +1,1 @@
+export class C { private 2n: number; private 2n = f(); }

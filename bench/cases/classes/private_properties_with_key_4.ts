@@ -1,0 +1,1 @@
+export class C { private [k]: number; private [k] = f(); }

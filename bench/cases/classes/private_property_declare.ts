@@ -1,0 +1,1 @@
+export class C { declare private x: number = 1; }

@@ -1,0 +1,1 @@
+export class C { private readonly x: number = 1; }

@@ -1,0 +1,1 @@
+export class C { private static x: number = 1; }

@@ -1,0 +1,1 @@
+export class C { protected constructor(a: string, b = 1) {} }

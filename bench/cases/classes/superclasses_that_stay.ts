@@ -1,0 +1,1 @@
+export class C0 extends B {} export class C1 extends B.C {} export class C2 extends B.C.D {} export class C3 extends B[k] {} export class C4 extends B[k.l].C {} export class C5 extends B[k[l]] {} export class C6 extends Object {}

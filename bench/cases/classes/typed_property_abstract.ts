@@ -1,0 +1,1 @@
+export class C { abstract x: number = 1; }

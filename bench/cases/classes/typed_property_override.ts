@@ -1,0 +1,1 @@
+export class C { override x: number = 1; }

@@ -1,0 +1,1 @@
+export class C { a = z; b = { z }; c = f as () => void; }

@@ -1,0 +1,1 @@
+export class C { static { throw 1; } ; private x: number; private constructor(); }

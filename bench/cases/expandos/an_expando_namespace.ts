@@ -1,0 +1,1 @@
+function q() {} q.x = 1;

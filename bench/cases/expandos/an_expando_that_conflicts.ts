@@ -1,0 +1,1 @@
+export function it() {} it.a = 1; it.b = a;

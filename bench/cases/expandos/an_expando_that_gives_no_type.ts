@@ -1,0 +1,1 @@
+function f() {} f.c = f();

@@ -1,0 +1,1 @@
+function f() {} f.a = f(); f.b = 1;

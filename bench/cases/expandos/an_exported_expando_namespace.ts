@@ -1,0 +1,1 @@
+export function it() {} it.skip = () => {}; it.prop = "value";

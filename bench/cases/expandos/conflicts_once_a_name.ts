@@ -1,0 +1,1 @@
+function f() {} f.a = { x: a, y: b, z: a };

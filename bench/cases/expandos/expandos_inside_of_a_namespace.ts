@@ -1,0 +1,1 @@
+namespace N { function f() {} f.a = 1; function g() {} } function h() {}

@@ -1,0 +1,1 @@
+export function f() {} f.a = 1; f.c = "x";

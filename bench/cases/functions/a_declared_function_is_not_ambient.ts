@@ -1,0 +1,1 @@
+export declare function f(a, b = 1);

@@ -1,0 +1,1 @@
+export const a; export const b = [1]; export const c = f();

@@ -1,0 +1,1 @@
+export const o = { list: [(a = 1) => a, function (b: string) {}] };

@@ -1,0 +1,1 @@
+function o(x: string): void; function o(x) { return f(); }

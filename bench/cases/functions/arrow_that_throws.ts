@@ -1,0 +1,1 @@
+export const p = (a) => { throw 1; };

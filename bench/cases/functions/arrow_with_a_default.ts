@@ -1,0 +1,1 @@
+export const h = (a = 1) => a;

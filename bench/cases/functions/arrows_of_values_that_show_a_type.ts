@@ -1,0 +1,1 @@
+export const a0 = () => "a"; export const a1 = () => true; export const a2 = () => null; export const a3 = () => 1n; export const a4 = () => /a/g; export const a5 = () => `t`; export const a6 = () => `t${x}u`; export const a7 = () => Symbol("x"); export const a8 = () => f() as N<string>; export const a9 = () => <object>f(); export const a10 = () => (1 satisfies number);

@@ -1,0 +1,1 @@
+export const a = () => f(); export const b = async () => f(); export const c = [() => f()];

@@ -1,0 +1,1 @@
+export const a = () => x; export const b = async () => x; export const c = () => [1]; export const d = () => ({ x: 1 }); export const e = () => () => 1; export const g = async () => f() as () => void;

@@ -1,0 +1,1 @@
+export const a = () => {}; export const b = async () => { return; }; export const c = (): string => { return f(); }; export const d = (): void => { return; }; export const e = async (): Promise<void> => { f(); };

@@ -1,0 +1,1 @@
+export const r = [1 as number, Object.freeze("x")];

@@ -1,0 +1,1 @@
+export const a = async () => p as Promise<string>; export const b = async () => p as Promise<string>; export const c = async () => p as Promise; export const d = async () => p as Promise<string, number>; export const e = async () => p as Promise<string> | null; export const g = () => p as Promise<string>;

@@ -1,0 +1,1 @@
+export async function f() { throw 1; }

@@ -1,0 +1,1 @@
+export declare function f(a: string): void; declare function g();

@@ -1,0 +1,1 @@
+export function f0(a = "x") {} export function f1(a = true) {} export function f2(a = null) {} export function f3(a = 1) {} export function f4(a = 1n) {} export function f5(a = /x/) {} export function f6(a = `x`) {} export function f7(a = Symbol()) {} export function f8(a = f() as T) {} export function f9(a = (1)) {}

@@ -1,0 +1,1 @@
+export function f0(a = f()) {} export function f1([a] = f()) {} export function f2({ a } = f()) {} export function f3(a = () => f()) {} export function f4([a] = () => { throw 1; }) {} export function f5(a = [() => f()]) {}

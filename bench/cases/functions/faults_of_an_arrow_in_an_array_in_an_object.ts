@@ -1,0 +1,1 @@
+export const o = { list: [(a) => { throw 1; }] };

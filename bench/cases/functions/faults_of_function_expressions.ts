@@ -1,0 +1,1 @@
+export const a = function own() { throw 1; }; export const b = function () { return 1; }; export const c = function* () {}; export const d = (async function () { throw 1; }); export const e = [function own() { return 1; }];

@@ -1,0 +1,1 @@
+export const e = function () { throw 1; };

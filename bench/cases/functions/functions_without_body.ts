@@ -1,0 +1,1 @@
+export function f(a: string); export function f(a: number): void;

@@ -1,0 +1,1 @@
+export function v0() {} export function v1() { throw 1; } export function v2() { return; return 1; } export function v3() { return 1; return; } export function v4() { return 1; return 1; } export function v5() { if (a) {} else { return 1; } } export function v6() { return; return; } export function v7() { return; return 1; return 1; }

@@ -1,0 +1,1 @@
+export function f(a: T) { a?.(); o.f?.(1, ...a); a?.()?.b; }

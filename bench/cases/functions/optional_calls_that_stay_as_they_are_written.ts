@@ -1,0 +1,1 @@
+export declare const v = a?.(1), w = o.f?.(...a)?.b;

@@ -1,0 +1,1 @@
+export function o(x: string): void; export function o(x: any) {}

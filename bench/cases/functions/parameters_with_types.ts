@@ -1,0 +1,1 @@
+export function f0(a: string) {} export function f1(a?: string) {} export function f2(...a: string[]) {} export function f3([a, b]: T) {} export function f4({ a, b }: T) {} export function f5([a]?: T) {} export function f6({ a }?: T) {} export function f7(...[a]: T) {} export function f8(...{ a }: T) {}

@@ -1,0 +1,1 @@
+export function f0(a) {} export function f1(a?) {} export function f2(...a) {} export function f3([a]) {} export function f4({ a, b }) {} export function f5(...[a]) {} export function f6(a: string, b, c) {}

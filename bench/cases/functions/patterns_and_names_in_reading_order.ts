@@ -1,0 +1,1 @@
+export const a; export const [b] = f(); export const c = f();

@@ -1,0 +1,1 @@
+export const { a } = b; export const c = 1;

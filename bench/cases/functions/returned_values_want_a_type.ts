@@ -1,0 +1,1 @@
+export function one() { return 1; } export function more() { if (a) return 1; return 2; } export function late() { return; return 1; } export function early() { return 1; return; } export async function later() { return 1; }

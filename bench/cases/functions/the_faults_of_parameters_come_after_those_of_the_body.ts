@@ -1,0 +1,1 @@
+export function g(a, b = (c) => f(), ...d) { return f(); }

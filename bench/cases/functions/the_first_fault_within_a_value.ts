@@ -1,0 +1,1 @@
+export const a = [() => f(), g()]; export const b = [g(), () => f()]; export const c = (x) => [() => { throw 1; }, g()]; export const d = () => () => f();

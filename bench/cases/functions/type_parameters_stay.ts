@@ -1,0 +1,1 @@
+export function f<T, U>(a: T): T { return a; }

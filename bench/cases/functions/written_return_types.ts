@@ -1,0 +1,1 @@
+export function a(): string { return f(); } export function b(): void { f(); } export async function c(): Promise<void> { return; } export function d(): never { throw 1; } export function e(): undefined {} export function g(): T { return 1; return 1; }

@@ -1,0 +1,1 @@
+export class C { x: number; } export default class D { x: number; }

@@ -1,0 +1,1 @@
+export default interface I { a: string; b: () => void; }

@@ -1,0 +1,1 @@
+interface I {} interface J {}

@@ -1,0 +1,1 @@
+using x = f(), y = f(); let a = 1; f();

@@ -1,0 +1,1 @@
+export * from "https://host.example/p/mod.ts";

@@ -1,0 +1,1 @@
+export * from "./a?v=1#top";

@@ -1,0 +1,1 @@
+export default abstract class C { abstract m(): void; }

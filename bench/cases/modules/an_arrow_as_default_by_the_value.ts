@@ -1,0 +1,1 @@
+export default (n = 1) => n as number;

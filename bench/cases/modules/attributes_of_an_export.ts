@@ -1,0 +1,1 @@
+export { default as data, more } from "./d.json" with { type: "json" };

@@ -1,0 +1,1 @@
+import data, { a } from "./d.json" with { type: "json" };

@@ -1,0 +1,1 @@
+import { a } from "@x/y"; import "./x"; import { b, c } from "@x/y"; export { d, e }; export {}; export * from "@x/y"; export * from "./z"; import f = A.B; import g = A.B; export default h; using i = f(); import { j } from "@x/y"; export default f(); export default interface I {}

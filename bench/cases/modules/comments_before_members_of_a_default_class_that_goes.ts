@@ -1,0 +1,1 @@
+export default class C { #x = 1; private m(): void {} private m(a) {} constructor(private a: string) {} static {} readonly y = 1; private z: string; private [k]: number; n(a: string): number { return 1; } }

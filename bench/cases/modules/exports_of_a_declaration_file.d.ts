@@ -1,0 +1,1 @@
+export { a }; export { b } from "@x/y";

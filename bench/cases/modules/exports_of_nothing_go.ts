@@ -1,0 +1,1 @@
+export {}; export {} from "./x"; export const x = 1;

@@ -1,0 +1,1 @@
+export default class C extends f() { x; m(a) { return f(); } }

@@ -1,0 +1,1 @@
+export default function (a, { c }) { return f(); }

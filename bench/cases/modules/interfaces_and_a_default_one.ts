@@ -1,0 +1,1 @@
+export interface I { a: string; } interface J {} export default interface K {}

@@ -1,0 +1,1 @@
+import a = A; import b = A.B;

@@ -1,0 +1,1 @@
+export default class C { m(a: string): void; m(a) { return 1; } }

@@ -1,0 +1,1 @@
+export default function (a: string): void; export default function (a, ...b) { return a; }

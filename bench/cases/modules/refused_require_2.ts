@@ -1,0 +1,1 @@
+import type x = require("y");

@@ -1,0 +1,1 @@
+import { "a b" as c, "d" as d, default as e } from "@x/y";

@@ -1,0 +1,1 @@
+export * from "./a"; export { a } from "./a"; export * from "./b"; export * from "./b";

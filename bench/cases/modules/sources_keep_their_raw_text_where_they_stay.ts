@@ -1,0 +1,1 @@
+export * from './a'; export * from '@x/y'; export * from "./\u0062";

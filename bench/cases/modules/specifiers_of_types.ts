@@ -1,0 +1,1 @@
+import { type A, b, type C as D } from "@x/y";

@@ -1,0 +1,1 @@
+export { a as "b c", "d e" as f, "g" as "h i" } from "@x/y";

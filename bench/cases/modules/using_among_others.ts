@@ -1,0 +1,1 @@
+export const a; using x = f(), y = f(); export function f(b) {}

@@ -1,0 +1,1 @@
+import d, { a, b as c } from "@x/y";

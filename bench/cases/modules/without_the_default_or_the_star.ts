@@ -1,0 +1,1 @@
+import e, * as o from "@x/y"; import e, * as o from "@x/y";

@@ -1,0 +1,1 @@
+declare namespace N { export default f(); }

@@ -1,0 +1,1 @@
+global { export const a; }

@@ -1,0 +1,1 @@
+export module N { export const a = 1; }

@@ -1,0 +1,1 @@
+export namespace N { export const a = 1; export function b(p, q = 1) { return 1; } export namespace M { export const d = f(); export function e() { return f(); } } }

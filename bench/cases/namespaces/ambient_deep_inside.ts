@@ -1,0 +1,1 @@
+declare namespace N { namespace M { namespace L { export const a = f(); export function g(p) { return 1; } } } }

@@ -1,0 +1,1 @@
+export namespace N { export const a = 1; export const b = 1; export function c() {} f(); namespace M { export const d = 1; export const e = 1; } } export namespace L { export const a = 1; export function b() {} } namespace K { namespace J { export const a = 1; export function b() {} } }

@@ -1,0 +1,1 @@
+namespace N { declare let a = f(); export const b = 1; }

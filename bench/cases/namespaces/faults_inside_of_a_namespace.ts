@@ -1,0 +1,1 @@
+export namespace N { export function f(p) { throw 1; } class C {} export const x = f(); }

@@ -1,0 +1,1 @@
+namespace N14 { namespace N13 { namespace N12 { namespace N11 { namespace N10 { namespace N9 { namespace N8 { namespace N7 { namespace N6 { namespace N5 { namespace N4 { namespace N3 { namespace N2 { namespace N1 { namespace N0 { export const a; } } } } } } } } } } } } } } }

@@ -1,0 +1,1 @@
+namespace N { export = x; import y = require("z"); export as namespace M; }

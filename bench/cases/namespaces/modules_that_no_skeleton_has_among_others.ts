@@ -1,0 +1,1 @@
+export const a; declare global {} export function b(c) {} declare module "x" {}

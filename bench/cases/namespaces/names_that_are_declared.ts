@@ -1,0 +1,1 @@
+declare namespace A.B { export const a = 1; export function b() { throw 1; } }

@@ -1,0 +1,1 @@
+export namespace N { export function f(a: string): void; export function f(a) { return f(); } }

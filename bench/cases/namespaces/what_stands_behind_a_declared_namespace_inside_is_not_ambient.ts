@@ -1,0 +1,1 @@
+namespace N { declare namespace M { export const a = f(); } export const b = f(); }

@@ -1,0 +1,1 @@
+declare namespace N { export const a = f(); } export const b = f();

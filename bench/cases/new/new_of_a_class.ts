@@ -1,0 +1,1 @@
+export const v0 = new C(); export const v1 = new C; export const v2 = new D(); export const v3 = new M(); export const v4 = new C(1, a, ...b); export const v5 = new C(1 as T, new D(new C)); export const v6 = [new C(), { d: new D() }]; export const v7 = () => new C(); export const v8 = new C().x; export const v9 = (new C()); export const v10 = new C(() => 1);

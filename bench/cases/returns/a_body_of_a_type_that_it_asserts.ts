@@ -1,0 +1,1 @@
+export async function g() { return "a" as string; }

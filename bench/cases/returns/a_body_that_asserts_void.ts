@@ -1,0 +1,1 @@
+export function f() { return f() as void; } export const a = () => { return f() as void; };

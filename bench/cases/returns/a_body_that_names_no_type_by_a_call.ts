@@ -1,0 +1,1 @@
+export function f() { return f(); } export const e = function () { return f(); }; export const a = () => { return f(); }; export class C { m() { return f(); } static s() { return f(); } get g() { return f(); } }

@@ -1,0 +1,1 @@
+export function f() { return a ? 1 : 1; } export const e = function () { return a ? 1 : 1; }; export const a = () => { return a ? 1 : 1; }; export class C { m() { return a ? 1 : 1; } static s() { return a ? 1 : 1; } get g() { return a ? 1 : 1; } }

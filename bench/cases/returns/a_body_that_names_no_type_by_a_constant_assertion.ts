@@ -1,0 +1,1 @@
+export function f() { return 1 as const; } export const e = function () { return 1 as const; }; export const a = () => { return 1 as const; }; export class C { m() { return 1 as const; } static s() { return 1 as const; } get g() { return 1 as const; } }

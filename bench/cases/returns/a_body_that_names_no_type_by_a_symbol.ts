@@ -1,0 +1,1 @@
+export function f() { return Symbol("x"); } export const e = function () { return Symbol("x"); }; export const a = () => { return Symbol("x"); }; export class C { m() { return Symbol("x"); } static s() { return Symbol("x"); } get g() { return Symbol("x"); } }

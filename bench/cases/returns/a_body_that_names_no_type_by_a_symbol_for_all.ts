@@ -1,0 +1,1 @@
+export function f() { return Symbol.for("x"); } export const e = function () { return Symbol.for("x"); }; export const a = () => { return Symbol.for("x"); }; export class C { m() { return Symbol.for("x"); } static s() { return Symbol.for("x"); } get g() { return Symbol.for("x"); } }

@@ -1,0 +1,1 @@
+export function f() { return (Symbol("x") satisfies symbol); } export const e = function () { return (Symbol("x") satisfies symbol); }; export const a = () => { return (Symbol("x") satisfies symbol); }; export class C { m() { return (Symbol("x") satisfies symbol); } static s() { return (Symbol("x") satisfies symbol); } get g() { return (Symbol("x") satisfies symbol); } }

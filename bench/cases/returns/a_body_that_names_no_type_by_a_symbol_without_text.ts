@@ -1,0 +1,1 @@
+export function f() { return Symbol(); } export const e = function () { return Symbol(); }; export const a = () => { return Symbol(); }; export class C { m() { return Symbol(); } static s() { return Symbol(); } get g() { return Symbol(); } }

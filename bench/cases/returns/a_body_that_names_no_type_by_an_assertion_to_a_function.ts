@@ -1,0 +1,1 @@
+export function f() { return f as () => void; } export const e = function () { return f as () => void; }; export const a = () => { return f as () => void; }; export class C { m() { return f as () => void; } static s() { return f as () => void; } get g() { return f as () => void; } }

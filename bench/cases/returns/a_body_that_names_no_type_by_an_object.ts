@@ -1,0 +1,1 @@
+export function f() { return {}; } export const e = function () { return {}; }; export const a = () => { return {}; }; export class C { m() { return {}; } static s() { return {}; } get g() { return {}; } }

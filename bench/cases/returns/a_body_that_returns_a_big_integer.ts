@@ -1,0 +1,1 @@
+export function f() { return 2n; } export const e = function () { return 2n; }; export const a = () => { return 2n; }; export class C { m() { return 2n; } static s() { return 2n; } get g() { return 2n; } } export default function () { return 2n; }

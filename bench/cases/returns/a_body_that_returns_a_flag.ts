@@ -1,0 +1,1 @@
+export function f() { return true; } export const e = function () { return true; }; export const a = () => { return true; }; export class C { m() { return true; } static s() { return true; } get g() { return true; } } export default function () { return true; }

@@ -1,0 +1,1 @@
+export function f() { return p as Promise<string>; } export const e = function () { return p as Promise<string>; }; export const a = () => { return p as Promise<string>; }; export class C { m() { return p as Promise<string>; } static s() { return p as Promise<string>; } get g() { return p as Promise<string>; } } export default function () { return p as Promise<string>; }

@@ -1,0 +1,1 @@
+export function f() { return `a${b}`; } export const e = function () { return `a${b}`; }; export const a = () => { return `a${b}`; }; export class C { m() { return `a${b}`; } static s() { return `a${b}`; } get g() { return `a${b}`; } } export default function () { return `a${b}`; }

@@ -1,0 +1,1 @@
+export function f() { return 1 satisfies T; } export const e = function () { return 1 satisfies T; }; export const a = () => { return 1 satisfies T; }; export class C { m() { return 1 satisfies T; } static s() { return 1 satisfies T; } get g() { return 1 satisfies T; } } export default function () { return 1 satisfies T; }

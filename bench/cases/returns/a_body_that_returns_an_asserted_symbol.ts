@@ -1,0 +1,1 @@
+export function f() { return Symbol("x") as symbol; } export const e = function () { return Symbol("x") as symbol; }; export const a = () => { return Symbol("x") as symbol; }; export class C { m() { return Symbol("x") as symbol; } static s() { return Symbol("x") as symbol; } get g() { return Symbol("x") as symbol; } } export default function () { return Symbol("x") as symbol; }

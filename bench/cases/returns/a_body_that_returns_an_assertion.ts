@@ -1,0 +1,1 @@
+export function f() { return f() as T; } export const e = function () { return f() as T; }; export const a = () => { return f() as T; }; export class C { m() { return f() as T; } static s() { return f() as T; } get g() { return f() as T; } } export default function () { return f() as T; }

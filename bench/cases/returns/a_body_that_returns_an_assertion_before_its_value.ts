@@ -1,0 +1,1 @@
+export function f() { return <T>f(); } export const e = function () { return <T>f(); }; export const a = () => { return <T>f(); }; export class C { m() { return <T>f(); } static s() { return <T>f(); } get g() { return <T>f(); } } export default function () { return <T>f(); }

@@ -1,0 +1,1 @@
+export function f() { return null; } export const e = function () { return null; }; export const a = () => { return null; }; export class C { m() { return null; } static s() { return null; } get g() { return null; } } export default function () { return null; }

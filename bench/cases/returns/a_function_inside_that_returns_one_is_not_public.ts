@@ -1,0 +1,1 @@
+function h() { return 1; } export function f() {}

@@ -1,0 +1,1 @@
+export class V { get v() { return 1; } }

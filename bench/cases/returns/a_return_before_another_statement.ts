@@ -1,0 +1,1 @@
+export function f() { return 1; f(); } export const e = function () { return 1; f(); }; export const a = () => { return 1; f(); }; export class C { m() { return 1; f(); } static s() { return 1; f(); } get g() { return 1; f(); } }

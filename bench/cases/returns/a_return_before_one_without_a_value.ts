@@ -1,0 +1,1 @@
+export function f() { return 1; return; } export const e = function () { return 1; return; }; export const a = () => { return 1; return; }; export class C { m() { return 1; return; } static s() { return 1; return; } get g() { return 1; return; } }

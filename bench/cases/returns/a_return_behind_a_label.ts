@@ -1,0 +1,1 @@
+export function f() { l: return 1; } export const e = function () { l: return 1; }; export const a = () => { l: return 1; }; export class C { m() { l: return 1; } static s() { l: return 1; } get g() { l: return 1; } }

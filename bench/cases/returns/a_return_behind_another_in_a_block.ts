@@ -1,0 +1,1 @@
+export function f() { if (a) { return; } return 1; } export const e = function () { if (a) { return; } return 1; }; export const a = () => { if (a) { return; } return 1; }; export class C { m() { if (a) { return; } return 1; } static s() { if (a) { return; } return 1; } get g() { if (a) { return; } return 1; } }

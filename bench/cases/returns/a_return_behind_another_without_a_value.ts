@@ -1,0 +1,1 @@
+export function f() { return; return 1; } export const e = function () { return; return 1; }; export const a = () => { return; return 1; }; export class C { m() { return; return 1; } static s() { return; return 1; } get g() { return; return 1; } }

@@ -1,0 +1,1 @@
+export function f() { { return 1; } } export const e = function () { { return 1; } }; export const a = () => { { return 1; } }; export class C { m() { { return 1; } } static s() { { return 1; } } get g() { { return 1; } } }

@@ -1,0 +1,1 @@
+export function f() { try { return 1; } finally {} } export const e = function () { try { return 1; } finally {} }; export const a = () => { try { return 1; } finally {} }; export class C { m() { try { return 1; } finally {} } static s() { try { return 1; } finally {} } get g() { try { return 1; } finally {} } }

@@ -1,0 +1,1 @@
+export async function f() { return f(); } export const e = async function () { return f(); }; export const a = async () => { return f(); }; export class C { async m() { return f(); } static async s() { return f(); } }

@@ -1,0 +1,1 @@
+export async function f() { return a ? 1 : 1; } export const e = async function () { return a ? 1 : 1; }; export const a = async () => { return a ? 1 : 1; }; export class C { async m() { return a ? 1 : 1; } static async s() { return a ? 1 : 1; } }

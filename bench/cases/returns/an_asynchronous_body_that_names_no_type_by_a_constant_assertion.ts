@@ -1,0 +1,1 @@
+export async function f() { return 1 as const; } export const e = async function () { return 1 as const; }; export const a = async () => { return 1 as const; }; export class C { async m() { return 1 as const; } static async s() { return 1 as const; } }

@@ -1,0 +1,1 @@
+export async function f() { return 1 + 1; } export const e = async function () { return 1 + 1; }; export const a = async () => { return 1 + 1; }; export class C { async m() { return 1 + 1; } static async s() { return 1 + 1; } }

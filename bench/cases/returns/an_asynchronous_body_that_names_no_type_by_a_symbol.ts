@@ -1,0 +1,1 @@
+export async function f() { return Symbol("x"); } export const e = async function () { return Symbol("x"); }; export const a = async () => { return Symbol("x"); }; export class C { async m() { return Symbol("x"); } static async s() { return Symbol("x"); } }

@@ -1,0 +1,1 @@
+export async function f() { return Symbol.for("x"); } export const e = async function () { return Symbol.for("x"); }; export const a = async () => { return Symbol.for("x"); }; export class C { async m() { return Symbol.for("x"); } static async s() { return Symbol.for("x"); } }

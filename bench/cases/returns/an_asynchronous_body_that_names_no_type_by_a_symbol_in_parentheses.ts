@@ -1,0 +1,1 @@
+export async function f() { return (Symbol("x") satisfies symbol); } export const e = async function () { return (Symbol("x") satisfies symbol); }; export const a = async () => { return (Symbol("x") satisfies symbol); }; export class C { async m() { return (Symbol("x") satisfies symbol); } static async s() { return (Symbol("x") satisfies symbol); } }

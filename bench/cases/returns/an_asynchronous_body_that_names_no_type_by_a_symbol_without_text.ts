@@ -1,0 +1,1 @@
+export async function f() { return Symbol(); } export const e = async function () { return Symbol(); }; export const a = async () => { return Symbol(); }; export class C { async m() { return Symbol(); } static async s() { return Symbol(); } }

@@ -1,0 +1,1 @@
+export async function f() { return f as () => void; } export const e = async function () { return f as () => void; }; export const a = async () => { return f as () => void; }; export class C { async m() { return f as () => void; } static async s() { return f as () => void; } }

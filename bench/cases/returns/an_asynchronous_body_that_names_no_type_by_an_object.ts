@@ -1,0 +1,1 @@
+export async function f() { return {}; } export const e = async function () { return {}; }; export const a = async () => { return {}; }; export class C { async m() { return {}; } static async s() { return {}; } }

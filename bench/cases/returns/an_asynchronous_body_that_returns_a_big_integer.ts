@@ -1,0 +1,1 @@
+export async function f() { return 2n; } export const e = async function () { return 2n; }; export const a = async () => { return 2n; }; export class C { async m() { return 2n; } static async s() { return 2n; } } export default async function () { return 2n; }

@@ -1,0 +1,1 @@
+export async function f() { return true; } export const e = async function () { return true; }; export const a = async () => { return true; }; export class C { async m() { return true; } static async s() { return true; } } export default async function () { return true; }

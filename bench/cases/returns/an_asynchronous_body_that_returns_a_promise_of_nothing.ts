@@ -1,0 +1,1 @@
+export async function f() { return p as Promise; } export const e = async function () { return p as Promise; }; export const a = async () => { return p as Promise; }; export class C { async m() { return p as Promise; } static async s() { return p as Promise; } } export default async function () { return p as Promise; }

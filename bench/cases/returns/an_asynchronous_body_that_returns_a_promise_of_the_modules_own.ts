@@ -1,0 +1,1 @@
+export async function f() { return p as Promise<string>; } export const e = async function () { return p as Promise<string>; }; export const a = async () => { return p as Promise<string>; }; export class C { async m() { return p as Promise<string>; } static async s() { return p as Promise<string>; } } export default async function () { return p as Promise<string>; }

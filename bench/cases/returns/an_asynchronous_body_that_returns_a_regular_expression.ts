@@ -1,0 +1,1 @@
+export async function f() { return /a/; } export const e = async function () { return /a/; }; export const a = async () => { return /a/; }; export class C { async m() { return /a/; } static async s() { return /a/; } } export default async function () { return /a/; }

@@ -1,0 +1,1 @@
+export async function f() { return `a${b}`; } export const e = async function () { return `a${b}`; }; export const a = async () => { return `a${b}`; }; export class C { async m() { return `a${b}`; } static async s() { return `a${b}`; } } export default async function () { return `a${b}`; }

@@ -1,0 +1,1 @@
+export async function f() { return 1 satisfies T; } export const e = async function () { return 1 satisfies T; }; export const a = async () => { return 1 satisfies T; }; export class C { async m() { return 1 satisfies T; } static async s() { return 1 satisfies T; } } export default async function () { return 1 satisfies T; }

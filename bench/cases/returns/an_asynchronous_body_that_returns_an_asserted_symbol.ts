@@ -1,0 +1,1 @@
+export async function f() { return Symbol("x") as symbol; } export const e = async function () { return Symbol("x") as symbol; }; export const a = async () => { return Symbol("x") as symbol; }; export class C { async m() { return Symbol("x") as symbol; } static async s() { return Symbol("x") as symbol; } } export default async function () { return Symbol("x") as symbol; }

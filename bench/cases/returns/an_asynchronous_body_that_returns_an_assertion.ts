@@ -1,0 +1,1 @@
+export async function f() { return f() as T; } export const e = async function () { return f() as T; }; export const a = async () => { return f() as T; }; export class C { async m() { return f() as T; } static async s() { return f() as T; } } export default async function () { return f() as T; }

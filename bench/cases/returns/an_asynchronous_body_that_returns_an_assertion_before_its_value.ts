@@ -1,0 +1,1 @@
+export async function f() { return <T>f(); } export const e = async function () { return <T>f(); }; export const a = async () => { return <T>f(); }; export class C { async m() { return <T>f(); } static async s() { return <T>f(); } } export default async function () { return <T>f(); }

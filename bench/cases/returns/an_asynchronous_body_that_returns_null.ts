@@ -1,0 +1,1 @@
+export async function f() { return null; } export const e = async function () { return null; }; export const a = async () => { return null; }; export class C { async m() { return null; } static async s() { return null; } } export default async function () { return null; }

@@ -1,0 +1,1 @@
+export function o(a: string): void; export function o(a) { return 1; }

@@ -1,0 +1,1 @@
+export const o = { m() { return 1; } };

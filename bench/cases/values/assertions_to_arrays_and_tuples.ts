@@ -1,0 +1,1 @@
+export const a = "x" as string[]; export const t = <[() => void]>"x";

@@ -1,0 +1,1 @@
+export const t = "x" as [string, number?, ...boolean[]]; export const i = "x" as string & T; export const k = "x" as keyof T; export const u = "x" as unique symbol; export const r = "x" as readonly string[];

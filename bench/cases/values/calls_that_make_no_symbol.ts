@@ -1,0 +1,1 @@
+export const s = Symbol("x", "x"); export const i = import();

@@ -1,0 +1,1 @@
+export function h() { throw 1; } export function f() { throw 1; }

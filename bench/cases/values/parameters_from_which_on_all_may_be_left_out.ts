@@ -1,0 +1,1 @@
+export function f(a: string, b?: string, c = 1) {}
