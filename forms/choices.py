@@ -1,4 +1,4 @@
-"""The choices between forms (fast_check_forms)."""
+"""The choices between forms (fast_check_tree_forms)."""
 from layout import PROOF_WIDTH, WIDTH, camel, fill, ghost_use, indented, snake
 
 
@@ -26,13 +26,13 @@ def choice_code(table, file):
         f"//! {file.doc}",
         "",
         "ghost use Rattle.std.specs.Prelude.{◌≡◌};",
-        "ghost use Rattle.fast_check_syntax.specs.Part.{seen};",
-        "ghost use Rattle.fast_check_syntax.specs.Shape.{kind_of};",
+        "ghost use Rattle.fast_check_tree_syntax.specs.Part.{seen};",
+        "ghost use Rattle.fast_check_tree_syntax.specs.Shape.{kind_of};",
     ]
     cited = [snake(choice.name) + "_of" for choice in choices]
-    lines += ghost_use(f"Rattle.fast_check_forms.specs.{camel(file.name)}", cited)
+    lines += ghost_use(f"Rattle.fast_check_tree_forms.specs.{camel(file.name)}", cited)
     lines += [""] + sorted(f"use crate::{table.choices[name].file}::{name};" for name in asked)
-    lines += ["use fast_check_syntax::{Kind, Part};"]
+    lines += ["use fast_check_tree_syntax::{Kind, Part};"]
     for choice in choices:
         lines += [""] + choice_enum(choice) + [""] + choice_impl(table, choice)
     return lines
@@ -84,12 +84,12 @@ def choice_definitions(table, file):
     lines = [
         f"-- {file.doc}",
         "-- Each choice goes by the kind of the node: `Other` stands for a kind of none of its forms.",
-        "use Rattle.fast_check_syntax.specs.declared.kind.Kind.{Kind}",
-        "use Rattle.fast_check_syntax.specs.declared.kind.Kind.TheVariants as kinds",
+        "use Rattle.fast_check_tree_syntax.specs.declared.kind.Kind.{Kind}",
+        "use Rattle.fast_check_tree_syntax.specs.declared.kind.Kind.TheVariants as kinds",
     ]
     for other in sorted(asked):
         names = ", ".join(f"{snake(name)}_of, if_{snake(name)}" for name in dict.fromkeys(asked[other]))
-        lines.append(f"use Rattle.fast_check_forms.specs.{camel(other)}.{{{names}}}")
+        lines.append(f"use Rattle.fast_check_tree_forms.specs.{camel(other)}.{{{names}}}")
     lines += [declared_choice(choice) for choice in choices]
     for choice in choices:
         lines += [""] + choice_definition(table, choice)
@@ -97,7 +97,7 @@ def choice_definitions(table, file):
 
 
 def declared_choice(choice):
-    return f"use Rattle.fast_check_forms.specs.declared.{choice.file}.{choice.name}.{{{choice.name}}}"
+    return f"use Rattle.fast_check_tree_forms.specs.declared.{choice.file}.{choice.name}.{{{choice.name}}}"
 
 
 def choice_definition(table, choice):
@@ -146,11 +146,11 @@ def within_lemmas(table):
     lines = [
         "-- What a choice is where its own kinds are ruled out: another choice, asked next.",
         "use Rattle.std.specs.Prelude.{◌≡◌, refl}",
-        "use Rattle.fast_check_syntax.specs.declared.kind.Kind.{Kind}",
-        "use Rattle.fast_check_syntax.specs.declared.kind.Kind.TheVariants as kinds",
+        "use Rattle.fast_check_tree_syntax.specs.declared.kind.Kind.{Kind}",
+        "use Rattle.fast_check_tree_syntax.specs.declared.kind.Kind.TheVariants as kinds",
     ]
     for file, names in cited.items():
-        lines.append(f"use Rattle.fast_check_forms.specs.{camel(file)}.{{{', '.join(names)}}}")
+        lines.append(f"use Rattle.fast_check_tree_forms.specs.{camel(file)}.{{{', '.join(names)}}}")
     lines += [declared_choice(choice) for choice in choices + [table.choices[name] for name in asked]]
     for name in asked:
         call = snake(name)
@@ -192,10 +192,10 @@ def within_answer(table, choice):
     told = [" ".join(told)] if len(" ".join(told)) <= PROOF_WIDTH else [told[0], "    " + told[1]]
     return [
         "use Rattle.std.proofs.Common.{sym, ◌∙◌, ap}",
-        f"use Rattle.fast_check_forms.specs.{camel(table.choices[content].file)}.{{if_{inner}}}",
+        f"use Rattle.fast_check_tree_forms.specs.{camel(table.choices[content].file)}.{{if_{inner}}}",
         declared_choice(choice),
-        f"use Rattle.fast_check_forms.proofs.Within.{{is_{inner}, {call}_else}}",
-        f"use Rattle.fast_check_forms.proofs.{choice.file}.{name}.of.Goals as goal",
+        f"use Rattle.fast_check_tree_forms.proofs.Within.{{is_{inner}, {call}_else}}",
+        f"use Rattle.fast_check_tree_forms.proofs.{choice.file}.{name}.of.Goals as goal",
         "",
         "pub returns-in-Other : goal.returns-in-Other",
         "returns-in-Other c =",
@@ -212,11 +212,11 @@ def offered(table):
     """The paths of all forms and choices, and of what gives the range of any."""
     paths = [f"fast_check_{table.files[form.file].crate}::{form.name}" for form in table.forms.values()]
     paths += [f"{choice.file}::{choice.name}" for choice in table.choices.values()]
-    return sorted(paths + ["fast_check_swc_helpers::ranges::range_of_node"])
+    return sorted(paths + ["fast_check_tree_helpers::ranges::range_of_node"])
 
 
 def write_choices(table, out):
-    base, files = "crates/fast_check_forms", table.files_of("forms")
+    base, files = "crates/fast_check_tree_forms", table.files_of("tree_forms")
     lines = [""] + sorted(f"mod {file.name};" for file in files) + [""]
     lines += [f"pub use {path};" for path in offered(table)]
     out.between(f"{base}/src/lib.rt", "#![tactic(auto)]", None, lines)

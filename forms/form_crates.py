@@ -81,7 +81,7 @@ def form_code(table, file):
     lines = [f"//! {file.doc} Each form with its fields by their names.", ""]
     lines += [
         "ghost use Rattle.std.specs.Prelude.{◌≡◌, IfOk};",
-        "ghost use Rattle.fast_check_syntax.specs.Part.{seen};",
+        "ghost use Rattle.fast_check_tree_syntax.specs.Part.{seen};",
     ]
     lines += ghost_use(f"Rattle.fast_check_{file.crate}.specs.{camel(file.name)}", cited)
     taken = [
@@ -92,7 +92,7 @@ def form_code(table, file):
         ("SyntaxContext", any(form.has("scope") for form in forms)),
         ("Tree", True),
     ]
-    lines += ["", "use fast_check_syntax::{" + ", ".join(name for name, is_taken in taken if is_taken) + "};"]
+    lines += ["", "use fast_check_tree_syntax::{" + ", ".join(name for name, is_taken in taken if is_taken) + "};"]
     lines += ["use std::alloc::{AllocError, Global};"]
     for form in forms:
         lines += [""] + form_struct(form) + [""] + form_impls(form)
@@ -121,7 +121,7 @@ def form_definitions(table, file):
 def form_imports(file, forms):
     has = {leaf: any(form.has(leaf) for form in forms) for leaf in LEAVES + (None,)}
     pick = lambda pairs: ", ".join(name for name, is_used in pairs if is_used)
-    syntax = "use Rattle.fast_check_syntax.specs."
+    syntax = "use Rattle.fast_check_tree_syntax.specs."
     prelude = [("◌≡◌", True), ("Bool", has["flag"]), ("ℕ, List", has["text"]), ("[], ◌∷◌", True)]
     nodes = [("Tree", True)] + [(NODES[leaf].strip(), has[leaf]) for leaf in ("range", "flag", "scope", "text")]
     shape = [("node", True), ("part", True)] + [(ASKS[leaf], has[leaf]) for leaf in ("range", "text", "flag", "scope")]

@@ -12,8 +12,8 @@ def places(table):
         "-- The fields of each form, in the order of its node's parts: the name that JSON has for a field,",
         "-- and the definition that reads it.",
         "use Rattle.std.specs.Prelude.{List, [], ◌∷◌}",
-        "use Rattle.fast_check_syntax.specs.declared.kind.Kind.{Kind}",
-        "use Rattle.fast_check_syntax.specs.declared.kind.Kind.TheVariants as kinds",
+        "use Rattle.fast_check_tree_syntax.specs.declared.kind.Kind.{Kind}",
+        "use Rattle.fast_check_tree_syntax.specs.declared.kind.Kind.TheVariants as kinds",
         "use Rattle.fast_check_json.specs.Reading.{Field, tree, range, scope, flag, text}",
     ]
     lines += [f"use Rattle.fast_check_{file.crate}.specs.{camel(file.name)} as {file.name}" for file in files]
@@ -41,8 +41,8 @@ def named_places(table):
     lines = [
         "-- The places of the parts that a definition by forms looks into, named by the fields that stand there.",
         "use Rattle.std.specs.Prelude.{refl}",
-        "use Rattle.fast_check_syntax.specs.Shape.{text_of, context_of}",
-        "use Rattle.fast_check_swc_helpers.specs.PlaceOf.{PlaceOf, PlaceAs}",
+        "use Rattle.fast_check_tree_syntax.specs.Shape.{text_of, context_of}",
+        "use Rattle.fast_check_tree_helpers.specs.PlaceOf.{PlaceOf, PlaceAs}",
     ]
     for crate in table.form_crates():
         for file in sorted(table.files_of(crate), key=lambda file: file.name):
@@ -57,13 +57,13 @@ def named_places(table):
 
 def write_places(table, out):
     out.whole("crates/fast_check_json/specs/Fields.antt", places(table))
-    out.whole("crates/fast_check_swc_helpers/specs/Places.antt", named_places(table))
+    out.whole("crates/fast_check_tree_helpers/specs/Places.antt", named_places(table))
 
 
 def write_names(table, out):
     """The re-exports of the tree, and the forms and choices by their names."""
     names = sorted([form.name for form in table.forms.values()] + list(table.choices) + ["range_of_node"])
-    lines = [f"    pub use fast_check_forms::{name};" for name in names]
+    lines = [f"    pub use fast_check_tree_forms::{name};" for name in names]
     out.between("crates/fast_check_tree/src/lib.rt", "pub mod forms {", "}", lines)
     path = "crates/fast_check_cases/src/forms/names.rt"
     kinds = [f"    Kind::{form.name}," for form in table.true_forms()]

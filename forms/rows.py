@@ -1,10 +1,10 @@
 """How an expression stays slot by slot: its row, what is refused beside it, and the proofs that go by the slots."""
 from layout import PROOF_WIDTH, WIDTH, fill, indented
 
-SIGNATURES = "crates/fast_check_signatures/"
-ROWS = "Rattle.fast_check_signatures.specs.Rows"
-BINDINGS = "crates/fast_check_bindings/"
-KINDS = "Rattle.fast_check_syntax.specs.declared.kind.Kind.TheVariants"
+SIGNATURES = "crates/fast_check_meaning_signatures/"
+ROWS = "Rattle.fast_check_meaning_signatures.specs.Rows"
+BINDINGS = "crates/fast_check_transform_nodes/"
+KINDS = "Rattle.fast_check_tree_syntax.specs.declared.kind.Kind.TheVariants"
 # of each slot: the name under which two forms agree in it, and why they are seen alike there
 AGREES = {
     "Span": ("a", "range_alike r ok _ _ a"),
@@ -98,7 +98,7 @@ def write_rules(table, out):
     """The rows, and what is said by the kind of an expression."""
     forms, names = [form for _, form, _ in forms_of(table)], [defined(row) for row in table.rows]
     path = SIGNATURES + "specs/Rows.antt"
-    out.as_it_stands(path, "use Rattle.fast_check_signatures.specs.declared.rules.Slot.TheVariants as slots", "-- a function expression", [""] + definitions(table))
+    out.as_it_stands(path, "use Rattle.fast_check_meaning_signatures.specs.declared.rules.Slot.TheVariants as slots", "-- a function expression", [""] + definitions(table))
     path = SIGNATURES + "specs/Expressions.antt"
     kinds = [f"kinds.{form} ∷" for form in forms + ["FnExpr", "ArrowExpr"]]
     kinds = fill(["other_kinds ="] + kinds + ["[]"], 0, WIDTH - 4, first=WIDTH)
@@ -118,20 +118,20 @@ def write_proofs(table, out):
     first = "refused_by : (k : Kind) (known : Bool) → row_of k known ≡ None → (k ≡ kinds.ArrowExpr → ⊥) → other_rule k known ≡ not_at_all"
     refused = [f"refused_by kinds.{form} known e n = cc" for form in forms]
     out.as_it_stands("crates/fast_check_transform_expressions/proofs/Looked.antt", first, "refused_by kinds.FnExpr known e n = cc", refused)
-    path = "crates/fast_check_skeleton/proofs/AlikePresent.antt"
+    path = "crates/fast_check_meaning_skeleton/proofs/AlikePresent.antt"
     first = "  expr_absent (v.SameExpr.compound {t = t} {u = u} k d e xs) = both_there k t u d (compound_there k e)"
     last = "  expr_absent (v.SameExpr.frozen {t = t} {u = u} e f x y z w m) = frozen_there c t e ∙ sym (frozen_there d u f)"
     out.as_it_stands(path, first, last, both_present(table))
     out.imported(path, KINDS, ["Leaf", "CallExpr", "NewExpr"] + forms + ["FnExpr", "ArrowExpr"], PROOF_WIDTH)
-    path = "crates/fast_check_skeleton/proofs/PrivateClassExample.antt"
+    path = "crates/fast_check_meaning_skeleton/proofs/PrivateClassExample.antt"
     first = "    not_kind kinds.NewExpr is_compound t k refl (ap is_compound x.left ∙ y)"
     last = "no_agreement c d k e n (v.SameExpr.frozen {t = t} {u = u} x y z w m o q) ="
     out.as_it_stands(path, first, last, other_kinds_agree(table))
-    path = "crates/fast_check_skeleton/proofs/Alike.antt"
+    path = "crates/fast_check_meaning_skeleton/proofs/Alike.antt"
     first = "        by_form t u p q (compound_alike r ok c d (expr_seen c) (expr_seen d) t u p q k b e (exprs_alike xs))"
     out.as_it_stands(path, first, "    expr_alike (s.frozen {t = t} {u = u} b b' a n callee x types) p q f =", alike(table))
     out.imported(path, ROWS, names + ["fn_expr_row"], PROOF_WIDTH)
-    path = "crates/fast_check_skeleton/proofs/Typed.antt"
+    path = "crates/fast_check_meaning_skeleton/proofs/Typed.antt"
     first = "        StaysLeavable (by_rule bindings (other_rule kind b) kind t look place)"
     out.as_it_stands(path, first, "    kind_stays kinds.CallExpr true t place f = slotted_stays arguments_row kinds.CallExpr t place", stays(table))
     out.imported(path, ROWS, names + ["fn_expr_row", "arguments_row"], PROOF_WIDTH)

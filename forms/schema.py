@@ -73,7 +73,7 @@ def schema_chapter(table, chapter):
     taken = [("Choice", "Choice::" in text), ("Count", True), ("Field", True), ("Form", True), ("Named", words)]
     taken += [("SPAN", "SPAN" in text), ("Variant", choices), ("Words", "Words::" in text)]
     uses = ["use crate::schema::form::{" + ", ".join(name for name, is_taken in taken if is_taken) + "};"]
-    uses.append("use fast_check_syntax::{Kind, Word};" if words else "use fast_check_syntax::Kind;")
+    uses.append("use fast_check_tree_syntax::{Kind, Word};" if words else "use fast_check_tree_syntax::Kind;")
     return [f"//! {chapter.doc}", ""] + uses + lines
 
 
@@ -100,7 +100,7 @@ def schema_tables(table):
         "",
         "use crate::schema::form::{Choice, Field, Named, Variant, Words};",
         f"use crate::schema::{{{chapters}}};",
-        "use fast_check_syntax::Kind;",
+        "use fast_check_tree_syntax::Kind;",
     ]
     doc = "The fields of a form, in the order of its node's parts. "
     doc += "A kind that is no form (a leaf, a list, a mark) has none."
@@ -130,8 +130,8 @@ def schema_definitions(table):
     lines = [
         "-- The tables: which fields a form has, which forms a choice is between, which words a list has.",
         "use Rattle.std.specs.Prelude.{List, []}",
-        "use Rattle.fast_check_syntax.specs.declared.kind.Kind.{Kind}",
-        "use Rattle.fast_check_syntax.specs.declared.kind.Kind.TheVariants as kinds",
+        "use Rattle.fast_check_tree_syntax.specs.declared.kind.Kind.{Kind}",
+        "use Rattle.fast_check_tree_syntax.specs.declared.kind.Kind.TheVariants as kinds",
         base + "declared.schema.form.Choice.{Choice}",
         base + "declared.schema.form.Choice.TheVariants as choices",
         base + "declared.schema.form.Words.{Words}",
@@ -170,7 +170,7 @@ def written_orders(table):
 
 def write_schema(table, out):
     base = "crates/fast_check_read"
-    out.whole("crates/fast_check_syntax/src/kind.rt", kind_code(table))
+    out.whole("crates/fast_check_tree_syntax/src/kind.rt", kind_code(table))
     for chapter in table.chapters:
         out.whole(f"{base}/src/schema/{chapter.name}.rt", schema_chapter(table, chapter))
     out.between(f"{base}/src/schema/form.rt", "pub enum Choice {", "}", [f"    {name}," for name in table.choices])

@@ -236,7 +236,7 @@ class Table:
         return [file for file in self.files.values() if file.crate == crate]
 
     def form_crates(self):
-        return [crate for crate in self.crates if crate != "forms"]
+        return [crate for crate in self.crates if crate != "tree_forms"]
 
 
 def parts(pattern, text):

@@ -1,5 +1,5 @@
 #!/usr/bin/env python3
-"""Writes all that says of the syntax tree no more than forms.txt says: README.md beside it names the files.
+"""Writes all that says of the syntax tree no more than forms.txt says, and of diagnostics no more than diagnostics.txt: README.md beside it names the files.
 
     forms/write.py            writes the files
     forms/write.py --check    compares them, and names the first difference of each
@@ -12,6 +12,7 @@ from pathlib import Path
 sys.dont_write_bytecode = True
 
 from choices import write_choices
+from diagnostics import write_diagnostics
 from form_crates import write_form_crates
 from json_schema import write_json_schema
 from layout import imports
@@ -25,6 +26,10 @@ HERE = Path(__file__).resolve().parent
 ROOT = HERE.parent
 
 
+WRITERS = (
+    write_form_crates, write_choices, write_schema, write_places, write_names, write_page, write_rules, write_proofs, write_types, write_json_schema,
+    write_diagnostics,
+)
 WRITTEN = "Written by forms/write.py from forms/forms.txt"
 
 
@@ -87,8 +92,8 @@ def written_above(lines):
 
 def write_all(table):
     out = Output()
-    for part in (write_form_crates, write_choices, write_schema, write_places, write_names, write_page, write_rules, write_proofs, write_types, write_json_schema):
-        part(table, out)
+    for write_part in WRITERS:
+        write_part(table, out)
     return out
 
 

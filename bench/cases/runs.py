@@ -158,7 +158,7 @@ def missing_type(span):
 
 
 # the page of a diagnostic, as the program's definition of it says
-with open(os.path.join(TOP, "crates/fast_check_diagnostics/specs/Report.antt")) as file:
+with open(os.path.join(TOP, "crates/fast_check_tables_diagnostics/specs/Report.antt")) as file:
     DOCS = file.read().split('docs_url = Some (codes "')[1].split('"')[0]
 
 # ---- the bench

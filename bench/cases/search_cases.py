@@ -1,4 +1,4 @@
-"""More worlds of `fast_check_finder_cases`: searches through the symbols of one module, names of a module that another one imports, and of what is
+"""More worlds of `fast_check_cases_finder`: searches through the symbols of one module, names of a module that another one imports, and of what is
 written twice the one that counts. What comes is what all demands give, by the rules of `package_rules`.
 
 A search of `searches.txt` is a module by its symbols, a line for each thing that stands in the tables, and what is asked of them. Here a symbol `ask` refers

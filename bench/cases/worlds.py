@@ -1,4 +1,4 @@
-"""Worlds of `fast_check_finder_cases`: packages, their entry points, whose a module is, and what leaves a module. Each shows a rule, which its name says.
+"""Worlds of `fast_check_cases_finder`: packages, their entry points, whose a module is, and what leaves a module. Each shows a rule, which its name says.
 
 `worlds.txt` has them by the lines of `package_worlds`. What comes is what all demands give, by `package_rules`; lines behind `=` state an answer that is one of
 several that accounts give.

@@ -4,7 +4,7 @@ The rules stand in package_rules.py, in words of docs/proofs/rules.md and by not
 an account of demands gives. Compared is exactly that: whether the program's answer is what some account gives, no more and no
 less, where who asked first may decide between accounts. For most worlds there is one answer, that of all demands; they are counted.
 
-The stated worlds are those of worlds.txt and search_cases.py; `bench/cases/vectors.py` writes them with what must come.
+The stated worlds are those of worlds.txt and search_cases.py; `python3 -m bench vectors` writes them with what must come.
 
 usage: python3 -m bench packages random COUNT SEED      random worlds, as the driver reads them
        python3 -m bench packages compare WORLDS PRINTED   what the driver printed for these worlds, compared

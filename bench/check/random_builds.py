@@ -161,7 +161,7 @@ def told_by(finder, world):
 
 
 # the page of a diagnostic, as the program's definition of it says
-with open(os.path.join(TOP, "crates/fast_check_diagnostics/specs/Report.antt")) as file:
+with open(os.path.join(TOP, "crates/fast_check_tables_diagnostics/specs/Report.antt")) as file:
     PAGES = file.read().split('docs_url = Some (codes "')[1].split('"')[0]
 
 

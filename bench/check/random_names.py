@@ -1,4 +1,4 @@
-"""Random pairs of name sets through the calls of `fast_check_lattice`, against plain sets of paths.
+"""Random pairs of name sets through the calls of `fast_check_finder_lattice`, against plain sets of paths.
 
 Both sets of a pair are trees of at most three names at a level and four levels: each name is demanded whole, has a subset that may be empty, or is
 absent. In one of fifty pairs both have 50 to 200 names more at their first level, of which some begin alike. For each pair the one is extended by the

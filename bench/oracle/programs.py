@@ -16,4 +16,4 @@ def fast_check():
 
 def transform():
     """A program that has the command `transform`: the whole one where it is built, else the smaller one."""
-    return fast_check() if os.path.exists(fast_check()) else built("fast_check_transform_cli")
+    return fast_check() if os.path.exists(fast_check()) else built("fast_check_program_transform_cli")

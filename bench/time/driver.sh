@@ -9,9 +9,9 @@ program=$(readlink -m "$2")
 [ -d "${program%/*}" ] || { echo "driver.sh: there is no folder ${program%/*}" >&2; exit 2; }
 cd "$(dirname "$(readlink -f "${BASH_SOURCE[0]}")")/../.."
 case $1 in
-  names) below="fast_check_cases fast_check_lattice" ;;
-  refused) below="fast_check_lattice fast_check_packages semver url" ;;
-  builds) below="anyhow fast_check_build fast_check_requests fast_check_cache fast_check_cache_cases fast_check_graph fast_check_packages serde_json" ;;
+  names) below="fast_check_cases fast_check_finder_lattice" ;;
+  refused) below="fast_check_finder_lattice fast_check_tables_packages semver url" ;;
+  builds) below="anyhow fast_check_build fast_check_program_requests fast_check_tables_cache fast_check_cases_cache fast_check_tables_graph fast_check_tables_packages serde_json" ;;
   *) echo "no driver: $1" >&2; exit 2 ;;
 esac
 
@@ -27,7 +27,7 @@ for crate in crates/*/; do
   [ ! -d "${crate}out/rlib" ] || cp -a --reflink=auto "${crate}out/rlib" "$scratch/${crate}out"
 done
 # The cases offer their cache to this driver alone, since a library that offers it writes all that its items mention.
-[ "$1" != builds ] || echo 'pub use memory::MemoryCache;' >> "$scratch/crates/fast_check_cache_cases/src/lib.rt"
+[ "$1" != builds ] || echo 'pub use memory::MemoryCache;' >> "$scratch/crates/fast_check_cases_cache/src/lib.rt"
 mkdir -p "$scratch/crates/driver/src"
 for file in "bench/time/drivers/$1"/*.rt.txt; do
   name=${file##*/}

@@ -17,24 +17,24 @@ INNER = "-- Inner: no contract of a public call cites what stands here."
 # The calls whose contracts are the promises, by crate, or by module of a crate (`crate::module`) with the modules in it. None: every public function
 # there. A crate, a module or a call that is not there ends the script.
 CHAPTERS = {
-    "transform": {"fast_check_transform_module": ["transform"], "fast_check_transformer::transformer": None, "fast_check_skeleton": ["hash_mark"]},
-    "law": {"fast_check_skeleton": ["two_worlds", "hidden_changes", "hidden_items"], "fast_check_transformer": None},
-    "account": {"fast_check_build": ["find_public_ranges", "find", "new"], "fast_check_package_ranges": ["entry_order"]},
+    "transform": {"fast_check_transform_module": ["transform"], "fast_check_transform_pair::transformer": None, "fast_check_meaning_skeleton": ["hash_mark"]},
+    "law": {"fast_check_meaning_skeleton": ["two_worlds", "hidden_changes", "hidden_items"], "fast_check_transform_pair": None},
+    "account": {"fast_check_build": ["find_public_ranges", "find", "new"], "fast_check_finder_ranges": ["entry_order"]},
     "build": {
-        "fast_check_build": None, "fast_check_package_answers": None, "fast_check_cache::cache": None, "fast_check_cache::item": None,
-        "fast_check_cache::package_ranges": None, "fast_check_packages::fault": None, "fast_check_packages::listed": None, "fast_check_packages::provider": None,
+        "fast_check_build": None, "fast_check_build_answers": None, "fast_check_tables_cache::cache": None, "fast_check_tables_cache::item": None,
+        "fast_check_tables_cache::package_ranges": None, "fast_check_tables_packages::fault": None, "fast_check_tables_packages::listed": None, "fast_check_tables_packages::provider": None,
     },
     "tables": {
-        "fast_check_lattice": None, "fast_check_packages::package": None, "fast_check_diagnostics": None,
-        "fast_check_symbols": None, "fast_check_modules": None,
-        "fast_check_graph": None, "fast_check_comments": None, "fast_check_syntax": None, "fast_check_swc_helpers": None,
+        "fast_check_finder_lattice": None, "fast_check_tables_packages::package": None, "fast_check_tables_diagnostics": None,
+        "fast_check_tables_symbols": None, "fast_check_tables_modules": None,
+        "fast_check_tables_graph": None, "fast_check_tree_comments": None, "fast_check_tree_syntax": None, "fast_check_tree_helpers": None,
     },
     "json": {
         "fast_check_read": None, "fast_check_print::comments": None, "fast_check_print::pieces": None, "fast_check_print::tree": None,
-        "fast_check_read_tables": None, "fast_check_json::law": None,
+        "fast_check_json_tables": None, "fast_check_json::law": None,
     },
-    "program": {"fast_check_commands": None},
-    "forms": {"fast_check_forms": None},
+    "program": {"fast_check_program_commands": None},
+    "forms": {"fast_check_tree_forms": None},
     "source": {
         "fast_check_source_lexer": None, "fast_check_source_grammar": None, "fast_check_source_heights": None, "fast_check_source_ranges": None,
         "fast_check_source_parser": None,

@@ -65,6 +65,12 @@ def words_of_files():
     return words
 
 
+def is_of_a_crate(word):
+    """Whether a crate's name ends with a word, or begins with a group's as `source_`."""
+    group = "fast_check_" + word.removeprefix("fast_check_")
+    return any(crate.name.endswith("_" + word.strip("_")) or crate.name.startswith(group) for crate in Path(TOP, "crates").iterdir())
+
+
 def wrong_names(page):
     """Files and names in backticks that no file is called by, or has. A crate may stand without the beginning that all share."""
     files = {Path(each).name for each in listed()} | {"deno.json"}
@@ -73,8 +79,7 @@ def wrong_names(page):
             yield f"the file {shown}"
         for word in WORD.findall(shown):
             is_name = "_" in word.strip("_") or re.search(r"[a-z][A-Z]", word)
-            there = {word, "fast_check_" + word.lstrip("_"), word + "lexer", "fast_check_source" + word}
-            if is_name and not there & words_of_files() and not Path(TOP, "crates", "fast_check_" + word).exists():
+            if is_name and word not in words_of_files() and not is_of_a_crate(word):
                 yield f"the name {word}"
 
 

@@ -18,7 +18,7 @@ import tempfile
 from pathlib import Path
 
 TOP = Path(__file__).resolve().parents[2]
-CASES = ("fast_check_vectors", "fast_check_example", "fast_check_finder_cases", "fast_check_cases", "fast_check_cache_cases")
+CASES = ("fast_check_vectors", "fast_check_cases_example", "fast_check_cases_finder", "fast_check_cases", "fast_check_cases_cache")
 VECTORS = TOP / "crates/fast_check_vectors"
 OK = 1
 
@@ -309,7 +309,7 @@ def main(words):
         program = build(kit, "fast_check_vectors", calls, Path(folder))
         is_as_stored = note(calls, program, [], VECTORS / "data") == (VECTORS / "stdout").read_bytes()
         print("the cases print what is stored" if is_as_stored else "THE CASES PRINT ANOTHER THING THAN IS STORED")
-        for crate in ("fast_check_cli", "fast_check_transform_cli"):
+        for crate in ("fast_check_cli", "fast_check_program_transform_cli"):
             run_examples(calls, build(kit, crate, calls, Path(folder)))
     kinds = [("answers Ok", lambda it: (it or 0) & OK), ("is entered, and answers an error alone", lambda it: it and not it & OK),
              ("is not entered", lambda it: it == 0), ("has no code in the programs", lambda it: it is None)]

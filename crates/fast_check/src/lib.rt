@@ -32,22 +32,22 @@ pub use fast_check_transform::cache;
 /// What is public in packages.
 pub mod range_finder {
     pub use fast_check_build::{PublicRangeFinder, find_public_ranges};
-    pub use fast_check_cache::PackagePublicRanges;
-    pub use fast_check_modules::diagnostics::ModulePublicRanges;
-    pub use fast_check_packages::BuildFault;
+    pub use fast_check_tables_cache::PackagePublicRanges;
+    pub use fast_check_tables_modules::diagnostics::ModulePublicRanges;
+    pub use fast_check_tables_packages::BuildFault;
 }
 
 /// The skeletons of packages, or what is wrong with them.
 pub mod build {
     pub use fast_check_build::build_fast_check_type_graph;
-    pub use fast_check_package_answers::ModuleAnswer;
-    pub use fast_check_packages::BuildFault;
+    pub use fast_check_build_answers::ModuleAnswer;
+    pub use fast_check_tables_packages::BuildFault;
 }
 
 /// What is promised beyond the contracts of the calls.
 pub mod laws {
-    pub use fast_check_package_answers::first_alone;
-    pub use fast_check_skeleton::{hash_mark, two_worlds};
+    pub use fast_check_build_answers::first_alone;
+    pub use fast_check_meaning_skeleton::{hash_mark, two_worlds};
 }
 
 pub use fast_check_build::{PublicRangeFinder, build_fast_check_type_graph, find_public_ranges};

@@ -12,25 +12,25 @@ use Rattle.std.specs.declared.cmp.Ordering.{Ordering}
 use Rattle.std.proofs.lemmas.Map.Keys.{IsDistinct-from_sorted}
 use Rattle.std.proofs.lemmas.Map.Views.{lookup-from_Contains}
 use Rattle.url.specs.Parts.{Parts, serialize}
-use Rattle.fast_check_packages.specs.Package.{Nv, nv_of}
-use Rattle.fast_check_packages.specs.PackageOrder.{nv_total}
-use Rattle.fast_check_packages.specs.declared.package.PackageNv.{PackageNv}
-use Rattle.fast_check_modules.specs.diagnostics.PublicRanges.{PublicRanges}
-use Rattle.fast_check_graph.specs.declared.root_symbol.AnyModuleInfo.{AnyModuleInfo}
-use Rattle.fast_check_graph.specs.declared.root_symbol.AnyModuleInfo.TheVariants.{Esm, Json}
-use Rattle.fast_check_graph.specs.declared.root_symbol.RootSymbol.{RootSymbol}
-use Rattle.fast_check_graph.specs.Root.{found_module}
-use Rattle.fast_check_cache.specs.declared.package_ranges.PackagePublicRanges.{PackagePublicRanges}
-use Rattle.fast_check_demands.proofs.worklists.Maps.{first_in, rest_in}
-use Rattle.fast_check_package_ranges.specs.Parts.{is_text, is_package}
-use Rattle.fast_check_package_ranges.specs.Answers.{lookup_text, lookup_package, module_answer}
-use Rattle.fast_check_package_ranges.proofs.Maps.{lookup_key, text_one, text_total, package_one, package_total}
-use Rattle.fast_check_package_answers.specs.PackageFaults.{PublicModule}
-use Rattle.fast_check_package_answers.specs.PackageAnswer.{TreeModule, with_tree, tree_modules, OwnsPublic, OwnsModule, OwnsAll}
-use Rattle.fast_check_package_answers.specs.Answered.{by_text, by_nv}
-use Rattle.fast_check_package_answers.specs.Owned.{IsOwned, AreOwned}
-use Rattle.fast_check_range_finder.specs.demands.facts.GraphFacts.{Known}
-use Rattle.fast_check_range_finder.specs.Own.{IsOwnRange}
+use Rattle.fast_check_tables_packages.specs.Package.{Nv, nv_of}
+use Rattle.fast_check_tables_packages.specs.PackageOrder.{nv_total}
+use Rattle.fast_check_tables_packages.specs.declared.package.PackageNv.{PackageNv}
+use Rattle.fast_check_tables_modules.specs.diagnostics.PublicRanges.{PublicRanges}
+use Rattle.fast_check_tables_graph.specs.declared.root_symbol.AnyModuleInfo.{AnyModuleInfo}
+use Rattle.fast_check_tables_graph.specs.declared.root_symbol.AnyModuleInfo.TheVariants.{Esm, Json}
+use Rattle.fast_check_tables_graph.specs.declared.root_symbol.RootSymbol.{RootSymbol}
+use Rattle.fast_check_tables_graph.specs.Root.{found_module}
+use Rattle.fast_check_tables_cache.specs.declared.package_ranges.PackagePublicRanges.{PackagePublicRanges}
+use Rattle.fast_check_finder_demands.proofs.asked.Maps.{first_in, rest_in}
+use Rattle.fast_check_finder_ranges.specs.Parts.{is_text, is_package}
+use Rattle.fast_check_finder_ranges.specs.Answers.{lookup_text, lookup_package, module_answer}
+use Rattle.fast_check_finder_ranges.proofs.Maps.{lookup_key, text_one, text_total, package_one, package_total}
+use Rattle.fast_check_build_answers.specs.PackageFaults.{PublicModule}
+use Rattle.fast_check_build_answers.specs.PackageAnswer.{TreeModule, with_tree, tree_modules, OwnsPublic, OwnsModule, OwnsAll}
+use Rattle.fast_check_build_answers.specs.Answered.{by_text, by_nv}
+use Rattle.fast_check_build_answers.specs.Owned.{IsOwned, AreOwned}
+use Rattle.fast_check_finder_loop.specs.demands.facts.GraphFacts.{Known}
+use Rattle.fast_check_finder_loop.specs.Own.{IsOwnRange}
 use Rattle.fast_check_build.specs.Found.{OwnsRanges, IsFound}
 
 -- an entry of a map is found by its own key

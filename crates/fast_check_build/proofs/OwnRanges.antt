@@ -3,20 +3,20 @@ use Rattle.std.proofs.Common.{◌∙◌, sym, List, Option, Some, None}
 use Rattle.std.specs.Prelude.{IfSome}
 use Rattle.std.specs.List.{Contains}
 use Rattle.std.specs.BTreeMap.{BTreeMap}
-use Rattle.fast_check_packages.specs.Package.{Nv}
-use Rattle.fast_check_packages.specs.declared.package.PackageNv.{PackageNv}
-use Rattle.fast_check_cache.specs.declared.package_ranges.PackagePublicRanges.{PackagePublicRanges}
-use Rattle.fast_check_modules.specs.diagnostics.PublicRanges.{PublicRanges}
-use Rattle.fast_check_graph.specs.Root.{AreFoundByOwnNames}
-use Rattle.fast_check_demands.specs.worklists.Demands.{Text}
-use Rattle.fast_check_package_ranges.specs.findings.Yields.{Yield}
-use Rattle.fast_check_package_ranges.specs.Answers.{about, about_module, IsModuleAnswer, AreAnswers, module_answer}
-use Rattle.fast_check_package_ranges.proofs.Shown.{shown, implemented, module_stands}
-use Rattle.fast_check_range_finder.specs.demands.facts.GraphFacts.{Known}
-use Rattle.fast_check_range_finder.specs.Account.{Account, IsYield}
-use Rattle.fast_check_range_finder.specs.Yields.{demand_yields}
-use Rattle.fast_check_range_finder.specs.Own.{IsOwnYield}
-use Rattle.fast_check_range_finder.proofs.OwnYields.{own_yields}
+use Rattle.fast_check_tables_packages.specs.Package.{Nv}
+use Rattle.fast_check_tables_packages.specs.declared.package.PackageNv.{PackageNv}
+use Rattle.fast_check_tables_cache.specs.declared.package_ranges.PackagePublicRanges.{PackagePublicRanges}
+use Rattle.fast_check_tables_modules.specs.diagnostics.PublicRanges.{PublicRanges}
+use Rattle.fast_check_tables_graph.specs.Root.{AreFoundByOwnNames}
+use Rattle.fast_check_finder_demands.specs.asked.Demands.{Text}
+use Rattle.fast_check_finder_ranges.specs.findings.Yields.{Yield}
+use Rattle.fast_check_finder_ranges.specs.Answers.{about, about_module, IsModuleAnswer, AreAnswers, module_answer}
+use Rattle.fast_check_finder_ranges.proofs.Shown.{shown, implemented, module_stands}
+use Rattle.fast_check_finder_loop.specs.demands.facts.GraphFacts.{Known}
+use Rattle.fast_check_finder_loop.specs.Account.{Account, IsYield}
+use Rattle.fast_check_finder_loop.specs.Yields.{demand_yields}
+use Rattle.fast_check_finder_loop.specs.Own.{IsOwnYield}
+use Rattle.fast_check_finder_loop.proofs.OwnYields.{own_yields}
 use Rattle.fast_check_build.specs.Found.{OwnsRanges}
 
 module _ (k : Known) (account : Account) (yields : List Yield) (of_account : IsYield (demand_yields k) account yields)

@@ -4,19 +4,19 @@ use Rattle.std.specs.Prelude.{IfSome}
 use Rattle.std.specs.List.{Contains, filter}
 use Rattle.std.specs.BTreeMap.{BTreeMap}
 use Rattle.std.proofs.lemmas.Bool.{false≢true}
-use Rattle.fast_check_packages.specs.Package.{Nv}
-use Rattle.fast_check_packages.specs.declared.package.PackageNv.{PackageNv}
-use Rattle.fast_check_cache.specs.declared.package_ranges.PackagePublicRanges.{PackagePublicRanges}
-use Rattle.fast_check_demands.specs.worklists.Demands.{same_nv, Demand, of_package, of_module, of_symbol}
-use Rattle.fast_check_demands.proofs.worklists.Maps.{first_in, rest_in}
-use Rattle.fast_check_package_ranges.specs.findings.Yields.{Yield}
-use Rattle.fast_check_package_ranges.specs.Answers.{package_of as answered_of, about, is_filled, lookup_package, IsPackageAnswer, StandsFor, AreAnswers}
-use Rattle.fast_check_range_finder.specs.demands.facts.GraphFacts.{Known}
-use Rattle.fast_check_range_finder.specs.Account.{Account, HasHomes, IsYield, package_of, is_package}
-use Rattle.fast_check_range_finder.specs.Yields.{demand_yields}
-use Rattle.fast_check_range_finder.proofs.OfPackage.{of_demand}
-use Rattle.fast_check_range_finder.proofs.Places.{nv_is}
-use Rattle.fast_check_symbols.proofs.Witness.{witness as any_some}
+use Rattle.fast_check_tables_packages.specs.Package.{Nv}
+use Rattle.fast_check_tables_packages.specs.declared.package.PackageNv.{PackageNv}
+use Rattle.fast_check_tables_cache.specs.declared.package_ranges.PackagePublicRanges.{PackagePublicRanges}
+use Rattle.fast_check_finder_demands.specs.asked.Demands.{same_nv, Demand, of_package, of_module, of_symbol}
+use Rattle.fast_check_finder_demands.proofs.asked.Maps.{first_in, rest_in}
+use Rattle.fast_check_finder_ranges.specs.findings.Yields.{Yield}
+use Rattle.fast_check_finder_ranges.specs.Answers.{package_of as answered_of, about, is_filled, lookup_package, IsPackageAnswer, StandsFor, AreAnswers}
+use Rattle.fast_check_finder_loop.specs.demands.facts.GraphFacts.{Known}
+use Rattle.fast_check_finder_loop.specs.Account.{Account, HasHomes, IsYield, package_of, is_package}
+use Rattle.fast_check_finder_loop.specs.Yields.{demand_yields}
+use Rattle.fast_check_finder_loop.proofs.OfPackage.{of_demand}
+use Rattle.fast_check_finder_loop.proofs.Places.{nv_is}
+use Rattle.fast_check_tables_symbols.proofs.Witness.{witness as any_some}
 
 -- one that passes a test, where some do
 some_passes : {X : Type 0} (test : X → Bool) (xs : List X) → is_filled (filter test xs) ≡ true → (x : X) × Contains xs x × (test x ≡ true)

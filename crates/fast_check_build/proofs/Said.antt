@@ -2,19 +2,19 @@
 use Rattle.std.proofs.Common.{◌≡◌, subst, List, Option, Some, None}
 use Rattle.std.specs.Prelude.{⊤, ℕ, MatchOption}
 use Rattle.std.specs.BTreeMap.{BTreeMap}
-use Rattle.fast_check_packages.specs.Package.{Nv}
-use Rattle.fast_check_packages.specs.declared.package.PackageNv.{PackageNv}
-use Rattle.fast_check_cache.specs.declared.package_ranges.PackagePublicRanges.{PackagePublicRanges}
-use Rattle.fast_check_package_ranges.specs.findings.Found.{found_yields}
-use Rattle.fast_check_package_ranges.specs.declared.findings.found.FoundPackage.{FoundPackage}
-use Rattle.fast_check_package_ranges.specs.Answers.{AreAnswers}
-use Rattle.fast_check_range_finder.specs.demands.facts.GraphFacts.{Used, with_used, Known}
-use Rattle.fast_check_range_finder.specs.Lent.{used_of}
-use Rattle.fast_check_range_finder.specs.Account.{Account, HasHomes, IsAccount, IsYield}
-use Rattle.fast_check_range_finder.specs.Rules.{followers}
-use Rattle.fast_check_range_finder.specs.Yields.{demand_yields}
-use Rattle.fast_check_range_finder.specs.Refusals.{JoinAll}
-use Rattle.fast_check_graph.specs.Root.{AreFoundByOwnNames}
+use Rattle.fast_check_tables_packages.specs.Package.{Nv}
+use Rattle.fast_check_tables_packages.specs.declared.package.PackageNv.{PackageNv}
+use Rattle.fast_check_tables_cache.specs.declared.package_ranges.PackagePublicRanges.{PackagePublicRanges}
+use Rattle.fast_check_finder_ranges.specs.findings.Found.{found_yields}
+use Rattle.fast_check_finder_ranges.specs.declared.findings.found.FoundPackage.{FoundPackage}
+use Rattle.fast_check_finder_ranges.specs.Answers.{AreAnswers}
+use Rattle.fast_check_finder_loop.specs.demands.facts.GraphFacts.{Used, with_used, Known}
+use Rattle.fast_check_finder_loop.specs.Lent.{used_of}
+use Rattle.fast_check_finder_loop.specs.Account.{Account, HasHomes, IsAccount, IsYield}
+use Rattle.fast_check_finder_loop.specs.Rules.{followers}
+use Rattle.fast_check_finder_loop.specs.Yields.{demand_yields}
+use Rattle.fast_check_finder_loop.specs.Refusals.{JoinAll}
+use Rattle.fast_check_tables_graph.specs.Root.{AreFoundByOwnNames}
 use Rattle.fast_check_build.specs.Found.{IsFound}
 use Rattle.fast_check_build.proofs.OwnRanges.{own_answers}
 use Rattle.fast_check_build.proofs.Packages.{all_asked}

@@ -1,16 +1,16 @@
 -- What a build answers, and what a cache has then.
 use Rattle.std.specs.Prelude.{◌≡◌, ◌⊎◌, ℕ, Bool, List, Option, take}
 use Rattle.std.specs.BTreeMap.{BTreeMap, IsOrdered}
-use Rattle.fast_check_packages.specs.Package.{Nv}
-use Rattle.fast_check_packages.specs.declared.package.PackageNv.{PackageNv}
-use Rattle.fast_check_packages.specs.declared.fault.BuildFault.{BuildFault}
-use Rattle.fast_check_packages.specs.declared.fault.BuildFault.TheVariants.{OutOfMemory}
-use Rattle.fast_check_cache.specs.Cache.{ItemView}
-use Rattle.fast_check_cache.specs.declared.package_ranges.PackagePublicRanges.{PackagePublicRanges}
-use Rattle.fast_check_package_answers.specs.PackageAnswer.{Answer}
-use Rattle.fast_check_package_answers.specs.Answered.{by_nv, AreAnswered, sets}
-use Rattle.fast_check_range_finder.specs.demands.facts.GraphFacts.{Known}
-use Rattle.fast_check_range_finder.specs.Refusals.{IsRefusal}
+use Rattle.fast_check_tables_packages.specs.Package.{Nv}
+use Rattle.fast_check_tables_packages.specs.declared.package.PackageNv.{PackageNv}
+use Rattle.fast_check_tables_packages.specs.declared.fault.BuildFault.{BuildFault}
+use Rattle.fast_check_tables_packages.specs.declared.fault.BuildFault.TheVariants.{OutOfMemory}
+use Rattle.fast_check_tables_cache.specs.Cache.{ItemView}
+use Rattle.fast_check_tables_cache.specs.declared.package_ranges.PackagePublicRanges.{PackagePublicRanges}
+use Rattle.fast_check_build_answers.specs.PackageAnswer.{Answer}
+use Rattle.fast_check_build_answers.specs.Answered.{by_nv, AreAnswered, sets}
+use Rattle.fast_check_finder_loop.specs.demands.facts.GraphFacts.{Known}
+use Rattle.fast_check_finder_loop.specs.Refusals.{IsRefusal}
 use Rattle.fast_check_build.specs.Found.{IsFound}
 
 -- it was found what is public in the packages that are handed in, and in all that follow from them; and each of them is

@@ -1,9 +1,9 @@
 -- What a finder is made for.
 use Rattle.std.specs.Prelude.{List}
-use Rattle.fast_check_packages.specs.declared.package.PackageNv.{PackageNv}
-use Rattle.fast_check_packages.specs.declared.package.WorkspaceMember.{WorkspaceMember}
-use Rattle.fast_check_graph.specs.declared.graph.ModuleGraph.{ModuleGraph}
-use Rattle.fast_check_graph.specs.declared.root_symbol.RootSymbol.{RootSymbol}
+use Rattle.fast_check_tables_packages.specs.declared.package.PackageNv.{PackageNv}
+use Rattle.fast_check_tables_packages.specs.declared.package.WorkspaceMember.{WorkspaceMember}
+use Rattle.fast_check_tables_graph.specs.declared.graph.ModuleGraph.{ModuleGraph}
+use Rattle.fast_check_tables_graph.specs.declared.root_symbol.RootSymbol.{RootSymbol}
 use Rattle.fast_check_build.specs.declared.finder.PublicRangeFinder.{PublicRangeFinder}
 
 -- the graph, the modules by their names, the members of the workspace, and the packages that are handed in

@@ -2,24 +2,24 @@
 use Rattle.std.specs.Prelude.{◌≡◌, true, List, Option, IfSome}
 use Rattle.std.specs.List.{Contains}
 use Rattle.std.specs.BTreeMap.{BTreeMap}
-use Rattle.fast_check_syntax.specs.declared.source.SourceRange.{SourceRange}
-use Rattle.fast_check_packages.specs.Package.{Nv}
-use Rattle.fast_check_packages.specs.declared.package.PackageNv.{PackageNv}
+use Rattle.fast_check_tree_syntax.specs.declared.source.SourceRange.{SourceRange}
+use Rattle.fast_check_tables_packages.specs.Package.{Nv}
+use Rattle.fast_check_tables_packages.specs.declared.package.PackageNv.{PackageNv}
 use Rattle.url.specs.Parts.{Parts}
-use Rattle.fast_check_packages.specs.declared.package.WorkspaceMember.{WorkspaceMember}
-use Rattle.fast_check_graph.specs.declared.graph.ModuleGraph.{ModuleGraph}
-use Rattle.fast_check_graph.specs.declared.root_symbol.RootSymbol.{RootSymbol}
-use Rattle.fast_check_cache.specs.declared.package_ranges.PackagePublicRanges.{PackagePublicRanges}
-use Rattle.fast_check_modules.specs.diagnostics.PublicRanges.{PublicRanges, is_public, is_implementation}
-use Rattle.fast_check_demands.specs.worklists.Demands.{Text, of_package}
-use Rattle.fast_check_package_ranges.specs.findings.Yields.{Yield}
-use Rattle.fast_check_package_ranges.specs.Answers.{AreAnswers, lookup_package, module_answer}
-use Rattle.fast_check_range_finder.specs.demands.facts.GraphFacts.{none_used, Known, owner_by, named_at}
-use Rattle.fast_check_range_finder.specs.Account.{Account, IsAccount, IsYield}
-use Rattle.fast_check_range_finder.specs.Rules.{followers}
-use Rattle.fast_check_range_finder.specs.Yields.{demand_yields}
-use Rattle.fast_check_range_finder.specs.Own.{IsOwnRange}
-use Rattle.fast_check_range_finder.specs.Refusals.{JoinAll}
+use Rattle.fast_check_tables_packages.specs.declared.package.WorkspaceMember.{WorkspaceMember}
+use Rattle.fast_check_tables_graph.specs.declared.graph.ModuleGraph.{ModuleGraph}
+use Rattle.fast_check_tables_graph.specs.declared.root_symbol.RootSymbol.{RootSymbol}
+use Rattle.fast_check_tables_cache.specs.declared.package_ranges.PackagePublicRanges.{PackagePublicRanges}
+use Rattle.fast_check_tables_modules.specs.diagnostics.PublicRanges.{PublicRanges, is_public, is_implementation}
+use Rattle.fast_check_finder_demands.specs.asked.Demands.{Text, of_package}
+use Rattle.fast_check_finder_ranges.specs.findings.Yields.{Yield}
+use Rattle.fast_check_finder_ranges.specs.Answers.{AreAnswers, lookup_package, module_answer}
+use Rattle.fast_check_finder_loop.specs.demands.facts.GraphFacts.{none_used, Known, owner_by, named_at}
+use Rattle.fast_check_finder_loop.specs.Account.{Account, IsAccount, IsYield}
+use Rattle.fast_check_finder_loop.specs.Rules.{followers}
+use Rattle.fast_check_finder_loop.specs.Yields.{demand_yields}
+use Rattle.fast_check_finder_loop.specs.Own.{IsOwnRange}
+use Rattle.fast_check_finder_loop.specs.Refusals.{JoinAll}
 
 -- what is known of modules and packages, where a provider is lent, and no cache
 abbrev pub known_of : ModuleGraph → RootSymbol → List WorkspaceMember → (Nv → Parts) → (Text → Option Nv) → Known

@@ -1,5 +1,5 @@
-pub use Rattle.fast_check_range_finder.specs as finder
-pub use Rattle.fast_check_package_answers.specs as package_answers
+pub use Rattle.fast_check_finder_loop.specs as finder
+pub use Rattle.fast_check_build_answers.specs as answers
 pub mod Found
 pub mod Build
 pub mod Lent

@@ -1,21 +1,22 @@
 //! What is public in packages.
 
 ghost use Rattle.std.specs.Prelude.{◌≡◌, ⊤, map, MatchOption, IfOk, IfErr};
-ghost use Rattle.fast_check_packages.specs.Package.{nv_of};
-ghost use Rattle.fast_check_packages.specs.MembersIn.{members_in};
-ghost use Rattle.fast_check_range_finder.specs.Lent.{with_cache};
-ghost use Rattle.fast_check_range_finder.specs.Refusals.{IsRefusal};
+ghost use Rattle.fast_check_tables_packages.specs.Package.{nv_of};
+ghost use Rattle.fast_check_finder_loop.specs.Lent.{with_cache};
+ghost use Rattle.fast_check_finder_loop.specs.Refusals.{IsRefusal};
 ghost use Rattle.fast_check_build.specs.Found.{known_of, IsFound};
 
-use fast_check_cache::{FastCheckCache, PackagePublicRanges};
-use fast_check_graph::{ModuleGraph, RootSymbol};
-use fast_check_package_ranges::package_ranges;
-use fast_check_packages::{BuildFault, IndexedMembers, JsrUrlProvider, PackageNv, WorkspaceMember};
-use fast_check_range_finder::{FinderInput, GraphFacts, find_all};
+use fast_check_finder_loop::{FinderOptions, GraphFacts, find_all};
+use fast_check_finder_ranges::package_ranges;
+use fast_check_tables_cache::{FastCheckCache, PackagePublicRanges};
+use fast_check_tables_graph::{ModuleGraph, RootSymbol};
+use fast_check_tables_packages::{
+    BuildFault, IndexedMembers, JsrUrlProvider, PackageNv, WorkspaceMember,
+};
 use std::alloc::Global;
 use std::collections::{BTreeMap, VecDeque};
 
-/// The seed of the keys, where a cache is lent. It is asked once.
+/// The seed of the keys, where a cache is lent.
 fn seed_of(cache: Option<&dyn FastCheckCache>) -> &'static str
     ensures { MatchOption cache.entry ⊤ (λ c. result.now ≡ seed_text c.now) }
 {
@@ -23,31 +24,6 @@ fn seed_of(cache: Option<&dyn FastCheckCache>) -> &'static str
         Some(cache) => cache.hash_seed(),
         None => "",
     }
-}
-
-/// What is public in these packages, and in all that follow from them, by the items of a cache under keys of this seed.
-pub(crate) fn find_seeded(
-    alloc: Global,
-    input: FinderInput<'_>,
-    cache: Option<&dyn FastCheckCache>,
-    jsr_url_provider: &dyn JsrUrlProvider,
-    pending_nvs: VecDeque<PackageNv>,
-) -> Result<BTreeMap<PackageNv, PackagePublicRanges>, BuildFault>
-    ensures found { let s = input.entry.facts in
-        let k = known_of s.graph.now s.root_symbol.now (members_in s.workspace_members.now) (url_of jsr_url_provider.now) (nv_at jsr_url_provider.now) in
-        let lent = with_cache cache.entry (λ c. hash_of c.now input.entry.seed.now) (λ c. stored c.now) k in
-        IfOk result (IsFound lent (map nv_of pending_nvs.items)) }
-    ensures refused { let s = input.entry.facts in
-        let k = known_of s.graph.now s.root_symbol.now (members_in s.workspace_members.now) (url_of jsr_url_provider.now) (nv_at jsr_url_provider.now) in
-        let lent = with_cache cache.entry (λ c. hash_of c.now input.entry.seed.now) (λ c. stored c.now) k in
-        IfErr result (IsRefusal lent (map nv_of pending_nvs.items)) }
-{
-    // Each module is found by its own name.
-    input.facts.root_symbol.own_names_find();
-    let roots = pending_nvs.into_vec();
-    let found = find_all(alloc, input, jsr_url_provider, cache, roots.as_slice())?;
-    let answers = package_ranges(alloc, found)?;
-    Ok(answers)
 }
 
 /// What is public in these packages, and in all that follow from them. A package that is handed in twice is followed once.
@@ -79,8 +55,19 @@ pub fn find_public_ranges<'a>(
         root_symbol,
         workspace_members: &members,
     };
-    let input = FinderInput { facts, seed };
-    find_seeded(alloc, input, cache, jsr_url_provider, pending_nvs)
+    let lent = FinderOptions {
+        alloc,
+        facts,
+        seed,
+        provider: jsr_url_provider,
+        cache,
+    };
+    // Each module is found by its own name.
+    root_symbol.own_names_find();
+    let roots = pending_nvs.into_vec();
+    let found = find_all(lent, roots.as_slice())?;
+    let answers = package_ranges(alloc, found)?;
+    Ok(answers)
 }
 
 /// Finds what is public in the packages that are handed in.

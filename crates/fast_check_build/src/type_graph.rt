@@ -1,60 +1,23 @@
 //! The skeletons of packages, or what is wrong with them: `build_fast_check_type_graph`.
 ghost use Rattle.std.specs.Prelude.{◌≡◌, ⊤, map, MatchOption, IfOk, IfErr};
-ghost use Rattle.fast_check_packages.specs.Package.{nv_of};
-ghost use Rattle.fast_check_cache.specs.CachedPackages.{used_item};
-ghost use Rattle.fast_check_range_finder.specs.demands.facts.GraphFacts.{with_used};
-ghost use Rattle.fast_check_range_finder.specs.Refusals.{IsRefusal};
+ghost use Rattle.fast_check_tables_packages.specs.Package.{nv_of};
+ghost use Rattle.fast_check_tables_cache.specs.CachedPackages.{used_item};
+ghost use Rattle.fast_check_finder_loop.specs.demands.facts.GraphFacts.{with_used};
+ghost use Rattle.fast_check_finder_loop.specs.Refusals.{IsRefusal};
 ghost use Rattle.fast_check_build.specs.Found.{known_of};
 ghost use Rattle.fast_check_build.specs.Build.{IsBuilt, IsBuiltWith, IsStopped};
 ghost use Rattle.fast_check_build.specs.Lent.{OldNew};
 
-use crate::finder::{find_public_ranges, find_seeded};
-use fast_check_cache::FastCheckCache;
-use fast_check_graph::{ModuleGraph, RootSymbol};
-use fast_check_package_answers::transform::TransformOptions;
-use fast_check_package_answers::{BuildInput, ModuleAnswer, answer_all, answer_and_set_all};
-use fast_check_packages::{BuildFault, IndexedMembers, JsrUrlProvider, PackageNv};
-use fast_check_range_finder::{FinderInput, GraphFacts};
+use crate::finder::find_public_ranges;
+use fast_check_build_answers::transform_module::TransformOptions;
+use fast_check_build_answers::{BuildInput, ModuleAnswer, answer_all, answer_and_set_all};
+use fast_check_tables_cache::FastCheckCache;
+use fast_check_tables_graph::{ModuleGraph, RootSymbol};
+use fast_check_tables_packages::{BuildFault, JsrUrlProvider, PackageNv};
 use std::alloc::Global;
 use std::collections::VecDeque;
 
-/// The build where a cache is lent, by keys of this seed. All its items are looked up before the first is set.
-fn build_seeded(
-    alloc: Global,
-    cache: &mut dyn FastCheckCache,
-    seed: &'static str,
-    jsr_url_provider: &dyn JsrUrlProvider,
-    input: BuildInput<'_>,
-    pending_nvs: VecDeque<PackageNv>,
-) -> Result<Vec<ModuleAnswer>, BuildFault>
-    ensures built { let i = input.entry in
-        let k = known_of i.graph.now i.root_symbol.now i.options.now.workspace_members.items (url_of jsr_url_provider.now) (nv_at jsr_url_provider.now) in
-        IfOk result (λ answers.
-        IsBuiltWith (with_used (used_item (hash_of cache.old seed.now) (stored cache.old) i.graph.now) k) (map nv_of pending_nvs.items)
-        i.options.now.should_error_on_first_diagnostic (hash_of cache.old seed.now) (stored cache.old) (stored cache.new) answers.items) }
-    ensures stopped { let i = input.entry in
-        let k = known_of i.graph.now i.root_symbol.now i.options.now.workspace_members.items (url_of jsr_url_provider.now) (nv_at jsr_url_provider.now) in
-        IfErr result (λ fault.
-        IsStopped (with_used (used_item (hash_of cache.old seed.now) (stored cache.old) i.graph.now) k) (map nv_of pending_nvs.items)
-        i.options.now.should_error_on_first_diagnostic (hash_of cache.old seed.now) (stored cache.old) (stored cache.new) fault) }
-    ensures seed { seed_text cache.new ≡ seed_text cache.old }
-    ensures hash { hash_of cache.new ≡ hash_of cache.old }
-{
-    let members = IndexedMembers::new(alloc, input.options.workspace_members.as_slice())?;
-    let facts = GraphFacts {
-        graph: input.graph,
-        root_symbol: input.root_symbol,
-        workspace_members: &members,
-    };
-    let lent = FinderInput { facts, seed };
-    let ranges = find_seeded(alloc, lent, Some(&*cache), jsr_url_provider, pending_nvs)?;
-    // The map is in order.
-    let _ = ranges.len();
-    let answers = answer_and_set_all(alloc, cache, seed, input, ranges)?;
-    Ok(answers)
-}
-
-/// The same by the seed of the cache, which is asked once.
+/// The build where a cache is lent. All its items are looked up before the first is set.
 fn build_with(
     alloc: Global,
     cache: &mut dyn FastCheckCache,
@@ -75,8 +38,20 @@ fn build_with(
     ensures seed { seed_text cache.new ≡ seed_text cache.old }
     ensures hash { hash_of cache.new ≡ hash_of cache.old }
 {
+    let ranges = find_public_ranges(
+        alloc,
+        Some(&*cache),
+        jsr_url_provider,
+        input.graph,
+        input.root_symbol,
+        input.options.workspace_members.as_slice(),
+        pending_nvs,
+    )?;
+    // The map is in order.
+    let _ = ranges.len();
     let seed = cache.hash_seed();
-    build_seeded(alloc, cache, seed, jsr_url_provider, input, pending_nvs)
+    let answers = answer_and_set_all(alloc, cache, seed, input, ranges)?;
+    Ok(answers)
 }
 
 /// The build where no cache is lent.

@@ -8,7 +8,9 @@ mod sets;
 
 use crate::names::sets::{call_below, call_on_set};
 use crate::said::Said;
-use fast_check_lattice::{Exports, HandledExports, ImportedExports, NamedSubset, PendingTraces};
+use fast_check_finder_lattice::{
+    Exports, HandledExports, ImportedExports, NamedSubset, PendingTraces,
+};
 use std::alloc::Global;
 use std::{fs, io};
 

@@ -2,8 +2,8 @@
 //! module. Each is compared with the first, and with a copy of itself.
 
 use crate::said::Said;
-use fast_check_diagnostics::FastCheckDiagnosticRange;
-use fast_check_syntax::{SourcePos, SourceRange};
+use fast_check_tables_diagnostics::FastCheckDiagnosticRange;
+use fast_check_tree_syntax::{SourcePos, SourceRange};
 use std::alloc::Global;
 use std::hash::{DefaultHasher, Hash, Hasher};
 use std::rc::RcStr;

@@ -1,7 +1,7 @@
 //! `fast-check (build|transform|pair) FILE`: the fast check of TypeScript modules and packages, from a JSON file to a line of JSON.
 #![tactic(auto)]
 
-use fast_check_commands::{AnyCommand, Lines, read_call, run};
+use fast_check_program_commands::{AnyCommand, Lines, read_call, run};
 use std::process::ExitCode;
 
 fn main(rt: HostRuntime) -> ExitCode {

@@ -13,7 +13,7 @@ use Rattle.std.proofs.lemmas.List.Elements.{All-from_recursion}
 use Rattle.std.proofs.lemmas.List.Kept.{AllPairs-cons}
 use Rattle.std.proofs.lemmas.Map.Text.{is_eq-slice_cmp}
 use Rattle.std.proofs.lemmas.Slice.Eq.{bytes_eq-Decides}
-use Rattle.fast_check_syntax.specs.declared.kind.Kind.{Kind}
+use Rattle.fast_check_tree_syntax.specs.declared.kind.Kind.{Kind}
 use Rattle.fast_check_read.specs.schema.Rows.{FieldRow}
 use Rattle.fast_check_read.specs.schema.Schema.{fields_of}
 use Rattle.fast_check_read.specs.schema.Order.{name_at, insert_place, places_by_name}

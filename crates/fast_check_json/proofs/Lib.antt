@@ -1,2 +1,3 @@
 pub mod InPlace
 mod InOrder
+mod Tables

@@ -2,33 +2,33 @@
 -- The fields of each form, in the order of its node's parts: the name that JSON has for a field,
 -- and the definition that reads it.
 use Rattle.std.specs.Prelude.{List, [], ◌∷◌}
-use Rattle.fast_check_syntax.specs.declared.kind.Kind.{Kind}
-use Rattle.fast_check_syntax.specs.declared.kind.Kind.TheVariants as kinds
+use Rattle.fast_check_tree_syntax.specs.declared.kind.Kind.{Kind}
+use Rattle.fast_check_tree_syntax.specs.declared.kind.Kind.TheVariants as kinds
 use Rattle.fast_check_json.specs.Reading.{Field, tree, range, scope, flag, text}
-use Rattle.fast_check_program_forms.specs.Literals as literals
-use Rattle.fast_check_program_forms.specs.ModuleDecls as module_decls
-use Rattle.fast_check_program_forms.specs.Names as names
-use Rattle.fast_check_program_forms.specs.Programs as programs
-use Rattle.fast_check_statement_forms.specs.Declarations as declarations
-use Rattle.fast_check_statement_forms.specs.Loops as loops
-use Rattle.fast_check_statement_forms.specs.Statements as statements
-use Rattle.fast_check_statement_forms.specs.TsDeclarations as ts_declarations
-use Rattle.fast_check_expression_forms.specs.Assertions as assertions
-use Rattle.fast_check_expression_forms.specs.Calls as calls
-use Rattle.fast_check_expression_forms.specs.Expressions as expressions
-use Rattle.fast_check_expression_forms.specs.Jsx as jsx
-use Rattle.fast_check_expression_forms.specs.Operators as operators
-use Rattle.fast_check_expression_forms.specs.Patterns as patterns
-use Rattle.fast_check_expression_forms.specs.Properties as properties
-use Rattle.fast_check_expression_forms.specs.Templates as templates
-use Rattle.fast_check_class_forms.specs.Classes as classes
-use Rattle.fast_check_class_forms.specs.Fields as fields
-use Rattle.fast_check_class_forms.specs.Functions as functions
-use Rattle.fast_check_class_forms.specs.Methods as methods
-use Rattle.fast_check_type_forms.specs.Signatures as signatures
-use Rattle.fast_check_type_forms.specs.TypeOperators as type_operators
-use Rattle.fast_check_type_forms.specs.TypeParams as type_params
-use Rattle.fast_check_type_forms.specs.Types as types
+use Rattle.fast_check_tree_forms_programs.specs.Literals as literals
+use Rattle.fast_check_tree_forms_programs.specs.ModuleDecls as module_decls
+use Rattle.fast_check_tree_forms_programs.specs.Names as names
+use Rattle.fast_check_tree_forms_programs.specs.Programs as programs
+use Rattle.fast_check_tree_forms_statements.specs.Declarations as declarations
+use Rattle.fast_check_tree_forms_statements.specs.Loops as loops
+use Rattle.fast_check_tree_forms_statements.specs.Statements as statements
+use Rattle.fast_check_tree_forms_statements.specs.TsDeclarations as ts_declarations
+use Rattle.fast_check_tree_forms_expressions.specs.Assertions as assertions
+use Rattle.fast_check_tree_forms_expressions.specs.Calls as calls
+use Rattle.fast_check_tree_forms_expressions.specs.Expressions as expressions
+use Rattle.fast_check_tree_forms_expressions.specs.Jsx as jsx
+use Rattle.fast_check_tree_forms_expressions.specs.Operators as operators
+use Rattle.fast_check_tree_forms_expressions.specs.Patterns as patterns
+use Rattle.fast_check_tree_forms_expressions.specs.Properties as properties
+use Rattle.fast_check_tree_forms_expressions.specs.Templates as templates
+use Rattle.fast_check_tree_forms_classes.specs.Classes as classes
+use Rattle.fast_check_tree_forms_classes.specs.Fields as fields
+use Rattle.fast_check_tree_forms_classes.specs.Functions as functions
+use Rattle.fast_check_tree_forms_classes.specs.Methods as methods
+use Rattle.fast_check_tree_forms_types.specs.Signatures as signatures
+use Rattle.fast_check_tree_forms_types.specs.TypeOperators as type_operators
+use Rattle.fast_check_tree_forms_types.specs.TypeParams as type_params
+use Rattle.fast_check_tree_forms_types.specs.Types as types
 
 -- a leaf and a list have no fields, and a mark has none that JSON shows
 abbrev pub fields_of_form : Kind → List Field

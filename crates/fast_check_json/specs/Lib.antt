@@ -3,3 +3,5 @@ pub mod Fields
 pub mod Places
 pub mod Order
 pub mod Words
+pub mod Variants
+pub mod Counts

@@ -5,7 +5,7 @@ use Rattle.std.specs.Str.{bytes_eq}
 use Rattle.std.specs.Ordering.{nat_cmp}
 use Rattle.std.specs.Cmp.Lexicographic.{slice_cmp}
 use Rattle.std.specs.declared.cmp.Ordering.TheVariants.{Less}
-use Rattle.fast_check_syntax.specs.declared.kind.Kind.{Kind}
+use Rattle.fast_check_tree_syntax.specs.declared.kind.Kind.{Kind}
 use Rattle.fast_check_read.specs.schema.Rows.{FieldRow}
 use Rattle.fast_check_read.specs.schema.Schema.{fields_of}
 use Rattle.fast_check_read.specs.schema.Order.{name_at, written_places}

@@ -1,9 +1,9 @@
 -- What a field of a form is: a name, and what it reads of a node.
 use Prim.Native.String.{String}
 use Rattle.std.specs.Prelude.{ℕ, List, Bool, codes}
-use Rattle.fast_check_syntax.specs.declared.source.SourceRange.{SourceRange}
-use Rattle.fast_check_syntax.specs.declared.source.SyntaxContext.{SyntaxContext}
-use Rattle.fast_check_syntax.specs.declared.tree.Tree.{Tree}
+use Rattle.fast_check_tree_syntax.specs.declared.source.SourceRange.{SourceRange}
+use Rattle.fast_check_tree_syntax.specs.declared.source.SyntaxContext.{SyntaxContext}
+use Rattle.fast_check_tree_syntax.specs.declared.tree.Tree.{Tree}
 
 -- what a field holds: a part of the node, or what such a part is as a range, a scope number, a flag or a text
 pub data Content : Type 0 where

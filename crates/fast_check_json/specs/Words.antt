@@ -2,8 +2,8 @@
 -- code, which are written from a page of forms.
 use Prim.Native.String.{String}
 use Rattle.std.specs.Prelude.{◌≡◌, List, [], ◌∷◌, codes}
-use Rattle.fast_check_syntax.specs.declared.kind.Word.{Word}
-use Rattle.fast_check_syntax.specs.declared.kind.Word.TheVariants as words
+use Rattle.fast_check_tree_syntax.specs.declared.kind.Word.{Word}
+use Rattle.fast_check_tree_syntax.specs.declared.kind.Word.TheVariants as words
 use Rattle.fast_check_read.specs.declared.schema.form.Words.TheVariants as lists
 use Rattle.fast_check_read.specs.schema.Rows.{WordRow}
 use Rattle.fast_check_read.specs.schema.Schema.{words_of}

@@ -7,8 +7,8 @@ use Rattle.serde_json.specs.View.{items_of}
 use Rattle.url.specs.Parts.{Parts, serialize}
 use Rattle.fast_check_print.specs.Writing.{Adds}
 use Rattle.fast_check_print.proofs.Adding.{adds-last}
-use Rattle.fast_check_diagnostics.specs.declared.diagnostics.range.FastCheckDiagnosticRange.{FastCheckDiagnosticRange}
-use Rattle.fast_check_diagnostics.specs.DiagnosticView.{DiagnosticView}
+use Rattle.fast_check_tables_diagnostics.specs.declared.diagnostics.range.FastCheckDiagnosticRange.{FastCheckDiagnosticRange}
+use Rattle.fast_check_tables_diagnostics.specs.DiagnosticView.{DiagnosticView}
 use Rattle.fast_check_print.specs.Diagnostics.{view_data, named, advice, text_or_null, place_or_null, level_text}
 
 -- of a page, a hint and lines

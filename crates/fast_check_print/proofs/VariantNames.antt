@@ -5,7 +5,7 @@ use Rattle.std.proofs.lemmas.List.{replicate_more}
 use native.Mathlib.Numerals.{unary_clauses}
 use Rattle.json.specs.Token.{begin_object, end_object, key}
 use Rattle.serde_json.specs.Data.{Data}
-use Rattle.fast_check_syntax.specs.declared.kind.Kind.{Kind}
+use Rattle.fast_check_tree_syntax.specs.declared.kind.Kind.{Kind}
 use Rattle.fast_check_read.specs.declared.schema.form.Choice.{Choice}
 use Rattle.fast_check_read.specs.declared.schema.form.Form.TheVariants as forms
 use Rattle.fast_check_read.specs.schema.Lookup.{variant_by_kind}

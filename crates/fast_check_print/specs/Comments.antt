@@ -2,12 +2,12 @@
 use Rattle.std.specs.Prelude.{ℕ, List, codes, map}
 use Rattle.serde_json.specs.Data.{Data, string, array, object, no_members, member}
 use Rattle.serde_json.specs.View.{items_of}
-use Rattle.fast_check_syntax.specs.declared.source.SourcePos.{SourcePos}
-use Rattle.fast_check_comments.specs.declared.comment.Comment.{Comment}
-use Rattle.fast_check_comments.specs.declared.comment.CommentKind.{CommentKind}
-use Rattle.fast_check_comments.specs.declared.comment.CommentKind.TheVariants.{Line, Block}
-use Rattle.fast_check_comments.specs.declared.comments.Comments.{Comments}
-use Rattle.fast_check_comments.specs.Places.{Places}
+use Rattle.fast_check_tree_syntax.specs.declared.source.SourcePos.{SourcePos}
+use Rattle.fast_check_tree_comments.specs.declared.comment.Comment.{Comment}
+use Rattle.fast_check_tree_comments.specs.declared.comment.CommentKind.{CommentKind}
+use Rattle.fast_check_tree_comments.specs.declared.comment.CommentKind.TheVariants.{Line, Block}
+use Rattle.fast_check_tree_comments.specs.declared.comments.Comments.{Comments}
+use Rattle.fast_check_tree_comments.specs.Places.{Places}
 use Rattle.fast_check_print.specs.Pieces.{number_data, pair_data, range_data}
 
 abbrev pub kind_text : CommentKind → List ℕ

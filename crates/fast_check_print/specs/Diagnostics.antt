@@ -7,12 +7,12 @@ use Rattle.serde_json.specs.View.{items_of}
 use Rattle.url.specs.Parts.{Parts, serialize}
 use Rattle.fast_check_print.specs.Pieces.{range_data}
 use Rattle.fast_check_print.specs.Writing.{tokens_of}
-use Rattle.fast_check_diagnostics.specs.declared.diagnostics.FastCheckDiagnostic.{FastCheckDiagnostic}
-use Rattle.fast_check_diagnostics.specs.declared.diagnostics.range.FastCheckDiagnosticRange.{FastCheckDiagnosticRange}
-use Rattle.fast_check_diagnostics.specs.declared.diagnostics.view.DiagnosticLevel.{DiagnosticLevel}
-use Rattle.fast_check_diagnostics.specs.declared.diagnostics.view.DiagnosticLevel.TheVariants as levels
-use Rattle.fast_check_diagnostics.specs.Diagnostic.{range_of, specifier_of, view_of}
-use Rattle.fast_check_diagnostics.specs.DiagnosticView.{DiagnosticView}
+use Rattle.fast_check_tables_diagnostics.specs.declared.diagnostics.FastCheckDiagnostic.{FastCheckDiagnostic}
+use Rattle.fast_check_tables_diagnostics.specs.declared.diagnostics.range.FastCheckDiagnosticRange.{FastCheckDiagnosticRange}
+use Rattle.fast_check_tables_diagnostics.specs.declared.diagnostics.view.DiagnosticLevel.{DiagnosticLevel}
+use Rattle.fast_check_tables_diagnostics.specs.declared.diagnostics.view.DiagnosticLevel.TheVariants as levels
+use Rattle.fast_check_tables_diagnostics.specs.Diagnostic.{range_of, specifier_of, view_of}
+use Rattle.fast_check_tables_diagnostics.specs.DiagnosticView.{DiagnosticView}
 
 abbrev pub text_or_null : Option (List ℕ) → Data
 text_or_null text = option_map_or string text null

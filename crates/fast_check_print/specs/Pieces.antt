@@ -2,8 +2,8 @@
 use Rattle.std.specs.Prelude.{ℕ, List, []}
 use Rattle.std.specs.Option.{option_map_or}
 use Rattle.serde_json.specs.Data.{Data, unsigned, number, array, object, no_items, item, no_members, member}
-use Rattle.fast_check_syntax.specs.declared.kind.Word.{Word}
-use Rattle.fast_check_syntax.specs.declared.source.SourceRange.{SourceRange}
+use Rattle.fast_check_tree_syntax.specs.declared.kind.Word.{Word}
+use Rattle.fast_check_tree_syntax.specs.declared.source.SourceRange.{SourceRange}
 use Rattle.fast_check_read.specs.declared.schema.form.Form.{Form}
 use Rattle.fast_check_read.specs.declared.schema.form.Form.TheVariants as forms
 use Rattle.fast_check_read.specs.schema.Lookup.{row_of_word}

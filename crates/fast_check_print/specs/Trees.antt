@@ -3,12 +3,12 @@ use Rattle.std.specs.Prelude.{ℕ, zero, suc, List, [], ◌∷◌, map, length, 
 use Rattle.std.specs.Option.{option_map_or}
 use Rattle.serde_json.specs.Data.{Data, null, boolean, string, array, object, Members, no_members, put}
 use Rattle.serde_json.specs.View.{items_of}
-use Rattle.fast_check_syntax.specs.Shape.{◌is◌}
-use Rattle.fast_check_syntax.specs.declared.kind.Kind.{Kind}
-use Rattle.fast_check_syntax.specs.declared.kind.Kind.TheVariants as kinds
-use Rattle.fast_check_syntax.specs.declared.tree.Tree.{Tree}
-use Rattle.fast_check_syntax.specs.declared.tree.Tree.TheOpen.{Tree-F}
-use Rattle.fast_check_syntax.specs.declared.tree.Tree.TheFolds.{fold-Tree}
+use Rattle.fast_check_tree_syntax.specs.Shape.{◌is◌}
+use Rattle.fast_check_tree_syntax.specs.declared.kind.Kind.{Kind}
+use Rattle.fast_check_tree_syntax.specs.declared.kind.Kind.TheVariants as kinds
+use Rattle.fast_check_tree_syntax.specs.declared.tree.Tree.{Tree}
+use Rattle.fast_check_tree_syntax.specs.declared.tree.Tree.TheOpen.{Tree-F}
+use Rattle.fast_check_tree_syntax.specs.declared.tree.Tree.TheFolds.{fold-Tree}
 use Rattle.fast_check_read.specs.declared.schema.form.Form.{Form}
 use Rattle.fast_check_read.specs.declared.schema.form.Form.TheVariants as forms
 use Rattle.fast_check_read.specs.schema.Rows.{FieldRow, VariantRow}

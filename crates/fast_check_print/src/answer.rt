@@ -8,10 +8,10 @@ use crate::comments::print_comments;
 use crate::diagnostic::print_diagnostics;
 use crate::pieces::print_range;
 use crate::tree::print_tree;
-use fast_check_diagnostics::FastCheckDiagnostic;
-use fast_check_diagnostics::parsed_source::{FastCheckModule, ModuleInfo, StaticSource};
 use fast_check_read::schema::Form;
-use fast_check_syntax::Kind;
+use fast_check_tables_diagnostics::FastCheckDiagnostic;
+use fast_check_tables_diagnostics::parsed_source::{FastCheckModule, ModuleInfo, StaticSource};
+use fast_check_tree_syntax::Kind;
 use json::Writer;
 use std::alloc::{AllocError, Global};
 

@@ -5,8 +5,8 @@ ghost use Rattle.fast_check_print.specs.Writing.{WritesData};
 ghost use Rattle.fast_check_print.specs.Answers.{answers_data, entry_data};
 
 use crate::answer::print_answer;
-use fast_check_diagnostics::FastCheckDiagnostic;
-use fast_check_diagnostics::parsed_source::{FastCheckModule, ModuleSpecifier};
+use fast_check_tables_diagnostics::FastCheckDiagnostic;
+use fast_check_tables_diagnostics::parsed_source::{FastCheckModule, ModuleSpecifier};
 use json::Writer;
 use std::alloc::{AllocError, Global};
 

@@ -4,8 +4,8 @@ ghost use Rattle.fast_check_print.specs.Comments.{comments_data, places_data, co
 ghost use Rattle.fast_check_print.specs.Writing.{WritesData};
 
 use crate::pieces::{print_position, print_range};
-use fast_check_comments::{Comment, CommentKind, CommentMap, Comments};
-use fast_check_syntax::SourcePos;
+use fast_check_tree_comments::{Comment, CommentKind, CommentMap, Comments};
+use fast_check_tree_syntax::SourcePos;
 use json::Writer;
 use std::alloc::AllocError;
 

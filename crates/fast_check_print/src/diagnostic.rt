@@ -6,11 +6,11 @@ ghost use Rattle.std.specs.String.{string_bytes};
 ghost use Rattle.serde_json.specs.Data.{string, array};
 ghost use Rattle.serde_json.specs.View.{items_of};
 ghost use Rattle.fast_check_print.specs.Writing.{Adds, WritesData};
-ghost use Rattle.fast_check_diagnostics.specs.Diagnostic.{view_of};
+ghost use Rattle.fast_check_tables_diagnostics.specs.Diagnostic.{view_of};
 ghost use Rattle.fast_check_print.specs.Diagnostics.{diagnostic_data, diagnostics_array, text_or_null, place_or_null, level_text, named, advice};
 
 use crate::pieces::print_range;
-use fast_check_diagnostics::{
+use fast_check_tables_diagnostics::{
     Diagnostic, DiagnosticLevel, FastCheckDiagnostic, FastCheckDiagnosticRange,
 };
 use json::Writer;

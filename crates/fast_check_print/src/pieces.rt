@@ -3,7 +3,7 @@ ghost use Rattle.std.specs.Prelude.{OnOk};
 ghost use Rattle.fast_check_print.specs.Pieces.{number_data, range_data};
 ghost use Rattle.fast_check_print.specs.Writing.{WritesData};
 
-use fast_check_syntax::{SourcePos, SourceRange};
+use fast_check_tree_syntax::{SourcePos, SourceRange};
 use json::Writer;
 use std::alloc::AllocError;
 

@@ -9,7 +9,7 @@ ghost use Rattle.fast_check_print.specs.Writing.{Adds, WritesData, tokens_of};
 use crate::pieces::print_range;
 use crate::variants::{close_variants, open_variants};
 use fast_check_read::schema::{Field, Form, fields, marked, word_text, written_order};
-use fast_check_syntax::{Kind, Tree, Word};
+use fast_check_tree_syntax::{Kind, Tree, Word};
 use json::Writer;
 use std::alloc::AllocError;
 

@@ -5,7 +5,7 @@ ghost use Rattle.fast_check_print.specs.Trees.{variant_names};
 ghost use Rattle.fast_check_print.specs.Writing.{Adds, opening};
 
 use fast_check_read::schema::{Form, variant_of};
-use fast_check_syntax::Kind;
+use fast_check_tree_syntax::Kind;
 use json::Writer;
 use std::alloc::AllocError;
 

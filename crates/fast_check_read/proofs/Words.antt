@@ -7,9 +7,9 @@ use Rattle.serde_json.specs.Find.{as_array, as_bool, as_null, as_object, as_str}
 use Rattle.serde_json.specs.View.{view, items_view, members_view}
 use Rattle.serde_json.specs.declared.value.Value.{Value, Array, Object}
 use Rattle.serde_json.proofs.Views.{view-Array, view-Object}
-use Rattle.fast_check_syntax.specs.declared.kind.Kind.{Kind}
-use Rattle.fast_check_syntax.specs.declared.kind.Word.{Word as Word'}
-use Rattle.fast_check_syntax.specs.declared.tree.Tree.{Flag, Context, Text, Range, Word}
+use Rattle.fast_check_tree_syntax.specs.declared.kind.Kind.{Kind}
+use Rattle.fast_check_tree_syntax.specs.declared.kind.Word.{Word as Word'}
+use Rattle.fast_check_tree_syntax.specs.declared.tree.Tree.{Flag, Context, Text, Range, Word}
 use Rattle.fast_check_read.specs.schema.Lookup.{variant_by_name}
 use Rattle.fast_check_read.specs.schema.Schema.{variants_of}
 use Rattle.fast_check_read.specs.declared.schema.form.Choice.{Choice}

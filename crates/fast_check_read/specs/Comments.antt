@@ -4,13 +4,13 @@ use Rattle.std.specs.Option.{option_map_or}
 use Rattle.std.specs.Str.{bytes_eq}
 use Rattle.serde_json.specs.Data.{Data}
 use Rattle.serde_json.specs.Find.{as_str, as_array, as_object, get}
-use Rattle.fast_check_syntax.specs.Shape.{none_range}
-use Rattle.fast_check_syntax.specs.declared.source.SourcePos.{SourcePos}
-use Rattle.fast_check_comments.specs.declared.comment.Comment.{Comment}
-use Rattle.fast_check_comments.specs.declared.comment.CommentKind.{CommentKind}
-use Rattle.fast_check_comments.specs.declared.comment.CommentKind.TheVariants.{Line, Block}
-use Rattle.fast_check_comments.specs.declared.comments.Comments.{Comments}
-use Rattle.fast_check_comments.specs.Places.{Places, with_comments}
+use Rattle.fast_check_tree_syntax.specs.Shape.{none_range}
+use Rattle.fast_check_tree_syntax.specs.declared.source.SourcePos.{SourcePos}
+use Rattle.fast_check_tree_comments.specs.declared.comment.Comment.{Comment}
+use Rattle.fast_check_tree_comments.specs.declared.comment.CommentKind.{CommentKind}
+use Rattle.fast_check_tree_comments.specs.declared.comment.CommentKind.TheVariants.{Line, Block}
+use Rattle.fast_check_tree_comments.specs.declared.comments.Comments.{Comments}
+use Rattle.fast_check_tree_comments.specs.Places.{Places, with_comments}
 use Rattle.fast_check_read.specs.Each.{each}
 use Rattle.fast_check_read.specs.Pieces.{u32_of, pair_of, range_of_data, items_list}
 

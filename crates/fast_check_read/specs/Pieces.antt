@@ -4,8 +4,8 @@ use Rattle.std.specs.Prelude.{option_and_then}
 use Rattle.std.specs.Option.{option_map_or}
 use Rattle.serde_json.specs.Data.{Data, Items, no_items, item}
 use Rattle.serde_json.specs.Find.{as_array, as_bool, as_number, as_str, as_u64 as number_as_u64}
-use Rattle.fast_check_syntax.specs.declared.source.SourceRange.{SourceRange}
-use Rattle.fast_check_syntax.specs.declared.kind.Word.{Word}
+use Rattle.fast_check_tree_syntax.specs.declared.source.SourceRange.{SourceRange}
+use Rattle.fast_check_tree_syntax.specs.declared.kind.Word.{Word}
 use Rattle.fast_check_read.specs.declared.schema.form.Words.{Words}
 use Rattle.fast_check_read.specs.schema.Lookup.{word_by_text}
 use Rattle.fast_check_read.specs.schema.Schema.{words_of}

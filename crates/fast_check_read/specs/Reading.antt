@@ -6,9 +6,9 @@ use Rattle.std.specs.Ordering.{nat_cmp, match_ordering}
 use Rattle.std.specs.Cmp.Lexicographic.{slice_cmp}
 use Rattle.serde_json.specs.Data.{Data, null, boolean, number, string, array, object, Items, no_items, item, Members}
 use Rattle.serde_json.specs.Data.{no_members, member}
-use Rattle.fast_check_syntax.specs.declared.kind.Kind.{Kind}
-use Rattle.fast_check_syntax.specs.declared.tree.Tree.{Tree, Absent, Flag, Context, Text, Range, Word}
-use Rattle.fast_check_syntax.specs.Shape.{node, list, none_range}
+use Rattle.fast_check_tree_syntax.specs.declared.kind.Kind.{Kind}
+use Rattle.fast_check_tree_syntax.specs.declared.tree.Tree.{Tree, Absent, Flag, Context, Text, Range, Word}
+use Rattle.fast_check_tree_syntax.specs.Shape.{node, list, none_range}
 use Rattle.fast_check_read.specs.declared.schema.form.Choice.{Choice}
 use Rattle.fast_check_read.specs.declared.schema.form.Form.{Form}
 use Rattle.fast_check_read.specs.declared.schema.form.Form.TheVariants as forms

@@ -7,8 +7,8 @@ ghost use Rattle.fast_check_read.specs.Comments.{comments_of, places_of, entry_o
 
 use crate::error::ReadError;
 use crate::pieces::{read_array, read_members, read_pair, read_range, read_text, read_u32};
-use fast_check_comments::{Comment, CommentKind, CommentList, CommentMap, Comments};
-use fast_check_syntax::{Atom, DUMMY_SP, SourcePos};
+use fast_check_tree_comments::{Comment, CommentKind, CommentList, CommentMap, Comments};
+use fast_check_tree_syntax::{Atom, DUMMY_SP, SourcePos};
 use serde_json::Value;
 use std::alloc::Global;
 

@@ -8,7 +8,7 @@ ghost use Rattle.serde_json.specs.View.{view};
 ghost use Rattle.fast_check_read.specs.Pieces.{u32_of, u64_of, optional_flag_of, pair_of, range_of_data};
 
 use crate::error::ReadError;
-use fast_check_syntax::{SourcePos, SourceRange};
+use fast_check_tree_syntax::{SourcePos, SourceRange};
 use serde_json::{Map, Value};
 
 /// A flag.

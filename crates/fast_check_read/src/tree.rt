@@ -2,7 +2,7 @@
 ghost use Rattle.std.specs.Prelude.{◌≡◌, option_map};
 ghost use Rattle.std.specs.Option.{ok_or};
 ghost use Rattle.serde_json.specs.View.{view, items_view, members_view};
-ghost use Rattle.fast_check_syntax.specs.Shape.{list};
+ghost use Rattle.fast_check_tree_syntax.specs.Shape.{list};
 ghost use Rattle.fast_check_read.specs.schema.Rows.{field_row};
 ghost use Rattle.fast_check_read.specs.Each.{Answers};
 ghost use Rattle.fast_check_read.specs.Pieces.{word_of};
@@ -12,7 +12,7 @@ ghost use Rattle.fast_check_read.specs.Reading.{default_tree, field_tree, node_t
 use crate::error::ReadError;
 use crate::pieces::{read_array, read_bool, read_members, read_range, read_text, read_u32};
 use crate::schema::{Choice, Count, Field, Form, Words, fields, marked, variant_named, word_named};
-use fast_check_syntax::{Atom, DUMMY_SP, Items, Kind, SyntaxContext, Tree, Word};
+use fast_check_tree_syntax::{Atom, DUMMY_SP, Items, Kind, SyntaxContext, Tree, Word};
 use serde_json::{Map, Value};
 use std::alloc::Global;
 

@@ -1,8 +1,8 @@
 //! Each comment before the token that follows it, or behind the one that it follows in its line.
 use crate::bytes::{blank, byte, has_break, past_block, past_line};
 use crate::leaves::{Leaf, push_leaves};
-use fast_check_comments::{Comment, CommentKind, CommentList, CommentMap, Comments};
-use fast_check_syntax::{Atom, SourcePos, SourceRange, Tree};
+use fast_check_tree_comments::{Comment, CommentKind, CommentList, CommentMap, Comments};
+use fast_check_tree_syntax::{Atom, SourcePos, SourceRange, Tree};
 use std::alloc::{AllocError, Global};
 use std::collections::{BTreeMap, BTreeSet};
 

@@ -1,9 +1,9 @@
 //! The leaves of a tree: names and numbers, behind which a comment may stand, and texts in which none does.
-use fast_check_expression_forms::{
+use fast_check_tree_forms_expressions::{
     JSXElement, JSXFragment, MetaPropExpr, TplElement, TsConstAssertion,
 };
-use fast_check_program_forms::{BigInt, Ident, IdentName, Number, PrivateName, Regex, Str};
-use fast_check_syntax::{Kind, Part, SourceRange};
+use fast_check_tree_forms_programs::{BigInt, Ident, IdentName, Number, PrivateName, Regex, Str};
+use fast_check_tree_syntax::{Kind, Part, SourceRange};
 use std::alloc::AllocError;
 
 /// A leaf of the tree, from its first byte to the place past its last one.

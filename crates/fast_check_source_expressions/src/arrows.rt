@@ -3,11 +3,11 @@ ghost use Rattle.fast_check_source_grammar.specs.Nests.{Nests};
 
 use crate::expressions::Expressions;
 use crate::look_ahead::{Arrow, arrow_at};
-use fast_check_expression_forms::ArrowExpr;
 use fast_check_source_grammar::{Cursor, Note, ParseError, Rule, Tokens, binding, is_reserved};
 use fast_check_source_lexer::{Keyword, TokenKind};
 use fast_check_source_values::{Marks, enter_function};
-use fast_check_syntax::{Items, SyntaxContext, Tree};
+use fast_check_tree_forms_expressions::ArrowExpr;
+use fast_check_tree_syntax::{Items, SyntaxContext, Tree};
 use std::alloc::Global;
 
 // What stands before the `=>`.

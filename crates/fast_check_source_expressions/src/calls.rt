@@ -2,12 +2,12 @@
 ghost use Rattle.fast_check_source_grammar.specs.Nests.{Nests};
 
 use crate::expressions::Expressions;
-use fast_check_expression_forms::{
-    CallExpr, MemberExpr, OptCall, OptChainExpr, TaggedTpl, TsInstantiation, TsNonNullExpr,
-};
 use fast_check_source_grammar::{Note, ParseError, Rule, Tokens, ident_name, private_name};
 use fast_check_source_lexer::TokenKind;
-use fast_check_syntax::{SourcePos, SyntaxContext, Tree};
+use fast_check_tree_forms_expressions::{
+    CallExpr, MemberExpr, OptCall, OptChainExpr, TaggedTpl, TsInstantiation, TsNonNullExpr,
+};
+use fast_check_tree_syntax::{SourcePos, SyntaxContext, Tree};
 use std::alloc::Global;
 
 /// What may stand behind a value.

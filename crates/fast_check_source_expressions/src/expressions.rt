@@ -2,11 +2,11 @@
 ghost use Rattle.fast_check_source_grammar.specs.Nests.{Nests};
 
 use crate::look_ahead::{assigns, is_operand_in_line};
-use fast_check_expression_forms::{AssignExpr, CondExpr, ExprOrSpread, SeqExpr, YieldExpr};
 use fast_check_source_grammar::{Cursor, Note, ParseError, Rule, Tokens};
 use fast_check_source_lexer::{Keyword, TokenKind};
 use fast_check_source_values::{Values, is_shape, starts_value};
-use fast_check_syntax::{Items, Kind, SourcePos, Tree};
+use fast_check_tree_forms_expressions::{AssignExpr, CondExpr, ExprOrSpread, SeqExpr, YieldExpr};
+use fast_check_tree_syntax::{Items, Kind, SourcePos, Tree};
 use std::alloc::Global;
 
 /// The rules of expressions.

@@ -3,14 +3,14 @@ ghost use Rattle.fast_check_source_grammar.specs.Nests.{Nests};
 
 use crate::expressions::Expressions;
 use crate::look_ahead::is_operand_in_line;
-use fast_check_expression_forms::{
-    AwaitExpr, BinExpr, TsAsExpr, TsConstAssertion, TsSatisfiesExpr, TsTypeAssertion, UnaryExpr,
-    UpdateExpr,
-};
 use fast_check_source_grammar::{Cursor, ParseError, Rule, Tokens, private_name};
 use fast_check_source_lexer::{Keyword, TokenKind};
 use fast_check_source_values::{binds, starts_value};
-use fast_check_syntax::{SourcePos, Tree};
+use fast_check_tree_forms_expressions::{
+    AwaitExpr, BinExpr, TsAsExpr, TsConstAssertion, TsSatisfiesExpr, TsTypeAssertion, UnaryExpr,
+    UpdateExpr,
+};
+use fast_check_tree_syntax::{SourcePos, Tree};
 use std::alloc::Global;
 
 fn is_prefix(at: Cursor<'_>) -> bool {

@@ -1,5 +1,5 @@
 //! Files below a folder, by their paths from it.
-use fast_check_diagnostics::parsed_source::MediaType;
+use fast_check_tables_diagnostics::parsed_source::MediaType;
 use std::alloc::{AllocError, Global};
 use std::fs;
 

@@ -1,5 +1,5 @@
 //! What names, strings and templates with escapes mean.
-use fast_check_syntax::Atom;
+use fast_check_tree_syntax::Atom;
 use std::alloc::{AllocError, Global};
 
 // An escape that was read: the character that it means, if any, and the place behind it.

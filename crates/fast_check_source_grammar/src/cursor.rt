@@ -4,7 +4,7 @@ ghost use Rattle.std.specs.Prelude.{◌≤◌, length};
 use crate::cooked::cooked;
 use crate::error::ParseError;
 use fast_check_source_lexer::{Keyword, Source, Token, TokenKind, keyword_of};
-use fast_check_syntax::{Atom, SourcePos, SourceRange};
+use fast_check_tree_syntax::{Atom, SourcePos, SourceRange};
 use std::alloc::{AllocError, Global};
 
 /// What a token stands in.

@@ -1,5 +1,5 @@
 //! What stops the parser.
-use fast_check_syntax::SourcePos;
+use fast_check_tree_syntax::SourcePos;
 use std::alloc::{AllocError, AllocFailed};
 
 /// Why a text is not parsed.

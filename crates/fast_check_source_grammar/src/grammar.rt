@@ -5,7 +5,7 @@ use crate::cursor::Within;
 use crate::error::ParseError;
 use crate::tokens::Tokens;
 use fast_check_source_lexer::TokenKind;
-use fast_check_syntax::{Items, Tree};
+use fast_check_tree_syntax::{Items, Tree};
 use std::alloc::Global;
 
 /// What to parse.

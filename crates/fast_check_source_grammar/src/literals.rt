@@ -3,10 +3,10 @@ use crate::cooked::cooked;
 use crate::error::ParseError;
 use crate::names::word_ident;
 use crate::tokens::Tokens;
-use fast_check_expression_forms::TplElement;
-use fast_check_program_forms::{BigInt, Bool, Number, Regex, Str};
 use fast_check_source_lexer::{Keyword, TokenKind};
-use fast_check_syntax::{Atom, SourcePos, SourceRange, Tree};
+use fast_check_tree_forms_expressions::TplElement;
+use fast_check_tree_forms_programs::{BigInt, Bool, Number, Regex, Str};
+use fast_check_tree_syntax::{Atom, SourcePos, SourceRange, Tree};
 use std::alloc::{AllocError, Global};
 
 /// `"a"`

@@ -1,10 +1,10 @@
 //! Names.
 use crate::error::ParseError;
 use crate::tokens::Tokens;
-use fast_check_program_forms::{BindingIdent, Ident, IdentName, PrivateName};
 use fast_check_source_lexer::{Keyword, TokenKind};
-use fast_check_syntax::{SourcePos, SyntaxContext, Tree};
-use fast_check_type_forms::TsQualifiedName;
+use fast_check_tree_forms_programs::{BindingIdent, Ident, IdentName, PrivateName};
+use fast_check_tree_forms_types::TsQualifiedName;
+use fast_check_tree_syntax::{SourcePos, SyntaxContext, Tree};
 use std::alloc::Global;
 
 /// Words that name nothing.

@@ -1,15 +1,15 @@
 -- How high a tree is by its parts: nothing where it is a leaf, one more than its highest part where it is a node.
 use Rattle.std.specs.Prelude.{◌≡◌, ◌≤◌, ◌<◌, ◌+◌, ℕ, zero, suc, Bool, List, [], ◌∷◌, map, length, take}
 use Rattle.std.proofs.Common.{arith, get_or}
-use Rattle.fast_check_syntax.specs.declared.kind.Kind.{Kind}
-use Rattle.fast_check_syntax.specs.declared.kind.Word.{Word}
-use Rattle.fast_check_syntax.specs.declared.atom.Atom.{Atom}
-use Rattle.fast_check_syntax.specs.declared.source.SourceRange.{SourceRange}
-use Rattle.fast_check_syntax.specs.declared.source.SyntaxContext.{SyntaxContext}
-use Rattle.fast_check_syntax.specs.declared.tree.Tree.{Tree, out-Tree, roll-Tree, Absent, Flag, Context, Text, Range, Word as WordLeaf, Node}
-use Rattle.fast_check_syntax.specs.declared.tree.Tree.TheOpen.{Tree-F}
-use Rattle.fast_check_syntax.specs.declared.tree.Tree.TheFolds.{fold_out-Tree, fold-roll-Tree}
-use Rattle.fast_check_syntax.specs.Height.{height, height_step, highest}
+use Rattle.fast_check_tree_syntax.specs.declared.kind.Kind.{Kind}
+use Rattle.fast_check_tree_syntax.specs.declared.kind.Word.{Word}
+use Rattle.fast_check_tree_syntax.specs.declared.atom.Atom.{Atom}
+use Rattle.fast_check_tree_syntax.specs.declared.source.SourceRange.{SourceRange}
+use Rattle.fast_check_tree_syntax.specs.declared.source.SyntaxContext.{SyntaxContext}
+use Rattle.fast_check_tree_syntax.specs.declared.tree.Tree.{Tree, out-Tree, roll-Tree, Absent, Flag, Context, Text, Range, Word as WordLeaf, Node}
+use Rattle.fast_check_tree_syntax.specs.declared.tree.Tree.TheOpen.{Tree-F}
+use Rattle.fast_check_tree_syntax.specs.declared.tree.Tree.TheFolds.{fold_out-Tree, fold-roll-Tree}
+use Rattle.fast_check_tree_syntax.specs.Height.{height, height_step, highest}
 
 pub absent_zero : height Absent ≡ 0
 unfolding height out-Tree denote.Hole.Carrier.out

@@ -1,8 +1,8 @@
 //! The height of a tree, as a test.
 ghost use Rattle.std.specs.Prelude.{◌≤◌, ◌↔◌, IsTrue, map};
-ghost use Rattle.fast_check_syntax.specs.Height.{height, highest};
+ghost use Rattle.fast_check_tree_syntax.specs.Height.{height, highest};
 
-use fast_check_syntax::Tree;
+use fast_check_tree_syntax::Tree;
 
 /// Whether a tree is no higher than this.
 #[cycle(height)]

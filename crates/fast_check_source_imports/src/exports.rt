@@ -1,11 +1,11 @@
 //! Exports of names that are declared elsewhere.
 use crate::imports::{attributes, export_name, is_type_only};
-use fast_check_program_forms::{
-    ExportAll, ExportNamedSpecifier, ExportNamespaceSpecifier, NamedExport,
-};
 use fast_check_source_grammar::{ParseError, Tokens, string};
 use fast_check_source_lexer::{Keyword, TokenKind};
-use fast_check_syntax::{Items, SourcePos, Tree};
+use fast_check_tree_forms_programs::{
+    ExportAll, ExportNamedSpecifier, ExportNamespaceSpecifier, NamedExport,
+};
+use fast_check_tree_syntax::{Items, SourcePos, Tree};
 use std::alloc::Global;
 
 // `a`, `a as b` or `type a` in the braces of an export.

@@ -1,14 +1,14 @@
 //! Imports.
-use fast_check_expression_forms::{KeyValueProp, ObjectLit};
-use fast_check_program_forms::{
-    ImportDecl, ImportDefaultSpecifier, ImportNamedSpecifier, ImportStarAsSpecifier,
-    TsExternalModuleRef, TsImportEqualsDecl,
-};
 use fast_check_source_grammar::{
     Cursor, ParseError, Tokens, entity, ident, ident_name, string, word_ident,
 };
 use fast_check_source_lexer::{Keyword, TokenKind};
-use fast_check_syntax::{Atom, Items, SourcePos, Tree};
+use fast_check_tree_forms_expressions::{KeyValueProp, ObjectLit};
+use fast_check_tree_forms_programs::{
+    ImportDecl, ImportDefaultSpecifier, ImportNamedSpecifier, ImportStarAsSpecifier,
+    TsExternalModuleRef, TsImportEqualsDecl,
+};
+use fast_check_tree_syntax::{Atom, Items, SourcePos, Tree};
 use std::alloc::Global;
 
 /// A name by which a module exports: a word or a string.

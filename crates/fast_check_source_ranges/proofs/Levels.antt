@@ -3,18 +3,18 @@ use Rattle.std.specs.Prelude.{◌≡◌, ◌<◌, ◌+◌, ℕ, zero, suc, max, 
 use Rattle.std.specs.List.{list_all}
 use Rattle.std.proofs.Common.{arith, get_or, drop, ap, sym, ◌∙◌, subst}
 use Rattle.std.proofs.lemmas.List.{drop_more}
-use Rattle.fast_check_syntax.specs.declared.kind.Kind.{Kind}
-use Rattle.fast_check_syntax.specs.declared.kind.Word.{Word}
-use Rattle.fast_check_syntax.specs.declared.atom.Atom.{Atom}
-use Rattle.fast_check_syntax.specs.declared.source.SourceRange.{SourceRange}
-use Rattle.fast_check_syntax.specs.declared.source.SyntaxContext.{SyntaxContext}
-use Rattle.fast_check_syntax.specs.declared.tree.Tree.{Tree, out-Tree, roll-Tree, Absent, Flag, Context, Text, Range, Word as WordLeaf, Node}
-use Rattle.fast_check_syntax.specs.declared.tree.Tree.{out-roll-Tree}
-use Rattle.fast_check_syntax.specs.declared.tree.Tree.TheOpen.{Tree-F}
-use Rattle.fast_check_syntax.specs.Height.{highest}
-use Rattle.fast_check_syntax.specs.Shape.{is_absent, parts_at}
-use Rattle.fast_check_syntax.proofs.Made.{is_absent_node}
-use Rattle.fast_check_syntax.specs.Recursion.{by_form_is, by_form_absent}
+use Rattle.fast_check_tree_syntax.specs.declared.kind.Kind.{Kind}
+use Rattle.fast_check_tree_syntax.specs.declared.kind.Word.{Word}
+use Rattle.fast_check_tree_syntax.specs.declared.atom.Atom.{Atom}
+use Rattle.fast_check_tree_syntax.specs.declared.source.SourceRange.{SourceRange}
+use Rattle.fast_check_tree_syntax.specs.declared.source.SyntaxContext.{SyntaxContext}
+use Rattle.fast_check_tree_syntax.specs.declared.tree.Tree.{Tree, out-Tree, roll-Tree, Absent, Flag, Context, Text, Range, Word as WordLeaf, Node}
+use Rattle.fast_check_tree_syntax.specs.declared.tree.Tree.{out-roll-Tree}
+use Rattle.fast_check_tree_syntax.specs.declared.tree.Tree.TheOpen.{Tree-F}
+use Rattle.fast_check_tree_syntax.specs.Height.{highest}
+use Rattle.fast_check_tree_syntax.specs.Shape.{is_absent, parts_at}
+use Rattle.fast_check_tree_syntax.proofs.Made.{is_absent_node}
+use Rattle.fast_check_tree_syntax.specs.Recursion.{by_form_is, by_form_absent}
 use Rattle.fast_check_source_ranges.specs.Ranges.{own_range, end_of, end_form, level_end, node_end, is_nested, nested_form, level_lies, node_lies, is_between, follow, Test}
 
 end_out : (t : Tree) → is_absent t ≡ false → end_of t ≡ level_end (out-Tree t) (map end_of (parts_at (out-Tree t)))

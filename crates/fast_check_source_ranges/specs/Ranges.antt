@@ -2,14 +2,14 @@
 use Rattle.std.specs.Prelude.{ℕ, Bool, true, ◌&&◌, max, Option, Some, None, List, [], ◌∷◌, if◌then◌else◌}
 use Rattle.std.specs.List.{list_all}
 use Rattle.std.proofs.Math.Dec.{leb}
-use Rattle.fast_check_syntax.specs.declared.kind.Kind.{Kind}
-use Rattle.fast_check_syntax.specs.declared.kind.Kind.TheVariants as kinds
-use Rattle.fast_check_syntax.specs.declared.source.SourceRange.{SourceRange}
-use Rattle.fast_check_syntax.specs.declared.tree.Tree.{Tree, out-Tree}
-use Rattle.fast_check_syntax.specs.declared.tree.Tree.TheOpen.{Tree-F}
-use Rattle.fast_check_syntax.specs.Height.{highest}
-use Rattle.fast_check_syntax.specs.Recursion.{by_form}
-use Rattle.fast_check_syntax.specs.Shape.{◌is◌}
+use Rattle.fast_check_tree_syntax.specs.declared.kind.Kind.{Kind}
+use Rattle.fast_check_tree_syntax.specs.declared.kind.Kind.TheVariants as kinds
+use Rattle.fast_check_tree_syntax.specs.declared.source.SourceRange.{SourceRange}
+use Rattle.fast_check_tree_syntax.specs.declared.tree.Tree.{Tree, out-Tree}
+use Rattle.fast_check_tree_syntax.specs.declared.tree.Tree.TheOpen.{Tree-F}
+use Rattle.fast_check_tree_syntax.specs.Height.{highest}
+use Rattle.fast_check_tree_syntax.specs.Recursion.{by_form}
+use Rattle.fast_check_tree_syntax.specs.Shape.{◌is◌}
 
 -- whether a range does not end before it begins, and lies between two places
 abbrev pub is_between : ℕ → SourceRange → ℕ → Bool

@@ -1,9 +1,9 @@
 //! Where the last range of a tree ends.
 ghost use Rattle.std.specs.Prelude.{◌≡◌, map};
-ghost use Rattle.fast_check_syntax.specs.Height.{highest};
+ghost use Rattle.fast_check_tree_syntax.specs.Height.{highest};
 ghost use Rattle.fast_check_source_ranges.specs.Ranges.{own_range as own, end_of as last};
 
-use fast_check_syntax::{Kind, SourceRange, Tree};
+use fast_check_tree_syntax::{Kind, SourceRange, Tree};
 
 /// The range of a node, if it has one.
 pub fn own_range(kind: Kind, parts: &[Tree]) -> Option<SourceRange>

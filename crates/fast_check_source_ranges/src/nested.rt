@@ -4,7 +4,7 @@ ghost use Rattle.std.specs.List.{list_all};
 ghost use Rattle.fast_check_source_ranges.specs.Ranges.{is_between as lies_between, is_nested as lies, follow as they_follow, inside as lie_inside, in_class as lie_in_class};
 
 use crate::ends::{end_of, own_range};
-use fast_check_syntax::{Kind, SourceRange, Tree};
+use fast_check_tree_syntax::{Kind, SourceRange, Tree};
 
 /// Whether a range does not end before it begins, and lies between two places.
 fn is_between(low: u32, range: SourceRange, high: u32) -> bool

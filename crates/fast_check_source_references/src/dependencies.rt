@@ -1,7 +1,7 @@
 //! What the public face of a declaration refers to, each thing once: its types, heritage and signatures.
 use crate::names::{Chain, bound_id, entity_chain, text_of};
-use fast_check_program_forms::Str;
-use fast_check_syntax::{Id, Part};
+use fast_check_tree_forms_programs::Str;
+use fast_check_tree_syntax::{Id, Part};
 use std::alloc::{AllocError, Global};
 use std::collections::BTreeMap;
 

@@ -2,10 +2,10 @@
 use crate::dependencies::{Dependencies, Space};
 use crate::names::{nothing, value_chain};
 use crate::values::{Walk, Way};
-use fast_check_expression_forms::{ArrayPat, ObjectPat, RestPat};
-use fast_check_program_forms::BindingIdent;
-use fast_check_statement_forms::TsExprWithTypeArgs;
-use fast_check_syntax::{Kind, Part};
+use fast_check_tree_forms_expressions::{ArrayPat, ObjectPat, RestPat};
+use fast_check_tree_forms_programs::BindingIdent;
+use fast_check_tree_forms_statements::TsExprWithTypeArgs;
+use fast_check_tree_syntax::{Kind, Part};
 use std::alloc::AllocError;
 
 /// The type that is written behind a pattern.

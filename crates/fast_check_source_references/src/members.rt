@@ -1,11 +1,13 @@
 //! What members of classes and interfaces refer to.
 use crate::dependencies::Dependencies;
-use fast_check_class_forms::{AutoAccessor, ClassMethod, ClassProp, Constructor, TsIndexSignature};
-use fast_check_syntax::{Kind, Part};
-use fast_check_type_forms::{
+use fast_check_tree_forms_classes::{
+    AutoAccessor, ClassMethod, ClassProp, Constructor, TsIndexSignature,
+};
+use fast_check_tree_forms_types::{
     TsCallSignatureDecl, TsConstructSignatureDecl, TsGetterSignature, TsMethodSignature,
     TsPropertySignature, TsSetterSignature,
 };
+use fast_check_tree_syntax::{Kind, Part};
 use std::alloc::AllocError;
 
 impl Dependencies {

@@ -1,8 +1,8 @@
 //! Names as trees have them.
-use fast_check_expression_forms::{ComputedPropName, MemberExpr};
-use fast_check_program_forms::{BigInt, Ident, IdentName, Number, Str};
-use fast_check_syntax::{Atom, Id, Kind, Part, SyntaxContext};
-use fast_check_type_forms::TsQualifiedName;
+use fast_check_tree_forms_expressions::{ComputedPropName, MemberExpr};
+use fast_check_tree_forms_programs::{BigInt, Ident, IdentName, Number, Str};
+use fast_check_tree_forms_types::TsQualifiedName;
+use fast_check_tree_syntax::{Atom, Id, Kind, Part, SyntaxContext};
 use std::alloc::{AllocError, Global};
 
 /// The number of the scope of a name that nothing binds.

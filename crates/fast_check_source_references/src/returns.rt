@@ -1,10 +1,10 @@
 //! The type that the only return of a function asserts.
-use fast_check_expression_forms::{ParenExpr, TsAsExpr, TsSatisfiesExpr, TsTypeAssertion};
-use fast_check_statement_forms::{
+use fast_check_tree_forms_expressions::{ParenExpr, TsAsExpr, TsSatisfiesExpr, TsTypeAssertion};
+use fast_check_tree_forms_statements::{
     BlockStmt, CatchClause, DoWhileStmt, ForInStmt, ForOfStmt, ForStmt, IfStmt, LabeledStmt,
     ReturnStmt, SwitchCase, SwitchStmt, TryStmt, WhileStmt, WithStmt,
 };
-use fast_check_syntax::{Kind, Part};
+use fast_check_tree_syntax::{Kind, Part};
 use std::alloc::{AllocError, Global};
 
 // The types that values assert stand in parentheses and behind `satisfies` too.

@@ -3,16 +3,16 @@ use crate::dependencies::{Dependencies, Space};
 use crate::functions::type_of_pattern;
 use crate::names::{UNRESOLVED, computed_of, value_chain};
 use crate::returns::asserted_result;
-use fast_check_class_forms::{Function, Param, TsParamProp};
-use fast_check_expression_forms::{
+use fast_check_tree_forms_classes::{Function, Param, TsParamProp};
+use fast_check_tree_forms_expressions::{
     ArrayLit, ArrowExpr, AssignPat, AssignProp, AwaitExpr, BinExpr, CallExpr, CondExpr,
     ExprOrSpread, FnExpr, KeyValueProp, MemberExpr, NewExpr, ObjectLit, ParenExpr, RestPat,
     SpreadElement, Tpl, TsAsExpr, TsConstAssertion, TsNonNullExpr, TsSatisfiesExpr,
     TsTypeAssertion, UnaryExpr, UpdateExpr,
 };
-use fast_check_program_forms::{Ident, IdentName};
-use fast_check_syntax::{Kind, Part};
-use fast_check_type_forms::{TsImportType, TsTypeQuery, TsTypeRef};
+use fast_check_tree_forms_programs::{Ident, IdentName};
+use fast_check_tree_forms_types::{TsImportType, TsTypeQuery, TsTypeRef};
+use fast_check_tree_syntax::{Kind, Part};
 use std::alloc::{AllocError, Global};
 
 fn is_global_object(part: Part<'_>) -> bool {

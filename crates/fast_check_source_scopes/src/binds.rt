@@ -1,20 +1,20 @@
 //! What statements, patterns and parameters bind.
 use crate::scope::{ANY, Meaning, NAMESPACE, ScopeNo, Scopes, TYPE, VALUE};
-use fast_check_class_forms::{Param, TsParamProp};
-use fast_check_expression_forms::{
+use fast_check_tree_forms_classes::{Param, TsParamProp};
+use fast_check_tree_forms_expressions::{
     ArrayPat, AssignPat, AssignPatProp, ClassExpr, FnExpr, KeyValuePatProp, ObjectPat, RestPat,
 };
-use fast_check_program_forms::{
+use fast_check_tree_forms_programs::{
     BindingIdent, ExportDecl, ExportDefaultDecl, Ident, ImportDecl, ImportDefaultSpecifier,
     ImportNamedSpecifier, ImportStarAsSpecifier, TsImportEqualsDecl,
 };
-use fast_check_statement_forms::{
+use fast_check_tree_forms_statements::{
     BlockStmt, CatchClause, ClassDecl, DoWhileStmt, FnDecl, ForInStmt, ForOfStmt, ForStmt, IfStmt,
     LabeledStmt, SwitchCase, SwitchStmt, TryStmt, TsEnumDecl, TsInterfaceDecl, TsModuleDecl,
     TsTypeAliasDecl, UsingDecl, VarDecl, VarDeclarator, WhileStmt, WithStmt,
 };
-use fast_check_syntax::{Kind, Part, Word};
-use fast_check_type_forms::{TsConditionalType, TsInferType, TsTypeParam, TsTypeParamDecl};
+use fast_check_tree_forms_types::{TsConditionalType, TsInferType, TsTypeParam, TsTypeParamDecl};
+use fast_check_tree_syntax::{Kind, Part, Word};
 use std::alloc::AllocError;
 
 fn bind_ident(

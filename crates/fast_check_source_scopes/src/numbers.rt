@@ -1,5 +1,5 @@
 //! Which number each node has, and the tree with these numbers.
-use fast_check_syntax::{Items, Kind, SyntaxContext, Tree};
+use fast_check_tree_syntax::{Items, Kind, SyntaxContext, Tree};
 use std::alloc::{AllocError, Global};
 use std::collections::BTreeMap;
 

@@ -1,5 +1,5 @@
 //! Scopes, and which of them binds a name.
-use fast_check_syntax::Atom;
+use fast_check_tree_syntax::Atom;
 use std::alloc::{AllocError, Global};
 use std::collections::BTreeMap;
 

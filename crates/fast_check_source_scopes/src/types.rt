@@ -3,17 +3,17 @@ use crate::binds::{bind_inferred, bind_pattern, bind_type_params};
 use crate::numbers::Numbered;
 use crate::scope::{ANY, Meaning, NAMESPACE, ScopeNo, TYPE, VALUE};
 use crate::visit::Visit;
-use fast_check_class_forms::TsIndexSignature;
-use fast_check_expression_forms::MemberExpr;
-use fast_check_program_forms::{
+use fast_check_tree_forms_classes::TsIndexSignature;
+use fast_check_tree_forms_expressions::MemberExpr;
+use fast_check_tree_forms_programs::{
     BindingIdent, ExportNamedSpecifier, Ident, NamedExport, TsImportEqualsDecl,
 };
-use fast_check_statement_forms::TsExprWithTypeArgs;
-use fast_check_syntax::{Kind, Part};
-use fast_check_type_forms::{
+use fast_check_tree_forms_statements::TsExprWithTypeArgs;
+use fast_check_tree_forms_types::{
     TsConditionalType, TsGetterSignature, TsImportType, TsMappedType, TsMethodSignature,
     TsPropertySignature, TsQualifiedName, TsSetterSignature, TsTypeParam, TsTypeQuery, TsTypeRef,
 };
+use fast_check_tree_syntax::{Kind, Part};
 use std::alloc::AllocError;
 
 impl<'a> Visit<'a> {

@@ -5,21 +5,21 @@ use crate::binds::{
 };
 use crate::numbers::{Numbered, Numbers, with_numbers};
 use crate::scope::{ANY, GroupNo, NAMESPACE, ScopeNo, Scopes, TYPE, VALUE, number_of};
-use fast_check_class_forms::{Class, Constructor, Function, StaticBlock};
-use fast_check_expression_forms::{ArrowExpr, ClassExpr, FnExpr, GetterProp, SetterProp};
-use fast_check_program_forms::{
+use fast_check_tree_forms_classes::{Class, Constructor, Function, StaticBlock};
+use fast_check_tree_forms_expressions::{ArrowExpr, ClassExpr, FnExpr, GetterProp, SetterProp};
+use fast_check_tree_forms_programs::{
     ExportDecl, ExportDefaultDecl, ExportDefaultExpr, Ident, ImportDecl, ImportDefaultSpecifier,
     ImportNamedSpecifier, ImportStarAsSpecifier, Module, TsExportAssignment, TsImportEqualsDecl,
 };
-use fast_check_statement_forms::{
+use fast_check_tree_forms_statements::{
     BlockStmt, CatchClause, ClassDecl, FnDecl, ForInStmt, ForOfStmt, ForStmt, LabeledStmt,
     SwitchCase, SwitchStmt, TsEnumDecl, TsEnumMember, TsInterfaceDecl, TsModuleBlock, TsModuleDecl,
     TsNamespaceDecl, TsTypeAliasDecl,
 };
-use fast_check_syntax::{Atom, Kind, Part, SourceRange, Tree};
-use fast_check_type_forms::{
+use fast_check_tree_forms_types::{
     TsCallSignatureDecl, TsConstructSignatureDecl, TsConstructorType, TsFnType, TsTupleElement,
 };
+use fast_check_tree_syntax::{Atom, Kind, Part, SourceRange, Tree};
 use std::alloc::{AllocError, Global};
 use std::collections::BTreeMap;
 

@@ -2,13 +2,13 @@
 ghost use Rattle.fast_check_source_grammar.specs.Nests.{Nests};
 
 use crate::statements::{Opening, Statements};
-use fast_check_class_forms::Class;
-use fast_check_expression_forms::ClassExpr;
-use fast_check_program_forms::{ExportDecl, ExportDefaultDecl};
 use fast_check_source_grammar::{Cursor, ParseError, Rule, Tokens, ident, sees_ident};
 use fast_check_source_lexer::{Keyword, TokenKind};
-use fast_check_statement_forms::ClassDecl;
-use fast_check_syntax::{SourcePos, SyntaxContext, Tree};
+use fast_check_tree_forms_classes::Class;
+use fast_check_tree_forms_expressions::ClassExpr;
+use fast_check_tree_forms_programs::{ExportDecl, ExportDefaultDecl};
+use fast_check_tree_forms_statements::ClassDecl;
+use fast_check_tree_syntax::{SourcePos, SyntaxContext, Tree};
 use std::alloc::Global;
 
 // Whether an `implements` that comes next begins the names of interfaces.

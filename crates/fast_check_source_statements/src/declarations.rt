@@ -2,17 +2,17 @@
 ghost use Rattle.fast_check_source_grammar.specs.Nests.{Nests};
 
 use crate::statements::{Opening, Statements};
-use fast_check_expression_forms::MemberExpr;
 use fast_check_source_grammar::{
     ParseError, Rule, Tokens, ident, ident_name, number, string, word_ident,
 };
 use fast_check_source_lexer::{Keyword, TokenKind};
 use fast_check_source_values::Marks;
-use fast_check_statement_forms::{
+use fast_check_tree_forms_expressions::MemberExpr;
+use fast_check_tree_forms_statements::{
     FnDecl, TsEnumDecl, TsEnumMember, TsExprWithTypeArgs, TsInterfaceBody, TsInterfaceDecl,
     TsTypeAliasDecl, UsingDecl, VarDecl, VarDeclarator,
 };
-use fast_check_syntax::{SourcePos, SyntaxContext, Tree, Word as Form};
+use fast_check_tree_syntax::{SourcePos, SyntaxContext, Tree, Word as Form};
 use std::alloc::Global;
 
 // `a.b` behind `extends` or `implements`.

@@ -2,13 +2,13 @@
 ghost use Rattle.fast_check_source_grammar.specs.Nests.{Nests};
 
 use crate::statements::{Opening, Statements, sees_declaration};
-use fast_check_program_forms::{
-    ExportDecl, ExportDefaultDecl, ExportDefaultExpr, TsExportAssignment, TsNamespaceExportDecl,
-};
 use fast_check_source_grammar::{Cursor, ParseError, Rule, Tokens, ident};
 use fast_check_source_imports::{eat_type, export_names, export_star, import_equals};
 use fast_check_source_lexer::{Keyword, TokenKind};
-use fast_check_syntax::{SourcePos, Tree};
+use fast_check_tree_forms_programs::{
+    ExportDecl, ExportDefaultDecl, ExportDefaultExpr, TsExportAssignment, TsNamespaceExportDecl,
+};
+use fast_check_tree_syntax::{SourcePos, Tree};
 use std::alloc::Global;
 
 fn is_function(at: Cursor<'_>) -> bool {

@@ -4,11 +4,11 @@ ghost use Rattle.fast_check_source_grammar.specs.Nests.{Nests};
 use crate::statements::Statements;
 use fast_check_source_grammar::{Cursor, ParseError, Rule, Tokens, ident, sees_ident};
 use fast_check_source_lexer::{Keyword, TokenKind};
-use fast_check_statement_forms::{
+use fast_check_tree_forms_statements::{
     BreakStmt, CatchClause, ContinueStmt, DebuggerStmt, ExprStmt, IfStmt, LabeledStmt, ReturnStmt,
     SwitchCase, SwitchStmt, ThrowStmt, TryStmt, WithStmt,
 };
-use fast_check_syntax::{SourcePos, Tree};
+use fast_check_tree_syntax::{SourcePos, Tree};
 use std::alloc::Global;
 
 // Whether a value does not go on in this line.

@@ -4,8 +4,8 @@ ghost use Rattle.fast_check_source_grammar.specs.Nests.{Nests};
 use crate::statements::{Opening, Statements, is_await_using, is_using};
 use fast_check_source_grammar::{Cursor, Note, ParseError, Rule, Tokens, Within};
 use fast_check_source_lexer::{Keyword, TokenKind};
-use fast_check_statement_forms::{DoWhileStmt, ForInStmt, ForOfStmt, ForStmt, WhileStmt};
-use fast_check_syntax::{SourcePos, Tree};
+use fast_check_tree_forms_statements::{DoWhileStmt, ForInStmt, ForOfStmt, ForStmt, WhileStmt};
+use fast_check_tree_syntax::{SourcePos, Tree};
 use std::alloc::Global;
 
 fn set_no_in(tokens: &mut Tokens<'_>, no_in: bool) {

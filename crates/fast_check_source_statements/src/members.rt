@@ -3,15 +3,15 @@ ghost use Rattle.fast_check_source_grammar.specs.Nests.{Nests};
 
 use crate::modifiers::{Modifiers, member_modifiers, method_kind, param_modifiers};
 use crate::statements::Statements;
-use fast_check_class_forms::{
-    AutoAccessor, ClassMethod, ClassProp, Constructor, Param, PrivateMethod, PrivateProp,
-    StaticBlock, TsParamProp,
-};
 use fast_check_source_grammar::{Cursor, ParseError, Rule, Tokens, ident_name, private_name};
 use fast_check_source_lexer::{Keyword, TokenKind};
 use fast_check_source_types::sees_index;
 use fast_check_source_values::{Marks, enter_function};
-use fast_check_syntax::{SourcePos, SyntaxContext, Tree, Word as Form};
+use fast_check_tree_forms_classes::{
+    AutoAccessor, ClassMethod, ClassProp, Constructor, Param, PrivateMethod, PrivateProp,
+    StaticBlock, TsParamProp,
+};
+use fast_check_tree_syntax::{SourcePos, SyntaxContext, Tree, Word as Form};
 use std::alloc::Global;
 
 /// What is read of a member before it is known which one it is.

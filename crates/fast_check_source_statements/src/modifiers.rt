@@ -1,7 +1,7 @@
 //! The words before a member of a class or before a parameter.
 use fast_check_source_grammar::{Cursor, Tokens};
 use fast_check_source_lexer::{Keyword, TokenKind};
-use fast_check_syntax::{Tree, Word as Form};
+use fast_check_tree_syntax::{Tree, Word as Form};
 
 /// The words before a member of a class or before a parameter.
 #[derive(Clone, Copy)]

@@ -4,8 +4,8 @@ ghost use Rattle.fast_check_source_grammar.specs.Nests.{Nests};
 use crate::statements::{Opening, Statements};
 use fast_check_source_grammar::{ParseError, Rule, Tokens, ident, string, word_ident};
 use fast_check_source_lexer::{Keyword, TokenKind};
-use fast_check_statement_forms::{TsModuleBlock, TsModuleDecl, TsNamespaceDecl};
-use fast_check_syntax::{SourcePos, Tree};
+use fast_check_tree_forms_statements::{TsModuleBlock, TsModuleDecl, TsNamespaceDecl};
+use fast_check_tree_syntax::{SourcePos, Tree};
 use std::alloc::Global;
 
 // One of the names behind the first one, and where it begins.

@@ -5,8 +5,8 @@ use fast_check_source_expressions::Expressions;
 use fast_check_source_grammar::{Cursor, ParseError, Rule, Tokens, is_reserved};
 use fast_check_source_imports::import;
 use fast_check_source_lexer::{Keyword, TokenKind};
-use fast_check_statement_forms::{BlockStmt, EmptyStmt};
-use fast_check_syntax::{Items, SourcePos, SyntaxContext, Tree};
+use fast_check_tree_forms_statements::{BlockStmt, EmptyStmt};
+use fast_check_tree_syntax::{Items, SourcePos, SyntaxContext, Tree};
 use std::alloc::Global;
 
 /// The rules of statements.

@@ -1,7 +1,7 @@
 //! The symbols of a module while they are gathered.
 use fast_check_source_references::dependencies::Dependencies;
-use fast_check_symbols::{FileDepName, ReExportAllNode};
-use fast_check_syntax::{Atom, Id, SourceRange};
+use fast_check_tables_symbols::{FileDepName, ReExportAllNode};
+use fast_check_tree_syntax::{Atom, Id, SourceRange};
 use std::alloc::{AllocError, Global};
 use std::collections::BTreeMap;
 

@@ -1,19 +1,19 @@
 //! Members of classes and interfaces. Static ones are exports of their class.
 use crate::builder::{Binds, Declaration, Flags, PLAIN, SymbolNo, Tables, Target};
-use fast_check_class_forms::{
+use fast_check_source_references::dependencies::Dependencies;
+use fast_check_source_references::names::{computed_of, key_name, nothing, text_of};
+use fast_check_tree_forms_classes::{
     AutoAccessor, Class, ClassMethod, ClassProp, Constructor, Function, TsIndexSignature,
     TsParamProp,
 };
-use fast_check_expression_forms::AssignPat;
-use fast_check_program_forms::BindingIdent;
-use fast_check_source_references::dependencies::Dependencies;
-use fast_check_source_references::names::{computed_of, key_name, nothing, text_of};
-use fast_check_statement_forms::{TsInterfaceBody, TsInterfaceDecl};
-use fast_check_syntax::{Atom, Kind, Part, SourceRange, Word};
-use fast_check_type_forms::{
+use fast_check_tree_forms_expressions::AssignPat;
+use fast_check_tree_forms_programs::BindingIdent;
+use fast_check_tree_forms_statements::{TsInterfaceBody, TsInterfaceDecl};
+use fast_check_tree_forms_types::{
     TsCallSignatureDecl, TsConstructSignatureDecl, TsGetterSignature, TsMethodSignature,
     TsPropertySignature, TsSetterSignature,
 };
+use fast_check_tree_syntax::{Atom, Kind, Part, SourceRange, Word};
 use std::alloc::AllocError;
 
 const MEMBER_FLAGS: Flags = Flags {

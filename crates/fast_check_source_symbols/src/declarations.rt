@@ -1,18 +1,18 @@
 //! Declarations.
 use crate::builder::{Binds, Declaration, Flags, PLAIN, SymbolNo, Tables, Target};
 use crate::items::{Task, Way};
-use fast_check_class_forms::{Class, Function};
-use fast_check_expression_forms::{
-    ArrayPat, AssignPat, AssignPatProp, KeyValuePatProp, ObjectPat, ParenExpr, RestPat,
-};
-use fast_check_program_forms::BindingIdent;
 use fast_check_source_references::functions::type_of_pattern;
 use fast_check_source_references::names::{id_of, text_of};
-use fast_check_statement_forms::{
+use fast_check_tree_forms_classes::{Class, Function};
+use fast_check_tree_forms_expressions::{
+    ArrayPat, AssignPat, AssignPatProp, KeyValuePatProp, ObjectPat, ParenExpr, RestPat,
+};
+use fast_check_tree_forms_programs::BindingIdent;
+use fast_check_tree_forms_statements::{
     ClassDecl, FnDecl, TsEnumDecl, TsEnumMember, TsInterfaceDecl, TsModuleBlock, TsModuleDecl,
     TsNamespaceDecl, TsTypeAliasDecl, UsingDecl, VarDecl, VarDeclarator,
 };
-use fast_check_syntax::{Atom, Id, Kind, Part, SourceRange, Word};
+use fast_check_tree_syntax::{Atom, Id, Kind, Part, SourceRange, Word};
 use std::alloc::{AllocError, Global};
 
 // Pushes the patterns within one, the first one last.

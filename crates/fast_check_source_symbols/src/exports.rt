@@ -1,15 +1,15 @@
 //! Imports and exports.
 use crate::builder::{Binds, Flags, PLAIN, SymbolNo, Tables, Target};
 use crate::declarations::Setting;
-use fast_check_expression_forms::{ClassExpr, FnExpr};
-use fast_check_program_forms::{
+use fast_check_source_references::names::{entity_chain, id_of, text_of};
+use fast_check_tables_symbols::{FileDepName, ReExportAllNode};
+use fast_check_tree_forms_expressions::{ClassExpr, FnExpr};
+use fast_check_tree_forms_programs::{
     ExportAll, ExportDefaultDecl, ExportDefaultExpr, ExportNamedSpecifier,
     ExportNamespaceSpecifier, ImportDecl, ImportDefaultSpecifier, ImportNamedSpecifier,
     ImportStarAsSpecifier, NamedExport, Str, TsExternalModuleRef, TsImportEqualsDecl,
 };
-use fast_check_source_references::names::{entity_chain, id_of, text_of};
-use fast_check_symbols::{FileDepName, ReExportAllNode};
-use fast_check_syntax::{Atom, Id, Kind, Part, SourceRange, SyntaxContext};
+use fast_check_tree_syntax::{Atom, Id, Kind, Part, SourceRange, SyntaxContext};
 use std::alloc::{AllocError, Global};
 
 fn source_of(part: Part<'_>) -> &str {

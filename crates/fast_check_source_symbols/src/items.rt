@@ -1,11 +1,11 @@
 //! The items of a module or of a namespace.
 use crate::builder::{Binds, MODULE, PLAIN, SymbolNo, Tables};
 use crate::declarations::{Setting, declared_names};
-use fast_check_expression_forms::{AssignExpr, MemberExpr};
-use fast_check_program_forms::ExportDecl;
 use fast_check_source_references::names::{id_of, text_of};
-use fast_check_statement_forms::ExprStmt;
-use fast_check_syntax::{Atom, Kind, Part, SourceRange};
+use fast_check_tree_forms_expressions::{AssignExpr, MemberExpr};
+use fast_check_tree_forms_programs::ExportDecl;
+use fast_check_tree_forms_statements::ExprStmt;
+use fast_check_tree_syntax::{Atom, Kind, Part, SourceRange};
 use std::alloc::AllocError;
 
 // Whether a body says itself what it exports.

@@ -1,13 +1,13 @@
 //! Declarations of a declaration file, or of an ambient namespace, are exported without a word where no list of exports stands beside them. Since a list
 //! goes from a skeleton, the word is written in here.
-use fast_check_class_forms::{Class, Function};
-use fast_check_program_forms::{ExportDecl, Module};
 use fast_check_source_symbols::items::{declaration_of, is_declaration, says_exports};
-use fast_check_statement_forms::{
+use fast_check_tree_forms_classes::{Class, Function};
+use fast_check_tree_forms_programs::{ExportDecl, Module};
+use fast_check_tree_forms_statements::{
     ClassDecl, FnDecl, TsEnumDecl, TsInterfaceDecl, TsModuleBlock, TsModuleDecl, TsNamespaceDecl,
     TsTypeAliasDecl, UsingDecl, VarDecl,
 };
-use fast_check_syntax::{Items, Kind, Part, SourceRange, Tree};
+use fast_check_tree_syntax::{Items, Kind, Part, SourceRange, Tree};
 use std::alloc::{AllocError, Global};
 use std::collections::BTreeSet;
 

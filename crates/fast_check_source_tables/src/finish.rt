@@ -1,14 +1,14 @@
 //! The finished tables.
-use fast_check_program_forms::{Module, Script};
 use fast_check_source_references::dependencies::{Dependencies, Dependency, Space};
 use fast_check_source_symbols::builder::{
     Binds, Declaration, Draft, Flags, MODULE, SymbolNo, Tables, Target,
 };
-use fast_check_symbols::{
+use fast_check_tables_symbols::{
     ModuleTables, ReferenceNamespace, Symbol, SymbolDecl, SymbolDeclKind, SymbolDecls, SymbolDep,
     SymbolExports, SymbolId, SymbolNode, SymbolNodeDep,
 };
-use fast_check_syntax::{Id, Kind, Tree};
+use fast_check_tree_forms_programs::{Module, Script};
+use fast_check_tree_syntax::{Id, Kind, Tree};
 use std::alloc::{AllocError, Global};
 use std::collections::{BTreeMap, BTreeSet};
 

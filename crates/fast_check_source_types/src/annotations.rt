@@ -5,10 +5,10 @@ use crate::look_ahead::is_before_is;
 use crate::types::Types;
 use fast_check_source_grammar::{Note, ParseError, Rule, Tokens, ident, sees_ident, word_ident};
 use fast_check_source_lexer::{Keyword, TokenKind};
-use fast_check_syntax::{SourcePos, Tree};
-use fast_check_type_forms::{
+use fast_check_tree_forms_types::{
     TsThisType, TsTypeAnn, TsTypeParam, TsTypeParamDecl, TsTypeParamInstantiation, TsTypePredicate,
 };
+use fast_check_tree_syntax::{SourcePos, Tree};
 use std::alloc::Global;
 
 impl<F: Fn(Global, &mut Tokens<'_>, usize, Rule) -> Result<Tree, ParseError>> Types<F> {

@@ -4,8 +4,8 @@ ghost use Rattle.fast_check_source_grammar.specs.Nests.{Nests};
 use crate::types::Types;
 use fast_check_source_grammar::{ParseError, Rule, Tokens, word_ident};
 use fast_check_source_lexer::{Keyword, TokenKind};
-use fast_check_syntax::{Atom, Tree};
-use fast_check_type_forms::{TsMappedType, TsTypeParam};
+use fast_check_tree_forms_types::{TsMappedType, TsTypeParam};
+use fast_check_tree_syntax::{Atom, Tree};
 use std::alloc::{AllocError, Global};
 
 // The sign before `readonly` or `?`, as swc writes it.

@@ -3,15 +3,15 @@ ghost use Rattle.fast_check_source_grammar.specs.Nests.{Nests};
 
 use crate::look_ahead::{can_follow_modifier, sees_index};
 use crate::types::Types;
-use fast_check_class_forms::TsIndexSignature;
-use fast_check_program_forms::{BindingIdent, Ident};
 use fast_check_source_grammar::{ParseError, Rule, Tokens, literal_key};
 use fast_check_source_lexer::{Keyword, TokenKind};
-use fast_check_syntax::{Items, SourcePos, SyntaxContext, Tree};
-use fast_check_type_forms::{
+use fast_check_tree_forms_classes::TsIndexSignature;
+use fast_check_tree_forms_programs::{BindingIdent, Ident};
+use fast_check_tree_forms_types::{
     TsCallSignatureDecl, TsConstructSignatureDecl, TsGetterSignature, TsMethodSignature,
     TsPropertySignature, TsSetterSignature,
 };
+use fast_check_tree_syntax::{Items, SourcePos, SyntaxContext, Tree};
 use std::alloc::Global;
 
 /// Passes what ends a member.

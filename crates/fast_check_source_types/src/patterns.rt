@@ -2,15 +2,15 @@
 ghost use Rattle.fast_check_source_grammar.specs.Nests.{Nests};
 
 use crate::types::Types;
-use fast_check_expression_forms::{
-    ArrayPat, AssignPat, AssignPatProp, ComputedPropName, KeyValuePatProp, ObjectPat, RestPat,
-};
-use fast_check_program_forms::{BindingIdent, Ident};
 use fast_check_source_grammar::{
     ParseError, Rule, Tokens, binding, ident, ident_name, number, sees_ident, string,
 };
 use fast_check_source_lexer::{Keyword, TokenKind};
-use fast_check_syntax::{SourcePos, SyntaxContext, Tree};
+use fast_check_tree_forms_expressions::{
+    ArrayPat, AssignPat, AssignPatProp, ComputedPropName, KeyValuePatProp, ObjectPat, RestPat,
+};
+use fast_check_tree_forms_programs::{BindingIdent, Ident};
+use fast_check_tree_syntax::{SourcePos, SyntaxContext, Tree};
 use std::alloc::Global;
 
 // A name as an identifier, with a `?` behind it where one may stand there.

@@ -3,17 +3,17 @@ ghost use Rattle.fast_check_source_grammar.specs.Nests.{Nests};
 
 use crate::look_ahead::{is_before_is, sees_assertion, sees_label, sees_mapped};
 use crate::types::Types;
-use fast_check_expression_forms::RestPat;
-use fast_check_program_forms::{BindingIdent, Ident};
 use fast_check_source_grammar::{
     ParseError, Rule, Tokens, bool_literal, entity, quasi, signed_number, string,
 };
 use fast_check_source_lexer::{Keyword, TokenKind};
-use fast_check_syntax::{Items, SourcePos, SourceRange, SyntaxContext, Tree, Word as Form};
-use fast_check_type_forms::{
+use fast_check_tree_forms_expressions::RestPat;
+use fast_check_tree_forms_programs::{BindingIdent, Ident};
+use fast_check_tree_forms_types::{
     TsImportType, TsKeywordType, TsLitType, TsOptionalType, TsParenthesizedType, TsRestType,
     TsThisType, TsTplLitType, TsTupleElement, TsTupleType, TsTypeLit, TsTypeQuery, TsTypeRef,
 };
+use fast_check_tree_syntax::{Items, SourcePos, SourceRange, SyntaxContext, Tree, Word as Form};
 use std::alloc::Global;
 
 fn keyword(word: Keyword) -> Option<Form> {

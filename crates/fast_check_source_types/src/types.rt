@@ -4,11 +4,11 @@ ghost use Rattle.fast_check_source_grammar.specs.Nests.{Nests};
 use crate::look_ahead::sees_function;
 use fast_check_source_grammar::{Grammar, Note, ParseError, Rule, Tokens, Within, ident};
 use fast_check_source_lexer::{Keyword, TokenKind};
-use fast_check_syntax::{Items, SourcePos, Tree, Word as Form};
-use fast_check_type_forms::{
+use fast_check_tree_forms_types::{
     TsArrayType, TsConditionalType, TsConstructorType, TsFnType, TsIndexedAccessType, TsInferType,
     TsIntersectionType, TsTypeOperator, TsTypeParam, TsUnionType,
 };
+use fast_check_tree_syntax::{Items, SourcePos, Tree, Word as Form};
 use std::alloc::Global;
 
 /// The rules of types.

@@ -2,11 +2,11 @@
 ghost use Rattle.fast_check_source_grammar.specs.Nests.{Nests};
 
 use crate::values::Values;
-use fast_check_class_forms::{Decorator, Function, Param};
-use fast_check_expression_forms::FnExpr;
 use fast_check_source_grammar::{ParseError, Rule, Tokens, Within, ident, sees_ident};
 use fast_check_source_lexer::{Keyword, TokenKind};
-use fast_check_syntax::{Items, SourcePos, SyntaxContext, Tree};
+use fast_check_tree_forms_classes::{Decorator, Function, Param};
+use fast_check_tree_forms_expressions::FnExpr;
+use fast_check_tree_syntax::{Items, SourcePos, SyntaxContext, Tree};
 use std::alloc::Global;
 
 /// What stands before the name of a function.

@@ -2,10 +2,10 @@
 ghost use Rattle.fast_check_source_grammar.specs.Nests.{Nests};
 
 use crate::values::Values;
-use fast_check_expression_forms::{JSXElement, JSXFragment};
 use fast_check_source_grammar::{ParseError, Rule, Tokens};
 use fast_check_source_lexer::TokenKind;
-use fast_check_syntax::{Atom, Tree};
+use fast_check_tree_forms_expressions::{JSXElement, JSXFragment};
+use fast_check_tree_syntax::{Atom, Tree};
 use std::alloc::Global;
 
 // Passes a name in a tag.

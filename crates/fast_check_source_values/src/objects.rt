@@ -4,12 +4,12 @@ ghost use Rattle.fast_check_source_grammar.specs.Nests.{Nests};
 use crate::functions::{Marks, enter_function};
 use crate::look_ahead::leads;
 use crate::values::Values;
-use fast_check_expression_forms::{
-    AssignProp, GetterProp, KeyValueProp, MethodProp, ObjectLit, SetterProp, SpreadElement,
-};
 use fast_check_source_grammar::{Cursor, ParseError, Rule, Tokens, ident, sees_ident};
 use fast_check_source_lexer::{Keyword, TokenKind};
-use fast_check_syntax::{Items, SourcePos, Tree};
+use fast_check_tree_forms_expressions::{
+    AssignProp, GetterProp, KeyValueProp, MethodProp, ObjectLit, SetterProp, SpreadElement,
+};
+use fast_check_tree_syntax::{Items, SourcePos, Tree};
 use std::alloc::Global;
 
 // Whether a name stands here with no key, value or body of its own.

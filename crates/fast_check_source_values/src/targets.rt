@@ -2,13 +2,13 @@
 ghost use Rattle.fast_check_source_grammar.specs.Nests.{Nests};
 
 use crate::values::Values;
-use fast_check_expression_forms::{
-    ArrayPat, AssignPat, AssignPatProp, KeyValuePatProp, ObjectPat, PatExpr, RestPat, TargetPat,
-};
-use fast_check_program_forms::BindingIdent;
 use fast_check_source_grammar::{ParseError, Rule, Tokens, ident};
 use fast_check_source_lexer::TokenKind;
-use fast_check_syntax::{Kind, Tree};
+use fast_check_tree_forms_expressions::{
+    ArrayPat, AssignPat, AssignPatProp, KeyValuePatProp, ObjectPat, PatExpr, RestPat, TargetPat,
+};
+use fast_check_tree_forms_programs::BindingIdent;
+use fast_check_tree_syntax::{Kind, Tree};
 use std::alloc::Global;
 
 /// Whether a tree is a literal that may be read as a pattern.

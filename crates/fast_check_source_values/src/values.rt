@@ -2,17 +2,17 @@
 ghost use Rattle.fast_check_source_grammar.specs.Nests.{Nests};
 
 use crate::look_ahead::follows_args;
-use fast_check_expression_forms::{
-    ArrayLit, ComputedPropName, Import, MetaPropExpr, NewExpr, ParenExpr, Super, SuperPropExpr,
-    ThisExpr, Tpl,
-};
-use fast_check_program_forms::Null;
 use fast_check_source_grammar::{
     Note, ParseError, Rule, Tokens, bool_literal, ident, ident_name, number, regex, string,
 };
 use fast_check_source_lexer::{Keyword, TokenKind};
 use fast_check_source_types::Types;
-use fast_check_syntax::{Atom, Items, SourcePos, SyntaxContext, Tree};
+use fast_check_tree_forms_expressions::{
+    ArrayLit, ComputedPropName, Import, MetaPropExpr, NewExpr, ParenExpr, Super, SuperPropExpr,
+    ThisExpr, Tpl,
+};
+use fast_check_tree_forms_programs::Null;
+use fast_check_tree_syntax::{Atom, Items, SourcePos, SyntaxContext, Tree};
 use std::alloc::Global;
 
 /// The rules of values without operators.

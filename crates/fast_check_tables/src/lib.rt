@@ -2,18 +2,18 @@
 //! offers the crates that hold these, and has no code.
 #![tactic(auto)]
 
-pub use fast_check_diagnostics::parsed_source::{MediaType, ModuleSpecifier, ParsedSource};
-pub use fast_check_graph::{AnyModuleInfo, Module, ModuleGraph, RootSymbol};
-pub use fast_check_modules::{
+pub use fast_check_tables_diagnostics::parsed_source::{MediaType, ModuleSpecifier, ParsedSource};
+pub use fast_check_tables_graph::{AnyModuleInfo, Module, ModuleGraph, RootSymbol};
+pub use fast_check_tables_modules::{
     CheckedTables, EsModuleInfo, FileDepName, JsonModuleInfo, ModuleTables, ReExportAllNode,
     ReferenceNamespace, Symbol, SymbolDecl, SymbolDeclKind, SymbolDecls, SymbolDep, SymbolExports,
     SymbolId, SymbolNode, SymbolNodeDep, TableFault,
 };
-pub use fast_check_packages::{JsrUrlProvider, PackageNv, WorkspaceMember};
+pub use fast_check_tables_packages::{JsrUrlProvider, PackageNv, WorkspaceMember};
 
 /// The public ranges of a module, and diagnostics.
 pub mod diagnostics {
-    pub use fast_check_modules::diagnostics::{
+    pub use fast_check_tables_modules::diagnostics::{
         Diagnostic, DiagnosticLevel, DiagnosticLocation, DiagnosticSnippet, FastCheckDiagnostic,
         FastCheckDiagnosticRange, ModulePublicRanges,
     };
@@ -21,7 +21,7 @@ pub mod diagnostics {
 
 /// Sets of demanded names, and the modules that were followed or wait.
 pub mod lattice {
-    pub use fast_check_lattice::{
+    pub use fast_check_finder_lattice::{
         Exports, FileDepName, HandledExports, ImportedExports, NamedSubset, PendingTrace,
         PendingTraces,
     };
@@ -29,5 +29,7 @@ pub mod lattice {
 
 /// What a caller lends, and why a build stops.
 pub mod provider {
-    pub use fast_check_packages::{BuildFault, IndexedPackages, JsrUrlProvider, ListedPackages};
+    pub use fast_check_tables_packages::{
+        BuildFault, IndexedPackages, JsrUrlProvider, ListedPackages,
+    };
 }

@@ -7,27 +7,27 @@ use Rattle.std.proofs.Common.{ap, ◌∙◌, sym, subst, add-one}
 use Rattle.std.proofs.lemmas.Result.{IfOk-weaker}
 use Rattle.std.proofs.Math.Seq.{drop-cons}
 use Rattle.std.proofs.lemmas.List.{drop_all}
-use Rattle.fast_check_syntax.specs.declared.kind.Kind.TheVariants as kinds
-use Rattle.fast_check_syntax.specs.declared.source.SourceRange.{SourceRange}
-use Rattle.fast_check_syntax.specs.declared.tree.Tree as tree
-use Rattle.fast_check_syntax.specs.declared.tree.Tree.{Tree, Absent}
-use Rattle.fast_check_syntax.specs.Shape.{parts, node, list}
-use Rattle.fast_check_syntax.proofs.Made.{parts_node}
-use Rattle.fast_check_syntax.specs.declared.kind.Kind.TheVariants.{List as List'}
-use Rattle.fast_check_class_forms.specs.Classes.{Constructor-span, Constructor-ctxt, Constructor-key, Constructor-params, Constructor-body}
-use Rattle.fast_check_class_forms.specs.Classes.{Constructor-accessibility, Constructor-is_optional}
-use Rattle.fast_check_swc_helpers.specs.ranges.Ranges.{range_of_node}
-use Rattle.fast_check_signatures.specs.Bindings.{Bindings}
-use Rattle.fast_check_signatures.specs.declared.fault.Fault.{Fault}
-use Rattle.fast_check_signatures.specs.declared.fault.FaultKind.TheVariants.{UnsupportedDestructuring}
-use Rattle.fast_check_signatures.specs.Seen.{Seen}
-use Rattle.fast_check_signatures.specs.Answers.{Adds, fault_at, faultless, answer_to, answer_of}
-use Rattle.fast_check_signatures.specs.Functions.{any_params_from}
-use Rattle.fast_check_signatures.specs.Classes.{is_param_property, takes_apart, plain_param, param_target, constructor_body, constructor_of}
-use Rattle.fast_check_signatures.specs.Classes.{unless_taken_apart, patterns_among, param_properties, constructor_params_seen}
-use Rattle.fast_check_signatures.specs.Classes.{constructor_seen, plain_params_seen}
-use Rattle.fast_check_signatures.specs.Members.{is_private}
-use Rattle.fast_check_signatures.proofs.Adding.{adds_nothing, adds_same, adds_made, adds_fault, adds_visited}
+use Rattle.fast_check_tree_syntax.specs.declared.kind.Kind.TheVariants as kinds
+use Rattle.fast_check_tree_syntax.specs.declared.source.SourceRange.{SourceRange}
+use Rattle.fast_check_tree_syntax.specs.declared.tree.Tree as tree
+use Rattle.fast_check_tree_syntax.specs.declared.tree.Tree.{Tree, Absent}
+use Rattle.fast_check_tree_syntax.specs.Shape.{parts, node, list}
+use Rattle.fast_check_tree_syntax.proofs.Made.{parts_node}
+use Rattle.fast_check_tree_syntax.specs.declared.kind.Kind.TheVariants.{List as List'}
+use Rattle.fast_check_tree_forms_classes.specs.Classes.{Constructor-span, Constructor-ctxt, Constructor-key, Constructor-params, Constructor-body}
+use Rattle.fast_check_tree_forms_classes.specs.Classes.{Constructor-accessibility, Constructor-is_optional}
+use Rattle.fast_check_tree_helpers.specs.ranges.Ranges.{range_of_node}
+use Rattle.fast_check_meaning_signatures.specs.Bindings.{Bindings}
+use Rattle.fast_check_meaning_signatures.specs.declared.fault.Fault.{Fault}
+use Rattle.fast_check_meaning_signatures.specs.declared.fault.FaultKind.TheVariants.{UnsupportedDestructuring}
+use Rattle.fast_check_meaning_signatures.specs.Seen.{Seen}
+use Rattle.fast_check_meaning_signatures.specs.Answers.{Adds, fault_at, faultless, answer_to, answer_of}
+use Rattle.fast_check_meaning_signatures.specs.Functions.{any_params_from}
+use Rattle.fast_check_meaning_signatures.specs.Classes.{is_param_property, takes_apart, plain_param, param_target, constructor_body, constructor_of}
+use Rattle.fast_check_meaning_signatures.specs.Classes.{unless_taken_apart, patterns_among, param_properties, constructor_params_seen}
+use Rattle.fast_check_meaning_signatures.specs.Classes.{constructor_seen, plain_params_seen}
+use Rattle.fast_check_meaning_signatures.specs.Members.{is_private}
+use Rattle.fast_check_meaning_signatures.proofs.Adding.{adds_nothing, adds_same, adds_made, adds_fault, adds_visited}
 use Rattle.fast_check_transform_expressions.specs.Looked.{params_looked}
 use Rattle.fast_check_transform_classes.specs.Parts.{first_of, first_pattern, signed_constructor}
 

@@ -8,34 +8,34 @@ use Rattle.std.proofs.Math.Seq.{drop-cons}
 use Rattle.std.proofs.lemmas.List.{drop_all, take_more, take_all, map-append}
 use Rattle.std.proofs.lemmas.List.Elements.{filter-append}
 use Rattle.std.proofs.lemmas.List.Concat.{flat_map-append}
-use Rattle.fast_check_syntax.specs.declared.kind.Kind.{Kind}
-use Rattle.fast_check_syntax.specs.declared.kind.Kind.TheVariants as kinds
-use Rattle.fast_check_syntax.specs.declared.part.Part.{Part}
-use Rattle.fast_check_syntax.specs.declared.source.SourceRange.{SourceRange}
-use Rattle.fast_check_syntax.specs.declared.source.SyntaxContext.{SyntaxContext}
-use Rattle.fast_check_syntax.specs.declared.tree.Tree as tree
-use Rattle.fast_check_syntax.specs.declared.tree.Tree.{Tree}
-use Rattle.fast_check_syntax.specs.Part.{seen}
-use Rattle.fast_check_syntax.specs.Shape.{◌is◌, kind_of, parts, node}
-use Rattle.fast_check_class_forms.specs.Classes.{Constructor-params}
-use Rattle.fast_check_class_forms.specs.Methods.{ClassMethod-span, ClassMethod-key, ClassMethod-function, ClassMethod-kind}
-use Rattle.fast_check_class_forms.specs.Methods.{ClassMethod-is_static, ClassMethod-accessibility, ClassMethod-is_abstract}
-use Rattle.fast_check_class_forms.specs.Methods.{ClassMethod-is_optional, ClassMethod-is_override}
-use Rattle.fast_check_swc_helpers.specs.Builders.{any_type_ann}
-use Rattle.fast_check_swc_helpers.specs.ranges.Ranges.{range_of_node}
-use Rattle.fast_check_signatures.specs.Bindings.{Bindings}
-use Rattle.fast_check_signatures.specs.declared.fault.Fault.{Fault}
-use Rattle.fast_check_signatures.specs.declared.function_kind.FunctionKind.{FunctionKind}
-use Rattle.fast_check_signatures.specs.Seen.{Seen, written}
-use Rattle.fast_check_signatures.specs.Answers.{Answer, Adds, faultless, made, joined, with_tree, answer_to, answer_of, declared_property}
-use Rattle.fast_check_signatures.specs.Expressions.{expr_seen}
-use Rattle.fast_check_signatures.specs.Functions.{function_seen, implementation_seen}
-use Rattle.fast_check_signatures.specs.Classes.{declared_by_params, typed_property, private_method_head, method_kind, method_of}
-use Rattle.fast_check_signatures.specs.Classes.{method_function_seen, method_seen, member_seen, member_of_kind, members_seen}
-use Rattle.fast_check_signatures.specs.Classes.{constructor_seen, param_properties, patterns_among, unless_any}
-use Rattle.fast_check_signatures.specs.Classes as classes
-use Rattle.fast_check_signatures.specs.Members.{is_private, hash_mark, kept_members}
-use Rattle.fast_check_signatures.proofs.Adding.{adds_nothing, adds_same, adds_made, adds_visited}
+use Rattle.fast_check_tree_syntax.specs.declared.kind.Kind.{Kind}
+use Rattle.fast_check_tree_syntax.specs.declared.kind.Kind.TheVariants as kinds
+use Rattle.fast_check_tree_syntax.specs.declared.part.Part.{Part}
+use Rattle.fast_check_tree_syntax.specs.declared.source.SourceRange.{SourceRange}
+use Rattle.fast_check_tree_syntax.specs.declared.source.SyntaxContext.{SyntaxContext}
+use Rattle.fast_check_tree_syntax.specs.declared.tree.Tree as tree
+use Rattle.fast_check_tree_syntax.specs.declared.tree.Tree.{Tree}
+use Rattle.fast_check_tree_syntax.specs.Part.{seen}
+use Rattle.fast_check_tree_syntax.specs.Shape.{◌is◌, kind_of, parts, node}
+use Rattle.fast_check_tree_forms_classes.specs.Classes.{Constructor-params}
+use Rattle.fast_check_tree_forms_classes.specs.Methods.{ClassMethod-span, ClassMethod-key, ClassMethod-function, ClassMethod-kind}
+use Rattle.fast_check_tree_forms_classes.specs.Methods.{ClassMethod-is_static, ClassMethod-accessibility, ClassMethod-is_abstract}
+use Rattle.fast_check_tree_forms_classes.specs.Methods.{ClassMethod-is_optional, ClassMethod-is_override}
+use Rattle.fast_check_tree_helpers.specs.Builders.{any_type_ann}
+use Rattle.fast_check_tree_helpers.specs.ranges.Ranges.{range_of_node}
+use Rattle.fast_check_meaning_signatures.specs.Bindings.{Bindings}
+use Rattle.fast_check_meaning_signatures.specs.declared.fault.Fault.{Fault}
+use Rattle.fast_check_meaning_signatures.specs.declared.function_kind.FunctionKind.{FunctionKind}
+use Rattle.fast_check_meaning_signatures.specs.Seen.{Seen, written}
+use Rattle.fast_check_meaning_signatures.specs.Answers.{Answer, Adds, faultless, made, joined, with_tree, answer_to, answer_of, declared_property}
+use Rattle.fast_check_meaning_signatures.specs.Expressions.{expr_seen}
+use Rattle.fast_check_meaning_signatures.specs.Functions.{function_seen, implementation_seen}
+use Rattle.fast_check_meaning_signatures.specs.Classes.{declared_by_params, typed_property, private_method_head, method_kind, method_of}
+use Rattle.fast_check_meaning_signatures.specs.Classes.{method_function_seen, method_seen, member_seen, member_of_kind, members_seen}
+use Rattle.fast_check_meaning_signatures.specs.Classes.{constructor_seen, param_properties, patterns_among, unless_any}
+use Rattle.fast_check_meaning_signatures.specs.Classes as classes
+use Rattle.fast_check_meaning_signatures.specs.Members.{is_private, hash_mark, kept_members}
+use Rattle.fast_check_meaning_signatures.proofs.Adding.{adds_nothing, adds_same, adds_made, adds_visited}
 use Rattle.fast_check_transform_expressions.proofs.Behind.{Behind, behind_along, items_step, items_end}
 use Rattle.fast_check_transform_classes.specs.Parts.{property_answer, accessor_answer, first_of, first_pattern, signed_method, declared_params}
 use Rattle.fast_check_transform_classes.specs.Parts.{kept_answer}

@@ -1,22 +1,22 @@
 -- What is answered to properties and accessors, case by case.
 use Rattle.std.specs.Prelude.{◌≡◌, Bool, true, false, Option, Some, None, List, [], ◌∷◌, ◌++◌, if◌then◌else◌}
 use Rattle.std.proofs.Common.{ap, ◌∙◌, sym, subst}
-use Rattle.fast_check_syntax.specs.declared.source.SourceRange.{SourceRange}
-use Rattle.fast_check_syntax.specs.declared.tree.Tree.{Tree, Absent}
-use Rattle.fast_check_syntax.specs.Shape.{is_absent}
-use Rattle.fast_check_class_forms.specs.Fields.{ClassProp-key, ClassProp-value}
-use Rattle.fast_check_class_forms.specs.Fields.{AutoAccessor-key}
-use Rattle.fast_check_swc_helpers.specs.ranges.Ranges.{range_of_node}
-use Rattle.fast_check_signatures.specs.Bindings.{Bindings}
-use Rattle.fast_check_signatures.specs.declared.fault.Fault.{Fault}
-use Rattle.fast_check_signatures.specs.declared.fault.FaultKind.TheVariants.{MissingExplicitType}
-use Rattle.fast_check_signatures.specs.Seen.{Seen, property, faulty, refused}
-use Rattle.fast_check_signatures.specs.Typing.{type_of, seen_by}
-use Rattle.fast_check_signatures.specs.Answers.{Answer, Adds, fault_at, demanded, answer_to, declared_property, valued_property}
-use Rattle.fast_check_signatures.specs.Expressions.{expr_seen}
-use Rattle.fast_check_signatures.specs.Classes.{typed_property, property_head, accessor_head, property_typing, accessor_typing}
-use Rattle.fast_check_signatures.specs.Classes.{member_value_seen}
-use Rattle.fast_check_signatures.proofs.Adding.{adds_nothing, adds_same, adds_made, adds_missing, adds_fault}
+use Rattle.fast_check_tree_syntax.specs.declared.source.SourceRange.{SourceRange}
+use Rattle.fast_check_tree_syntax.specs.declared.tree.Tree.{Tree, Absent}
+use Rattle.fast_check_tree_syntax.specs.Shape.{is_absent}
+use Rattle.fast_check_tree_forms_classes.specs.Fields.{ClassProp-key, ClassProp-value}
+use Rattle.fast_check_tree_forms_classes.specs.Fields.{AutoAccessor-key}
+use Rattle.fast_check_tree_helpers.specs.ranges.Ranges.{range_of_node}
+use Rattle.fast_check_meaning_signatures.specs.Bindings.{Bindings}
+use Rattle.fast_check_meaning_signatures.specs.declared.fault.Fault.{Fault}
+use Rattle.fast_check_meaning_signatures.specs.declared.fault.FaultKind.TheVariants.{MissingExplicitType}
+use Rattle.fast_check_meaning_signatures.specs.Seen.{Seen, property, faulty, refused}
+use Rattle.fast_check_meaning_signatures.specs.Typing.{type_of, seen_by}
+use Rattle.fast_check_meaning_signatures.specs.Answers.{Answer, Adds, fault_at, demanded, answer_to, declared_property, valued_property}
+use Rattle.fast_check_meaning_signatures.specs.Expressions.{expr_seen}
+use Rattle.fast_check_meaning_signatures.specs.Classes.{typed_property, property_head, accessor_head, property_typing, accessor_typing}
+use Rattle.fast_check_meaning_signatures.specs.Classes.{member_value_seen}
+use Rattle.fast_check_meaning_signatures.proofs.Adding.{adds_nothing, adds_same, adds_made, adds_missing, adds_fault}
 use Rattle.fast_check_transform_classes.specs.Parts.{no_implementations, value_answer, property_answer}
 use Rattle.fast_check_transform_classes.specs.Parts.{accessor_answer}
 

@@ -2,22 +2,22 @@
 -- The parts of classes: what is answered to properties and accessors, and the nodes of members.
 use Rattle.std.specs.Prelude.{Bool, false, Option, Some, None, List, [], ◌∷◌, map}
 use Rattle.std.specs.List.{filter}
-use Rattle.fast_check_syntax.specs.declared.source.SourceRange.{SourceRange}
-use Rattle.fast_check_syntax.specs.declared.source.SyntaxContext.{SyntaxContext}
-use Rattle.fast_check_syntax.specs.declared.tree.Tree.{Tree}
-use Rattle.fast_check_syntax.specs.Shape.{list}
-use Rattle.fast_check_class_forms.specs.Classes.{Constructor-span, Constructor-ctxt, Constructor-key, Constructor-body}
-use Rattle.fast_check_class_forms.specs.Classes.{Constructor-accessibility, Constructor-is_optional, constructor}
-use Rattle.fast_check_class_forms.specs.Fields.{ClassProp-key, ClassProp-value}
-use Rattle.fast_check_class_forms.specs.Methods.{ClassMethod-span, ClassMethod-key, ClassMethod-kind}
-use Rattle.fast_check_class_forms.specs.Methods.{ClassMethod-is_static, ClassMethod-accessibility}
-use Rattle.fast_check_class_forms.specs.Methods.{ClassMethod-is_abstract, ClassMethod-is_optional}
-use Rattle.fast_check_class_forms.specs.Methods.{ClassMethod-is_override, class_method}
-use Rattle.fast_check_swc_helpers.specs.ranges.Ranges.{range_of_node}
-use Rattle.fast_check_signatures.specs.declared.fault.FaultKind.TheVariants.{MissingExplicitType}
-use Rattle.fast_check_signatures.specs.Answers.{Answer, fault_at, demanded, answer_to, answer_of}
-use Rattle.fast_check_signatures.specs.Bindings.{Bindings}
-use Rattle.fast_check_signatures.specs.Classes as classes
+use Rattle.fast_check_tree_syntax.specs.declared.source.SourceRange.{SourceRange}
+use Rattle.fast_check_tree_syntax.specs.declared.source.SyntaxContext.{SyntaxContext}
+use Rattle.fast_check_tree_syntax.specs.declared.tree.Tree.{Tree}
+use Rattle.fast_check_tree_syntax.specs.Shape.{list}
+use Rattle.fast_check_tree_forms_classes.specs.Classes.{Constructor-span, Constructor-ctxt, Constructor-key, Constructor-body}
+use Rattle.fast_check_tree_forms_classes.specs.Classes.{Constructor-accessibility, Constructor-is_optional, constructor}
+use Rattle.fast_check_tree_forms_classes.specs.Fields.{ClassProp-key, ClassProp-value}
+use Rattle.fast_check_tree_forms_classes.specs.Methods.{ClassMethod-span, ClassMethod-key, ClassMethod-kind}
+use Rattle.fast_check_tree_forms_classes.specs.Methods.{ClassMethod-is_static, ClassMethod-accessibility}
+use Rattle.fast_check_tree_forms_classes.specs.Methods.{ClassMethod-is_abstract, ClassMethod-is_optional}
+use Rattle.fast_check_tree_forms_classes.specs.Methods.{ClassMethod-is_override, class_method}
+use Rattle.fast_check_tree_helpers.specs.ranges.Ranges.{range_of_node}
+use Rattle.fast_check_meaning_signatures.specs.declared.fault.FaultKind.TheVariants.{MissingExplicitType}
+use Rattle.fast_check_meaning_signatures.specs.Answers.{Answer, fault_at, demanded, answer_to, answer_of}
+use Rattle.fast_check_meaning_signatures.specs.Bindings.{Bindings}
+use Rattle.fast_check_meaning_signatures.specs.Classes as classes
 
 -- no implementations are asked of properties and accessors
 abbrev pub no_implementations : SourceRange → Bool

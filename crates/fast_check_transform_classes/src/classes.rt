@@ -1,24 +1,24 @@
 //! What stays of a class, and of one that is ambient.
 ghost use Rattle.std.specs.Prelude.{◌≡◌, IfOk, Some};
-ghost use Rattle.fast_check_syntax.specs.Part.{seen};
-ghost use Rattle.fast_check_syntax.specs.Shape.{parts, list};
-ghost use Rattle.fast_check_signatures.specs.Answers.{Adds, answer_to};
-ghost use Rattle.fast_check_class_forms.specs.Classes as forms;
-ghost use Rattle.fast_check_class_forms.specs.Classes.{Class-span, Class-ctxt, Class-is_abstract, Class-type_params, Class-super_type_params, Class-implements};
-ghost use Rattle.fast_check_signatures.specs.Answers as answers;
-ghost use Rattle.fast_check_signatures.specs.Classes.{class_head, plain_class_seen, ambient_class};
-ghost use Rattle.fast_check_signatures.specs.Members.{ambient_members, is_private_computed};
-ghost use Rattle.fast_check_modules.specs.diagnostics.PublicRanges.{is_implementation};
-ghost use Rattle.fast_check_transform_expressions.specs.bindings.Bindings.{bindings_of};
+ghost use Rattle.fast_check_tree_syntax.specs.Part.{seen};
+ghost use Rattle.fast_check_tree_syntax.specs.Shape.{parts, list};
+ghost use Rattle.fast_check_meaning_signatures.specs.Answers.{Adds, answer_to};
+ghost use Rattle.fast_check_tree_forms_classes.specs.Classes as forms;
+ghost use Rattle.fast_check_tree_forms_classes.specs.Classes.{Class-span, Class-ctxt, Class-is_abstract, Class-type_params, Class-super_type_params, Class-implements};
+ghost use Rattle.fast_check_meaning_signatures.specs.Answers as answers;
+ghost use Rattle.fast_check_meaning_signatures.specs.Classes.{class_head, plain_class_seen, ambient_class};
+ghost use Rattle.fast_check_meaning_signatures.specs.Members.{ambient_members, is_private_computed};
+ghost use Rattle.fast_check_tables_modules.specs.diagnostics.PublicRanges.{is_implementation};
+ghost use Rattle.fast_check_transform_expressions.specs.nodes.Bindings.{bindings_of};
 
 use crate::class_nodes::{is_computed, is_private, transform_superclass, two_trees};
 use crate::copies::three_trees;
 use crate::members::transform_members;
-use fast_check_class_forms::{AutoAccessor, Class, ClassMethod, ClassProp};
-use fast_check_modules::EsModuleInfo;
-use fast_check_modules::diagnostics::ModulePublicRanges;
-use fast_check_signatures::Fault;
-use fast_check_syntax::{Items, Kind, Part, Tree};
+use fast_check_meaning_signatures::Fault;
+use fast_check_tables_modules::EsModuleInfo;
+use fast_check_tables_modules::diagnostics::ModulePublicRanges;
+use fast_check_tree_forms_classes::{AutoAccessor, Class, ClassMethod, ClassProp};
+use fast_check_tree_syntax::{Items, Kind, Part, Tree};
 use std::alloc::{AllocError, Global};
 
 /// A class of this superclass and these members, without decorators.

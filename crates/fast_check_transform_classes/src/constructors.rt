@@ -1,23 +1,23 @@
 //! What stays of a constructor, and the properties that its parameters declare.
 ghost use Rattle.std.specs.Prelude.{◌≡◌, ◌&&◌, IfOk, Some};
-ghost use Rattle.fast_check_syntax.specs.Part.{seen};
-ghost use Rattle.fast_check_syntax.specs.Shape.{parts};
-ghost use Rattle.fast_check_signatures.specs.Answers.{Adds, answer_to, answer_of};
-ghost use Rattle.fast_check_signatures.specs.Classes.{is_param_property, takes_apart, constructor_params_seen, constructor_seen};
-ghost use Rattle.fast_check_modules.specs.diagnostics.PublicRanges.{is_implementation};
+ghost use Rattle.fast_check_tree_syntax.specs.Part.{seen};
+ghost use Rattle.fast_check_tree_syntax.specs.Shape.{parts};
+ghost use Rattle.fast_check_meaning_signatures.specs.Answers.{Adds, answer_to, answer_of};
+ghost use Rattle.fast_check_meaning_signatures.specs.Classes.{is_param_property, takes_apart, constructor_params_seen, constructor_seen};
+ghost use Rattle.fast_check_tables_modules.specs.diagnostics.PublicRanges.{is_implementation};
 ghost use Rattle.fast_check_transform_classes.specs.Parts.{first_pattern, signed_constructor};
-ghost use Rattle.fast_check_transform_expressions.specs.bindings.Bindings.{bindings_of};
+ghost use Rattle.fast_check_transform_expressions.specs.nodes.Bindings.{bindings_of};
 
 use crate::class_nodes::{
     constructor_body, is_private, param_target, plain_params, takes_apart, two_trees,
 };
-use fast_check_class_forms::Constructor;
-use fast_check_modules::EsModuleInfo;
-use fast_check_modules::diagnostics::ModulePublicRanges;
-use fast_check_signatures::{Fault, FaultKind};
-use fast_check_swc_helpers::ranges::range_of_node;
-use fast_check_syntax::{Items, Kind, Part, SourceRange, Tree};
+use fast_check_meaning_signatures::{Fault, FaultKind};
+use fast_check_tables_modules::EsModuleInfo;
+use fast_check_tables_modules::diagnostics::ModulePublicRanges;
 use fast_check_transform_expressions::{any_params, transform_params};
+use fast_check_tree_forms_classes::Constructor;
+use fast_check_tree_helpers::ranges::range_of_node;
+use fast_check_tree_syntax::{Items, Kind, Part, SourceRange, Tree};
 use std::alloc::{AllocError, Global};
 
 /// Whether a parameter of a constructor is a property too.

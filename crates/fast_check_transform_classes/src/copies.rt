@@ -1,9 +1,9 @@
 //! Copies of triples of trees.
 ghost use Rattle.std.specs.Prelude.{◌≡◌, IfOk};
-ghost use Rattle.fast_check_syntax.specs.Part.{seen};
+ghost use Rattle.fast_check_tree_syntax.specs.Part.{seen};
 
 use crate::class_nodes::two_trees;
-use fast_check_syntax::{Part, Tree};
+use fast_check_tree_syntax::{Part, Tree};
 use std::alloc::{AllocError, Global};
 
 /// Three parts as trees.

@@ -9,4 +9,4 @@ mod members;
 mod properties;
 
 pub use classes::{ambient_class, transform_class};
-pub use fast_check_transform_expressions as values;
+pub use fast_check_transform_expressions as expressions;

@@ -1,15 +1,15 @@
 //! What stays of the members of a class, in order.
 ghost use Rattle.std.specs.Prelude.{◌≡◌, ◌++◌, IfOk, Some, List, map, flat_map};
 ghost use Rattle.std.specs.List.{list_any};
-ghost use Rattle.fast_check_syntax.specs.Part.{seen};
-ghost use Rattle.fast_check_syntax.specs.Shape.{◌is◌, kind_of, parts};
-ghost use Rattle.fast_check_syntax.specs.declared.kind.Kind.TheVariants as kinds;
-ghost use Rattle.fast_check_signatures.specs.Answers.{Adds, answer_to, answer_of, made};
-ghost use Rattle.fast_check_signatures.specs.Classes.{declared_by_params, method_kind, method_function_seen, method_seen, member_seen, members_seen};
-ghost use Rattle.fast_check_signatures.specs.Members.{is_hash_named, hash_mark};
-ghost use Rattle.fast_check_modules.specs.diagnostics.PublicRanges.{is_implementation};
+ghost use Rattle.fast_check_tree_syntax.specs.Part.{seen};
+ghost use Rattle.fast_check_tree_syntax.specs.Shape.{◌is◌, kind_of, parts};
+ghost use Rattle.fast_check_tree_syntax.specs.declared.kind.Kind.TheVariants as kinds;
+ghost use Rattle.fast_check_meaning_signatures.specs.Answers.{Adds, answer_to, answer_of, made};
+ghost use Rattle.fast_check_meaning_signatures.specs.Classes.{declared_by_params, method_kind, method_function_seen, method_seen, member_seen, members_seen};
+ghost use Rattle.fast_check_meaning_signatures.specs.Members.{is_hash_named, hash_mark};
+ghost use Rattle.fast_check_tables_modules.specs.diagnostics.PublicRanges.{is_implementation};
 ghost use Rattle.fast_check_transform_classes.specs.Parts.{signed_method, declared_params, kept_answer};
-ghost use Rattle.fast_check_transform_expressions.specs.bindings.Bindings.{bindings_of};
+ghost use Rattle.fast_check_transform_expressions.specs.nodes.Bindings.{bindings_of};
 
 use crate::class_nodes::{
     hash_private, is_hash_named, is_private, kept_members, param_property, private_method_head,
@@ -17,15 +17,15 @@ use crate::class_nodes::{
 use crate::constructors::{is_param_property, pattern_among, transform_constructor};
 use crate::copies::three_trees;
 use crate::properties::{transform_accessor, transform_property};
-use fast_check_class_forms::{ClassMethod, Constructor};
-use fast_check_modules::EsModuleInfo;
-use fast_check_modules::diagnostics::ModulePublicRanges;
-use fast_check_signatures::{Fault, FunctionKind};
-use fast_check_swc_helpers::any_type_ann;
-use fast_check_swc_helpers::ranges::range_of_node;
-use fast_check_syntax::{Items, Kind, Part, SyntaxContext, Tree, Word};
-use fast_check_transform_expressions::bindings::unresolved_context;
+use fast_check_meaning_signatures::{Fault, FunctionKind};
+use fast_check_tables_modules::EsModuleInfo;
+use fast_check_tables_modules::diagnostics::ModulePublicRanges;
+use fast_check_transform_expressions::nodes::unresolved_context;
 use fast_check_transform_expressions::{transform_fn, transform_implementation};
+use fast_check_tree_forms_classes::{ClassMethod, Constructor};
+use fast_check_tree_helpers::any_type_ann;
+use fast_check_tree_helpers::ranges::range_of_node;
+use fast_check_tree_syntax::{Items, Kind, Part, SyntaxContext, Tree, Word};
 use std::alloc::{AllocError, Global};
 
 /// What a method is, by the word for its kind.

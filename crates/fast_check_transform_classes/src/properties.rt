@@ -1,22 +1,21 @@
 //! What stays of a property and of an accessor.
 ghost use Rattle.std.specs.Prelude.{◌≡◌, IfOk, Some};
-ghost use Rattle.fast_check_syntax.specs.Part.{seen};
-ghost use Rattle.fast_check_signatures.specs.Answers.{Adds, answer_to};
-ghost use Rattle.fast_check_signatures.specs.Classes as classes;
-ghost use Rattle.fast_check_signatures.specs.Typing.{type_of};
+ghost use Rattle.fast_check_tree_syntax.specs.Part.{seen};
+ghost use Rattle.fast_check_meaning_signatures.specs.Answers.{Adds, answer_to};
+ghost use Rattle.fast_check_meaning_signatures.specs.Classes as classes;
+ghost use Rattle.fast_check_meaning_signatures.specs.Typing.{type_of};
 ghost use Rattle.fast_check_transform_classes.specs.Parts.{value_answer, property_answer, accessor_answer};
-ghost use Rattle.fast_check_transform_expressions.specs.bindings.Bindings.{bindings_of};
+ghost use Rattle.fast_check_transform_expressions.specs.nodes.Bindings.{bindings_of};
 
 use crate::class_nodes::{accessor_head, is_private, mutability_of_property, property_head};
-use fast_check_class_forms::{AutoAccessor, ClassProp};
-use fast_check_modules::EsModuleInfo;
-use fast_check_signatures::{Fault, FaultKind};
-use fast_check_swc_helpers::DeclMutabilityKind;
-use fast_check_swc_helpers::ranges::range_of_node;
-use fast_check_syntax::{Part, Tree};
-use fast_check_transform_expressions::bindings::unresolved_context;
-use fast_check_transform_expressions::nodes::Typing;
+use fast_check_meaning_signatures::{Fault, FaultKind};
+use fast_check_tables_modules::EsModuleInfo;
+use fast_check_transform_expressions::nodes::{Typing, unresolved_context};
 use fast_check_transform_expressions::transform_value;
+use fast_check_tree_forms_classes::{AutoAccessor, ClassProp};
+use fast_check_tree_helpers::DeclMutabilityKind;
+use fast_check_tree_helpers::ranges::range_of_node;
+use fast_check_tree_syntax::{Part, Tree};
 use std::alloc::{AllocError, Global};
 
 /// The value of a property as it stays, where it is to give the type; where there is none that may stay, that is a fault at

@@ -2,31 +2,31 @@
 -- parameters.
 use Rattle.std.specs.Prelude.{◌≡◌, Bool, true, false, Option, Some, None, List, ◌++◌, option_map, unwrap_or, refl, if◌then◌else◌}
 use Rattle.std.proofs.Common.{ap, ◌∙◌, sym, subst, append-nil}
-use Rattle.fast_check_syntax.specs.declared.kind.Kind.TheVariants as kinds
-use Rattle.fast_check_syntax.specs.declared.source.SourceRange.{SourceRange}
-use Rattle.fast_check_syntax.specs.declared.source.SyntaxContext.{SyntaxContext}
-use Rattle.fast_check_syntax.specs.declared.tree.Tree.{Tree, Absent}
-use Rattle.fast_check_syntax.specs.Shape.{◌is◌, kind_of, parts, is_absent}
-use Rattle.fast_check_expression_forms.specs.Expressions.{ArrowExpr-span, ArrowExpr-params, ArrowExpr-body, ArrowExpr-is_async}
-use Rattle.fast_check_expression_forms.specs.Expressions.{ArrowExpr-is_generator, ArrowExpr-return_type}
-use Rattle.fast_check_swc_helpers.specs.declared.literal_type.DeclMutabilityKind.TheVariants.{Mutable}
-use Rattle.fast_check_swc_helpers.specs.Builders.{type_ann}
-use Rattle.fast_check_swc_helpers.specs.InferredType.{inferred_type}
-use Rattle.fast_check_swc_helpers.specs.NamedBodies.{named_return}
-use Rattle.fast_check_swc_helpers.specs.ReturnClass.{return_class}
-use Rattle.fast_check_signatures.specs.declared.fault.Fault.{Fault}
-use Rattle.fast_check_signatures.specs.declared.function_kind.FunctionKind.{FunctionKind}
-use Rattle.fast_check_signatures.specs.declared.function_kind.FunctionKind.TheVariants.{ExpressionLike}
-use Rattle.fast_check_signatures.specs.Bindings.{Bindings}
-use Rattle.fast_check_signatures.specs.Seen.{Seen, written}
-use Rattle.fast_check_signatures.specs.NewNodes.{promised}
-use Rattle.fast_check_signatures.specs.Parameters.{pats_seen}
-use Rattle.fast_check_signatures.specs.Functions.{return_type_missing, class_seen, named_seen, body_seen, or_own, arrow_head}
-use Rattle.fast_check_signatures.specs.Functions.{typed_arrow_seen, valued_arrow_seen, by_value, arrow_seen}
-use Rattle.fast_check_signatures.specs.Expressions.{expr_seen}
-use Rattle.fast_check_signatures.specs.Answers.{Adds, fault_at, answer_to, answer_of, demanded, faultless, settled, signed_arrow}
-use Rattle.fast_check_signatures.specs.Answers.{kept_arrow}
-use Rattle.fast_check_signatures.proofs.Adding.{adds_same, adds_joined, adds_made, adds_nothing, adds_settled}
+use Rattle.fast_check_tree_syntax.specs.declared.kind.Kind.TheVariants as kinds
+use Rattle.fast_check_tree_syntax.specs.declared.source.SourceRange.{SourceRange}
+use Rattle.fast_check_tree_syntax.specs.declared.source.SyntaxContext.{SyntaxContext}
+use Rattle.fast_check_tree_syntax.specs.declared.tree.Tree.{Tree, Absent}
+use Rattle.fast_check_tree_syntax.specs.Shape.{◌is◌, kind_of, parts, is_absent}
+use Rattle.fast_check_tree_forms_expressions.specs.Expressions.{ArrowExpr-span, ArrowExpr-params, ArrowExpr-body, ArrowExpr-is_async}
+use Rattle.fast_check_tree_forms_expressions.specs.Expressions.{ArrowExpr-is_generator, ArrowExpr-return_type}
+use Rattle.fast_check_tree_helpers.specs.declared.literal_type.DeclMutabilityKind.TheVariants.{Mutable}
+use Rattle.fast_check_tree_helpers.specs.Builders.{type_ann}
+use Rattle.fast_check_tree_helpers.specs.InferredType.{inferred_type}
+use Rattle.fast_check_tree_helpers.specs.NamedBodies.{named_return}
+use Rattle.fast_check_tree_helpers.specs.ReturnClass.{return_class}
+use Rattle.fast_check_meaning_signatures.specs.declared.fault.Fault.{Fault}
+use Rattle.fast_check_meaning_signatures.specs.declared.function_kind.FunctionKind.{FunctionKind}
+use Rattle.fast_check_meaning_signatures.specs.declared.function_kind.FunctionKind.TheVariants.{ExpressionLike}
+use Rattle.fast_check_meaning_signatures.specs.Bindings.{Bindings}
+use Rattle.fast_check_meaning_signatures.specs.Seen.{Seen, written}
+use Rattle.fast_check_meaning_signatures.specs.NewNodes.{promised}
+use Rattle.fast_check_meaning_signatures.specs.Parameters.{pats_seen}
+use Rattle.fast_check_meaning_signatures.specs.Functions.{return_type_missing, class_seen, named_seen, body_seen, or_own, arrow_head}
+use Rattle.fast_check_meaning_signatures.specs.Functions.{typed_arrow_seen, valued_arrow_seen, by_value, arrow_seen}
+use Rattle.fast_check_meaning_signatures.specs.Expressions.{expr_seen}
+use Rattle.fast_check_meaning_signatures.specs.Answers.{Adds, fault_at, answer_to, answer_of, demanded, faultless, settled, signed_arrow}
+use Rattle.fast_check_meaning_signatures.specs.Answers.{kept_arrow}
+use Rattle.fast_check_meaning_signatures.proofs.Adding.{adds_same, adds_joined, adds_made, adds_nothing, adds_settled}
 use Rattle.fast_check_transform_expressions.specs.Looked.{known_type, known_answer}
 
 -- ---- the return type that a body shows

@@ -2,19 +2,19 @@
 use Rattle.std.specs.Prelude.{◌≡◌, Option, Some, None, List, [], ◌∷◌, ◌++◌, refl, option_map, Result, IfOk}
 use Rattle.std.proofs.Common.{ap, ◌∙◌, sym, subst, append-nil, append_assoc}
 use Rattle.std.proofs.lemmas.Result.{IfOk-weaker}
-use Rattle.fast_check_syntax.specs.declared.tree.Tree.{Tree}
-use Rattle.fast_check_signatures.specs.declared.fault.Fault.{Fault}
-use Rattle.fast_check_syntax.specs.declared.kind.Kind.TheVariants as kinds
-use Rattle.fast_check_syntax.specs.declared.tree.Tree as tree
-use Rattle.fast_check_syntax.specs.Shape.{node, list}
-use Rattle.fast_check_class_forms.specs.Functions.{Param-span, param}
-use Rattle.fast_check_expression_forms.specs.Patterns.{assign_pat}
-use Rattle.fast_check_signatures.specs.declared.fault.FaultKind.TheVariants.{MissingExplicitType}
-use Rattle.fast_check_signatures.specs.Seen.{Seen, DefaultHead}
-use Rattle.fast_check_signatures.specs.Functions.{param_seen}
-use Rattle.fast_check_signatures.specs.Answers.{Answer, Adds, answer_to, faultless, joined, visited, with_tree, demanded, default_answer}
-use Rattle.fast_check_signatures.specs.Answers.{fault_at}
-use Rattle.fast_check_signatures.proofs.Adding.{adds_made, adds_nothing, adds_visited}
+use Rattle.fast_check_tree_syntax.specs.declared.tree.Tree.{Tree}
+use Rattle.fast_check_meaning_signatures.specs.declared.fault.Fault.{Fault}
+use Rattle.fast_check_tree_syntax.specs.declared.kind.Kind.TheVariants as kinds
+use Rattle.fast_check_tree_syntax.specs.declared.tree.Tree as tree
+use Rattle.fast_check_tree_syntax.specs.Shape.{node, list}
+use Rattle.fast_check_tree_forms_classes.specs.Functions.{Param-span, param}
+use Rattle.fast_check_tree_forms_expressions.specs.Patterns.{assign_pat}
+use Rattle.fast_check_meaning_signatures.specs.declared.fault.FaultKind.TheVariants.{MissingExplicitType}
+use Rattle.fast_check_meaning_signatures.specs.Seen.{Seen, DefaultHead}
+use Rattle.fast_check_meaning_signatures.specs.Functions.{param_seen}
+use Rattle.fast_check_meaning_signatures.specs.Answers.{Answer, Adds, answer_to, faultless, joined, visited, with_tree, demanded, default_answer}
+use Rattle.fast_check_meaning_signatures.specs.Answers.{fault_at}
+use Rattle.fast_check_meaning_signatures.proofs.Adding.{adds_made, adds_nothing, adds_visited}
 
 pub record Behind {A : Type 0} (put : A → A) (all rest : Answer A) (old new : List Fault) : Type 0 where
   pub added : List Fault

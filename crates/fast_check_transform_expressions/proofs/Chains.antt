@@ -9,9 +9,9 @@ use Rattle.std.specs.Slice.Iter.{iter_rest}
 use Rattle.std.specs.declared.iter.Map.{Map}
 use Rattle.std.specs.List.{list_all}
 use Rattle.std.proofs.lemmas.List.{drop-map, length-map}
-use Rattle.fast_check_syntax.specs.declared.tree.Tree.{Tree}
-use Rattle.fast_check_class_forms.specs.Functions.{Param-pat}
-use Rattle.fast_check_swc_helpers.specs.OptionalParams.{is_optional_param, IsOptionalStart}
+use Rattle.fast_check_tree_syntax.specs.declared.tree.Tree.{Tree}
+use Rattle.fast_check_tree_forms_classes.specs.Functions.{Param-pat}
+use Rattle.fast_check_tree_helpers.specs.OptionalParams.{is_optional_param, IsOptionalStart}
 use Rattle.fast_check_transform_expressions.specs.Looked.{patterns, IsStartOfParams}
 use denote.Param.Members.{Mut}
 use denote.Ref.{Bor}

@@ -1,11 +1,11 @@
 -- What falls from a node of whatever kind to its parts.
 use Rattle.std.specs.Prelude.{◌≡◌, ℕ, ◌<◌, ◌≤◌, ◌-◌, Option, Some, None, slice_get, unwrap_or, refl}
 use Rattle.std.proofs.Common.{arith, sym, ◌∙◌}
-use Rattle.fast_check_syntax.specs.declared.kind.Kind.{Kind}
-use Rattle.fast_check_syntax.specs.declared.kind.Kind.TheVariants.{Leaf}
-use Rattle.fast_check_syntax.specs.declared.tree.Tree.{Tree, Absent}
-use Rattle.fast_check_syntax.specs.Shape.{kind_of, parts, part}
-use Rattle.fast_check_syntax.specs.Height.{height, absent-zero, height_part, height_one}
+use Rattle.fast_check_tree_syntax.specs.declared.kind.Kind.{Kind}
+use Rattle.fast_check_tree_syntax.specs.declared.kind.Kind.TheVariants.{Leaf}
+use Rattle.fast_check_tree_syntax.specs.declared.tree.Tree.{Tree, Absent}
+use Rattle.fast_check_tree_syntax.specs.Shape.{kind_of, parts, part}
+use Rattle.fast_check_tree_syntax.specs.Height.{height, absent-zero, height_part, height_one}
 
 -- a part is lower, where anything is
 pub height_less : (t : Tree) (i : ℕ) → height (part i t) ≤ height t - 1

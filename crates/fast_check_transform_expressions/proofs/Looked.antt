@@ -4,30 +4,30 @@ use Rattle.std.specs.Prelude.{if◌then◌else◌}
 use Rattle.std.proofs.Common.{ap, ◌∙◌, sym, get_or, add-one}
 use Rattle.std.proofs.Math.Seq.{drop-cons}
 use Rattle.std.specs.List.{list_all}
-use Rattle.fast_check_syntax.specs.declared.kind.Kind.{Kind}
-use Rattle.fast_check_syntax.specs.declared.kind.Kind.TheVariants as kinds
-use Rattle.fast_check_syntax.specs.declared.source.SourceRange.{SourceRange}
-use Rattle.fast_check_syntax.specs.declared.tree.Tree.{Tree}
-use Rattle.fast_check_syntax.specs.Shape.{◌is◌, kind_of, part, parts, is_absent}
-use Rattle.fast_check_expression_forms.specs.Patterns.{AssignPat-span, AssignPat-left, AssignPat-right}
-use Rattle.fast_check_expression_forms.specs.Patterns.{ArrayPat-span, ArrayPat-type_ann, ObjectPat-span, ObjectPat-type_ann}
-use Rattle.fast_check_program_forms.specs.Names.{Ident-span, BindingIdent-id}
-use Rattle.fast_check_swc_helpers.specs.OptionalParams.{is_optional_param}
-use Rattle.fast_check_signatures.specs.declared.rules.Slot.{Slot}
-use Rattle.fast_check_signatures.specs.Bindings.{Bindings}
-use Rattle.fast_check_signatures.specs.Seen.{Seen, written, faulty, round, refused, seens}
-use Rattle.fast_check_signatures.specs.Functions.{arrow_seen, param_seen}
-use Rattle.fast_check_signatures.specs.Expressions.{is_compound, is_plain, is_known, Rule, whole, parted, slotted, arrow, not_at_all}
-use Rattle.fast_check_signatures.specs.Expressions.{other_rule, rule, by_rule, slot_seen, slots_seen, expr_seen}
-use Rattle.fast_check_signatures.specs.Answers.{answer_to, answer_of, joined, parts_answer, visited, with_tree}
-use Rattle.fast_check_signatures.specs.Parameters.{emptied_array, emptied_object, default_seen, default_typing, without_default}
-use Rattle.fast_check_signatures.specs.Parameters.{assign_seen, pat_by_kind, pat_seen, pats_seen}
-use Rattle.fast_check_signatures.specs.declared.fault.FaultKind.TheVariants.{UnsupportedDestructuring}
-use Rattle.fast_check_swc_helpers.specs.ranges.Ranges.{range_of_node}
-use Rattle.fast_check_signatures.proofs.Looks.{expr_seen_is}
-use Rattle.fast_check_bindings.specs.Rows.{row_in, row_of}
-use Rattle.fast_check_signatures.specs.Typing.{type_of, seen_by}
-use Rattle.fast_check_class_forms.specs.Functions.{Param-pat}
+use Rattle.fast_check_tree_syntax.specs.declared.kind.Kind.{Kind}
+use Rattle.fast_check_tree_syntax.specs.declared.kind.Kind.TheVariants as kinds
+use Rattle.fast_check_tree_syntax.specs.declared.source.SourceRange.{SourceRange}
+use Rattle.fast_check_tree_syntax.specs.declared.tree.Tree.{Tree}
+use Rattle.fast_check_tree_syntax.specs.Shape.{◌is◌, kind_of, part, parts, is_absent}
+use Rattle.fast_check_tree_forms_expressions.specs.Patterns.{AssignPat-span, AssignPat-left, AssignPat-right}
+use Rattle.fast_check_tree_forms_expressions.specs.Patterns.{ArrayPat-span, ArrayPat-type_ann, ObjectPat-span, ObjectPat-type_ann}
+use Rattle.fast_check_tree_forms_programs.specs.Names.{Ident-span, BindingIdent-id}
+use Rattle.fast_check_tree_helpers.specs.OptionalParams.{is_optional_param}
+use Rattle.fast_check_meaning_signatures.specs.declared.rules.Slot.{Slot}
+use Rattle.fast_check_meaning_signatures.specs.Bindings.{Bindings}
+use Rattle.fast_check_meaning_signatures.specs.Seen.{Seen, written, faulty, round, refused, seens}
+use Rattle.fast_check_meaning_signatures.specs.Functions.{arrow_seen, param_seen}
+use Rattle.fast_check_meaning_signatures.specs.Expressions.{is_compound, is_plain, is_known, Rule, whole, parted, slotted, arrow, not_at_all}
+use Rattle.fast_check_meaning_signatures.specs.Expressions.{other_rule, rule, by_rule, slot_seen, slots_seen, expr_seen}
+use Rattle.fast_check_meaning_signatures.specs.Answers.{answer_to, answer_of, joined, parts_answer, visited, with_tree}
+use Rattle.fast_check_meaning_signatures.specs.Parameters.{emptied_array, emptied_object, default_seen, default_typing, without_default}
+use Rattle.fast_check_meaning_signatures.specs.Parameters.{assign_seen, pat_by_kind, pat_seen, pats_seen}
+use Rattle.fast_check_meaning_signatures.specs.declared.fault.FaultKind.TheVariants.{UnsupportedDestructuring}
+use Rattle.fast_check_tree_helpers.specs.ranges.Ranges.{range_of_node}
+use Rattle.fast_check_meaning_signatures.proofs.Looks.{expr_seen_is}
+use Rattle.fast_check_transform_nodes.specs.Rows.{row_in, row_of}
+use Rattle.fast_check_meaning_signatures.specs.Typing.{type_of, seen_by}
+use Rattle.fast_check_tree_forms_classes.specs.Functions.{Param-pat}
 use Rattle.fast_check_transform_expressions.specs.Looked.{patterns, params_looked}
 
 pub not_leaf : (k : Kind) → is_plain k ≡ false → k ≡ kinds.Leaf → ⊥

@@ -1,3 +1,2 @@
-pub use Rattle.fast_check_bindings.specs as bindings
 pub use Rattle.fast_check_transform_nodes.specs as nodes
 pub mod Looked

@@ -2,26 +2,26 @@
 -- Lists of parameters, and the return type of an arrow where it is known.
 use Rattle.std.specs.Prelude.{◌≡◌, ℕ, ◌<◌, ◌^◌, drop, length, Option, Some, None, List, map, option_map, if◌then◌else◌}
 use Rattle.std.specs.List.{list_all}
-use Rattle.fast_check_syntax.specs.declared.kind.Kind.TheVariants.{BlockStmt}
-use Rattle.fast_check_syntax.specs.declared.source.SourceRange.{SourceRange}
-use Rattle.fast_check_syntax.specs.declared.source.SyntaxContext.{SyntaxContext}
-use Rattle.fast_check_syntax.specs.declared.tree.Tree.{Tree}
-use Rattle.fast_check_syntax.specs.Shape.{◌is◌, kind_of, is_absent}
-use Rattle.fast_check_class_forms.specs.Functions.{Param-pat}
-use Rattle.fast_check_expression_forms.specs.Expressions.{ArrowExpr-body, ArrowExpr-is_async, ArrowExpr-is_generator}
-use Rattle.fast_check_expression_forms.specs.Expressions.{ArrowExpr-return_type}
-use Rattle.fast_check_swc_helpers.specs.declared.literal_type.DeclMutabilityKind.TheVariants.{Mutable}
-use Rattle.fast_check_swc_helpers.specs.Builders.{type_ann}
-use Rattle.fast_check_swc_helpers.specs.InferredType.{inferred_type}
-use Rattle.fast_check_swc_helpers.specs.OptionalParams.{is_optional_param, is_from}
-use Rattle.fast_check_signatures.specs.declared.function_kind.FunctionKind.TheVariants.{ExpressionLike}
-use Rattle.fast_check_signatures.specs.Bindings.{Bindings}
-use Rattle.fast_check_signatures.specs.Seen.{Seen, written}
-use Rattle.fast_check_signatures.specs.NewNodes.{promised}
-use Rattle.fast_check_signatures.specs.Parameters.{pats_seen}
-use Rattle.fast_check_signatures.specs.Functions.{body_seen, params_seen}
-use Rattle.fast_check_signatures.specs.Expressions.{expr_seen}
-use Rattle.fast_check_signatures.specs.Answers.{Answer, answer_to, faultless, made, settled}
+use Rattle.fast_check_tree_syntax.specs.declared.kind.Kind.TheVariants.{BlockStmt}
+use Rattle.fast_check_tree_syntax.specs.declared.source.SourceRange.{SourceRange}
+use Rattle.fast_check_tree_syntax.specs.declared.source.SyntaxContext.{SyntaxContext}
+use Rattle.fast_check_tree_syntax.specs.declared.tree.Tree.{Tree}
+use Rattle.fast_check_tree_syntax.specs.Shape.{◌is◌, kind_of, is_absent}
+use Rattle.fast_check_tree_forms_classes.specs.Functions.{Param-pat}
+use Rattle.fast_check_tree_forms_expressions.specs.Expressions.{ArrowExpr-body, ArrowExpr-is_async, ArrowExpr-is_generator}
+use Rattle.fast_check_tree_forms_expressions.specs.Expressions.{ArrowExpr-return_type}
+use Rattle.fast_check_tree_helpers.specs.declared.literal_type.DeclMutabilityKind.TheVariants.{Mutable}
+use Rattle.fast_check_tree_helpers.specs.Builders.{type_ann}
+use Rattle.fast_check_tree_helpers.specs.InferredType.{inferred_type}
+use Rattle.fast_check_tree_helpers.specs.OptionalParams.{is_optional_param, is_from}
+use Rattle.fast_check_meaning_signatures.specs.declared.function_kind.FunctionKind.TheVariants.{ExpressionLike}
+use Rattle.fast_check_meaning_signatures.specs.Bindings.{Bindings}
+use Rattle.fast_check_meaning_signatures.specs.Seen.{Seen, written}
+use Rattle.fast_check_meaning_signatures.specs.NewNodes.{promised}
+use Rattle.fast_check_meaning_signatures.specs.Parameters.{pats_seen}
+use Rattle.fast_check_meaning_signatures.specs.Functions.{body_seen, params_seen}
+use Rattle.fast_check_meaning_signatures.specs.Expressions.{expr_seen}
+use Rattle.fast_check_meaning_signatures.specs.Answers.{Answer, answer_to, faultless, made, settled}
 
 -- the patterns of parameters
 abbrev pub patterns : List Tree → List Tree

@@ -1,19 +1,18 @@
 //! What stays of an expression.
 ghost use Rattle.std.specs.Prelude.{◌≡◌, IfOk, None, Some, map};
-ghost use Rattle.fast_check_syntax.specs.Part.{seen};
-ghost use Rattle.fast_check_syntax.specs.Shape.{kind_of, parts};
-ghost use Rattle.fast_check_signatures.specs.Seen.{round, seens};
-ghost use Rattle.fast_check_signatures.specs.Expressions.{expr_seen, slot_seen, slots_seen};
-ghost use Rattle.fast_check_signatures.specs.Answers.{Adds, answer_to, demanded};
-ghost use Rattle.fast_check_bindings.specs.Bindings.{bindings_of};
+ghost use Rattle.fast_check_tree_syntax.specs.Part.{seen};
+ghost use Rattle.fast_check_tree_syntax.specs.Shape.{kind_of, parts};
+ghost use Rattle.fast_check_meaning_signatures.specs.Seen.{round, seens};
+ghost use Rattle.fast_check_meaning_signatures.specs.Expressions.{expr_seen, slot_seen, slots_seen};
+ghost use Rattle.fast_check_meaning_signatures.specs.Answers.{Adds, answer_to, demanded};
+ghost use Rattle.fast_check_transform_nodes.specs.Bindings.{bindings_of};
 
 use crate::functions::{transform_arrow, transform_fn};
-use fast_check_bindings::row_of;
-use fast_check_class_forms::Function;
-use fast_check_modules::EsModuleInfo;
-use fast_check_signatures::{Fault, FunctionKind, Slot, is_compound, is_plain};
-use fast_check_syntax::{Items, Kind, Part, SourceRange, Tree};
-use fast_check_transform_nodes::never_in_parens;
+use fast_check_meaning_signatures::{Fault, FunctionKind, Slot, is_compound, is_plain};
+use fast_check_tables_modules::EsModuleInfo;
+use fast_check_transform_nodes::{never_in_parens, row_of};
+use fast_check_tree_forms_classes::Function;
+use fast_check_tree_syntax::{Items, Kind, Part, SourceRange, Tree};
 use std::alloc::{AllocError, Global};
 
 /// The expression as it stays, or `None` where it may not (deno_graph's `maybe_transform_expr_if_leavable`). A fault of a

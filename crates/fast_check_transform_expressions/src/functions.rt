@@ -1,29 +1,29 @@
 //! What stays of a function and of an arrow.
 ghost use Rattle.std.specs.Prelude.{◌≡◌, IfOk, Some};
-ghost use Rattle.fast_check_syntax.specs.Part.{seen};
-ghost use Rattle.fast_check_syntax.specs.Shape.{parts};
-ghost use Rattle.fast_check_signatures.specs.Answers.{Adds, answer_to, answer_of, faultless};
-ghost use Rattle.fast_check_signatures.specs.Expressions.{expr_seen};
-ghost use Rattle.fast_check_signatures.specs.Functions.{class_seen, body_seen, return_type_seen, function_seen, arrow_seen, implementation_seen};
-ghost use Rattle.fast_check_signatures.specs.Functions.{any_params_from};
+ghost use Rattle.fast_check_tree_syntax.specs.Part.{seen};
+ghost use Rattle.fast_check_tree_syntax.specs.Shape.{parts};
+ghost use Rattle.fast_check_meaning_signatures.specs.Answers.{Adds, answer_to, answer_of, faultless};
+ghost use Rattle.fast_check_meaning_signatures.specs.Expressions.{expr_seen};
+ghost use Rattle.fast_check_meaning_signatures.specs.Functions.{class_seen, body_seen, return_type_seen, function_seen, arrow_seen, implementation_seen};
+ghost use Rattle.fast_check_meaning_signatures.specs.Functions.{any_params_from};
 ghost use Rattle.fast_check_transform_expressions.specs.Looked.{known_type, known_answer};
-ghost use Rattle.fast_check_bindings.specs.Bindings.{bindings_of};
+ghost use Rattle.fast_check_transform_nodes.specs.Bindings.{bindings_of};
 
 use crate::expressions::transform_value;
 use crate::parameters::{transform_params, transform_pats};
-use fast_check_bindings::unresolved_context;
-use fast_check_class_forms::{Function, Param};
-use fast_check_expression_forms::ArrowExpr;
-use fast_check_modules::EsModuleInfo;
-use fast_check_signatures::{Fault, FaultKind, FunctionKind};
-use fast_check_swc_helpers::{
+use fast_check_meaning_signatures::{Fault, FaultKind, FunctionKind};
+use fast_check_tables_modules::EsModuleInfo;
+use fast_check_transform_nodes::{
+    any_param, kept_arrow, promised, signed_arrow, signed_function, unresolved_context,
+    void_or_promise_void,
+};
+use fast_check_tree_forms_classes::{Function, Param};
+use fast_check_tree_forms_expressions::ArrowExpr;
+use fast_check_tree_helpers::{
     DeclMutabilityKind, ReturnStatementAnalysis, analyze_return_stmts_in_function_body,
     any_type_ann, maybe_infer_type, named_return, type_ann,
 };
-use fast_check_syntax::{Items, Kind, Part, SourceRange, Tree};
-use fast_check_transform_nodes::{
-    any_param, kept_arrow, promised, signed_arrow, signed_function, void_or_promise_void,
-};
+use fast_check_tree_syntax::{Items, Kind, Part, SourceRange, Tree};
 use std::alloc::{AllocError, Global};
 
 /// The body of a function, a `BlockStmt`, with the marks of the function.

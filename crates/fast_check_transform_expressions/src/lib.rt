@@ -6,7 +6,6 @@ mod functions;
 mod parameters;
 
 pub use expressions::{transform_expr, transform_value};
-pub use fast_check_bindings as bindings;
 pub use fast_check_transform_nodes as nodes;
 pub use functions::{any_params, transform_arrow, transform_fn, transform_implementation};
 pub use parameters::{transform_param_pat, transform_params};

@@ -1,30 +1,29 @@
 //! What stays of parameters and their patterns.
 ghost use Rattle.std.specs.Prelude.{◌≡◌, IfOk, Some};
-ghost use Rattle.fast_check_syntax.specs.Part.{seen};
-ghost use Rattle.fast_check_syntax.specs.Shape.{parts};
-ghost use Rattle.fast_check_swc_helpers.specs.OptionalParams.{IsOptionalStart};
-ghost use Rattle.fast_check_signatures.specs.Answers.{Adds, answer_to, answer_of};
-ghost use Rattle.fast_check_signatures.specs.Seen.{faulty};
-ghost use Rattle.fast_check_signatures.specs.declared.fault.FaultKind.TheVariants.{UnsupportedDestructuring};
-ghost use Rattle.fast_check_signatures.specs.Expressions.{expr_seen};
-ghost use Rattle.fast_check_signatures.specs.Parameters.{typed, rest_seen, assign_seen, pat_seen, pats_seen};
+ghost use Rattle.fast_check_tree_syntax.specs.Part.{seen};
+ghost use Rattle.fast_check_tree_syntax.specs.Shape.{parts};
+ghost use Rattle.fast_check_tree_helpers.specs.OptionalParams.{IsOptionalStart};
+ghost use Rattle.fast_check_meaning_signatures.specs.Answers.{Adds, answer_to, answer_of};
+ghost use Rattle.fast_check_meaning_signatures.specs.Seen.{faulty};
+ghost use Rattle.fast_check_meaning_signatures.specs.declared.fault.FaultKind.TheVariants.{UnsupportedDestructuring};
+ghost use Rattle.fast_check_meaning_signatures.specs.Expressions.{expr_seen};
+ghost use Rattle.fast_check_meaning_signatures.specs.Parameters.{typed, rest_seen, assign_seen, pat_seen, pats_seen};
 ghost use Rattle.fast_check_transform_expressions.specs.Looked.{IsStartOfParams, params_looked};
-ghost use Rattle.fast_check_bindings.specs.Bindings.{bindings_of};
+ghost use Rattle.fast_check_transform_nodes.specs.Bindings.{bindings_of};
 
 use crate::expressions::transform_value;
-use fast_check_bindings::unresolved_context;
-use fast_check_class_forms::Param;
-use fast_check_expression_forms::{ArrayPat, AssignPat, ObjectPat, RestPat};
-use fast_check_modules::EsModuleInfo;
-use fast_check_program_forms::{BindingIdent, Ident};
-use fast_check_signatures::{Fault, FaultKind};
-use fast_check_swc_helpers::ranges::range_of_node;
-use fast_check_swc_helpers::{ParamsOptionalStartIndex, never_value};
-use fast_check_syntax::{Items, Kind, Part, SourceRange, Tree};
+use fast_check_meaning_signatures::{Fault, FaultKind};
+use fast_check_tables_modules::EsModuleInfo;
 use fast_check_transform_nodes::{
-    default_type, emptied_array, emptied_object, never_array, rest_arg, with_default, with_pattern,
-    without_default,
+    default_type, emptied_array, emptied_object, never_array, rest_arg, unresolved_context,
+    with_default, with_pattern, without_default,
 };
+use fast_check_tree_forms_classes::Param;
+use fast_check_tree_forms_expressions::{ArrayPat, AssignPat, ObjectPat, RestPat};
+use fast_check_tree_forms_programs::{BindingIdent, Ident};
+use fast_check_tree_helpers::ranges::range_of_node;
+use fast_check_tree_helpers::{ParamsOptionalStartIndex, never_value};
+use fast_check_tree_syntax::{Items, Kind, Part, SourceRange, Tree};
 use std::alloc::{AllocError, Global};
 
 /// A parameter that stands if its type is written; else a fault at this place.

@@ -6,17 +6,17 @@ use lib.ListN.{get_or}
 use Rattle.std.proofs.Common.{ap, ◌∙◌, sym, append-nil}
 use Rattle.std.proofs.lemmas.List.{take_all}
 use Rattle.std.proofs.lemmas.List.Elements.{filter_more}
-use Rattle.fast_check_syntax.specs.declared.tree.Tree.{Tree}
-use Rattle.fast_check_syntax.specs.Shape.{is_absent, parts}
-use Rattle.fast_check_program_forms.specs.Literals.{Str-value}
-use Rattle.fast_check_program_forms.specs.ModuleDecls.{ImportDecl-specifiers, NamedExport-specifiers, ExportAll-span}
-use Rattle.fast_check_program_forms.specs.ModuleDecls.{TsImportEqualsDecl-span}
-use Rattle.fast_check_signatures.specs.Answers.{faultless, answer_of}
-use Rattle.fast_check_signatures.specs.Seen.{Seen, written}
-use Rattle.fast_check_skeleton.specs.declared.rules.ImportExportRule.TheVariants.{Import, Export, All, Alias}
-use Rattle.fast_check_skeleton.specs.ImportsExports.{is_public_specifier, public_specifiers, source_of, answered_source}
-use Rattle.fast_check_skeleton.specs.ImportsExports.{with_specifiers, import_with, export_with, all_exported}
-use Rattle.fast_check_skeleton.specs.ModuleFacts.{ModuleFacts}
+use Rattle.fast_check_tree_syntax.specs.declared.tree.Tree.{Tree}
+use Rattle.fast_check_tree_syntax.specs.Shape.{is_absent, parts}
+use Rattle.fast_check_tree_forms_programs.specs.Literals.{Str-value}
+use Rattle.fast_check_tree_forms_programs.specs.ModuleDecls.{ImportDecl-specifiers, NamedExport-specifiers, ExportAll-span}
+use Rattle.fast_check_tree_forms_programs.specs.ModuleDecls.{TsImportEqualsDecl-span}
+use Rattle.fast_check_meaning_signatures.specs.Answers.{faultless, answer_of}
+use Rattle.fast_check_meaning_signatures.specs.Seen.{Seen, written}
+use Rattle.fast_check_meaning_skeleton.specs.declared.rules.ImportExportRule.TheVariants.{Import, Export, All, Alias}
+use Rattle.fast_check_meaning_skeleton.specs.ImportsExports.{is_public_specifier, public_specifiers, source_of, answered_source}
+use Rattle.fast_check_meaning_skeleton.specs.ImportsExports.{with_specifiers, import_with, export_with, all_exported}
+use Rattle.fast_check_meaning_skeleton.specs.ModuleFacts.{ModuleFacts}
 use Rattle.fast_check_transform_imports.specs.ImportsExports.{import_export_answer}
 
 -- ---- sources

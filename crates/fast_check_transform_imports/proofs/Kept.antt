@@ -5,7 +5,7 @@ use Rattle.std.specs.BTreeMap.{Updates, get_by_text}
 use Rattle.std.specs.String.{string_cmp}
 use Rattle.std.proofs.lemmas.Map.Text.{btree_map_updates_text}
 use Rattle.std.proofs.lemmas.Slice.Eq.{bytes_eq-Decides}
-use Rattle.fast_check_skeleton.specs.ModuleFacts.{ModuleFacts}
+use Rattle.fast_check_meaning_skeleton.specs.ModuleFacts.{ModuleFacts}
 use Rattle.fast_check_transform_imports.specs.Relative.{AreRelative}
 use Rattle.fast_check_transform_imports.specs.declared.relative.RelativeSources.{RelativeSources}
 

@@ -2,7 +2,7 @@
 -- What stands for the sources of a module, as it is kept from one import to the next.
 use Rattle.std.specs.Prelude.{◌≡◌, ℕ, List, Option, Some}
 use Rattle.std.specs.BTreeMap.{get_by_text}
-use Rattle.fast_check_skeleton.specs.ModuleFacts.{ModuleFacts}
+use Rattle.fast_check_meaning_skeleton.specs.ModuleFacts.{ModuleFacts}
 use Rattle.fast_check_transform_imports.specs.declared.relative.RelativeSources.{RelativeSources}
 
 -- under a text what stands for it

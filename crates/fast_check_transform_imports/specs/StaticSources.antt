@@ -1,15 +1,15 @@
 -- What a skeleton depends on: the sources of its imports, and of its exports from other modules.
 use Rattle.std.specs.Prelude.{Bool, true, false, Option, Some, None, List, [], ◌∷◌, if◌then◌else◌}
 use Rattle.std.specs.List.{flat_map}
-use Rattle.fast_check_syntax.specs.declared.kind.Kind.{Kind}
-use Rattle.fast_check_syntax.specs.declared.kind.Kind.TheVariants as kinds
-use Rattle.fast_check_syntax.specs.declared.tree.Tree.{Tree}
-use Rattle.fast_check_syntax.specs.Shape.{kind_of, parts, is_absent}
-use Rattle.fast_check_program_forms.specs.Literals.{Str-span, Str-value}
-use Rattle.fast_check_program_forms.specs.ModuleDecls.{ImportDecl-src, ImportDecl-type_only, NamedExport-src}
-use Rattle.fast_check_program_forms.specs.ModuleDecls.{NamedExport-type_only, ExportAll-src, ExportAll-type_only}
-use Rattle.fast_check_program_forms.specs.Programs.{Module-body}
-use Rattle.fast_check_diagnostics.specs.declared.parsed_source.tables.fast_check_module.StaticSource.{StaticSource}
+use Rattle.fast_check_tree_syntax.specs.declared.kind.Kind.{Kind}
+use Rattle.fast_check_tree_syntax.specs.declared.kind.Kind.TheVariants as kinds
+use Rattle.fast_check_tree_syntax.specs.declared.tree.Tree.{Tree}
+use Rattle.fast_check_tree_syntax.specs.Shape.{kind_of, parts, is_absent}
+use Rattle.fast_check_tree_forms_programs.specs.Literals.{Str-span, Str-value}
+use Rattle.fast_check_tree_forms_programs.specs.ModuleDecls.{ImportDecl-src, ImportDecl-type_only, NamedExport-src}
+use Rattle.fast_check_tree_forms_programs.specs.ModuleDecls.{NamedExport-type_only, ExportAll-src, ExportAll-type_only}
+use Rattle.fast_check_tree_forms_programs.specs.Programs.{Module-body}
+use Rattle.fast_check_tables_diagnostics.specs.declared.parsed_source.tables.fast_check_module.StaticSource.{StaticSource}
 
 abbrev pub as_sources : Option StaticSource → List StaticSource
 as_sources (Some s) = s ∷ []

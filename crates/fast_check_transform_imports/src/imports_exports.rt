@@ -1,20 +1,20 @@
 //! What stays of imports, and of exports of names, of all and by assignment.
 ghost use Rattle.std.specs.Prelude.{◌≡◌, IfOk};
-ghost use Rattle.fast_check_syntax.specs.Part.{seen};
-ghost use Rattle.fast_check_signatures.specs.Answers.{faultless};
-ghost use Rattle.fast_check_skeleton.specs.ImportsExports.{answered_source, public_specifiers};
-ghost use Rattle.fast_check_skeleton.specs.declared.rules.ImportExportRule.TheVariants as imports_exports;
+ghost use Rattle.fast_check_tree_syntax.specs.Part.{seen};
+ghost use Rattle.fast_check_meaning_signatures.specs.Answers.{faultless};
+ghost use Rattle.fast_check_meaning_skeleton.specs.ImportsExports.{answered_source, public_specifiers};
+ghost use Rattle.fast_check_meaning_skeleton.specs.declared.rules.ImportExportRule.TheVariants as imports_exports;
 ghost use Rattle.fast_check_transform_imports.specs.module_facts.ModuleFacts.{facts_of};
 ghost use Rattle.fast_check_transform_imports.specs.module_facts.Kept.{as_list};
 ghost use Rattle.fast_check_transform_imports.specs.ImportsExports.{import_export_answer};
 ghost use Rattle.fast_check_transform_imports.specs.Relative.{AreRelative};
 
 use crate::module_facts::ModuleFacts;
-use crate::module_facts::skeleton::ImportExportRule;
 use crate::relative::RelativeSources;
-use fast_check_program_forms::{ExportAll, ImportDecl, NamedExport, Str, TsImportEqualsDecl};
-use fast_check_swc_helpers::ranges::range_of_node;
-use fast_check_syntax::{Atom, Items, Part, Tree};
+use fast_check_meaning_skeleton::ImportExportRule;
+use fast_check_tree_forms_programs::{ExportAll, ImportDecl, NamedExport, Str, TsImportEqualsDecl};
+use fast_check_tree_helpers::ranges::range_of_node;
+use fast_check_tree_syntax::{Atom, Items, Part, Tree};
 use std::alloc::{AllocError, Global};
 
 /// The source of an import or an export: by the text that stands for it, if there is another one. An export of own names

@@ -6,7 +6,10 @@ pub mod module_facts;
 mod relative;
 mod sources;
 
-pub use fast_check_diagnostics::parsed_source::StaticSource;
+pub use fast_check_meaning_skeleton as skeleton;
+pub use fast_check_tables_diagnostics::parsed_source::StaticSource;
+pub use fast_check_transform_nodes as nodes;
 pub use imports_exports::transform_import_export;
+pub use module_facts::{ModuleFacts, relative_source};
 pub use relative::RelativeSources;
 pub use sources::static_sources;

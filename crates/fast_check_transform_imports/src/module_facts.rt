@@ -5,5 +5,3 @@ mod sources;
 
 pub use crate::module_facts::facts::ModuleFacts;
 pub use crate::module_facts::sources::relative_source;
-pub use fast_check_bindings as bindings;
-pub use fast_check_skeleton as skeleton;

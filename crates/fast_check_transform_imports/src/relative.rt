@@ -1,11 +1,11 @@
 //! The texts that stand for the sources of a module, from one import to the next.
 ghost use Rattle.std.specs.Prelude.{◌≡◌, IfOk, OnOk};
-ghost use Rattle.fast_check_skeleton.specs.ModuleFacts.{ModuleFacts as Asked};
+ghost use Rattle.fast_check_meaning_skeleton.specs.ModuleFacts.{ModuleFacts as Asked};
 ghost use Rattle.fast_check_transform_imports.specs.module_facts.ModuleFacts.{facts_of};
 ghost use Rattle.fast_check_transform_imports.specs.Relative.{AreRelative};
 
 use crate::module_facts::{ModuleFacts, relative_source};
-use fast_check_syntax::Atom;
+use fast_check_tree_syntax::Atom;
 use std::alloc::{AllocError, Global};
 use std::collections::BTreeMap;
 

@@ -1,11 +1,11 @@
 //! The sources that a skeleton depends on.
 ghost use Rattle.std.specs.Prelude.{◌≡◌, IfOk};
-ghost use Rattle.fast_check_syntax.specs.Part.{seen};
+ghost use Rattle.fast_check_tree_syntax.specs.Part.{seen};
 ghost use Rattle.fast_check_transform_imports.specs.StaticSources.{as_sources, source_of, item_source, static_sources};
 
-use fast_check_diagnostics::parsed_source::StaticSource;
-use fast_check_program_forms::{ExportAll, ImportDecl, Module, NamedExport, Str};
-use fast_check_syntax::{Atom, Kind, Part};
+use fast_check_tables_diagnostics::parsed_source::StaticSource;
+use fast_check_tree_forms_programs::{ExportAll, ImportDecl, Module, NamedExport, Str};
+use fast_check_tree_syntax::{Atom, Kind, Part};
 use std::alloc::{AllocError, Global};
 
 /// The source of an import or an export, by its literal; none where it has none.

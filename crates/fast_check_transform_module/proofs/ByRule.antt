@@ -2,45 +2,45 @@
 use Rattle.std.specs.Prelude.{◌≡◌, ℕ, ◌+◌, ◌<◌, ◌≤◌, true, false, Option, Some, List, [], ◌∷◌, ◌++◌, length, take}
 use lib.ListN.{get_or}
 use Rattle.std.proofs.Common.{ap, ◌∙◌, sym, subst, append-nil}
-use Rattle.fast_check_syntax.specs.declared.source.SourceRange.{SourceRange}
-use Rattle.fast_check_syntax.specs.declared.tree.Tree.{Tree, Absent}
-use Rattle.fast_check_program_forms.specs.ModuleDecls.{ExportDecl-span, ExportDecl-decl, export_decl}
-use Rattle.fast_check_swc_helpers.specs.ranges.Ranges.{range_of_node}
-use Rattle.fast_check_signatures.specs.declared.fault.Fault.{Fault}
-use Rattle.fast_check_signatures.specs.declared.fault.FaultKind.{FaultKind}
-use Rattle.fast_check_signatures.specs.Answers.{Answer, Adds, fault_at, faultless, with_tree, answer_to, answer_of}
-use Rattle.fast_check_signatures.specs.Seen.{Seen, faulty}
-use Rattle.fast_check_signatures.proofs.Adding.{adds_nothing, adds_fault, adds_same}
-use Rattle.fast_check_transform_statements.specs.transform_declarations.imports_exports.module_facts.skeleton.declared.rules.DeclRule.{DeclRule}
-use Rattle.fast_check_transform_statements.specs.transform_declarations.imports_exports.module_facts.skeleton.declared.rules.DeclRule.TheVariants.{Variables, Function, Class, Standing}
-use Rattle.fast_check_transform_statements.specs.transform_declarations.imports_exports.module_facts.skeleton.declared.rules.DeclRule.TheVariants.{Namespace, Using, NoDeclaration}
-use Rattle.fast_check_transform_statements.specs.transform_declarations.imports_exports.module_facts.skeleton.declared.rules.DefaultRule.{DefaultRule}
-use Rattle.fast_check_transform_statements.specs.transform_declarations.imports_exports.module_facts.skeleton.declared.rules.ImportExportRule.{ImportExportRule}
-use Rattle.fast_check_transform_statements.specs.transform_declarations.imports_exports.module_facts.skeleton.declared.rules.ItemRule.{ItemRule}
-use Rattle.fast_check_transform_statements.specs.transform_declarations.imports_exports.module_facts.skeleton.declared.rules.ItemRule.TheVariants.{Declared, Exported, ImportExport, Default}
-use Rattle.fast_check_transform_statements.specs.transform_declarations.imports_exports.module_facts.skeleton.declared.rules.ItemRule.TheVariants.{Refused, Assigned, Silent}
+use Rattle.fast_check_tree_syntax.specs.declared.source.SourceRange.{SourceRange}
+use Rattle.fast_check_tree_syntax.specs.declared.tree.Tree.{Tree, Absent}
+use Rattle.fast_check_tree_forms_programs.specs.ModuleDecls.{ExportDecl-span, ExportDecl-decl, export_decl}
+use Rattle.fast_check_tree_helpers.specs.ranges.Ranges.{range_of_node}
+use Rattle.fast_check_meaning_signatures.specs.declared.fault.Fault.{Fault}
+use Rattle.fast_check_meaning_signatures.specs.declared.fault.FaultKind.{FaultKind}
+use Rattle.fast_check_meaning_signatures.specs.Answers.{Answer, Adds, fault_at, faultless, with_tree, answer_to, answer_of}
+use Rattle.fast_check_meaning_signatures.specs.Seen.{Seen, faulty}
+use Rattle.fast_check_meaning_signatures.proofs.Adding.{adds_nothing, adds_fault, adds_same}
+use Rattle.fast_check_transform_statements.specs.skeleton.declared.rules.DeclRule.{DeclRule}
+use Rattle.fast_check_transform_statements.specs.skeleton.declared.rules.DeclRule.TheVariants.{Variables, Function, Class, Standing}
+use Rattle.fast_check_transform_statements.specs.skeleton.declared.rules.DeclRule.TheVariants.{Namespace, Using, NoDeclaration}
+use Rattle.fast_check_transform_statements.specs.skeleton.declared.rules.DefaultRule.{DefaultRule}
+use Rattle.fast_check_transform_statements.specs.skeleton.declared.rules.ImportExportRule.{ImportExportRule}
+use Rattle.fast_check_transform_statements.specs.skeleton.declared.rules.ItemRule.{ItemRule}
+use Rattle.fast_check_transform_statements.specs.skeleton.declared.rules.ItemRule.TheVariants.{Declared, Exported, ImportExport, Default}
+use Rattle.fast_check_transform_statements.specs.skeleton.declared.rules.ItemRule.TheVariants.{Refused, Assigned, Silent}
 use Rattle.std.specs.List.{flat_map}
 use Rattle.std.specs.Prelude.{refl}
 use Rattle.std.proofs.lemmas.List.{take_more, take_all}
 use Rattle.std.proofs.lemmas.List.Concat.{flat_map-append}
-use Rattle.fast_check_statement_forms.specs.Statements.{ExprStmt-expr}
-use Rattle.fast_check_signatures.proofs.Adding.{adds_joined, answer_append}
-use Rattle.fast_check_transform_statements.specs.transform_declarations.imports_exports.module_facts.skeleton.expandos.declared.properties.ExpandoProperty.{ExpandoProperty}
-use Rattle.fast_check_transform_statements.specs.transform_declarations.imports_exports.module_facts.skeleton.expandos.Assignments.{assignment_seen, declared_properties}
-use Rattle.fast_check_transform_statements.specs.transform_declarations.imports_exports.module_facts.skeleton.expandos.Expandos.{namespaces_seen}
+use Rattle.fast_check_tree_forms_statements.specs.Statements.{ExprStmt-expr}
+use Rattle.fast_check_meaning_signatures.proofs.Adding.{adds_joined, answer_append}
+use Rattle.fast_check_transform_statements.specs.expandos.declared.properties.ExpandoProperty.{ExpandoProperty}
+use Rattle.fast_check_transform_statements.specs.expandos.Assignments.{assignment_seen, declared_properties}
+use Rattle.fast_check_transform_statements.specs.expandos.Expandos.{namespaces_seen}
 use Rattle.fast_check_transform_statements.specs.Assigned.{assignment_answer, assignment_properties}
-use Rattle.fast_check_transform_statements.specs.transform_declarations.imports_exports.module_facts.skeleton.Visible.{properties_by_rule, item_properties, item_look}
-use Rattle.fast_check_transform_statements.specs.transform_declarations.imports_exports.module_facts.skeleton.Rules.{is_assigned, item_rule}
-use Rattle.fast_check_transform_statements.specs.transform_declarations.imports_exports.module_facts.skeleton.ModuleFacts.{ModuleFacts}
-use Rattle.fast_check_transform_statements.specs.transform_declarations.imports_exports.module_facts.skeleton.Visible.{decl_seen, exported_seen, seen_by_rule, item_seen}
-use Rattle.fast_check_transform_statements.proofs.transform_declarations.imports_exports_proofs.module_facts.skeleton_proofs.Namespaces.{item_seen_is}
-use Rattle.fast_check_transform_statements.proofs.transform_declarations.imports_exports_proofs.module_facts.skeleton_proofs.Standing.{OneTree, decl_one, export_is}
-use Rattle.fast_check_transform_statements.specs.transform_declarations.imports_exports.module_facts.Kept.{as_list}
+use Rattle.fast_check_transform_statements.specs.skeleton.Visible.{properties_by_rule, item_properties, item_look}
+use Rattle.fast_check_transform_statements.specs.skeleton.Rules.{is_assigned, item_rule}
+use Rattle.fast_check_transform_statements.specs.skeleton.ModuleFacts.{ModuleFacts}
+use Rattle.fast_check_transform_statements.specs.skeleton.Visible.{decl_seen, exported_seen, seen_by_rule, item_seen}
+use Rattle.fast_check_transform_statements.proofs.skeleton_proofs.Namespaces.{item_seen_is}
+use Rattle.fast_check_transform_statements.proofs.skeleton_proofs.Standing.{OneTree, decl_one, export_is}
+use Rattle.fast_check_transform_imports.specs.module_facts.Kept.{as_list}
 use Rattle.fast_check_transform_imports.specs.ImportsExports.{import_export_answer}
 use Rattle.fast_check_transform_statements.specs.PartAnswers.{statement_answer, public_function_answer, standing_answer, using_answer}
 use Rattle.fast_check_transform_statements.specs.transform_declarations.ClassAnswers.{public_class_answer}
 use Rattle.fast_check_transform_statements.specs.transform_declarations.ClassAnswers.{default_answer}
-use Rattle.fast_check_transform_statements.proofs.transform_declarations.imports_exports_proofs.module_facts.Listed.{alone, one_more, whole}
+use Rattle.fast_check_transform_imports.proofs.module_facts.Listed.{alone, one_more, whole}
 use Rattle.fast_check_transform_module.specs.PartAnswers.{namespace_answer, decl_answer, refused_answer, item_answer}
 use Rattle.fast_check_transform_module.specs.PartAnswers.{items_answer}
 

@@ -1,29 +1,29 @@
 -- What is answered to namespaces, what goes inside of them, and how high their items are.
 use Rattle.std.specs.Prelude.{◌≡◌, ◌≤◌, Bool, true, false, not, ◌&&◌, Option, Some, None, List, [], ◌∷◌, ◌++◌, refl, if◌then◌else◌}
 use Rattle.std.proofs.Common.{arith, ap, ◌∙◌, sym, subst}
-use Rattle.fast_check_syntax.specs.declared.source.SourcePos.{SourcePos}
-use Rattle.fast_check_syntax.specs.declared.source.SourceRange.{SourceRange}
-use Rattle.fast_check_syntax.specs.declared.tree.Tree.{Tree, Absent}
-use Rattle.fast_check_syntax.specs.Shape.{parts}
-use Rattle.fast_check_syntax.specs.Height.{height, height_at_most}
-use Rattle.fast_check_swc_helpers.specs.ranges.Ranges.{range_of_node}
-use Rattle.fast_check_statement_forms.specs.TsDeclarations.{TsModuleDecl-span, TsModuleDecl-global, TsModuleDecl-id, TsModuleDecl-body}
-use Rattle.fast_check_statement_forms.specs.TsDeclarations.{TsModuleBlock-body}
-use Rattle.fast_check_signatures.specs.declared.fault.Fault.{Fault}
-use Rattle.fast_check_signatures.specs.declared.fault.FaultKind.TheVariants.{UnsupportedGlobalModule, UnsupportedAmbientModule}
-use Rattle.fast_check_signatures.specs.Seen.{Seen, faulty}
-use Rattle.fast_check_signatures.specs.Answers.{Adds, fault_at, answer_of}
-use Rattle.fast_check_signatures.proofs.Adding.{adds_nothing, adds_fault, adds_made, adds_same}
-use Rattle.fast_check_transform_statements.specs.transform_declarations.imports_exports.module_facts.skeleton.KeptComments.{removed_from, start_look, starts_in_namespace}
-use Rattle.fast_check_transform_statements.specs.transform_declarations.imports_exports.module_facts.skeleton.Namespaces.{is_ambient_module, is_namespace, innermost, items_inside}
-use Rattle.fast_check_transform_statements.specs.transform_declarations.imports_exports.module_facts.skeleton.Namespaces.{namespace_round, namespace_with}
-use Rattle.fast_check_transform_statements.specs.transform_declarations.imports_exports.module_facts.skeleton.ModuleFacts.{ModuleFacts, inside}
-use Rattle.fast_check_transform_statements.specs.transform_declarations.imports_exports.module_facts.skeleton.Visible.{item_look, body_seen, namespace_seen}
-use Rattle.fast_check_transform_statements.proofs.transform_declarations.imports_exports_proofs.module_facts.skeleton_proofs.Namespaces.{innermost_at_most, namespace_if, hidden_namespace}
-use Rattle.fast_check_transform_statements.proofs.transform_declarations.imports_exports_proofs.module_facts.skeleton_proofs.Namespaces.{global_is, ambient_module_is}
-use Rattle.fast_check_transform_statements.proofs.transform_declarations.imports_exports_proofs.module_facts.skeleton_proofs.StandingNamespaces.{namespace_is}
+use Rattle.fast_check_tree_syntax.specs.declared.source.SourcePos.{SourcePos}
+use Rattle.fast_check_tree_syntax.specs.declared.source.SourceRange.{SourceRange}
+use Rattle.fast_check_tree_syntax.specs.declared.tree.Tree.{Tree, Absent}
+use Rattle.fast_check_tree_syntax.specs.Shape.{parts}
+use Rattle.fast_check_tree_syntax.specs.Height.{height, height_at_most}
+use Rattle.fast_check_tree_helpers.specs.ranges.Ranges.{range_of_node}
+use Rattle.fast_check_tree_forms_statements.specs.TsDeclarations.{TsModuleDecl-span, TsModuleDecl-global, TsModuleDecl-id, TsModuleDecl-body}
+use Rattle.fast_check_tree_forms_statements.specs.TsDeclarations.{TsModuleBlock-body}
+use Rattle.fast_check_meaning_signatures.specs.declared.fault.Fault.{Fault}
+use Rattle.fast_check_meaning_signatures.specs.declared.fault.FaultKind.TheVariants.{UnsupportedGlobalModule, UnsupportedAmbientModule}
+use Rattle.fast_check_meaning_signatures.specs.Seen.{Seen, faulty}
+use Rattle.fast_check_meaning_signatures.specs.Answers.{Adds, fault_at, answer_of}
+use Rattle.fast_check_meaning_signatures.proofs.Adding.{adds_nothing, adds_fault, adds_made, adds_same}
+use Rattle.fast_check_transform_statements.specs.skeleton.KeptComments.{removed_from, start_look, starts_in_namespace}
+use Rattle.fast_check_transform_statements.specs.skeleton.Namespaces.{is_ambient_module, is_namespace, innermost, items_inside}
+use Rattle.fast_check_transform_statements.specs.skeleton.Namespaces.{namespace_round, namespace_with}
+use Rattle.fast_check_transform_statements.specs.skeleton.ModuleFacts.{ModuleFacts, inside}
+use Rattle.fast_check_transform_statements.specs.skeleton.Visible.{item_look, body_seen, namespace_seen}
+use Rattle.fast_check_transform_statements.proofs.skeleton_proofs.Namespaces.{innermost_at_most, namespace_if, hidden_namespace}
+use Rattle.fast_check_transform_statements.proofs.skeleton_proofs.Namespaces.{global_is, ambient_module_is}
+use Rattle.fast_check_transform_statements.proofs.skeleton_proofs.StandingNamespaces.{namespace_is}
 use Rattle.fast_check_transform_statements.specs.PartAnswers.{module_fault}
-use Rattle.fast_check_transform_statements.proofs.transform_declarations.imports_exports_proofs.module_facts.Listed.{alone}
+use Rattle.fast_check_transform_imports.proofs.module_facts.Listed.{alone}
 use Rattle.fast_check_transform_module.specs.PartAnswers.{namespace_answer, items_answer}
 
 -- the items of a namespace are no higher than it

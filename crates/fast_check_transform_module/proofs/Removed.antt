@@ -5,33 +5,33 @@ use lib.ListN.{get_or}
 use Rattle.std.proofs.Common.{ap, ◌∙◌, sym, subst, append-nil}
 use Rattle.std.proofs.lemmas.List.{take_more}
 use Rattle.std.proofs.lemmas.List.Concat.{flat_map-append}
-use Rattle.fast_check_syntax.specs.declared.source.SourcePos.{SourcePos}
-use Rattle.fast_check_syntax.specs.declared.tree.Tree.{Tree}
-use Rattle.fast_check_syntax.specs.Shape.{parts}
-use Rattle.fast_check_syntax.specs.Height.{height, height_read}
-use Rattle.fast_check_comments.specs.declared.comments.Comments.{Comments}
-use Rattle.fast_check_comments.specs.Kept.{without_leading}
-use Rattle.fast_check_transform_statements.specs.transform_declarations.imports_exports.module_facts.skeleton.ModuleFacts.{ModuleFacts}
-use Rattle.fast_check_signatures.specs.Seen.{Seen}
-use Rattle.fast_check_swc_helpers.specs.ranges.Ranges.{range_of_node}
-use Rattle.fast_check_transform_statements.specs.transform_declarations.imports_exports.module_facts.skeleton.Rules.{is_assigned, item_rule}
+use Rattle.fast_check_tree_syntax.specs.declared.source.SourcePos.{SourcePos}
+use Rattle.fast_check_tree_syntax.specs.declared.tree.Tree.{Tree}
+use Rattle.fast_check_tree_syntax.specs.Shape.{parts}
+use Rattle.fast_check_tree_syntax.specs.Height.{height, height_read}
+use Rattle.fast_check_tree_comments.specs.declared.comments.Comments.{Comments}
+use Rattle.fast_check_tree_comments.specs.Kept.{without_leading}
+use Rattle.fast_check_transform_statements.specs.skeleton.ModuleFacts.{ModuleFacts}
+use Rattle.fast_check_meaning_signatures.specs.Seen.{Seen}
+use Rattle.fast_check_tree_helpers.specs.ranges.Ranges.{range_of_node}
+use Rattle.fast_check_transform_statements.specs.skeleton.Rules.{is_assigned, item_rule}
 use Rattle.std.specs.Prelude.{Bool, true, false, if◌then◌else◌}
-use Rattle.fast_check_expression_forms.specs.Operators.{AssignExpr-span}
-use Rattle.fast_check_statement_forms.specs.Statements.{ExprStmt-expr}
-use Rattle.fast_check_signatures.specs.Seen.{tested}
-use Rattle.fast_check_transform_statements.specs.transform_declarations.imports_exports.module_facts.skeleton.expandos.Assignments.{right_seen, missing_place}
-use Rattle.fast_check_syntax.specs.declared.source.SourceRange.{SourceRange}
-use Rattle.fast_check_transform_statements.specs.transform_declarations.imports_exports.module_facts.skeleton.declared.rules.DeclRule.{DeclRule}
-use Rattle.fast_check_transform_statements.specs.transform_declarations.imports_exports.module_facts.skeleton.declared.rules.ItemRule.{ItemRule}
-use Rattle.fast_check_transform_statements.specs.transform_declarations.imports_exports.module_facts.skeleton.declared.rules.ItemRule.TheVariants.{Assigned, Declared}
-use Rattle.fast_check_transform_statements.specs.transform_declarations.imports_exports.module_facts.skeleton.Visible.{seen_by_rule}
-use Rattle.fast_check_transform_statements.specs.transform_declarations.imports_exports.module_facts.skeleton.Visible.{item_seen}
-use Rattle.fast_check_signatures.specs.declared.fault.Fault.{Fault}
-use Rattle.fast_check_signatures.specs.Answers.{Adds, with_tree, answer_of}
-use Rattle.fast_check_transform_statements.specs.transform_declarations.imports_exports.module_facts.skeleton.KeptComments.{start_of_unseen, starts_inside, starts_in_body, starts_below}
-use Rattle.fast_check_transform_statements.specs.transform_declarations.imports_exports.module_facts.skeleton.KeptComments.{start_look, removed_start, removed_from, without_all_leading}
-use Rattle.fast_check_transform_statements.proofs.transform_declarations.imports_exports_proofs.module_facts.skeleton_proofs.Namespaces.{item_seen_is, removed_start_is}
-use Rattle.fast_check_transform_statements.proofs.transform_declarations.imports_exports_proofs.module_facts.skeleton_proofs.Standing.{OneTree, item_one}
+use Rattle.fast_check_tree_forms_expressions.specs.Operators.{AssignExpr-span}
+use Rattle.fast_check_tree_forms_statements.specs.Statements.{ExprStmt-expr}
+use Rattle.fast_check_meaning_signatures.specs.Seen.{tested}
+use Rattle.fast_check_transform_statements.specs.expandos.Assignments.{right_seen, missing_place}
+use Rattle.fast_check_tree_syntax.specs.declared.source.SourceRange.{SourceRange}
+use Rattle.fast_check_transform_statements.specs.skeleton.declared.rules.DeclRule.{DeclRule}
+use Rattle.fast_check_transform_statements.specs.skeleton.declared.rules.ItemRule.{ItemRule}
+use Rattle.fast_check_transform_statements.specs.skeleton.declared.rules.ItemRule.TheVariants.{Assigned, Declared}
+use Rattle.fast_check_transform_statements.specs.skeleton.Visible.{seen_by_rule}
+use Rattle.fast_check_transform_statements.specs.skeleton.Visible.{item_seen}
+use Rattle.fast_check_meaning_signatures.specs.declared.fault.Fault.{Fault}
+use Rattle.fast_check_meaning_signatures.specs.Answers.{Adds, with_tree, answer_of}
+use Rattle.fast_check_transform_statements.specs.skeleton.KeptComments.{start_of_unseen, starts_inside, starts_in_body, starts_below}
+use Rattle.fast_check_transform_statements.specs.skeleton.KeptComments.{start_look, removed_start, removed_from, without_all_leading}
+use Rattle.fast_check_transform_statements.proofs.skeleton_proofs.Namespaces.{item_seen_is, removed_start_is}
+use Rattle.fast_check_transform_statements.proofs.skeleton_proofs.Standing.{OneTree, item_one}
 use Rattle.fast_check_transform_module.specs.PartAnswers.{item_answer}
 
 pub without_append : (xs ys : List SourcePos) (c : Comments) → without_all_leading (xs ++ ys) c ≡ without_all_leading ys

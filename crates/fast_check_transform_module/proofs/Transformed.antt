@@ -1,19 +1,19 @@
 -- What is answered to a module. A tree that is the skeleton of a module without faults stands in the grammar.
 use Rattle.std.specs.Prelude.{◌≡◌, List, [], ◌++◌}
 use Rattle.std.proofs.Common.{ap, ◌∙◌, subst, sym}
-use Rattle.fast_check_transform_statements.specs.transform_declarations.imports_exports.module_facts.bindings.Bindings.{bindings_of}
-use Rattle.fast_check_syntax.specs.declared.tree.Tree.{Tree}
-use Rattle.fast_check_syntax.specs.Shape.{parts, list}
-use Rattle.fast_check_program_forms.specs.Programs.{Module-span, Module-body, Module-shebang, module'}
-use Rattle.fast_check_graph.specs.declared.graph.ModuleGraph.{ModuleGraph}
-use Rattle.fast_check_modules.specs.EsModule.{EsModule}
-use Rattle.fast_check_diagnostics.specs.parsed_source.MediaType.{is_declaration}
-use Rattle.fast_check_modules.specs.diagnostics.PublicRanges.{PublicRanges}
-use Rattle.fast_check_signatures.specs.declared.fault.Fault.{Fault}
-use Rattle.fast_check_signatures.specs.Answers.{Adds}
-use Rattle.fast_check_transform_statements.specs.transform_declarations.imports_exports.module_facts.skeleton.Grammar.{IsSkeleton}
-use Rattle.fast_check_transform_statements.specs.transform_declarations.imports_exports.module_facts.skeleton.ModuleFacts.{ModuleFacts}
-use Rattle.fast_check_transform_statements.proofs.transform_declarations.imports_exports_proofs.module_facts.skeleton_proofs.Standing.{skeleton_stands}
+use Rattle.fast_check_transform_statements.specs.nodes.Bindings.{bindings_of}
+use Rattle.fast_check_tree_syntax.specs.declared.tree.Tree.{Tree}
+use Rattle.fast_check_tree_syntax.specs.Shape.{parts, list}
+use Rattle.fast_check_tree_forms_programs.specs.Programs.{Module-span, Module-body, Module-shebang, module'}
+use Rattle.fast_check_tables_graph.specs.declared.graph.ModuleGraph.{ModuleGraph}
+use Rattle.fast_check_tables_modules.specs.EsModule.{EsModule}
+use Rattle.fast_check_tables_diagnostics.specs.parsed_source.MediaType.{is_declaration}
+use Rattle.fast_check_tables_modules.specs.diagnostics.PublicRanges.{PublicRanges}
+use Rattle.fast_check_meaning_signatures.specs.declared.fault.Fault.{Fault}
+use Rattle.fast_check_meaning_signatures.specs.Answers.{Adds}
+use Rattle.fast_check_transform_statements.specs.skeleton.Grammar.{IsSkeleton}
+use Rattle.fast_check_transform_statements.specs.skeleton.ModuleFacts.{ModuleFacts}
+use Rattle.fast_check_transform_statements.proofs.skeleton_proofs.Standing.{skeleton_stands}
 use Rattle.fast_check_transform_module.specs.PartAnswers.{items_answer}
 use Rattle.fast_check_transform_module.specs.Transform.{facts_of_module, skeleton, faults}
 

@@ -1,16 +1,16 @@
 -- Inner: no contract of a public call cites what stands here.
 -- The answers to what is seen of the items of a module, and of a namespace.
 use Rattle.std.specs.Prelude.{List, [], ◌∷◌}
-use Rattle.fast_check_syntax.specs.declared.source.SourceRange.{SourceRange}
-use Rattle.fast_check_syntax.specs.declared.tree.Tree.{Tree}
-use Rattle.fast_check_swc_helpers.specs.ranges.Ranges.{range_of_node}
-use Rattle.fast_check_signatures.specs.declared.fault.FaultKind.{FaultKind}
-use Rattle.fast_check_signatures.specs.Seen.{faulty}
-use Rattle.fast_check_signatures.specs.Answers.{Answer, answer_of}
-use Rattle.fast_check_transform_statements.specs.transform_declarations.imports_exports.module_facts.skeleton.declared.rules.DeclRule.{DeclRule}
-use Rattle.fast_check_transform_statements.specs.transform_declarations.imports_exports.module_facts.skeleton.ModuleFacts.{ModuleFacts}
-use Rattle.fast_check_transform_statements.specs.transform_declarations.imports_exports.module_facts.skeleton.Visible.{item_look, body_seen, namespace_seen, decl_seen}
-use Rattle.fast_check_transform_statements.specs.transform_declarations.imports_exports.module_facts.skeleton.Visible.{item_seen}
+use Rattle.fast_check_tree_syntax.specs.declared.source.SourceRange.{SourceRange}
+use Rattle.fast_check_tree_syntax.specs.declared.tree.Tree.{Tree}
+use Rattle.fast_check_tree_helpers.specs.ranges.Ranges.{range_of_node}
+use Rattle.fast_check_meaning_signatures.specs.declared.fault.FaultKind.{FaultKind}
+use Rattle.fast_check_meaning_signatures.specs.Seen.{faulty}
+use Rattle.fast_check_meaning_signatures.specs.Answers.{Answer, answer_of}
+use Rattle.fast_check_transform_statements.specs.skeleton.declared.rules.DeclRule.{DeclRule}
+use Rattle.fast_check_transform_statements.specs.skeleton.ModuleFacts.{ModuleFacts}
+use Rattle.fast_check_transform_statements.specs.skeleton.Visible.{item_look, body_seen, namespace_seen, decl_seen}
+use Rattle.fast_check_transform_statements.specs.skeleton.Visible.{item_seen}
 
 -- to a namespace, which is public by `place`
 unfoldable pub namespace_answer : ModuleFacts → SourceRange → Tree → Answer (List Tree)

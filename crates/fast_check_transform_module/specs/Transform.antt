@@ -1,18 +1,18 @@
 -- What a transform answers.
 use Rattle.std.specs.Prelude.{List}
-use Rattle.fast_check_syntax.specs.declared.tree.Tree.{Tree}
-use Rattle.fast_check_graph.specs.declared.graph.ModuleGraph.{ModuleGraph}
-use Rattle.fast_check_modules.specs.EsModule.{EsModule}
-use Rattle.fast_check_graph.specs.Graph.{resolutions_of}
-use Rattle.fast_check_transform_statements.specs.transform_declarations.imports_exports.module_facts.ModuleFacts.{facts_by}
-use Rattle.fast_check_transform_statements.specs.transform_declarations.imports_exports.module_facts.skeleton.ModuleFacts.{ModuleFacts}
+use Rattle.fast_check_tree_syntax.specs.declared.tree.Tree.{Tree}
+use Rattle.fast_check_tables_graph.specs.declared.graph.ModuleGraph.{ModuleGraph}
+use Rattle.fast_check_tables_modules.specs.EsModule.{EsModule}
+use Rattle.fast_check_tables_graph.specs.Graph.{resolutions_of}
+use Rattle.fast_check_transform_imports.specs.module_facts.ModuleFacts.{facts_by}
+use Rattle.fast_check_transform_statements.specs.skeleton.ModuleFacts.{ModuleFacts}
 use Rattle.fast_check_transform_imports.specs.StaticSources.{static_sources}
-use Rattle.fast_check_modules.specs.diagnostics.PublicRanges.{PublicRanges}
-use Rattle.fast_check_diagnostics.specs.declared.parsed_source.tables.fast_check_module.StaticSource.{StaticSource}
-use Rattle.fast_check_signatures.specs.declared.fault.Fault.{Fault}
-use Rattle.fast_check_transform_statements.specs.transform_declarations.imports_exports.module_facts.skeleton.Skeleton.{skeleton_of, faults_of}
-use Rattle.fast_check_transform_statements.specs.transform_declarations.imports_exports.module_facts.skeleton.KeptComments.{kept_comments}
-use Rattle.fast_check_comments.specs.declared.comments.Comments.{Comments}
+use Rattle.fast_check_tables_modules.specs.diagnostics.PublicRanges.{PublicRanges}
+use Rattle.fast_check_tables_diagnostics.specs.declared.parsed_source.tables.fast_check_module.StaticSource.{StaticSource}
+use Rattle.fast_check_meaning_signatures.specs.declared.fault.Fault.{Fault}
+use Rattle.fast_check_transform_statements.specs.skeleton.Skeleton.{skeleton_of, faults_of}
+use Rattle.fast_check_transform_statements.specs.skeleton.KeptComments.{kept_comments}
+use Rattle.fast_check_tree_comments.specs.declared.comments.Comments.{Comments}
 
 -- what it is asked beside its tree
 abbrev pub facts_of_module : ModuleGraph → EsModule → PublicRanges → ModuleFacts

@@ -1,19 +1,19 @@
 //! `transform`: the skeleton of a module, or all that is wrong with it.
 ghost use Rattle.std.specs.Prelude.{◌≡◌, ◌↔◌, [], IfOk, IsOk, IfErr};
-ghost use Rattle.fast_check_transform_statements.specs.transform_declarations.imports_exports.module_facts.skeleton.Grammar.{IsSkeleton};
-ghost use Rattle.fast_check_diagnostics.specs.parsed_source.MediaType.{is_declaration};
-ghost use Rattle.fast_check_modules.specs.EsModule.{Admits};
-ghost use Rattle.fast_check_transform_statements.specs.transform_declarations.imports_exports.module_facts.bindings.Bindings.{bindings_of};
+ghost use Rattle.fast_check_transform_statements.specs.skeleton.Grammar.{IsSkeleton};
+ghost use Rattle.fast_check_tables_diagnostics.specs.parsed_source.MediaType.{is_declaration};
+ghost use Rattle.fast_check_tables_modules.specs.EsModule.{Admits};
+ghost use Rattle.fast_check_transform_statements.specs.nodes.Bindings.{bindings_of};
 ghost use Rattle.fast_check_transform_module.specs.Transform.{skeleton, sources, comments, faults};
 ghost use Rattle.fast_check_transform_module.specs.transform_faults.Diagnostics.{AreDiagnosticsOf, diagnosed};
 
 use crate::program::{KeptModule, transform_es_module};
 use crate::transform_faults::diagnose;
-use fast_check_diagnostics::parsed_source::{FastCheckModule, ModuleInfo};
-use fast_check_graph::ModuleGraph;
-use fast_check_modules::EsModuleInfo;
-use fast_check_modules::diagnostics::{FastCheckDiagnostic, ModulePublicRanges};
-use fast_check_packages::WorkspaceMember;
+use fast_check_tables_diagnostics::parsed_source::{FastCheckModule, ModuleInfo};
+use fast_check_tables_graph::ModuleGraph;
+use fast_check_tables_modules::EsModuleInfo;
+use fast_check_tables_modules::diagnostics::{FastCheckDiagnostic, ModulePublicRanges};
+use fast_check_tables_packages::WorkspaceMember;
 use fast_check_transform_imports::static_sources;
 use std::alloc::{AllocError, Global};
 

@@ -1,12 +1,12 @@
 //! What the transform of a module gathers.
 ghost use Rattle.std.specs.Prelude.{◌≡◌, []};
-ghost use Rattle.fast_check_comments.specs.Kept.{kept};
-ghost use Rattle.fast_check_transform_statements.specs.transform_declarations.imports_exports.module_facts.skeleton.ModuleFacts.{ModuleFacts};
+ghost use Rattle.fast_check_tree_comments.specs.Kept.{kept};
+ghost use Rattle.fast_check_transform_statements.specs.skeleton.ModuleFacts.{ModuleFacts};
 ghost use Rattle.fast_check_transform_imports.specs.Relative.{AreRelative};
 
-use fast_check_comments::{Comments, CommentsMut};
-use fast_check_signatures::Fault;
+use fast_check_meaning_signatures::Fault;
 use fast_check_transform_imports::RelativeSources;
+use fast_check_tree_comments::{Comments, CommentsMut};
 use std::alloc::Global;
 
 /// The comments that stay, the texts that stand for those of sources, and the faults in reading order, as the transform of a

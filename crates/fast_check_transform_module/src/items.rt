@@ -1,39 +1,32 @@
 //! What stays of the items of a body, a module's or a namespace's, level by level.
 ghost use Rattle.std.specs.Prelude.{◌≡◌, false, IfOk};
-ghost use Rattle.fast_check_syntax.specs.Part.{seen};
-ghost use Rattle.fast_check_syntax.specs.Shape.{parts};
-ghost use Rattle.fast_check_signatures.specs.Answers.{Adds};
-ghost use Rattle.fast_check_transform_statements.specs.transform_declarations.imports_exports.module_facts.skeleton.KeptComments.{removed_from, start_look};
-ghost use Rattle.fast_check_transform_statements.specs.transform_declarations.imports_exports.module_facts.skeleton.KeptComments.{starts_in_body, starts_in_namespace};
-ghost use Rattle.fast_check_transform_statements.specs.transform_declarations.imports_exports.module_facts.skeleton.KeptComments.{starts_below, without_all_leading};
-ghost use Rattle.fast_check_transform_statements.specs.transform_declarations.imports_exports.module_facts.skeleton.Rules.{is_assigned, item_rule};
-ghost use Rattle.fast_check_transform_statements.specs.transform_declarations.imports_exports.module_facts.ModuleFacts.{facts_of};
-ghost use Rattle.fast_check_transform_statements.specs.transform_declarations.imports_exports.module_facts.Kept.{as_list};
+ghost use Rattle.fast_check_tree_syntax.specs.Part.{seen};
+ghost use Rattle.fast_check_tree_syntax.specs.Shape.{parts};
+ghost use Rattle.fast_check_meaning_signatures.specs.Answers.{Adds};
+ghost use Rattle.fast_check_transform_statements.specs.skeleton.KeptComments.{removed_from, start_look};
+ghost use Rattle.fast_check_transform_statements.specs.skeleton.KeptComments.{starts_in_body, starts_in_namespace};
+ghost use Rattle.fast_check_transform_statements.specs.skeleton.KeptComments.{starts_below, without_all_leading};
+ghost use Rattle.fast_check_transform_statements.specs.skeleton.Rules.{is_assigned, item_rule};
+ghost use Rattle.fast_check_transform_imports.specs.module_facts.ModuleFacts.{facts_of};
+ghost use Rattle.fast_check_transform_imports.specs.module_facts.Kept.{as_list};
 ghost use Rattle.fast_check_transform_imports.specs.Relative.{AreRelative};
 ghost use Rattle.fast_check_transform_module.specs.PartAnswers.{namespace_answer, decl_answer, refused_answer, item_answer};
 ghost use Rattle.fast_check_transform_module.specs.PartAnswers.{items_answer};
 
 use crate::context::TransformContext;
-use fast_check_program_forms::ExportDecl;
-use fast_check_signatures::{Fault, FaultKind};
-use fast_check_statement_forms::ExprStmt;
-use fast_check_swc_helpers::ranges::range_of_node;
-use fast_check_syntax::{Items, Part, SourceRange, Tree};
+use fast_check_meaning_signatures::{Fault, FaultKind};
 use fast_check_transform_imports::transform_import_export;
-use fast_check_transform_statements::transform_declarations::module_facts::ModuleFacts;
-use fast_check_transform_statements::transform_declarations::module_facts::skeleton::expandos::{
-    ExpandoProperty, keep_namespaces,
-};
-use fast_check_transform_statements::transform_declarations::module_facts::skeleton::{
-    DeclRule, ItemRule, item_rule,
-};
-use fast_check_transform_statements::transform_declarations::{
-    remove_inside, transform_default_export, transform_public_class,
-};
+use fast_check_transform_statements::expandos::{ExpandoProperty, keep_namespaces};
+use fast_check_transform_statements::skeleton::{DeclRule, ItemRule, item_rule};
 use fast_check_transform_statements::{
-    items_inside, module_fault, namespace_with, transform_assignment, transform_public_function,
+    ModuleFacts, items_inside, module_fault, namespace_with, remove_inside, transform_assignment,
+    transform_default_export, transform_public_class, transform_public_function,
     transform_standing, transform_statement, transform_using,
 };
+use fast_check_tree_forms_programs::ExportDecl;
+use fast_check_tree_forms_statements::ExprStmt;
+use fast_check_tree_helpers::ranges::range_of_node;
+use fast_check_tree_syntax::{Items, Part, SourceRange, Tree};
 use std::alloc::{AllocError, Global};
 
 /// What is public of the items of a body, that of a module or of a namespace, and behind it the namespaces for the expando properties

@@ -1,18 +1,18 @@
 //! What stays of a whole module.
 ghost use Rattle.std.specs.Prelude.{◌≡◌, IfOk};
-ghost use Rattle.fast_check_transform_statements.specs.transform_declarations.imports_exports.module_facts.ModuleFacts.{facts_of};
+ghost use Rattle.fast_check_transform_imports.specs.module_facts.ModuleFacts.{facts_of};
 ghost use Rattle.fast_check_transform_module.specs.Transform.{facts_of_module, skeleton, comments, faults};
 
 use crate::context::TransformContext;
 use crate::items::transform_items;
-use fast_check_comments::Comments;
-use fast_check_graph::ModuleGraph;
-use fast_check_modules::EsModuleInfo;
-use fast_check_modules::diagnostics::ModulePublicRanges;
-use fast_check_program_forms::Module;
-use fast_check_signatures::Fault;
-use fast_check_syntax::Tree;
-use fast_check_transform_statements::transform_declarations::module_facts::ModuleFacts;
+use fast_check_meaning_signatures::Fault;
+use fast_check_tables_graph::ModuleGraph;
+use fast_check_tables_modules::EsModuleInfo;
+use fast_check_tables_modules::diagnostics::ModulePublicRanges;
+use fast_check_transform_statements::ModuleFacts;
+use fast_check_tree_comments::Comments;
+use fast_check_tree_forms_programs::Module;
+use fast_check_tree_syntax::Tree;
 use std::alloc::{AllocError, Global};
 
 /// The skeleton of a module, the comments that stay with it, and the faults in reading order.

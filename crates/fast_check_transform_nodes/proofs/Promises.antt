@@ -1,14 +1,14 @@
 -- Whether a type is a promise, test by test.
 use Rattle.std.specs.Prelude.{◌≡◌, Bool, true, false, ◌&&◌, codes}
 use Rattle.std.proofs.Common.{ap, sym}
-use Rattle.fast_check_syntax.specs.declared.kind.Kind.TheVariants.{TsTypeRef}
-use Rattle.fast_check_syntax.specs.declared.source.SyntaxContext.{SyntaxContext}
-use Rattle.fast_check_syntax.specs.declared.tree.Tree.{Tree}
-use Rattle.fast_check_syntax.specs.Shape.{◌is◌, kind_of, parts}
-use Rattle.fast_check_type_forms.specs.Types.{TsTypeRef-type_name, TsTypeRef-type_params}
-use Rattle.fast_check_type_forms.specs.TypeParams.{TsTypeParamInstantiation-params}
-use Rattle.fast_check_swc_helpers.specs.GlobalCalls.{is_global}
-use Rattle.fast_check_signatures.specs.NewNodes.{is_one, is_promise}
+use Rattle.fast_check_tree_syntax.specs.declared.kind.Kind.TheVariants.{TsTypeRef}
+use Rattle.fast_check_tree_syntax.specs.declared.source.SyntaxContext.{SyntaxContext}
+use Rattle.fast_check_tree_syntax.specs.declared.tree.Tree.{Tree}
+use Rattle.fast_check_tree_syntax.specs.Shape.{◌is◌, kind_of, parts}
+use Rattle.fast_check_tree_forms_types.specs.Types.{TsTypeRef-type_name, TsTypeRef-type_params}
+use Rattle.fast_check_tree_forms_types.specs.TypeParams.{TsTypeParamInstantiation-params}
+use Rattle.fast_check_tree_helpers.specs.GlobalCalls.{is_global}
+use Rattle.fast_check_meaning_signatures.specs.NewNodes.{is_one, is_promise}
 
 module _ (u : SyntaxContext) (t : Tree) where
   abbrev pub has_one : Bool

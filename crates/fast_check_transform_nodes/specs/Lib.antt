@@ -1,1 +1,3 @@
+pub mod Bindings
+pub mod Rows
 pub mod Typed

@@ -1,11 +1,15 @@
-//! New nodes that stand for what is taken out of a signature, and the patterns and functions that stand with them.
+//! What a module knows of its names, which rows of expressions go by that, and new nodes: those that stand for what is taken out of a signature, with the patterns
+//! and functions that stand with them.
 #![tactic(auto)]
 
+mod names;
 mod nodes;
 mod patterns;
+mod rows;
 mod signed;
 mod typing;
 
+pub use names::{is_plain_class, unresolved_context};
 pub use nodes::{
     any_param, arrow_body, empty_object_pat, function_body, never_array, never_in_parens,
     or_undefined, promise_of, promised, void_or_promise_void,
@@ -14,5 +18,6 @@ pub use patterns::{
     default_type, emptied_array, emptied_object, rest_arg, with_default, with_pattern,
     without_default,
 };
+pub use rows::row_of;
 pub use signed::{kept_arrow, signed_arrow, signed_function};
 pub use typing::Typing;

@@ -1,26 +1,28 @@
 //! New nodes: `{} as never`, emptied bodies, and what returns a value of type never.
 ghost use Rattle.std.specs.Prelude.{◌≡◌, IfOk, ◌∷◌, [], codes, true, false, if◌then◌else◌};
-ghost use Rattle.fast_check_syntax.specs.Part.{seen};
-ghost use Rattle.fast_check_syntax.specs.Shape.{list, none_range};
-ghost use Rattle.fast_check_syntax.specs.declared.tree.Tree.{Absent};
-ghost use Rattle.fast_check_expression_forms.specs.Patterns.{rest_pat};
-ghost use Rattle.fast_check_program_forms.specs.Names.{binding_ident};
-ghost use Rattle.fast_check_syntax.specs.declared.kind.Word.TheVariants.{TsUndefinedKeyword};
-ghost use Rattle.fast_check_statement_forms.specs.Statements.{return_stmt};
-ghost use Rattle.fast_check_type_forms.specs.TypeParams.{ts_type_param_instantiation};
-ghost use Rattle.fast_check_swc_helpers.specs.Builders.{any_type_ann, never_value, new_ident, ts_keyword_type};
-ghost use Rattle.fast_check_signatures.specs.NewNodes as new;
+ghost use Rattle.fast_check_tree_syntax.specs.Part.{seen};
+ghost use Rattle.fast_check_tree_syntax.specs.Shape.{list, none_range};
+ghost use Rattle.fast_check_tree_syntax.specs.declared.tree.Tree.{Absent};
+ghost use Rattle.fast_check_tree_forms_expressions.specs.Patterns.{rest_pat};
+ghost use Rattle.fast_check_tree_forms_programs.specs.Names.{binding_ident};
+ghost use Rattle.fast_check_tree_syntax.specs.declared.kind.Word.TheVariants.{TsUndefinedKeyword};
+ghost use Rattle.fast_check_tree_forms_statements.specs.Statements.{return_stmt};
+ghost use Rattle.fast_check_tree_forms_types.specs.TypeParams.{ts_type_param_instantiation};
+ghost use Rattle.fast_check_tree_helpers.specs.Builders.{any_type_ann, never_value, new_ident, ts_keyword_type};
+ghost use Rattle.fast_check_meaning_signatures.specs.NewNodes as new;
 
-use fast_check_class_forms::Param;
-use fast_check_expression_forms::{ArrayLit, ObjectLit, ParenExpr, PatExpr, RestPat, TsAsExpr};
-use fast_check_program_forms::{BindingIdent, Ident};
-use fast_check_statement_forms::{BlockStmt, ReturnStmt};
-use fast_check_swc_helpers::{
+use fast_check_tree_forms_classes::Param;
+use fast_check_tree_forms_expressions::{
+    ArrayLit, ObjectLit, ParenExpr, PatExpr, RestPat, TsAsExpr,
+};
+use fast_check_tree_forms_programs::{BindingIdent, Ident};
+use fast_check_tree_forms_statements::{BlockStmt, ReturnStmt};
+use fast_check_tree_forms_types::{TsTypeAnn, TsTypeParamInstantiation, TsTypeRef, TsUnionType};
+use fast_check_tree_helpers::{
     TsKeywordTypeKind, any_type_ann, is_global, is_void_type, never_value, new_ident,
     ts_keyword_type,
 };
-use fast_check_syntax::{Atom, DUMMY_SP, Items, Kind, Part, SyntaxContext, Tree};
-use fast_check_type_forms::{TsTypeAnn, TsTypeParamInstantiation, TsTypeRef, TsUnionType};
+use fast_check_tree_syntax::{Atom, DUMMY_SP, Items, Kind, Part, SyntaxContext, Tree};
 use std::alloc::{AllocError, Global};
 
 /// `[] as never`, the default of an array pattern that has a type.

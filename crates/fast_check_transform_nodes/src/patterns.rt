@@ -1,20 +1,20 @@
 //! Patterns that are emptied, lose their default, or get a type.
 ghost use Rattle.std.specs.Prelude.{◌≡◌, IfOk, []};
-ghost use Rattle.fast_check_syntax.specs.Part.{seen};
-ghost use Rattle.fast_check_syntax.specs.Shape.{list};
-ghost use Rattle.fast_check_class_forms.specs.Functions.{param, Param-span};
-ghost use Rattle.fast_check_expression_forms.specs.Patterns.{AssignPat-span, assign_pat};
-ghost use Rattle.fast_check_program_forms.specs.Names.{BindingIdent-id, Ident-span, Ident-ctxt, Ident-sym, ident};
-ghost use Rattle.fast_check_signatures.specs.Parameters.{emptied_array, emptied_object, rest_arg, without_default, default_typing};
-ghost use Rattle.fast_check_signatures.specs.Typing.{type_of};
+ghost use Rattle.fast_check_tree_syntax.specs.Part.{seen};
+ghost use Rattle.fast_check_tree_syntax.specs.Shape.{list};
+ghost use Rattle.fast_check_tree_forms_classes.specs.Functions.{param, Param-span};
+ghost use Rattle.fast_check_tree_forms_expressions.specs.Patterns.{AssignPat-span, assign_pat};
+ghost use Rattle.fast_check_tree_forms_programs.specs.Names.{BindingIdent-id, Ident-span, Ident-ctxt, Ident-sym, ident};
+ghost use Rattle.fast_check_meaning_signatures.specs.Parameters.{emptied_array, emptied_object, rest_arg, without_default, default_typing};
+ghost use Rattle.fast_check_meaning_signatures.specs.Typing.{type_of};
 
 use crate::nodes::{empty_object_pat, or_undefined};
 use crate::typing::Typing;
-use fast_check_class_forms::Param;
-use fast_check_expression_forms::{ArrayPat, AssignPat, ObjectPat};
-use fast_check_program_forms::{BindingIdent, Ident};
-use fast_check_swc_helpers::DeclMutabilityKind;
-use fast_check_syntax::{Atom, Items, Kind, Part, SyntaxContext, Tree};
+use fast_check_tree_forms_classes::Param;
+use fast_check_tree_forms_expressions::{ArrayPat, AssignPat, ObjectPat};
+use fast_check_tree_forms_programs::{BindingIdent, Ident};
+use fast_check_tree_helpers::DeclMutabilityKind;
+use fast_check_tree_syntax::{Atom, Items, Kind, Part, SyntaxContext, Tree};
 use std::alloc::{AllocError, Global};
 
 /// An array pattern, emptied.

@@ -1,18 +1,18 @@
 //! Functions and arrows with a signature and no code.
 ghost use Rattle.std.specs.Prelude.{◌≡◌, IfOk, if◌then◌else◌};
-ghost use Rattle.fast_check_syntax.specs.Part.{seen};
-ghost use Rattle.fast_check_syntax.specs.Shape.{is_absent, list};
-ghost use Rattle.fast_check_syntax.specs.declared.tree.Tree.{Absent};
-ghost use Rattle.fast_check_expression_forms.specs.Expressions.{ArrowExpr-span, ArrowExpr-ctxt, ArrowExpr-is_async, ArrowExpr-is_generator};
-ghost use Rattle.fast_check_expression_forms.specs.Expressions.{ArrowExpr-type_params, arrow_expr};
-ghost use Rattle.fast_check_signatures.specs.Answers as answers;
-ghost use Rattle.fast_check_signatures.specs.Functions.{function_head, arrow_head};
-ghost use Rattle.fast_check_signatures.specs.NewNodes as new;
+ghost use Rattle.fast_check_tree_syntax.specs.Part.{seen};
+ghost use Rattle.fast_check_tree_syntax.specs.Shape.{is_absent, list};
+ghost use Rattle.fast_check_tree_syntax.specs.declared.tree.Tree.{Absent};
+ghost use Rattle.fast_check_tree_forms_expressions.specs.Expressions.{ArrowExpr-span, ArrowExpr-ctxt, ArrowExpr-is_async, ArrowExpr-is_generator};
+ghost use Rattle.fast_check_tree_forms_expressions.specs.Expressions.{ArrowExpr-type_params, arrow_expr};
+ghost use Rattle.fast_check_meaning_signatures.specs.Answers as answers;
+ghost use Rattle.fast_check_meaning_signatures.specs.Functions.{function_head, arrow_head};
+ghost use Rattle.fast_check_meaning_signatures.specs.NewNodes as new;
 
 use crate::nodes::{arrow_body, function_body};
-use fast_check_class_forms::Function;
-use fast_check_expression_forms::ArrowExpr;
-use fast_check_syntax::{Items, Part, Tree};
+use fast_check_tree_forms_classes::Function;
+use fast_check_tree_forms_expressions::ArrowExpr;
+use fast_check_tree_syntax::{Items, Part, Tree};
 use std::alloc::{AllocError, Global};
 
 /// The body that stands for a function's own, if there is one.

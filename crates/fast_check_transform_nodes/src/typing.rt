@@ -1,8 +1,8 @@
 //! The type of a declaration, by what gives it.
 ghost use Rattle.std.specs.Prelude.{◌≡◌, IfOk};
 
-use fast_check_swc_helpers::{DeclMutabilityKind, any_type_ann, maybe_infer_type, type_ann};
-use fast_check_syntax::{Part, SyntaxContext, Tree};
+use fast_check_tree_helpers::{DeclMutabilityKind, any_type_ann, maybe_infer_type, type_ann};
+use fast_check_tree_syntax::{Part, SyntaxContext, Tree};
 use std::alloc::{AllocError, Global};
 
 /// What gives the type of a declaration: of a variable, a property, an accessor, a parameter with a default, or a property
@@ -18,7 +18,7 @@ pub struct Typing<'a> {
 }
 
 impl<'a> Typing<'a> {
-    ghost use Rattle.fast_check_signatures.specs.Typing.{type_of};
+    ghost use Rattle.fast_check_meaning_signatures.specs.Typing.{type_of};
     ghost use Rattle.fast_check_transform_nodes.specs.Typed.{typing_of};
 
     /// The type, as `: type`: any type if the declaration is private, else the written one, or the one that the value shows, if

@@ -2,26 +2,26 @@
 use Rattle.std.specs.Prelude.{◌≡◌, Bool, true, false, not, ◌&&◌, Option, Some, None, List, [], ◌∷◌, ◌++◌, refl, if◌then◌else◌}
 use Rattle.std.proofs.Common.{ap, ◌∙◌, sym}
 use Rattle.std.proofs.lemmas.List.{append-nil, append_assoc}
-use Rattle.fast_check_syntax.specs.declared.atom.Id.{Id}
-use Rattle.fast_check_syntax.specs.declared.source.SourceRange.{SourceRange}
-use Rattle.fast_check_syntax.specs.declared.tree.Tree.{Tree}
-use Rattle.fast_check_expression_forms.specs.Calls.{MemberExpr-span}
-use Rattle.fast_check_expression_forms.specs.Operators.{AssignExpr-span, AssignExpr-left, AssignExpr-right}
-use Rattle.fast_check_swc_helpers.specs.ranges.Ranges.{range_of_node}
-use Rattle.fast_check_symbols.specs.declared.symbol.Symbol.{Symbol}
-use Rattle.fast_check_modules.specs.EsModule.{EsModule}
-use Rattle.fast_check_modules.specs.Expandos.{is_expando_assignment}
-use Rattle.fast_check_modules.specs.symbols.Tables.{symbol_of_swc}
-use Rattle.fast_check_signatures.specs.declared.fault.Fault.{Fault}
-use Rattle.fast_check_signatures.specs.declared.fault.FaultKind.TheVariants.{MissingExplicitType}
-use Rattle.fast_check_signatures.specs.Answers.{Answer, Adds, fault_at, unless_stays, answer_to, answer_of}
-use Rattle.fast_check_signatures.specs.Seen.{Seen, tested}
-use Rattle.fast_check_signatures.proofs.Adding.{adds_nothing, adds_same}
-use Rattle.fast_check_expandos.specs.Assignments.{right_seen, is_declared, missing_place, kept_property}
-use Rattle.fast_check_expandos.specs.Expandos.{object_of}
-use Rattle.fast_check_expandos.specs.ModuleObjects.{objects_of}
-use Rattle.fast_check_expandos.specs.Objects.{Objects, exports_name, stands_exported}
-use Rattle.fast_check_transform_imports.specs.module_facts.skeleton.ModuleFacts.{ModuleFacts}
+use Rattle.fast_check_tree_syntax.specs.declared.atom.Id.{Id}
+use Rattle.fast_check_tree_syntax.specs.declared.source.SourceRange.{SourceRange}
+use Rattle.fast_check_tree_syntax.specs.declared.tree.Tree.{Tree}
+use Rattle.fast_check_tree_forms_expressions.specs.Calls.{MemberExpr-span}
+use Rattle.fast_check_tree_forms_expressions.specs.Operators.{AssignExpr-span, AssignExpr-left, AssignExpr-right}
+use Rattle.fast_check_tree_helpers.specs.ranges.Ranges.{range_of_node}
+use Rattle.fast_check_tables_symbols.specs.declared.symbol.Symbol.{Symbol}
+use Rattle.fast_check_tables_modules.specs.EsModule.{EsModule}
+use Rattle.fast_check_tables_modules.specs.Expandos.{is_expando_assignment}
+use Rattle.fast_check_tables_modules.specs.symbols.Tables.{symbol_of_swc}
+use Rattle.fast_check_meaning_signatures.specs.declared.fault.Fault.{Fault}
+use Rattle.fast_check_meaning_signatures.specs.declared.fault.FaultKind.TheVariants.{MissingExplicitType}
+use Rattle.fast_check_meaning_signatures.specs.Answers.{Answer, Adds, fault_at, unless_stays, answer_to, answer_of}
+use Rattle.fast_check_meaning_signatures.specs.Seen.{Seen, tested}
+use Rattle.fast_check_meaning_signatures.proofs.Adding.{adds_nothing, adds_same}
+use Rattle.fast_check_meaning_expandos.specs.Assignments.{right_seen, is_declared, missing_place, kept_property}
+use Rattle.fast_check_meaning_expandos.specs.Expandos.{object_of}
+use Rattle.fast_check_meaning_expandos.specs.ModuleObjects.{objects_of}
+use Rattle.fast_check_meaning_expandos.specs.Objects.{Objects, exports_name, stands_exported}
+use Rattle.fast_check_transform_imports.specs.skeleton.ModuleFacts.{ModuleFacts}
 use Rattle.fast_check_transform_statements.specs.Assigned.{assignment_answer, assignment_properties, missing_at}
 use Rattle.fast_check_transform_statements.specs.PartAnswers.{value_answer}
 

@@ -1,15 +1,15 @@
 -- Bodies of namespaces, by what follows the name.
 use Rattle.std.specs.Prelude.{◌≡◌, ◌<◌, true, false, List, if◌then◌else◌}
 use Rattle.std.proofs.Common.{ap, ◌∙◌}
-use Rattle.fast_check_syntax.specs.declared.kind.Kind.TheVariants.{TsNamespaceDecl}
-use Rattle.fast_check_syntax.specs.declared.tree.Tree.{Tree}
-use Rattle.fast_check_syntax.specs.Shape.{◌is◌, is_kind, kind_of, list}
-use Rattle.fast_check_syntax.specs.Height.{height, height_part}
-use Rattle.fast_check_statement_forms.specs.TsDeclarations.{TsModuleBlock-span, TsNamespaceDecl-span, TsNamespaceDecl-declare}
-use Rattle.fast_check_statement_forms.specs.TsDeclarations.{TsNamespaceDecl-global, TsNamespaceDecl-id, TsNamespaceDecl-body}
-use Rattle.fast_check_statement_forms.specs.TsDeclarations.{ts_module_block}
-use Rattle.fast_check_transform_imports.specs.module_facts.skeleton.Namespaces.{inner_namespace, body_with}
-use Rattle.fast_check_transform_imports.proofs.module_facts.skeleton_proofs.StandingNamespaces.{body_with_is}
+use Rattle.fast_check_tree_syntax.specs.declared.kind.Kind.TheVariants.{TsNamespaceDecl}
+use Rattle.fast_check_tree_syntax.specs.declared.tree.Tree.{Tree}
+use Rattle.fast_check_tree_syntax.specs.Shape.{◌is◌, is_kind, kind_of, list}
+use Rattle.fast_check_tree_syntax.specs.Height.{height, height_part}
+use Rattle.fast_check_tree_forms_statements.specs.TsDeclarations.{TsModuleBlock-span, TsNamespaceDecl-span, TsNamespaceDecl-declare}
+use Rattle.fast_check_tree_forms_statements.specs.TsDeclarations.{TsNamespaceDecl-global, TsNamespaceDecl-id, TsNamespaceDecl-body}
+use Rattle.fast_check_tree_forms_statements.specs.TsDeclarations.{ts_module_block}
+use Rattle.fast_check_transform_imports.specs.skeleton.Namespaces.{inner_namespace, body_with}
+use Rattle.fast_check_transform_imports.proofs.skeleton_proofs.StandingNamespaces.{body_with_is}
 
 -- what follows a name is lower
 pub follows_lower : (t : Tree) → kind_of t is TsNamespaceDecl ≡ true → height (TsNamespaceDecl-body t) < height t

@@ -3,36 +3,36 @@ use Rattle.std.specs.Prelude.{◌≡◌, ℕ, ◌+◌, ◌<◌, ◌≤◌, Bool,
 use Rattle.std.specs.Prelude.{length, take, refl, if◌then◌else◌}
 use lib.ListN.{get_or}
 use Rattle.std.proofs.Common.{ap, ◌∙◌, sym, subst}
-use Rattle.fast_check_syntax.specs.declared.kind.Kind.TheVariants.{BindingIdent, FnDecl, VarDecl}
-use Rattle.fast_check_syntax.specs.declared.source.SourceRange.{SourceRange}
-use Rattle.fast_check_syntax.specs.declared.tree.Tree as tree
-use Rattle.fast_check_syntax.specs.declared.tree.Tree.{Tree, Absent}
-use Rattle.fast_check_syntax.specs.Shape.{is_absent, ◌is◌, kind_of, parts, node, list}
-use Rattle.fast_check_program_forms.specs.Names.{Ident-span}
-use Rattle.fast_check_statement_forms.specs.Declarations.{FnDecl-ident, FnDecl-declare, FnDecl-function, fn_decl, VarDecl-span}
-use Rattle.fast_check_statement_forms.specs.Declarations.{VarDecl-ctxt, VarDecl-kind, VarDecl-declare, VarDecl-decls, var_decl}
-use Rattle.fast_check_statement_forms.specs.Declarations.{VarDeclarator-name, VarDeclarator-init}
-use Rattle.fast_check_swc_helpers.specs.Builders.{never_value}
-use Rattle.fast_check_swc_helpers.specs.declared.literal_type.DeclMutabilityKind.{DeclMutabilityKind}
-use Rattle.fast_check_swc_helpers.specs.ranges.Ranges.{range_of_node}
-use Rattle.fast_check_signatures.specs.declared.fault.Fault.{Fault}
-use Rattle.fast_check_signatures.specs.declared.fault.FaultKind.TheVariants.{MissingExplicitType, UnsupportedDestructuring}
-use Rattle.fast_check_signatures.specs.declared.fault.FaultKind.TheVariants.{UnsupportedUsing}
-use Rattle.fast_check_signatures.specs.declared.function_kind.FunctionKind.TheVariants.{DeclarationLike}
-use Rattle.fast_check_signatures.specs.Seen.{Seen, written, range, scope, flag, round, listed, declarator, faulty, refused, seens}
-use Rattle.fast_check_signatures.specs.Typing.{type_of, seen_by}
-use Rattle.fast_check_signatures.specs.Answers.{Adds, fault_at, faultless, with_tree, valued_declarator, answer_to, answer_of}
-use Rattle.fast_check_signatures.specs.Expressions.{expr_seen}
-use Rattle.fast_check_signatures.specs.Functions.{function_seen, implementation_seen}
-use Rattle.fast_check_signatures.proofs.Choices.{of_choice}
-use Rattle.fast_check_signatures.proofs.Adding.{adds_nothing, adds_fault, adds_same, adds_made, adds_demanded, adds_missing, adds_visited}
-use Rattle.fast_check_transform_imports.specs.module_facts.skeleton.Mutability.{mutability_of}
-use Rattle.fast_check_transform_imports.specs.module_facts.skeleton.ModuleFacts.{ModuleFacts}
-use Rattle.fast_check_transform_imports.specs.module_facts.skeleton.Visible.{declared_ident, declarator_head, typed_declarator, value_seen}
-use Rattle.fast_check_transform_imports.specs.module_facts.skeleton.Visible.{declarator_typing, ident_declarator_seen, declarator_seen, is_ambient_statement}
-use Rattle.fast_check_transform_imports.specs.module_facts.skeleton.Visible.{is_public_declarator, public_declarator, public_declarators, statement_seen}
-use Rattle.fast_check_transform_imports.specs.module_facts.skeleton.Visible.{signature_of, function_decl_seen, is_public_using, using_place, using_seen}
-use Rattle.fast_check_transform_imports.proofs.module_facts.skeleton_proofs.Standing.{declarator_one, statement_is}
+use Rattle.fast_check_tree_syntax.specs.declared.kind.Kind.TheVariants.{BindingIdent, FnDecl, VarDecl}
+use Rattle.fast_check_tree_syntax.specs.declared.source.SourceRange.{SourceRange}
+use Rattle.fast_check_tree_syntax.specs.declared.tree.Tree as tree
+use Rattle.fast_check_tree_syntax.specs.declared.tree.Tree.{Tree, Absent}
+use Rattle.fast_check_tree_syntax.specs.Shape.{is_absent, ◌is◌, kind_of, parts, node, list}
+use Rattle.fast_check_tree_forms_programs.specs.Names.{Ident-span}
+use Rattle.fast_check_tree_forms_statements.specs.Declarations.{FnDecl-ident, FnDecl-declare, FnDecl-function, fn_decl, VarDecl-span}
+use Rattle.fast_check_tree_forms_statements.specs.Declarations.{VarDecl-ctxt, VarDecl-kind, VarDecl-declare, VarDecl-decls, var_decl}
+use Rattle.fast_check_tree_forms_statements.specs.Declarations.{VarDeclarator-name, VarDeclarator-init}
+use Rattle.fast_check_tree_helpers.specs.Builders.{never_value}
+use Rattle.fast_check_tree_helpers.specs.declared.literal_type.DeclMutabilityKind.{DeclMutabilityKind}
+use Rattle.fast_check_tree_helpers.specs.ranges.Ranges.{range_of_node}
+use Rattle.fast_check_meaning_signatures.specs.declared.fault.Fault.{Fault}
+use Rattle.fast_check_meaning_signatures.specs.declared.fault.FaultKind.TheVariants.{MissingExplicitType, UnsupportedDestructuring}
+use Rattle.fast_check_meaning_signatures.specs.declared.fault.FaultKind.TheVariants.{UnsupportedUsing}
+use Rattle.fast_check_meaning_signatures.specs.declared.function_kind.FunctionKind.TheVariants.{DeclarationLike}
+use Rattle.fast_check_meaning_signatures.specs.Seen.{Seen, written, range, scope, flag, round, listed, declarator, faulty, refused, seens}
+use Rattle.fast_check_meaning_signatures.specs.Typing.{type_of, seen_by}
+use Rattle.fast_check_meaning_signatures.specs.Answers.{Adds, fault_at, faultless, with_tree, valued_declarator, answer_to, answer_of}
+use Rattle.fast_check_meaning_signatures.specs.Expressions.{expr_seen}
+use Rattle.fast_check_meaning_signatures.specs.Functions.{function_seen, implementation_seen}
+use Rattle.fast_check_meaning_signatures.proofs.Choices.{of_choice}
+use Rattle.fast_check_meaning_signatures.proofs.Adding.{adds_nothing, adds_fault, adds_same, adds_made, adds_demanded, adds_missing, adds_visited}
+use Rattle.fast_check_transform_imports.specs.skeleton.Mutability.{mutability_of}
+use Rattle.fast_check_transform_imports.specs.skeleton.ModuleFacts.{ModuleFacts}
+use Rattle.fast_check_transform_imports.specs.skeleton.Visible.{declared_ident, declarator_head, typed_declarator, value_seen}
+use Rattle.fast_check_transform_imports.specs.skeleton.Visible.{declarator_typing, ident_declarator_seen, declarator_seen, is_ambient_statement}
+use Rattle.fast_check_transform_imports.specs.skeleton.Visible.{is_public_declarator, public_declarator, public_declarators, statement_seen}
+use Rattle.fast_check_transform_imports.specs.skeleton.Visible.{signature_of, function_decl_seen, is_public_using, using_place, using_seen}
+use Rattle.fast_check_transform_imports.proofs.skeleton_proofs.Standing.{declarator_one, statement_is}
 use Rattle.fast_check_transform_statements.specs.PartAnswers.{retyped, value_answer, valued_answer, ident_answer, declarator_answer, public_answer}
 use Rattle.fast_check_transform_statements.specs.PartAnswers.{declarators_answer, statement_answer, using_answer}
 use Rattle.fast_check_transform_imports.proofs.module_facts.Listed.{alone, one_more, whole}

@@ -1,14 +1,14 @@
 -- What is answered to declarations that are public by a place, and to those that are not.
 use Rattle.std.specs.Prelude.{◌≡◌, Bool, true, false, Some, List, [], ◌∷◌, if◌then◌else◌}
 use Rattle.std.proofs.Common.{ap, ◌∙◌, sym}
-use Rattle.fast_check_syntax.specs.declared.source.SourceRange.{SourceRange}
-use Rattle.fast_check_syntax.specs.declared.tree.Tree.{Tree}
-use Rattle.fast_check_signatures.specs.declared.fault.Fault.{Fault}
-use Rattle.fast_check_signatures.specs.Seen.{Seen, written}
-use Rattle.fast_check_signatures.specs.Answers.{Adds, faultless, answer_to, answer_of}
-use Rattle.fast_check_signatures.proofs.Adding.{adds_nothing, adds_same}
-use Rattle.fast_check_transform_imports.specs.module_facts.skeleton.ModuleFacts.{ModuleFacts}
-use Rattle.fast_check_transform_imports.specs.module_facts.skeleton.Visible.{function_decl_seen}
+use Rattle.fast_check_tree_syntax.specs.declared.source.SourceRange.{SourceRange}
+use Rattle.fast_check_tree_syntax.specs.declared.tree.Tree.{Tree}
+use Rattle.fast_check_meaning_signatures.specs.declared.fault.Fault.{Fault}
+use Rattle.fast_check_meaning_signatures.specs.Seen.{Seen, written}
+use Rattle.fast_check_meaning_signatures.specs.Answers.{Adds, faultless, answer_to, answer_of}
+use Rattle.fast_check_meaning_signatures.proofs.Adding.{adds_nothing, adds_same}
+use Rattle.fast_check_transform_imports.specs.skeleton.ModuleFacts.{ModuleFacts}
+use Rattle.fast_check_transform_imports.specs.skeleton.Visible.{function_decl_seen}
 use Rattle.fast_check_transform_statements.specs.PartAnswers.{public_function_answer, standing_answer}
 use Rattle.fast_check_transform_imports.proofs.module_facts.Listed.{alone}
 

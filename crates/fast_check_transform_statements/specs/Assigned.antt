@@ -1,14 +1,14 @@
 -- Inner: no contract of a public call cites what stands here.
 -- The answers to assignments that are statements.
 use Rattle.std.specs.Prelude.{Option, Some, None, List, []}
-use Rattle.fast_check_syntax.specs.declared.source.SourceRange.{SourceRange}
-use Rattle.fast_check_syntax.specs.declared.tree.Tree.{Tree}
-use Rattle.fast_check_signatures.specs.declared.fault.Fault.{Fault}
-use Rattle.fast_check_signatures.specs.declared.fault.FaultKind.TheVariants.{MissingExplicitType}
-use Rattle.fast_check_signatures.specs.Answers.{Answer, answer_of, fault_at, unless_stays}
-use Rattle.fast_check_expandos.specs.declared.properties.ExpandoProperty.{ExpandoProperty}
-use Rattle.fast_check_expandos.specs.Assignments.{assignment_seen, declared_properties}
-use Rattle.fast_check_transform_imports.specs.module_facts.skeleton.ModuleFacts.{ModuleFacts}
+use Rattle.fast_check_tree_syntax.specs.declared.source.SourceRange.{SourceRange}
+use Rattle.fast_check_tree_syntax.specs.declared.tree.Tree.{Tree}
+use Rattle.fast_check_meaning_signatures.specs.declared.fault.Fault.{Fault}
+use Rattle.fast_check_meaning_signatures.specs.declared.fault.FaultKind.TheVariants.{MissingExplicitType}
+use Rattle.fast_check_meaning_signatures.specs.Answers.{Answer, answer_of, fault_at, unless_stays}
+use Rattle.fast_check_meaning_expandos.specs.declared.properties.ExpandoProperty.{ExpandoProperty}
+use Rattle.fast_check_meaning_expandos.specs.Assignments.{assignment_seen, declared_properties}
+use Rattle.fast_check_transform_imports.specs.skeleton.ModuleFacts.{ModuleFacts}
 
 -- what is answered to one, and the properties that it declares
 unfoldable pub assignment_answer : ModuleFacts → Tree → Answer (List Tree)

@@ -2,26 +2,26 @@
 -- The answers to what is seen of statements: variables, `using`, functions and what stands as it is written.
 use Rattle.std.specs.Prelude.{Option, Some, None, List, if◌then◌else◌}
 use Rattle.std.specs.List.{flat_map}
-use Rattle.fast_check_syntax.specs.declared.source.SourceRange.{SourceRange}
-use Rattle.fast_check_syntax.specs.declared.tree.Tree.{Tree}
-use Rattle.fast_check_program_forms.specs.Names.{Ident-span, binding_ident}
-use Rattle.fast_check_swc_helpers.specs.ranges.Ranges.{range_of_node}
-use Rattle.fast_check_statement_forms.specs.TsDeclarations.{TsModuleDecl-span, TsModuleDecl-global, TsModuleDecl-id}
-use Rattle.fast_check_statement_forms.specs.Declarations.{VarDeclarator-span, VarDeclarator-init}
-use Rattle.fast_check_statement_forms.specs.Declarations.{VarDeclarator-definite, var_declarator}
-use Rattle.fast_check_swc_helpers.specs.declared.literal_type.DeclMutabilityKind.{DeclMutabilityKind}
-use Rattle.fast_check_signatures.specs.Seen.{declarator}
-use Rattle.fast_check_signatures.specs.declared.fault.Fault.{Fault}
-use Rattle.fast_check_signatures.specs.declared.fault.FaultKind.TheVariants.{UnsupportedGlobalModule}
-use Rattle.fast_check_signatures.specs.declared.fault.FaultKind.TheVariants.{UnsupportedAmbientModule}
-use Rattle.fast_check_signatures.specs.Answers.{Answer, fault_at, answer_to, answer_of}
-use Rattle.fast_check_transform_imports.specs.module_facts.skeleton.Namespaces.{is_ambient_module}
-use Rattle.fast_check_transform_imports.specs.module_facts.skeleton.ModuleFacts.{ModuleFacts}
-use Rattle.fast_check_transform_imports.specs.module_facts.skeleton.Visible.{declared_ident, declarator_head, value_seen}
-use Rattle.fast_check_transform_imports.specs.module_facts.skeleton.Visible.{ident_declarator_seen, declarator_seen, public_declarator}
-use Rattle.fast_check_transform_imports.specs.module_facts.skeleton.Visible.{public_declarators, statement_seen}
-use Rattle.fast_check_transform_imports.specs.module_facts.skeleton.Visible.{public_function, standing_seen}
-use Rattle.fast_check_transform_imports.specs.module_facts.skeleton.Visible.{using_seen}
+use Rattle.fast_check_tree_syntax.specs.declared.source.SourceRange.{SourceRange}
+use Rattle.fast_check_tree_syntax.specs.declared.tree.Tree.{Tree}
+use Rattle.fast_check_tree_forms_programs.specs.Names.{Ident-span, binding_ident}
+use Rattle.fast_check_tree_helpers.specs.ranges.Ranges.{range_of_node}
+use Rattle.fast_check_tree_forms_statements.specs.TsDeclarations.{TsModuleDecl-span, TsModuleDecl-global, TsModuleDecl-id}
+use Rattle.fast_check_tree_forms_statements.specs.Declarations.{VarDeclarator-span, VarDeclarator-init}
+use Rattle.fast_check_tree_forms_statements.specs.Declarations.{VarDeclarator-definite, var_declarator}
+use Rattle.fast_check_tree_helpers.specs.declared.literal_type.DeclMutabilityKind.{DeclMutabilityKind}
+use Rattle.fast_check_meaning_signatures.specs.Seen.{declarator}
+use Rattle.fast_check_meaning_signatures.specs.declared.fault.Fault.{Fault}
+use Rattle.fast_check_meaning_signatures.specs.declared.fault.FaultKind.TheVariants.{UnsupportedGlobalModule}
+use Rattle.fast_check_meaning_signatures.specs.declared.fault.FaultKind.TheVariants.{UnsupportedAmbientModule}
+use Rattle.fast_check_meaning_signatures.specs.Answers.{Answer, fault_at, answer_to, answer_of}
+use Rattle.fast_check_transform_imports.specs.skeleton.Namespaces.{is_ambient_module}
+use Rattle.fast_check_transform_imports.specs.skeleton.ModuleFacts.{ModuleFacts}
+use Rattle.fast_check_transform_imports.specs.skeleton.Visible.{declared_ident, declarator_head, value_seen}
+use Rattle.fast_check_transform_imports.specs.skeleton.Visible.{ident_declarator_seen, declarator_seen, public_declarator}
+use Rattle.fast_check_transform_imports.specs.skeleton.Visible.{public_declarators, statement_seen}
+use Rattle.fast_check_transform_imports.specs.skeleton.Visible.{public_function, standing_seen}
+use Rattle.fast_check_transform_imports.specs.skeleton.Visible.{using_seen}
 
 -- a declarator of another type and value
 abbrev pub retyped : Tree → Tree → Tree → Tree

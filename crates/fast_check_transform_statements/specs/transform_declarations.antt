@@ -1,2 +1,1 @@
-pub use Rattle.fast_check_transform_imports.specs as imports_exports
 pub mod ClassAnswers

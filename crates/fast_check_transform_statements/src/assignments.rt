@@ -1,28 +1,28 @@
 //! Assignments that are statements.
 ghost use Rattle.std.specs.Prelude.{◌≡◌, ◌∷◌, ◌++◌, [], true, IfOk, OnOk, if◌then◌else◌};
 ghost use Rattle.std.specs.Option.{option_copied};
-ghost use Rattle.fast_check_syntax.specs.Part.{seen};
-ghost use Rattle.fast_check_expression_forms.specs.Calls.{MemberExpr-span};
-ghost use Rattle.fast_check_expression_forms.specs.Operators.{AssignExpr-span, AssignExpr-left};
-ghost use Rattle.fast_check_modules.specs.Expandos.{is_expando_assignment};
-ghost use Rattle.fast_check_modules.specs.symbols.Tables.{symbol_of_swc};
-ghost use Rattle.fast_check_signatures.specs.declared.fault.FaultKind.TheVariants as kinds;
-ghost use Rattle.fast_check_signatures.specs.Answers.{Adds, fault_at};
-ghost use Rattle.fast_check_expandos.specs.Assignments.{missing_place, kept_property};
-ghost use Rattle.fast_check_expandos.specs.Expandos.{object_of, property_name};
-ghost use Rattle.fast_check_expandos.specs.ModuleObjects.{objects_of};
-ghost use Rattle.fast_check_expandos.specs.Objects.{exports_name};
+ghost use Rattle.fast_check_tree_syntax.specs.Part.{seen};
+ghost use Rattle.fast_check_tree_forms_expressions.specs.Calls.{MemberExpr-span};
+ghost use Rattle.fast_check_tree_forms_expressions.specs.Operators.{AssignExpr-span, AssignExpr-left};
+ghost use Rattle.fast_check_tables_modules.specs.Expandos.{is_expando_assignment};
+ghost use Rattle.fast_check_tables_modules.specs.symbols.Tables.{symbol_of_swc};
+ghost use Rattle.fast_check_meaning_signatures.specs.declared.fault.FaultKind.TheVariants as kinds;
+ghost use Rattle.fast_check_meaning_signatures.specs.Answers.{Adds, fault_at};
+ghost use Rattle.fast_check_meaning_expandos.specs.Assignments.{missing_place, kept_property};
+ghost use Rattle.fast_check_meaning_expandos.specs.Expandos.{object_of, property_name};
+ghost use Rattle.fast_check_meaning_expandos.specs.ModuleObjects.{objects_of};
+ghost use Rattle.fast_check_meaning_expandos.specs.Objects.{exports_name};
 ghost use Rattle.fast_check_transform_imports.specs.module_facts.ModuleFacts.{facts_of};
 ghost use Rattle.fast_check_transform_statements.specs.Assigned.{assignment_answer, assignment_properties, missing_at};
 
 use crate::declarations::transform_init;
-use fast_check_expandos::{ExpandoProperty, expando_property, exports_property, object_of};
-use fast_check_expression_forms::{AssignExpr, MemberExpr};
-use fast_check_modules::{Symbol, is_expando_assignment};
-use fast_check_signatures::{Fault, FaultKind};
-use fast_check_swc_helpers::ranges::range_of_node;
-use fast_check_syntax::{Part, Tree};
-use fast_check_transform_imports::module_facts::ModuleFacts;
+use fast_check_meaning_expandos::{ExpandoProperty, expando_property, exports_property, object_of};
+use fast_check_meaning_signatures::{Fault, FaultKind};
+use fast_check_tables_modules::{Symbol, is_expando_assignment};
+use fast_check_transform_imports::ModuleFacts;
+use fast_check_tree_forms_expressions::{AssignExpr, MemberExpr};
+use fast_check_tree_helpers::ranges::range_of_node;
+use fast_check_tree_syntax::{Part, Tree};
 use std::alloc::{AllocError, Global};
 
 /// An assignment that is a statement. Nothing of it stays. Where it is public, by its own range, its right side is tested, and what

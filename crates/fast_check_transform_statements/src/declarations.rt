@@ -1,30 +1,30 @@
 //! Variable statements and `using`, declarator by declarator.
 ghost use Rattle.std.specs.Prelude.{◌≡◌, IfOk, Some};
 ghost use Rattle.std.specs.List.{list_any};
-ghost use Rattle.fast_check_syntax.specs.Part.{seen};
-ghost use Rattle.fast_check_syntax.specs.Shape.{parts};
-ghost use Rattle.fast_check_statement_forms.specs.Declarations.{VarDecl-decls};
-ghost use Rattle.fast_check_swc_helpers.specs.Builders.{never_value};
-ghost use Rattle.fast_check_signatures.specs.Answers.{Adds, faultless};
-ghost use Rattle.fast_check_signatures.specs.Typing.{type_of};
-ghost use Rattle.fast_check_transform_imports.specs.module_facts.skeleton.Mutability.{mutability_of};
-ghost use Rattle.fast_check_transform_imports.specs.module_facts.skeleton.Visible.{declarator_typing, is_ambient_statement, is_public_declarator, is_public_using, using_place};
+ghost use Rattle.fast_check_tree_syntax.specs.Part.{seen};
+ghost use Rattle.fast_check_tree_syntax.specs.Shape.{parts};
+ghost use Rattle.fast_check_tree_forms_statements.specs.Declarations.{VarDecl-decls};
+ghost use Rattle.fast_check_tree_helpers.specs.Builders.{never_value};
+ghost use Rattle.fast_check_meaning_signatures.specs.Answers.{Adds, faultless};
+ghost use Rattle.fast_check_meaning_signatures.specs.Typing.{type_of};
+ghost use Rattle.fast_check_transform_imports.specs.skeleton.Mutability.{mutability_of};
+ghost use Rattle.fast_check_transform_imports.specs.skeleton.Visible.{declarator_typing, is_ambient_statement, is_public_declarator, is_public_using, using_place};
 ghost use Rattle.fast_check_transform_imports.specs.module_facts.ModuleFacts.{facts_of};
 ghost use Rattle.fast_check_transform_imports.specs.module_facts.Kept.{as_list};
 ghost use Rattle.fast_check_transform_statements.specs.PartAnswers.{retyped, value_answer, valued_answer, ident_answer};
 ghost use Rattle.fast_check_transform_statements.specs.PartAnswers.{declarator_answer, public_answer, declarators_answer, statement_answer, standing_answer};
 ghost use Rattle.fast_check_transform_statements.specs.PartAnswers.{using_answer};
 
-use fast_check_program_forms::{BindingIdent, Ident};
-use fast_check_signatures::{Fault, FaultKind};
-use fast_check_statement_forms::{UsingDecl, VarDecl, VarDeclarator};
-use fast_check_swc_helpers::ranges::range_of_node;
-use fast_check_swc_helpers::{DeclMutabilityKind, never_value};
-use fast_check_syntax::{Items, Kind, Part, SourceRange, Tree, Word};
+use fast_check_meaning_signatures::{Fault, FaultKind};
 use fast_check_transform_expressions::nodes::Typing;
 use fast_check_transform_expressions::transform_expr;
-use fast_check_transform_imports::module_facts::ModuleFacts;
-use fast_check_transform_imports::module_facts::bindings::unresolved_context;
+use fast_check_transform_imports::ModuleFacts;
+use fast_check_transform_imports::nodes::unresolved_context;
+use fast_check_tree_forms_programs::{BindingIdent, Ident};
+use fast_check_tree_forms_statements::{UsingDecl, VarDecl, VarDeclarator};
+use fast_check_tree_helpers::ranges::range_of_node;
+use fast_check_tree_helpers::{DeclMutabilityKind, never_value};
+use fast_check_tree_syntax::{Items, Kind, Part, SourceRange, Tree, Word};
 use std::alloc::{AllocError, Global};
 
 /// Whether what a statement of this kind declares keeps its value.

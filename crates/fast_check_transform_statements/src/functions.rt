@@ -1,17 +1,17 @@
 //! Functions that are declared.
 ghost use Rattle.std.specs.Prelude.{IfOk};
-ghost use Rattle.fast_check_syntax.specs.Part.{seen};
-ghost use Rattle.fast_check_signatures.specs.Answers.{Adds};
+ghost use Rattle.fast_check_tree_syntax.specs.Part.{seen};
+ghost use Rattle.fast_check_meaning_signatures.specs.Answers.{Adds};
 ghost use Rattle.fast_check_transform_imports.specs.module_facts.ModuleFacts.{facts_of};
 ghost use Rattle.fast_check_transform_imports.specs.module_facts.Kept.{as_list};
 ghost use Rattle.fast_check_transform_statements.specs.PartAnswers.{public_function_answer};
 
-use fast_check_program_forms::Ident;
-use fast_check_signatures::{Fault, FunctionKind};
-use fast_check_statement_forms::FnDecl;
-use fast_check_syntax::{Part, SourceRange, Tree};
+use fast_check_meaning_signatures::{Fault, FunctionKind};
 use fast_check_transform_expressions::{transform_fn, transform_implementation};
-use fast_check_transform_imports::module_facts::ModuleFacts;
+use fast_check_transform_imports::ModuleFacts;
+use fast_check_tree_forms_programs::Ident;
+use fast_check_tree_forms_statements::FnDecl;
+use fast_check_tree_syntax::{Part, SourceRange, Tree};
 use std::alloc::{AllocError, Global};
 
 /// A function, which is public by `place`; none where it is not. Where all is ambient the function stands as it is written; an

@@ -1,14 +1,14 @@
 //! The blocks of namespaces, and what is wrong with ambient modules.
 ghost use Rattle.std.specs.Prelude.{◌≡◌, IfOk};
-ghost use Rattle.fast_check_syntax.specs.Part.{seen};
-ghost use Rattle.fast_check_statement_forms.specs.TsDeclarations.{TsModuleDecl-body, TsModuleBlock-body};
-ghost use Rattle.fast_check_transform_imports.specs.module_facts.skeleton.Namespaces.{is_ambient_module, innermost, inner_namespace, body_with, namespace_with};
+ghost use Rattle.fast_check_tree_syntax.specs.Part.{seen};
+ghost use Rattle.fast_check_tree_forms_statements.specs.TsDeclarations.{TsModuleDecl-body, TsModuleBlock-body};
+ghost use Rattle.fast_check_transform_imports.specs.skeleton.Namespaces.{is_ambient_module, innermost, inner_namespace, body_with, namespace_with};
 ghost use Rattle.fast_check_transform_statements.specs.PartAnswers.{module_fault};
 
-use fast_check_signatures::{Fault, FaultKind};
-use fast_check_statement_forms::{TsModuleBlock, TsModuleDecl, TsNamespaceDecl};
-use fast_check_swc_helpers::ranges::range_of_node;
-use fast_check_syntax::{Items, Kind, Part, Tree};
+use fast_check_meaning_signatures::{Fault, FaultKind};
+use fast_check_tree_forms_statements::{TsModuleBlock, TsModuleDecl, TsNamespaceDecl};
+use fast_check_tree_helpers::ranges::range_of_node;
+use fast_check_tree_syntax::{Items, Kind, Part, Tree};
 use std::alloc::{AllocError, Global};
 
 /// Whether a module has a text for its name, as `declare module "x" {}`, or no body.

@@ -5,4 +5,3 @@ mod defaults;
 
 pub use crate::transform_declarations::classes::{remove_inside, transform_public_class};
 pub use crate::transform_declarations::defaults::transform_default_export;
-pub use fast_check_transform_imports::module_facts;

@@ -7,13 +7,13 @@ mod streams;
 
 use crate::streams::{Input, Output};
 use anyhow::{Result, bail};
-use fast_check_cache_cases::{run_cache_cases, run_cached_builds};
 use fast_check_cases::{run_form_cases, run_name_cases, run_place_cases};
-use fast_check_commands::{AnyCommand, Ending, Lines, run_commands};
-use fast_check_example::{run_example, run_json, run_versions};
-use fast_check_finder_cases::{
+use fast_check_cases_cache::{run_cache_cases, run_cached_builds};
+use fast_check_cases_example::{run_example, run_json, run_versions};
+use fast_check_cases_finder::{
     run_deep_cases, run_fault_cases, run_finder_cases, run_transformer_cases, run_unfound_cases,
 };
+use fast_check_program_commands::{AnyCommand, Ending, Lines, run_commands};
 use std::alloc::AllocError;
 use std::fs::File;
 use std::io::Write;

@@ -7,7 +7,7 @@ use crate::forms::fields::made::made;
 use crate::forms::fields::read::is_read;
 use crate::said::Said;
 use fast_check_read::schema::Form;
-use fast_check_syntax::{Atom, Kind, Part, SourcePos, SourceRange, SyntaxContext, Tree};
+use fast_check_tree_syntax::{Atom, Kind, Part, SourcePos, SourceRange, SyntaxContext, Tree};
 use std::alloc::{AllocError, Global};
 
 /// The range of a field by its place.

@@ -1,8 +1,8 @@
 //! Types that calls make, and that no transform makes, and an identifier of a copied id.
 
-use fast_check_program_forms::Ident;
-use fast_check_swc_helpers::{TsKeywordTypeKind, ts_keyword_type, ts_readonly, ts_tuple_element};
-use fast_check_syntax::{Atom, Id, SourcePos, SourceRange, SyntaxContext, Tree};
+use fast_check_tree_forms_programs::Ident;
+use fast_check_tree_helpers::{TsKeywordTypeKind, ts_keyword_type, ts_readonly, ts_tuple_element};
+use fast_check_tree_syntax::{Atom, Id, SourcePos, SourceRange, SyntaxContext, Tree};
 use std::alloc::{AllocError, Global};
 
 /// The range of each form that is made here.

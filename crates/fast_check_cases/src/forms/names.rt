@@ -1,7 +1,7 @@
 //! Forms and choices by their names.
 
 use fast_check_read::schema::{Choice, Form, Words};
-use fast_check_syntax::Kind;
+use fast_check_tree_syntax::Kind;
 use std::alloc::{AllocError, Global};
 
 /// All forms.

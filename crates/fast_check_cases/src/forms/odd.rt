@@ -1,7 +1,9 @@
 //! Trees that no JSON is read as.
 
 use fast_check_read::schema::{Choice, Form, Words};
-use fast_check_syntax::{Atom, Items, Kind, SourcePos, SourceRange, SyntaxContext, Tree, Word};
+use fast_check_tree_syntax::{
+    Atom, Items, Kind, SourcePos, SourceRange, SyntaxContext, Tree, Word,
+};
 use std::alloc::{AllocError, Global};
 
 const SPAN: Tree = Tree::Range(SourceRange {

@@ -3,7 +3,7 @@
 use crate::names::packages::package_of;
 use crate::names::sets::{name_and_rest, say_set, set_of};
 use crate::said::Said;
-use fast_check_lattice::{
+use fast_check_finder_lattice::{
     FileDepName, HandledExports, ImportedExports, PendingTrace, PendingTraces,
 };
 use std::alloc::{AllocError, Global};

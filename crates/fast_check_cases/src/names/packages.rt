@@ -2,7 +2,7 @@
 
 use crate::names::sets::name_and_rest;
 use crate::said::Said;
-use fast_check_packages::{PackageNv, WorkspaceMember};
+use fast_check_tables_packages::{PackageNv, WorkspaceMember};
 use indexmap::IndexMap;
 use semver::Version;
 use std::alloc::{AllocError, Global};

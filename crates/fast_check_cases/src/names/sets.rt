@@ -1,7 +1,7 @@
 //! Calls on sets of names, and on what stands below a name.
 
 use crate::said::Said;
-use fast_check_lattice::{Exports, NamedSubset};
+use fast_check_finder_lattice::{Exports, NamedSubset};
 use std::alloc::Global;
 
 /// How deep below its first names a set is shown.

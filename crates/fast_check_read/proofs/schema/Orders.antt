@@ -3,8 +3,8 @@ use Rattle.std.proofs.Math.ListN.{get_or-map}
 use Rattle.std.specs.Borrow.{Bor}
 use denote.Enum.Declared.{tag_of}
 use borrow.Author.Rules.{rules}
-use Rattle.fast_check_syntax.specs.declared.kind.Kind.{Kind}
-use Rattle.fast_check_syntax.specs.contracts.kind.Kind.{the_type}
+use Rattle.fast_check_tree_syntax.specs.declared.kind.Kind.{Kind}
+use Rattle.fast_check_tree_syntax.specs.contracts.kind.Kind.{the_type}
 use Rattle.fast_check_read.specs.declared.schema.order.TheConstants.{WRITTEN_ORDERS}
 use Rattle.fast_check_read.specs.schema.Order.{written_places}
 

@@ -3,11 +3,11 @@ use Rattle.std.specs.Prelude.{ℕ, zero, suc, List, Bool, false, Option, Some, N
 use Rattle.std.specs.List.{find, list_any}
 use Rattle.std.specs.Str.{bytes_eq}
 use denote.Enum.Bare.{sameb}
-use Rattle.fast_check_syntax.specs.Shape.{◌is◌}
-use Rattle.fast_check_syntax.specs.declared.kind.Kind.{Kind}
-use Rattle.fast_check_syntax.specs.declared.kind.Kind.TheVariants as kinds
-use Rattle.fast_check_syntax.specs.declared.kind.Word.{Word}
-use Rattle.fast_check_syntax.specs.contracts.kind.Word.{the_type as word_type}
+use Rattle.fast_check_tree_syntax.specs.Shape.{◌is◌}
+use Rattle.fast_check_tree_syntax.specs.declared.kind.Kind.{Kind}
+use Rattle.fast_check_tree_syntax.specs.declared.kind.Kind.TheVariants as kinds
+use Rattle.fast_check_tree_syntax.specs.declared.kind.Word.{Word}
+use Rattle.fast_check_tree_syntax.specs.contracts.kind.Word.{the_type as word_type}
 use Rattle.fast_check_read.specs.declared.schema.form.Form.{Form}
 use Rattle.fast_check_read.specs.declared.schema.form.Form.TheVariants as forms
 use Rattle.fast_check_read.specs.declared.schema.form.Choice.{Choice}

@@ -3,7 +3,7 @@ use Rattle.std.specs.Prelude.{ℕ, zero, suc, List, [], ◌∷◌, length, slice
 use Rattle.std.specs.Cmp.Lexicographic.{slice_cmp}
 use Rattle.std.specs.Option.{option_map_or}
 use Rattle.std.specs.Ordering.{nat_cmp, match_ordering}
-use Rattle.fast_check_syntax.specs.declared.kind.Kind.{Kind}
+use Rattle.fast_check_tree_syntax.specs.declared.kind.Kind.{Kind}
 use Rattle.fast_check_read.specs.schema.Rows.{FieldRow}
 use Rattle.fast_check_read.specs.schema.Schema.{fields_of}
 

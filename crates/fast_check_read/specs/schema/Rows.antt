@@ -1,7 +1,7 @@
 -- The rows of the tables as data: a name is its bytes.
 use Rattle.std.specs.Prelude.{ℕ, List, map}
 use Rattle.std.specs.Borrow.{Bor}
-use Rattle.fast_check_syntax.specs.declared.kind.Word.{Word}
+use Rattle.fast_check_tree_syntax.specs.declared.kind.Word.{Word}
 use Rattle.fast_check_read.specs.declared.schema.form.Form.{Form}
 use Rattle.fast_check_read.specs.declared.schema.form.Count.{Count}
 

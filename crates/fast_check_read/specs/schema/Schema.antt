@@ -1,8 +1,8 @@
 -- Written by forms/write.py from forms/forms.txt.
 -- The tables: which fields a form has, which forms a choice is between, which words a list has.
 use Rattle.std.specs.Prelude.{List, []}
-use Rattle.fast_check_syntax.specs.declared.kind.Kind.{Kind}
-use Rattle.fast_check_syntax.specs.declared.kind.Kind.TheVariants as kinds
+use Rattle.fast_check_tree_syntax.specs.declared.kind.Kind.{Kind}
+use Rattle.fast_check_tree_syntax.specs.declared.kind.Kind.TheVariants as kinds
 use Rattle.fast_check_read.specs.declared.schema.form.Choice.{Choice}
 use Rattle.fast_check_read.specs.declared.schema.form.Choice.TheVariants as choices
 use Rattle.fast_check_read.specs.declared.schema.form.Words.{Words}

@@ -2,7 +2,7 @@
 // Written by forms/write.py from forms/forms.txt.
 
 use crate::schema::form::{Choice, Count, Field, Form, SPAN, Variant};
-use fast_check_syntax::Kind;
+use fast_check_tree_syntax::Kind;
 
 pub static THIS_EXPR: [Field; 1] = [SPAN];
 

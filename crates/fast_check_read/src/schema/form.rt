@@ -1,5 +1,5 @@
 //! What the tables of the tree's JSON are made of: choices, lists of words, forms and their fields.
-use fast_check_syntax::{Kind, Word};
+use fast_check_tree_syntax::{Kind, Word};
 
 /// An enum of the tree whose variants have content. In JSON it is an object of one key, the variant's name.
 #[derive(Clone, Copy, PartialEq, Eq, Debug)]

@@ -2,7 +2,7 @@
 // Written by forms/write.py from forms/forms.txt.
 
 use crate::schema::form::{Choice, Count, Field, Form, Named, SPAN, Variant, Words};
-use fast_check_syntax::{Kind, Word};
+use fast_check_tree_syntax::{Kind, Word};
 
 pub static FUNCTION: [Field; 9] = [
     SPAN,

@@ -7,7 +7,7 @@ ghost use Rattle.fast_check_read.specs.schema.Schema.{variants_of, words_of};
 
 use crate::schema::form::{Choice, Form, Named, Variant, Words};
 use crate::schema::tables::{variants, words};
-use fast_check_syntax::{Kind, Word};
+use fast_check_tree_syntax::{Kind, Word};
 
 /// The variant of a choice by its name.
 pub fn variant_named(choice: Choice, name: &str) -> Option<Variant>

@@ -2,7 +2,7 @@
 // Written by forms/write.py from forms/forms.txt.
 
 use crate::schema::form::{Count, Field, Form, SPAN, Variant};
-use fast_check_syntax::Kind;
+use fast_check_tree_syntax::Kind;
 
 pub static IDENT: [Field; 4] = [
     SPAN,

@@ -3,7 +3,7 @@
 ghost use Rattle.std.specs.Prelude.{◌≡◌};
 ghost use Rattle.fast_check_read.specs.schema.Order.{written_places};
 
-use fast_check_syntax::Kind;
+use fast_check_tree_syntax::Kind;
 
 /// The places of a form's fields in the order in which they are written, which is that of their names' bytes. A kind that
 /// is no form (a leaf, a list, a mark) has none.

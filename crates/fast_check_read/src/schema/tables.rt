@@ -7,7 +7,7 @@ ghost use Rattle.fast_check_read.specs.schema.Schema.{fields_of, variants_of, wo
 
 use crate::schema::form::{Choice, Field, Named, Variant, Words};
 use crate::schema::{expressions, functions, names, patterns, program, statements, types};
-use fast_check_syntax::Kind;
+use fast_check_tree_syntax::Kind;
 
 /// The fields of a form, in the order of its node's parts. A kind that is no form (a leaf, a list, a mark) has none.
 pub fn fields(kind: Kind) -> &'static [Field]

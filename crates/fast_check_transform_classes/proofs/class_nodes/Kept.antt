@@ -4,10 +4,10 @@ use lib.ListN.{get_or}
 use Rattle.std.proofs.Common.{ap, ◌∙◌, sym, append-nil, append_assoc, add-one}
 use Rattle.std.proofs.Math.Seq.{drop-cons}
 use Rattle.std.proofs.lemmas.List.{drop_all, map-append}
-use Rattle.fast_check_syntax.specs.declared.part.Part.{Part}
-use Rattle.fast_check_syntax.specs.declared.tree.Tree.{Tree}
-use Rattle.fast_check_syntax.specs.Part.{seen}
-use Rattle.fast_check_signatures.specs.Members.{stays_behind, each_behind, if_kept}
+use Rattle.fast_check_tree_syntax.specs.declared.part.Part.{Part}
+use Rattle.fast_check_tree_syntax.specs.declared.tree.Tree.{Tree}
+use Rattle.fast_check_tree_syntax.specs.Part.{seen}
+use Rattle.fast_check_meaning_signatures.specs.Members.{stays_behind, each_behind, if_kept}
 
 next_member : (ms : List Tree) (i : ℕ) (d : Tree) → i < length ms → (earlier : List Tree) →
     each_behind if_kept earlier (drop i ms) ≡ if_kept earlier (get_or ms i d) ++ each_behind if_kept (get_or ms i d ∷ earlier)

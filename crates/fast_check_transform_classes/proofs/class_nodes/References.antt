@@ -2,22 +2,22 @@
 use Rattle.std.specs.Prelude.{◌≡◌, ℕ, ◌+◌, ◌*◌, ◌<◌, Bool, true, false, ◌&&◌, Some, List, [], ◌∷◌, ◌++◌, refl, if◌then◌else◌}
 use Rattle.std.proofs.Common.{ap, ◌∙◌, sym, subst, arith}
 use Rattle.std.proofs.lemmas.Bool.{false≢true}
-use Rattle.fast_check_syntax.specs.declared.kind.Kind.{Kind}
-use Rattle.fast_check_syntax.specs.declared.kind.Kind.TheVariants as kinds
-use Rattle.fast_check_syntax.specs.declared.tree.Tree.{Tree, Absent}
-use Rattle.fast_check_syntax.specs.Height.{height, height_part}
-use Rattle.fast_check_syntax.specs.Shape.{◌is◌, kind_of, part, is_absent}
-use Rattle.fast_check_expression_forms.specs.Calls.{MemberExpr-obj, MemberExpr-prop}
-use Rattle.fast_check_swc_helpers.specs.ranges.Ranges.{range_of_node}
-use Rattle.fast_check_signatures.specs.declared.fault.Fault.{Fault}
-use Rattle.fast_check_signatures.specs.declared.fault.FaultKind.TheVariants.{UnsupportedSuperClassExpr}
-use Rattle.fast_check_signatures.specs.Seen.{Seen, written, faulty}
-use Rattle.fast_check_signatures.specs.Answers.{Adds, fault_at, answer_to}
-use Rattle.fast_check_expression_forms.specs.Properties.{ComputedPropName-expr}
-use Rattle.fast_check_swc_helpers.specs.PlaceOf.{PlaceOf}
-use Rattle.fast_check_signatures.specs.Classes.{property_of_kind, reference_of_kind, is_reference, superclass_seen}
-use Rattle.fast_check_signatures.proofs.Adding.{adds_nothing, adds_same, adds_fault}
-use Rattle.fast_check_signatures.proofs.References.{is_reference_is}
+use Rattle.fast_check_tree_syntax.specs.declared.kind.Kind.{Kind}
+use Rattle.fast_check_tree_syntax.specs.declared.kind.Kind.TheVariants as kinds
+use Rattle.fast_check_tree_syntax.specs.declared.tree.Tree.{Tree, Absent}
+use Rattle.fast_check_tree_syntax.specs.Height.{height, height_part}
+use Rattle.fast_check_tree_syntax.specs.Shape.{◌is◌, kind_of, part, is_absent}
+use Rattle.fast_check_tree_forms_expressions.specs.Calls.{MemberExpr-obj, MemberExpr-prop}
+use Rattle.fast_check_tree_helpers.specs.ranges.Ranges.{range_of_node}
+use Rattle.fast_check_meaning_signatures.specs.declared.fault.Fault.{Fault}
+use Rattle.fast_check_meaning_signatures.specs.declared.fault.FaultKind.TheVariants.{UnsupportedSuperClassExpr}
+use Rattle.fast_check_meaning_signatures.specs.Seen.{Seen, written, faulty}
+use Rattle.fast_check_meaning_signatures.specs.Answers.{Adds, fault_at, answer_to}
+use Rattle.fast_check_tree_forms_expressions.specs.Properties.{ComputedPropName-expr}
+use Rattle.fast_check_tree_helpers.specs.PlaceOf.{PlaceOf}
+use Rattle.fast_check_meaning_signatures.specs.Classes.{property_of_kind, reference_of_kind, is_reference, superclass_seen}
+use Rattle.fast_check_meaning_signatures.proofs.Adding.{adds_nothing, adds_same, adds_fault}
+use Rattle.fast_check_meaning_signatures.proofs.References.{is_reference_is}
 
 -- a part of a node is lower than the node
 lower_leaf : (k : Kind) → k is kinds.Leaf ≡ false → k ≡ kinds.Leaf → ⊥

@@ -1,15 +1,15 @@
 -- Statements that call the superclass, and parameters without modifiers.
 use Rattle.std.specs.Prelude.{◌≡◌, Bool, true, false, ◌&&◌, [], map, if◌then◌else◌}
 use Rattle.std.proofs.Common.{ap, sym}
-use Rattle.fast_check_syntax.specs.declared.kind.Kind.TheVariants as kinds
-use Rattle.fast_check_syntax.specs.declared.tree.Tree.{Tree}
-use Rattle.fast_check_syntax.specs.Shape.{◌is◌, kind_of, parts, list}
-use Rattle.fast_check_class_forms.specs.Classes.{TsParamProp-span, TsParamProp-param}
-use Rattle.fast_check_class_forms.specs.Functions.{param}
-use Rattle.fast_check_expression_forms.specs.Calls.{call_expr, CallExpr-span, CallExpr-ctxt, CallExpr-callee, CallExpr-args}
-use Rattle.fast_check_expression_forms.specs.Calls.{CallExpr-type_args}
-use Rattle.fast_check_statement_forms.specs.Statements.{ExprStmt-expr}
-use Rattle.fast_check_signatures.specs.Classes.{plain_param, is_super_call, never_argument}
+use Rattle.fast_check_tree_syntax.specs.declared.kind.Kind.TheVariants as kinds
+use Rattle.fast_check_tree_syntax.specs.declared.tree.Tree.{Tree}
+use Rattle.fast_check_tree_syntax.specs.Shape.{◌is◌, kind_of, parts, list}
+use Rattle.fast_check_tree_forms_classes.specs.Classes.{TsParamProp-span, TsParamProp-param}
+use Rattle.fast_check_tree_forms_classes.specs.Functions.{param}
+use Rattle.fast_check_tree_forms_expressions.specs.Calls.{call_expr, CallExpr-span, CallExpr-ctxt, CallExpr-callee, CallExpr-args}
+use Rattle.fast_check_tree_forms_expressions.specs.Calls.{CallExpr-type_args}
+use Rattle.fast_check_tree_forms_statements.specs.Statements.{ExprStmt-expr}
+use Rattle.fast_check_meaning_signatures.specs.Classes.{plain_param, is_super_call, never_argument}
 
 abbrev pub never_call : Tree → Tree
 never_call call =

@@ -7,10 +7,10 @@ use Rattle.std.specs.Cmp.Lexicographic.{slice_cmp, texts_ties}
 use Rattle.std.specs.Ordering.{is_eq, nat_cmp}
 use Rattle.std.proofs.Common.{ap, ◌∙◌, sym}
 use denote.Ref.{Bor}
-use Rattle.fast_check_syntax.specs.declared.tree.Tree.{Tree}
-use Rattle.fast_check_class_forms.specs.Methods.{ClassMethod-key, ClassMethod-accessibility}
-use Rattle.fast_check_signatures.specs.Members.{is_private, is_computed, key_text, is_private_method_of, is_private_implementation}
-use Rattle.fast_check_signatures.specs.Members.{stays_behind}
+use Rattle.fast_check_tree_syntax.specs.declared.tree.Tree.{Tree}
+use Rattle.fast_check_tree_forms_classes.specs.Methods.{ClassMethod-key, ClassMethod-accessibility}
+use Rattle.fast_check_meaning_signatures.specs.Members.{is_private, is_computed, key_text, is_private_method_of, is_private_implementation}
+use Rattle.fast_check_meaning_signatures.specs.Members.{stays_behind}
 use Rattle.fast_check_transform_classes.specs.declared.class_nodes.earlier.Earlier.{Earlier}
 use Rattle.fast_check_transform_classes.specs.class_nodes.Known.{IsMethod, Knows, Next}
 

@@ -1,6 +1,6 @@
 -- Inner: no contract of a public call cites what stands here.
 -- The heads of properties that are made.
-use Rattle.fast_check_signatures.specs.Seen.{PropertyHead}
+use Rattle.fast_check_meaning_signatures.specs.Seen.{PropertyHead}
 use Rattle.fast_check_transform_classes.specs.declared.class_nodes.properties.PropertyHead.{PropertyHead as MadeHead}
 
 -- a head as the definitions have it

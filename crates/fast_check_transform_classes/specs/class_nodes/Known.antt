@@ -5,13 +5,13 @@ use Rattle.std.specs.List.{list_any}
 use Rattle.std.specs.BTreeSet.{contains_by}
 use Rattle.std.specs.Cmp.Lexicographic.{slice_cmp}
 use Rattle.std.specs.Ordering.{nat_cmp}
-use Rattle.fast_check_syntax.specs.declared.kind.Kind.TheVariants as kinds
-use Rattle.fast_check_syntax.specs.declared.tree.Tree.{Tree}
-use Rattle.fast_check_syntax.specs.Shape.{◌is◌, kind_of}
-use Rattle.fast_check_class_forms.specs.Fields.{ClassProp-key, ClassProp-accessibility, AutoAccessor-key}
-use Rattle.fast_check_class_forms.specs.Fields.{AutoAccessor-accessibility}
-use Rattle.fast_check_signatures.specs.Members.{is_private, is_computed, is_private_method_of}
-use Rattle.fast_check_signatures.specs.Members.{is_private_implementation, stays_behind}
+use Rattle.fast_check_tree_syntax.specs.declared.kind.Kind.TheVariants as kinds
+use Rattle.fast_check_tree_syntax.specs.declared.tree.Tree.{Tree}
+use Rattle.fast_check_tree_syntax.specs.Shape.{◌is◌, kind_of}
+use Rattle.fast_check_tree_forms_classes.specs.Fields.{ClassProp-key, ClassProp-accessibility, AutoAccessor-key}
+use Rattle.fast_check_tree_forms_classes.specs.Fields.{AutoAccessor-accessibility}
+use Rattle.fast_check_meaning_signatures.specs.Members.{is_private, is_computed, is_private_method_of}
+use Rattle.fast_check_meaning_signatures.specs.Members.{is_private_implementation, stays_behind}
 use Rattle.fast_check_transform_classes.specs.declared.class_nodes.earlier.Earlier.{Earlier}
 
 abbrev pub IsConstructor : Tree → Type 0

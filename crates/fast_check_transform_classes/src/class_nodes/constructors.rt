@@ -1,21 +1,21 @@
 //! Private constructors: their parameters without properties, and the call of `super` that stands in them.
 ghost use Rattle.std.specs.Prelude.{◌≡◌, IfOk, map, if◌then◌else◌};
 ghost use Rattle.std.specs.List.{filter};
-ghost use Rattle.fast_check_syntax.specs.Part.{seen};
-ghost use Rattle.fast_check_syntax.specs.Shape.{parts, list, is_absent, none_range};
-ghost use Rattle.fast_check_expression_forms.specs.Calls.{call_expr, CallExpr-span, CallExpr-ctxt, CallExpr-callee, CallExpr-args, CallExpr-type_args};
-ghost use Rattle.fast_check_signatures.specs.Classes as classes;
-ghost use Rattle.fast_check_syntax.specs.declared.kind.Word.TheVariants.{TsNeverKeyword};
-ghost use Rattle.fast_check_swc_helpers.specs.Builders.{ts_keyword_type, never_value};
-ghost use Rattle.fast_check_signatures.specs.NewNodes as new;
-ghost use Rattle.fast_check_signatures.specs.NewNodes.{ts_array_type};
+ghost use Rattle.fast_check_tree_syntax.specs.Part.{seen};
+ghost use Rattle.fast_check_tree_syntax.specs.Shape.{parts, list, is_absent, none_range};
+ghost use Rattle.fast_check_tree_forms_expressions.specs.Calls.{call_expr, CallExpr-span, CallExpr-ctxt, CallExpr-callee, CallExpr-args, CallExpr-type_args};
+ghost use Rattle.fast_check_meaning_signatures.specs.Classes as classes;
+ghost use Rattle.fast_check_tree_syntax.specs.declared.kind.Word.TheVariants.{TsNeverKeyword};
+ghost use Rattle.fast_check_tree_helpers.specs.Builders.{ts_keyword_type, never_value};
+ghost use Rattle.fast_check_meaning_signatures.specs.NewNodes as new;
+ghost use Rattle.fast_check_meaning_signatures.specs.NewNodes.{ts_array_type};
 
 use crate::class_nodes::copies::two_trees;
-use fast_check_class_forms::{Param, TsParamProp};
-use fast_check_expression_forms::{ArrayLit, CallExpr, ExprOrSpread, ParenExpr, TsAsExpr};
-use fast_check_statement_forms::{BlockStmt, ExprStmt};
-use fast_check_swc_helpers::{TsKeywordTypeKind, never_value, ts_keyword_type};
-use fast_check_syntax::{DUMMY_SP, Items, Kind, Part, SyntaxContext, Tree};
+use fast_check_tree_forms_classes::{Param, TsParamProp};
+use fast_check_tree_forms_expressions::{ArrayLit, CallExpr, ExprOrSpread, ParenExpr, TsAsExpr};
+use fast_check_tree_forms_statements::{BlockStmt, ExprStmt};
+use fast_check_tree_helpers::{TsKeywordTypeKind, never_value, ts_keyword_type};
+use fast_check_tree_syntax::{DUMMY_SP, Items, Kind, Part, SyntaxContext, Tree};
 use std::alloc::{AllocError, Global};
 
 /// A parameter of a constructor, a `Param`, without the modifiers that make it a property too.

@@ -1,8 +1,8 @@
 //! Copies of pairs of trees.
 ghost use Rattle.std.specs.Prelude.{◌≡◌, IfOk};
-ghost use Rattle.fast_check_syntax.specs.Part.{seen};
+ghost use Rattle.fast_check_tree_syntax.specs.Part.{seen};
 
-use fast_check_syntax::{Part, Tree};
+use fast_check_tree_syntax::{Part, Tree};
 use std::alloc::{AllocError, Global};
 
 /// Two parts as trees.

@@ -1,13 +1,13 @@
 //! Which members of a class stay: of the private methods of a name the first, and no body of overloads.
 ghost use Rattle.std.specs.Prelude.{◌≡◌, IfOk, List, map, []};
-ghost use Rattle.fast_check_syntax.specs.Part.{seen};
-ghost use Rattle.fast_check_syntax.specs.declared.tree.Tree.{Tree};
-ghost use Rattle.fast_check_signatures.specs.Members.{kept_members};
+ghost use Rattle.fast_check_tree_syntax.specs.Part.{seen};
+ghost use Rattle.fast_check_tree_syntax.specs.declared.tree.Tree.{Tree};
+ghost use Rattle.fast_check_meaning_signatures.specs.Members.{kept_members};
 ghost use Rattle.fast_check_transform_classes.specs.class_nodes.Known.{property_stays, accessor_stays, Knows, IsNext, IsConstructor, IsMethod};
 
 use crate::class_nodes::keys::{is_computed, is_private, key_text};
-use fast_check_class_forms::{AutoAccessor, ClassMethod, ClassProp, Constructor};
-use fast_check_syntax::{Kind, Part, Tree};
+use fast_check_tree_forms_classes::{AutoAccessor, ClassMethod, ClassProp, Constructor};
+use fast_check_tree_syntax::{Kind, Part, Tree};
 use std::alloc::{AllocError, Global};
 use std::collections::BTreeSet;
 

@@ -1,11 +1,11 @@
 //! The keys of members: whether a member is private, computed or of a hash name, and its text.
 ghost use Rattle.std.specs.Prelude.{◌≡◌};
-ghost use Rattle.fast_check_syntax.specs.Part.{seen};
-ghost use Rattle.fast_check_signatures.specs.Members as members;
+ghost use Rattle.fast_check_tree_syntax.specs.Part.{seen};
+ghost use Rattle.fast_check_meaning_signatures.specs.Members as members;
 
-use fast_check_class_forms::AutoAccessor;
-use fast_check_program_forms::{BigInt, IdentName, Number, Str};
-use fast_check_syntax::{Kind, Part, Word};
+use fast_check_tree_forms_classes::AutoAccessor;
+use fast_check_tree_forms_programs::{BigInt, IdentName, Number, Str};
+use fast_check_tree_syntax::{Kind, Part, Word};
 
 /// Whether a member is declared `private`, by its accessibility.
 pub fn is_private(accessibility: Part<'_>) -> bool

@@ -1,29 +1,31 @@
 //! The properties that stand in a class: declared ones, those with a value, and `#private!: unknown`.
 ghost use Rattle.std.specs.Prelude.{◌≡◌, IfOk, codes, if◌then◌else◌};
-ghost use Rattle.fast_check_syntax.specs.Part.{seen};
-ghost use Rattle.fast_check_syntax.specs.Shape.{none_range, ◌is◌, kind_of};
-ghost use Rattle.fast_check_syntax.specs.declared.kind.Kind.TheVariants as kinds;
-ghost use Rattle.fast_check_expression_forms.specs.Patterns.{AssignPat-right};
-ghost use Rattle.fast_check_program_forms.specs.Names.{Ident-span, Ident-sym};
-ghost use Rattle.fast_check_program_forms.specs.Names as names;
-ghost use Rattle.fast_check_swc_helpers.specs.Builders as builders;
-ghost use Rattle.fast_check_syntax.specs.declared.kind.Word.TheVariants.{TsUnknownKeyword};
-ghost use Rattle.fast_check_signatures.specs.Answers.{declared_property, valued_property};
-ghost use Rattle.fast_check_signatures.specs.Classes as classes;
-ghost use Rattle.fast_check_signatures.specs.NewNodes as new;
-ghost use Rattle.fast_check_signatures.specs.Typing.{type_of};
+ghost use Rattle.fast_check_tree_syntax.specs.Part.{seen};
+ghost use Rattle.fast_check_tree_syntax.specs.Shape.{none_range, ◌is◌, kind_of};
+ghost use Rattle.fast_check_tree_syntax.specs.declared.kind.Kind.TheVariants as kinds;
+ghost use Rattle.fast_check_tree_forms_expressions.specs.Patterns.{AssignPat-right};
+ghost use Rattle.fast_check_tree_forms_programs.specs.Names.{Ident-span, Ident-sym};
+ghost use Rattle.fast_check_tree_forms_programs.specs.Names as names;
+ghost use Rattle.fast_check_tree_helpers.specs.Builders as builders;
+ghost use Rattle.fast_check_tree_syntax.specs.declared.kind.Word.TheVariants.{TsUnknownKeyword};
+ghost use Rattle.fast_check_meaning_signatures.specs.Answers.{declared_property, valued_property};
+ghost use Rattle.fast_check_meaning_signatures.specs.Classes as classes;
+ghost use Rattle.fast_check_meaning_signatures.specs.NewNodes as new;
+ghost use Rattle.fast_check_meaning_signatures.specs.Typing.{type_of};
 ghost use Rattle.fast_check_transform_classes.specs.class_nodes.Heads.{head_of};
 
 use crate::class_nodes::copies::two_trees;
 use crate::class_nodes::keys::is_private;
-use fast_check_class_forms::{AutoAccessor, ClassMethod, ClassProp, PrivateProp, TsParamProp};
-use fast_check_expression_forms::AssignPat;
-use fast_check_program_forms::{BindingIdent, Ident, PrivateName};
-use fast_check_swc_helpers::{DeclMutabilityKind, TsKeywordTypeKind, ts_keyword_type, type_ann};
-use fast_check_syntax::{
+use fast_check_transform_expressions::nodes::Typing;
+use fast_check_tree_forms_classes::{
+    AutoAccessor, ClassMethod, ClassProp, PrivateProp, TsParamProp,
+};
+use fast_check_tree_forms_expressions::AssignPat;
+use fast_check_tree_forms_programs::{BindingIdent, Ident, PrivateName};
+use fast_check_tree_helpers::{DeclMutabilityKind, TsKeywordTypeKind, ts_keyword_type, type_ann};
+use fast_check_tree_syntax::{
     Atom, DUMMY_SP, Items, Kind, Part, SourceRange, SyntaxContext, Tree, Word,
 };
-use fast_check_transform_expressions::nodes::Typing;
 use std::alloc::{AllocError, Global};
 
 /// A property of a class, but for its type and its value, and for `declare` and `!`, which go by these.

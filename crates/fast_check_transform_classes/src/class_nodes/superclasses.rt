@@ -1,14 +1,14 @@
 //! What stays of the superclass of a class.
 ghost use Rattle.std.specs.Prelude.{◌≡◌, IfOk, Some};
-ghost use Rattle.fast_check_syntax.specs.Part.{seen};
-ghost use Rattle.fast_check_signatures.specs.Answers.{Adds, answer_to};
-ghost use Rattle.fast_check_syntax.specs.Shape.{kind_of};
-ghost use Rattle.fast_check_signatures.specs.Classes.{is_reference, property_of_kind, superclass_seen};
+ghost use Rattle.fast_check_tree_syntax.specs.Part.{seen};
+ghost use Rattle.fast_check_meaning_signatures.specs.Answers.{Adds, answer_to};
+ghost use Rattle.fast_check_tree_syntax.specs.Shape.{kind_of};
+ghost use Rattle.fast_check_meaning_signatures.specs.Classes.{is_reference, property_of_kind, superclass_seen};
 
-use fast_check_expression_forms::{ComputedPropName, MemberExpr};
-use fast_check_signatures::{Fault, FaultKind};
-use fast_check_swc_helpers::ranges::range_of_node;
-use fast_check_syntax::{Kind, Part, Tree};
+use fast_check_meaning_signatures::{Fault, FaultKind};
+use fast_check_tree_forms_expressions::{ComputedPropName, MemberExpr};
+use fast_check_tree_helpers::ranges::range_of_node;
+use fast_check_tree_syntax::{Kind, Part, Tree};
 use std::alloc::{AllocError, Global};
 
 /// Whether an expression is an identifier, or a chain of members on one, each plain or computed by such an expression again

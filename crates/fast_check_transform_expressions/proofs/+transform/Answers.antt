@@ -2,33 +2,33 @@ use Rattle.std.proofs.Common.{arith, drop, ◌≡◌, ◌<◌, length, get_or, t
 use Rattle.std.proofs.Common.{option_map, option_copied}
 use Rattle.std.proofs.lemmas.List.{drop_all}
 use Rattle.std.proofs.lemmas.Result.{IfOk-weaker}
-use Rattle.fast_check_syntax.specs.declared.kind.Kind.TheVariants as kinds
-use Rattle.fast_check_syntax.specs.declared.source.SourceRange.{SourceRange}
-use Rattle.fast_check_syntax.specs.declared.source.SyntaxContext.{SyntaxContext}
-use Rattle.fast_check_syntax.specs.declared.tree.Tree as tree
-use Rattle.fast_check_syntax.specs.declared.tree.Tree.{Tree}
-use Rattle.fast_check_class_forms.specs.Functions.{Function-span, Param-pat}
-use Rattle.fast_check_signatures.specs.declared.function_kind.FunctionKind.TheVariants.{ExpressionLike}
-use Rattle.fast_check_syntax.specs.Part.{seen}
-use Rattle.fast_check_syntax.specs.Shape.{is_kind, kind_of, parts, node, is_absent}
-use Rattle.fast_check_syntax.specs.Height.{height, height_part, height_read, height_at_most}
-use Rattle.fast_check_program_forms.specs.Names.{Ident-span, BindingIdent-id}
-use Rattle.fast_check_expression_forms.specs.Expressions.{ArrowExpr-span}
-use Rattle.fast_check_expression_forms.specs.Patterns.{AssignPat-span, AssignPat-left, AssignPat-right}
-use Rattle.fast_check_expression_forms.specs.Patterns.{ArrayPat-span, ArrayPat-type_ann, ObjectPat-span, ObjectPat-type_ann}
-use Rattle.fast_check_signatures.specs.declared.rules.Slot.TheVariants as slots
-use Rattle.fast_check_bindings.specs.Bindings.{bindings_of}
-use Rattle.fast_check_signatures.specs.Seen.{faulty, seens}
-use Rattle.fast_check_signatures.specs.declared.fault.FaultKind.TheVariants.{UnsupportedDestructuring, MissingExplicitType}
-use Rattle.fast_check_signatures.specs.Answers.{fault_at, answer_to, answer_of, parts_answer, demanded, faultless, signed_function}
-use Rattle.fast_check_signatures.specs.Expressions.{is_plain, is_compound, expr_seen, slot_seen}
-use Rattle.fast_check_signatures.specs.Functions.{or_own, return_type_missing, function_head, function_seen}
-use Rattle.fast_check_signatures.specs.Parameters.{default_typing, typed, emptied_array, emptied_object, without_default, default_seen, assign_seen, pat_seen}
-use Rattle.fast_check_signatures.specs.Parameters.{pats_seen}
-use Rattle.fast_check_signatures.proofs.Adding.{adds_same, adds_nothing, adds_made, adds_joined, adds_settled, adds_demanded}
-use Rattle.fast_check_signatures.specs.Typing.{type_of}
+use Rattle.fast_check_tree_syntax.specs.declared.kind.Kind.TheVariants as kinds
+use Rattle.fast_check_tree_syntax.specs.declared.source.SourceRange.{SourceRange}
+use Rattle.fast_check_tree_syntax.specs.declared.source.SyntaxContext.{SyntaxContext}
+use Rattle.fast_check_tree_syntax.specs.declared.tree.Tree as tree
+use Rattle.fast_check_tree_syntax.specs.declared.tree.Tree.{Tree}
+use Rattle.fast_check_tree_forms_classes.specs.Functions.{Function-span, Param-pat}
+use Rattle.fast_check_meaning_signatures.specs.declared.function_kind.FunctionKind.TheVariants.{ExpressionLike}
+use Rattle.fast_check_tree_syntax.specs.Part.{seen}
+use Rattle.fast_check_tree_syntax.specs.Shape.{is_kind, kind_of, parts, node, is_absent}
+use Rattle.fast_check_tree_syntax.specs.Height.{height, height_part, height_read, height_at_most}
+use Rattle.fast_check_tree_forms_programs.specs.Names.{Ident-span, BindingIdent-id}
+use Rattle.fast_check_tree_forms_expressions.specs.Expressions.{ArrowExpr-span}
+use Rattle.fast_check_tree_forms_expressions.specs.Patterns.{AssignPat-span, AssignPat-left, AssignPat-right}
+use Rattle.fast_check_tree_forms_expressions.specs.Patterns.{ArrayPat-span, ArrayPat-type_ann, ObjectPat-span, ObjectPat-type_ann}
+use Rattle.fast_check_meaning_signatures.specs.declared.rules.Slot.TheVariants as slots
+use Rattle.fast_check_transform_nodes.specs.Bindings.{bindings_of}
+use Rattle.fast_check_meaning_signatures.specs.Seen.{faulty, seens}
+use Rattle.fast_check_meaning_signatures.specs.declared.fault.FaultKind.TheVariants.{UnsupportedDestructuring, MissingExplicitType}
+use Rattle.fast_check_meaning_signatures.specs.Answers.{fault_at, answer_to, answer_of, parts_answer, demanded, faultless, signed_function}
+use Rattle.fast_check_meaning_signatures.specs.Expressions.{is_plain, is_compound, expr_seen, slot_seen}
+use Rattle.fast_check_meaning_signatures.specs.Functions.{or_own, return_type_missing, function_head, function_seen}
+use Rattle.fast_check_meaning_signatures.specs.Parameters.{default_typing, typed, emptied_array, emptied_object, without_default, default_seen, assign_seen, pat_seen}
+use Rattle.fast_check_meaning_signatures.specs.Parameters.{pats_seen}
+use Rattle.fast_check_meaning_signatures.proofs.Adding.{adds_same, adds_nothing, adds_made, adds_joined, adds_settled, adds_demanded}
+use Rattle.fast_check_meaning_signatures.specs.Typing.{type_of}
 use Rattle.fast_check_transform_expressions.specs.Looked.{known_type, known_answer, patterns, params_looked}
-use Rattle.fast_check_swc_helpers.specs.OptionalParams.{is_optional_param}
+use Rattle.fast_check_tree_helpers.specs.OptionalParams.{is_optional_param}
 use Rattle.std.specs.List.{list_all}
 use Rattle.fast_check_transform_expressions.proofs.Behind.{behind_along, items_are, trees_are, adds_given, parts_step, parts_refused, items_step}
 use Rattle.fast_check_transform_expressions.proofs.Behind.{items_end, with_pat, param_added, default_made}

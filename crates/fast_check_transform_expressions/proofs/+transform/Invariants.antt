@@ -1,11 +1,11 @@
 use Rattle.std.proofs.Common.{◌+◌, ◌-◌, ◌*◌, None, drop, map, ◌++◌}
-use Rattle.fast_check_syntax.specs.Part.{seen}
-use Rattle.fast_check_syntax.specs.Height.{height}
-use Rattle.fast_check_bindings.specs.Bindings.{bindings_of}
-use Rattle.fast_check_signatures.specs.Seen.{seens}
-use Rattle.fast_check_signatures.specs.Answers.{answer_of, parts_answer}
-use Rattle.fast_check_signatures.specs.Expressions.{expr_seen, slots_seen}
-use Rattle.fast_check_signatures.specs.Parameters.{pats_seen}
+use Rattle.fast_check_tree_syntax.specs.Part.{seen}
+use Rattle.fast_check_tree_syntax.specs.Height.{height}
+use Rattle.fast_check_transform_nodes.specs.Bindings.{bindings_of}
+use Rattle.fast_check_meaning_signatures.specs.Seen.{seens}
+use Rattle.fast_check_meaning_signatures.specs.Answers.{answer_of, parts_answer}
+use Rattle.fast_check_meaning_signatures.specs.Expressions.{expr_seen, slots_seen}
+use Rattle.fast_check_meaning_signatures.specs.Parameters.{pats_seen}
 use Rattle.fast_check_transform_expressions.specs.Looked.{params_looked}
 use Rattle.fast_check_transform_expressions.proofs.Behind.{Behind, behind}
 use Rattle.fast_check_transform_expressions.proofs.+transform.Given as goal

@@ -4,11 +4,11 @@ use lib.ListN.{get_or}
 use Rattle.std.proofs.Common.{ap, ◌∙◌, sym, subst, append-nil}
 use Rattle.std.proofs.lemmas.List.{take_more, take_all}
 use Rattle.std.proofs.lemmas.List.Concat.{flat_map-append}
-use Rattle.fast_check_syntax.specs.declared.tree.Tree.{Tree}
-use Rattle.fast_check_signatures.specs.declared.fault.Fault.{Fault}
-use Rattle.fast_check_signatures.specs.Seen.{Seen}
-use Rattle.fast_check_signatures.specs.Answers.{Adds, with_tree, answer_to, answer_of}
-use Rattle.fast_check_signatures.proofs.Adding.{adds_nothing, adds_same, adds_joined, answer_append}
+use Rattle.fast_check_tree_syntax.specs.declared.tree.Tree.{Tree}
+use Rattle.fast_check_meaning_signatures.specs.declared.fault.Fault.{Fault}
+use Rattle.fast_check_meaning_signatures.specs.Seen.{Seen}
+use Rattle.fast_check_meaning_signatures.specs.Answers.{Adds, with_tree, answer_to, answer_of}
+use Rattle.fast_check_meaning_signatures.proofs.Adding.{adds_nothing, adds_same, adds_joined, answer_append}
 
 -- one that is seen alone
 pub alone : (s : Seen) {o : Option Tree} {old new : List Fault} → Adds (answer_to s) o old new →

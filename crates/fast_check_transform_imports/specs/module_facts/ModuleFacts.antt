@@ -1,12 +1,12 @@
 -- What is asked of a module beside its tree.
 use Rattle.std.specs.Option.{option_copied}
-use Rattle.fast_check_diagnostics.specs.parsed_source.MediaType.{is_declaration}
-use Rattle.fast_check_modules.specs.diagnostics.PublicRanges.{PublicRanges, is_public, is_implementation}
-use Rattle.fast_check_modules.specs.EsModule.{EsModule}
-use Rattle.fast_check_bindings.specs.Bindings.{bindings_of}
-use Rattle.fast_check_skeleton.specs.expandos.ModuleObjects.{objects_of}
+use Rattle.fast_check_tables_diagnostics.specs.parsed_source.MediaType.{is_declaration}
+use Rattle.fast_check_tables_modules.specs.diagnostics.PublicRanges.{PublicRanges, is_public, is_implementation}
+use Rattle.fast_check_tables_modules.specs.EsModule.{EsModule}
+use Rattle.fast_check_transform_nodes.specs.Bindings.{bindings_of}
+use Rattle.fast_check_meaning_skeleton.specs.expandos.ModuleObjects.{objects_of}
 use Rattle.fast_check_transform_imports.specs.module_facts.Sources.{Resolutions, relative_source}
-use Rattle.fast_check_skeleton.specs.ModuleFacts.{ModuleFacts}
+use Rattle.fast_check_meaning_skeleton.specs.ModuleFacts.{ModuleFacts}
 use Rattle.fast_check_transform_imports.specs.declared.module_facts.facts.ModuleFacts.{ModuleFacts as Lent}
 
 -- what a module's skeleton depends on beside its tree: what is public of it, what is known of its names, whether it is

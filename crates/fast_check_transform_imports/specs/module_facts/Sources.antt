@@ -9,7 +9,7 @@ use Rattle.std.specs.declared.alloc.Global.{Global}
 use Rattle.url.specs.Host.{host_text}
 use Rattle.url.specs.Parts.{Parts, cannot_be_a_base, host_or_empty}
 use Rattle.url.specs.Relative.{relative_text}
-use Rattle.fast_check_graph.specs.Resolutions.{text_resolved}
+use Rattle.fast_check_tables_graph.specs.Resolutions.{text_resolved}
 
 -- whether a relative URL leads from one URL to another: the first is no opaque one, and both have the same scheme, host
 -- and port

@@ -2,10 +2,10 @@
 ghost use Rattle.std.specs.Prelude.{◌≡◌};
 ghost use Rattle.std.specs.Option.{option_copied};
 
-use fast_check_modules::EsModuleInfo;
-use fast_check_modules::diagnostics::ModulePublicRanges;
-use fast_check_statement_forms::TsModuleDecl;
-use fast_check_syntax::Part;
+use fast_check_tables_modules::EsModuleInfo;
+use fast_check_tables_modules::diagnostics::ModulePublicRanges;
+use fast_check_tree_forms_statements::TsModuleDecl;
+use fast_check_tree_syntax::Part;
 use std::collections::BTreeMap;
 use url::Url;
 
@@ -21,8 +21,8 @@ pub struct ModuleFacts<'a> {
 }
 
 impl<'a> ModuleFacts<'a> {
-    ghost use Rattle.fast_check_syntax.specs.Part.{seen};
-    ghost use Rattle.fast_check_skeleton.specs.ModuleFacts.{inside};
+    ghost use Rattle.fast_check_tree_syntax.specs.Part.{seen};
+    ghost use Rattle.fast_check_meaning_skeleton.specs.ModuleFacts.{inside};
     ghost use Rattle.fast_check_transform_imports.specs.module_facts.ModuleFacts.{facts_of, facts_by};
 
     /// What is asked of a module whose texts resolve to these, with these public ranges.

@@ -1,7 +1,7 @@
 //! The text that stands for the source of an import.
 ghost use Rattle.std.specs.Prelude.{◌≡◌, IfOk, option_map, string_bytes};
 ghost use Rattle.std.specs.Option.{option_and_then, option_copied};
-ghost use Rattle.fast_check_graph.specs.Resolutions.{text_resolved};
+ghost use Rattle.fast_check_tables_graph.specs.Resolutions.{text_resolved};
 ghost use Rattle.fast_check_transform_imports.specs.module_facts.Sources.{dotted, relative_source, relative_url};
 
 use std::alloc::{AllocError, Global};

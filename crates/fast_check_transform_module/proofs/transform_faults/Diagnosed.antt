@@ -3,9 +3,9 @@ use Rattle.std.specs.Prelude.{ℕ, ◌+◌, ◌<◌, List, [], ◌∷◌, ◌++�
 use lib.ListN.{get_or}
 use Rattle.std.proofs.Common.{subst, sym}
 use Rattle.std.proofs.lemmas.List.{take_more}
-use Rattle.fast_check_modules.specs.EsModule.{EsModule}
-use Rattle.fast_check_modules.specs.diagnostics.declared.diagnostics.FastCheckDiagnostic.{FastCheckDiagnostic}
-use Rattle.fast_check_signatures.specs.declared.fault.Fault.{Fault}
+use Rattle.fast_check_tables_modules.specs.EsModule.{EsModule}
+use Rattle.fast_check_tables_modules.specs.diagnostics.declared.diagnostics.FastCheckDiagnostic.{FastCheckDiagnostic}
+use Rattle.fast_check_meaning_signatures.specs.declared.fault.Fault.{Fault}
 use Rattle.fast_check_transform_module.specs.transform_faults.Diagnostics.{IsDiagnosticOf, AreDiagnosticsOf}
 
 pub one_more : (info : EsModule) (fs : List Fault) (ds : List FastCheckDiagnostic) (f : Fault) (d : FastCheckDiagnostic) →

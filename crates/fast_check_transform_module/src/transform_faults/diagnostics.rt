@@ -2,10 +2,10 @@
 ghost use Rattle.std.specs.Prelude.{◌≡◌, IfOk};
 ghost use Rattle.fast_check_transform_module.specs.transform_faults.Diagnostics.{IsPlaceOf, IsExpandoProperty, IsDiagnosticOf, AreDiagnosticsOf, diagnosed};
 
-use fast_check_modules::EsModuleInfo;
-use fast_check_modules::diagnostics::{FastCheckDiagnostic, FastCheckDiagnosticRange};
-use fast_check_signatures::{Fault, FaultKind};
-use fast_check_syntax::{Atom, SourceRange};
+use fast_check_meaning_signatures::{Fault, FaultKind};
+use fast_check_tables_modules::EsModuleInfo;
+use fast_check_tables_modules::diagnostics::{FastCheckDiagnostic, FastCheckDiagnosticRange};
+use fast_check_tree_syntax::{Atom, SourceRange};
 use std::alloc::{AllocError, Global};
 
 /// A range of the source text of a module as the place of a diagnostic.

@@ -5,24 +5,24 @@ use lib.ListN.{get_or}
 use Rattle.std.proofs.Common.{ap, ◌∙◌, sym, subst, add-one}
 use Rattle.std.proofs.Math.Seq.{drop-cons}
 use Rattle.std.proofs.lemmas.List.{drop_all}
-use Rattle.fast_check_syntax.specs.declared.kind.Kind.TheVariants as kinds
-use Rattle.fast_check_syntax.specs.declared.source.SourcePos.{SourcePos}
-use Rattle.fast_check_syntax.specs.declared.tree.Tree as tree
-use Rattle.fast_check_syntax.specs.declared.tree.Tree.{Tree}
-use Rattle.fast_check_syntax.specs.Shape.{node}
-use Rattle.fast_check_comments.specs.declared.comments.Comments.{Comments}
-use Rattle.fast_check_comments.specs.Kept.{without_leading}
-use Rattle.fast_check_swc_helpers.specs.ranges.Ranges.{range_of_node}
-use Rattle.fast_check_statement_forms.specs.Declarations.{ClassDecl-ident, ClassDecl-declare, ClassDecl-class, class_decl}
-use Rattle.fast_check_signatures.specs.declared.fault.Fault.{Fault}
-use Rattle.fast_check_signatures.specs.Seen.{Seen, written}
-use Rattle.fast_check_signatures.specs.Answers.{Adds, answer_to}
-use Rattle.fast_check_signatures.specs.Classes.{plain_class_seen, ambient_class}
-use Rattle.fast_check_signatures.specs.Members.{stays_behind, each_behind, if_removed}
-use Rattle.fast_check_signatures.proofs.Adding.{adds_nothing, adds_same, adds_made, adds_visited}
-use Rattle.fast_check_transform_imports.specs.module_facts.skeleton.KeptComments.{without_all_leading}
-use Rattle.fast_check_transform_imports.specs.module_facts.skeleton.ModuleFacts.{ModuleFacts}
-use Rattle.fast_check_transform_imports.specs.module_facts.skeleton.Visible.{is_ambient_class, class_in, class_decl_seen}
+use Rattle.fast_check_tree_syntax.specs.declared.kind.Kind.TheVariants as kinds
+use Rattle.fast_check_tree_syntax.specs.declared.source.SourcePos.{SourcePos}
+use Rattle.fast_check_tree_syntax.specs.declared.tree.Tree as tree
+use Rattle.fast_check_tree_syntax.specs.declared.tree.Tree.{Tree}
+use Rattle.fast_check_tree_syntax.specs.Shape.{node}
+use Rattle.fast_check_tree_comments.specs.declared.comments.Comments.{Comments}
+use Rattle.fast_check_tree_comments.specs.Kept.{without_leading}
+use Rattle.fast_check_tree_helpers.specs.ranges.Ranges.{range_of_node}
+use Rattle.fast_check_tree_forms_statements.specs.Declarations.{ClassDecl-ident, ClassDecl-declare, ClassDecl-class, class_decl}
+use Rattle.fast_check_meaning_signatures.specs.declared.fault.Fault.{Fault}
+use Rattle.fast_check_meaning_signatures.specs.Seen.{Seen, written}
+use Rattle.fast_check_meaning_signatures.specs.Answers.{Adds, answer_to}
+use Rattle.fast_check_meaning_signatures.specs.Classes.{plain_class_seen, ambient_class}
+use Rattle.fast_check_meaning_signatures.specs.Members.{stays_behind, each_behind, if_removed}
+use Rattle.fast_check_meaning_signatures.proofs.Adding.{adds_nothing, adds_same, adds_made, adds_visited}
+use Rattle.fast_check_transform_imports.specs.skeleton.KeptComments.{without_all_leading}
+use Rattle.fast_check_transform_imports.specs.skeleton.ModuleFacts.{ModuleFacts}
+use Rattle.fast_check_transform_imports.specs.skeleton.Visible.{is_ambient_class, class_in, class_decl_seen}
 
 module _ (facts : ModuleFacts) (decl : Tree) where
   abbrev class_if : Bool → Seen

@@ -1,28 +1,28 @@
 -- What is answered to default exports, case by case.
 use Rattle.std.specs.Prelude.{◌≡◌, Bool, true, false, Option, Some, None, option_map, List, [], ◌∷◌, ◌++◌, refl, if◌then◌else◌}
 use Rattle.std.proofs.Common.{ap, ◌∙◌, sym, subst}
-use Rattle.fast_check_syntax.specs.declared.kind.Kind.TheVariants.{ClassExpr, FnExpr, ExportDefaultDecl}
-use Rattle.fast_check_syntax.specs.declared.source.SourceRange.{SourceRange}
-use Rattle.fast_check_syntax.specs.declared.tree.Tree as tree
-use Rattle.fast_check_syntax.specs.declared.tree.Tree.{Tree, Absent}
-use Rattle.fast_check_syntax.specs.Shape.{node}
-use Rattle.fast_check_expression_forms.specs.Expressions.{ClassExpr-ident, ClassExpr-class, FnExpr-ident, FnExpr-function, fn_expr}
-use Rattle.fast_check_program_forms.specs.ModuleDecls.{ExportDefaultExpr-span, ExportDefaultExpr-expr, export_default_expr}
-use Rattle.fast_check_program_forms.specs.ModuleDecls.{ExportDefaultDecl-span, ExportDefaultDecl-decl, export_default_decl}
-use Rattle.fast_check_signatures.specs.declared.fault.Fault.{Fault}
-use Rattle.fast_check_signatures.specs.declared.fault.FaultKind.TheVariants.{UnsupportedDefaultExportExpr}
-use Rattle.fast_check_signatures.specs.declared.function_kind.FunctionKind.TheVariants.{DeclarationLike}
-use Rattle.fast_check_signatures.specs.Answers.{Adds, fault_at, faultless, answer_to, answer_of}
-use Rattle.fast_check_signatures.specs.Classes.{plain_class_seen}
-use Rattle.fast_check_signatures.specs.Expressions.{expr_seen}
-use Rattle.fast_check_signatures.specs.Functions.{function_seen, implementation_seen}
-use Rattle.fast_check_signatures.specs.Seen.{Seen, written, round, seens}
-use Rattle.fast_check_signatures.proofs.Adding.{adds_nothing, adds_same, adds_made, adds_demanded, adds_missing, adds_visited}
-use Rattle.fast_check_transform_imports.specs.module_facts.skeleton.declared.rules.DefaultRule.{DefaultRule}
-use Rattle.fast_check_transform_imports.specs.module_facts.skeleton.declared.rules.DefaultRule.TheVariants.{Value, Class, Function, Interface}
-use Rattle.fast_check_transform_imports.specs.module_facts.skeleton.Defaults.{default_value_seen, default_class_seen, default_place}
-use Rattle.fast_check_transform_imports.specs.module_facts.skeleton.Defaults.{default_signature, default_function_seen, default_seen}
-use Rattle.fast_check_transform_imports.specs.module_facts.skeleton.ModuleFacts.{ModuleFacts}
+use Rattle.fast_check_tree_syntax.specs.declared.kind.Kind.TheVariants.{ClassExpr, FnExpr, ExportDefaultDecl}
+use Rattle.fast_check_tree_syntax.specs.declared.source.SourceRange.{SourceRange}
+use Rattle.fast_check_tree_syntax.specs.declared.tree.Tree as tree
+use Rattle.fast_check_tree_syntax.specs.declared.tree.Tree.{Tree, Absent}
+use Rattle.fast_check_tree_syntax.specs.Shape.{node}
+use Rattle.fast_check_tree_forms_expressions.specs.Expressions.{ClassExpr-ident, ClassExpr-class, FnExpr-ident, FnExpr-function, fn_expr}
+use Rattle.fast_check_tree_forms_programs.specs.ModuleDecls.{ExportDefaultExpr-span, ExportDefaultExpr-expr, export_default_expr}
+use Rattle.fast_check_tree_forms_programs.specs.ModuleDecls.{ExportDefaultDecl-span, ExportDefaultDecl-decl, export_default_decl}
+use Rattle.fast_check_meaning_signatures.specs.declared.fault.Fault.{Fault}
+use Rattle.fast_check_meaning_signatures.specs.declared.fault.FaultKind.TheVariants.{UnsupportedDefaultExportExpr}
+use Rattle.fast_check_meaning_signatures.specs.declared.function_kind.FunctionKind.TheVariants.{DeclarationLike}
+use Rattle.fast_check_meaning_signatures.specs.Answers.{Adds, fault_at, faultless, answer_to, answer_of}
+use Rattle.fast_check_meaning_signatures.specs.Classes.{plain_class_seen}
+use Rattle.fast_check_meaning_signatures.specs.Expressions.{expr_seen}
+use Rattle.fast_check_meaning_signatures.specs.Functions.{function_seen, implementation_seen}
+use Rattle.fast_check_meaning_signatures.specs.Seen.{Seen, written, round, seens}
+use Rattle.fast_check_meaning_signatures.proofs.Adding.{adds_nothing, adds_same, adds_made, adds_demanded, adds_missing, adds_visited}
+use Rattle.fast_check_transform_imports.specs.skeleton.declared.rules.DefaultRule.{DefaultRule}
+use Rattle.fast_check_transform_imports.specs.skeleton.declared.rules.DefaultRule.TheVariants.{Value, Class, Function, Interface}
+use Rattle.fast_check_transform_imports.specs.skeleton.Defaults.{default_value_seen, default_class_seen, default_place}
+use Rattle.fast_check_transform_imports.specs.skeleton.Defaults.{default_signature, default_function_seen, default_seen}
+use Rattle.fast_check_transform_imports.specs.skeleton.ModuleFacts.{ModuleFacts}
 use Rattle.fast_check_transform_statements.specs.transform_declarations.ClassAnswers.{default_value_answer, default_class_answer}
 use Rattle.fast_check_transform_statements.specs.transform_declarations.ClassAnswers.{default_function_answer, is_public_default, exported_default, default_decl_seen}
 use Rattle.fast_check_transform_statements.specs.transform_declarations.ClassAnswers.{default_decl_answer, default_answer}

@@ -1,18 +1,18 @@
 -- Inner: no contract of a public call cites what stands here.
 -- The answers to what is seen of classes and of default exports.
 use Rattle.std.specs.Prelude.{Bool, Option, List, [], ◌∷◌}
-use Rattle.fast_check_syntax.specs.declared.kind.Kind.TheVariants.{ExportDefaultDecl}
-use Rattle.fast_check_syntax.specs.declared.source.SourceRange.{SourceRange}
-use Rattle.fast_check_syntax.specs.declared.tree.Tree.{Tree}
-use Rattle.fast_check_program_forms.specs.ModuleDecls.{ExportDefaultDecl-span, ExportDefaultDecl-decl}
-use Rattle.fast_check_signatures.specs.Seen.{Seen, written, range, round, seens}
-use Rattle.fast_check_signatures.specs.Answers.{Answer, answer_to, answer_of}
-use Rattle.fast_check_transform_imports.specs.module_facts.skeleton.declared.rules.DefaultRule.{DefaultRule}
-use Rattle.fast_check_transform_imports.specs.module_facts.skeleton.declared.rules.DefaultRule.TheVariants as defaults
-use Rattle.fast_check_transform_imports.specs.module_facts.skeleton.Defaults.{is_public_value, default_value_seen, default_class_seen}
-use Rattle.fast_check_transform_imports.specs.module_facts.skeleton.Defaults.{default_function_seen, default_seen}
-use Rattle.fast_check_transform_imports.specs.module_facts.skeleton.ModuleFacts.{ModuleFacts}
-use Rattle.fast_check_transform_imports.specs.module_facts.skeleton.Visible.{public_class}
+use Rattle.fast_check_tree_syntax.specs.declared.kind.Kind.TheVariants.{ExportDefaultDecl}
+use Rattle.fast_check_tree_syntax.specs.declared.source.SourceRange.{SourceRange}
+use Rattle.fast_check_tree_syntax.specs.declared.tree.Tree.{Tree}
+use Rattle.fast_check_tree_forms_programs.specs.ModuleDecls.{ExportDefaultDecl-span, ExportDefaultDecl-decl}
+use Rattle.fast_check_meaning_signatures.specs.Seen.{Seen, written, range, round, seens}
+use Rattle.fast_check_meaning_signatures.specs.Answers.{Answer, answer_to, answer_of}
+use Rattle.fast_check_transform_imports.specs.skeleton.declared.rules.DefaultRule.{DefaultRule}
+use Rattle.fast_check_transform_imports.specs.skeleton.declared.rules.DefaultRule.TheVariants as defaults
+use Rattle.fast_check_transform_imports.specs.skeleton.Defaults.{is_public_value, default_value_seen, default_class_seen}
+use Rattle.fast_check_transform_imports.specs.skeleton.Defaults.{default_function_seen, default_seen}
+use Rattle.fast_check_transform_imports.specs.skeleton.ModuleFacts.{ModuleFacts}
+use Rattle.fast_check_transform_imports.specs.skeleton.Visible.{public_class}
 
 -- to a class, which is public by `place`
 unfoldable pub public_class_answer : ModuleFacts → SourceRange → Tree → Answer (List Tree)

@@ -1,30 +1,28 @@
 //! Classes that are declared, and the comments before their members that go.
 ghost use Rattle.std.specs.Prelude.{◌≡◌, IfOk};
-ghost use Rattle.fast_check_syntax.specs.Part.{seen};
-ghost use Rattle.fast_check_syntax.specs.Shape.{parts};
-ghost use Rattle.fast_check_signatures.specs.Answers.{Adds};
-ghost use Rattle.fast_check_transform_imports.specs.module_facts.skeleton.KeptComments.{starts_of_removed, starts_in_decl, starts_in_default, starts_inside};
-ghost use Rattle.fast_check_transform_imports.specs.module_facts.skeleton.KeptComments.{without_all_leading};
-ghost use Rattle.fast_check_transform_imports.specs.module_facts.skeleton.Rules.{item_rule};
-ghost use Rattle.fast_check_transform_imports.specs.module_facts.skeleton.Visible.{is_ambient_class};
+ghost use Rattle.fast_check_tree_syntax.specs.Part.{seen};
+ghost use Rattle.fast_check_tree_syntax.specs.Shape.{parts};
+ghost use Rattle.fast_check_meaning_signatures.specs.Answers.{Adds};
+ghost use Rattle.fast_check_transform_imports.specs.skeleton.KeptComments.{starts_of_removed, starts_in_decl, starts_in_default, starts_inside};
+ghost use Rattle.fast_check_transform_imports.specs.skeleton.KeptComments.{without_all_leading};
+ghost use Rattle.fast_check_transform_imports.specs.skeleton.Rules.{item_rule};
+ghost use Rattle.fast_check_transform_imports.specs.skeleton.Visible.{is_ambient_class};
 ghost use Rattle.fast_check_transform_imports.specs.module_facts.ModuleFacts.{facts_of};
 ghost use Rattle.fast_check_transform_imports.specs.module_facts.Kept.{as_list};
 ghost use Rattle.fast_check_transform_statements.specs.transform_declarations.ClassAnswers.{public_class_answer};
 
-use fast_check_class_forms::Class;
-use fast_check_comments::CommentsMut;
-use fast_check_expression_forms::{AssignExpr, ClassExpr};
-use fast_check_program_forms::{ExportDecl, ExportDefaultDecl};
-use fast_check_signatures::Fault;
-use fast_check_statement_forms::{ClassDecl, ExprStmt};
-use fast_check_swc_helpers::ranges::range_of_node;
-use fast_check_syntax::{Part, SourceRange, Tree};
+use fast_check_meaning_signatures::Fault;
 use fast_check_transform_classes::class_nodes::Earlier;
 use fast_check_transform_classes::{ambient_class, transform_class};
-use fast_check_transform_imports::module_facts::ModuleFacts;
-use fast_check_transform_imports::module_facts::skeleton::{
-    DeclRule, DefaultRule, ItemRule, item_rule,
-};
+use fast_check_transform_imports::ModuleFacts;
+use fast_check_transform_imports::skeleton::{DeclRule, DefaultRule, ItemRule, item_rule};
+use fast_check_tree_comments::CommentsMut;
+use fast_check_tree_forms_classes::Class;
+use fast_check_tree_forms_expressions::{AssignExpr, ClassExpr};
+use fast_check_tree_forms_programs::{ExportDecl, ExportDefaultDecl};
+use fast_check_tree_forms_statements::{ClassDecl, ExprStmt};
+use fast_check_tree_helpers::ranges::range_of_node;
+use fast_check_tree_syntax::{Part, SourceRange, Tree};
 use std::alloc::{AllocError, Global};
 
 /// Whether a class is ambient.

@@ -1,25 +1,25 @@
 //! Default exports: of a class, a function, an interface or a value.
 ghost use Rattle.std.specs.Prelude.{◌≡◌, IfOk, Some};
-ghost use Rattle.fast_check_syntax.specs.Part.{seen};
-ghost use Rattle.fast_check_signatures.specs.Answers.{Adds};
-ghost use Rattle.fast_check_transform_imports.specs.module_facts.skeleton.Defaults.{default_place, is_public_value};
+ghost use Rattle.fast_check_tree_syntax.specs.Part.{seen};
+ghost use Rattle.fast_check_meaning_signatures.specs.Answers.{Adds};
+ghost use Rattle.fast_check_transform_imports.specs.skeleton.Defaults.{default_place, is_public_value};
 ghost use Rattle.fast_check_transform_imports.specs.module_facts.ModuleFacts.{facts_of};
 ghost use Rattle.fast_check_transform_imports.specs.module_facts.Kept.{as_list};
 ghost use Rattle.fast_check_transform_statements.specs.transform_declarations.ClassAnswers.{is_public_default, default_value_answer, default_class_answer};
 ghost use Rattle.fast_check_transform_statements.specs.transform_declarations.ClassAnswers.{default_function_answer, default_decl_answer, default_answer};
 
-use fast_check_class_forms::Function;
-use fast_check_expression_forms::{ClassExpr, FnExpr};
-use fast_check_program_forms::{ExportDefaultDecl, ExportDefaultExpr, Ident};
-use fast_check_signatures::{Fault, FaultKind, FunctionKind};
-use fast_check_swc_helpers::ranges::range_of_node;
-use fast_check_syntax::{Part, SourceRange, Tree};
-use fast_check_transform_classes::transform_class;
-use fast_check_transform_classes::values::{
+use fast_check_meaning_signatures::{Fault, FaultKind, FunctionKind};
+use fast_check_transform_classes::expressions::{
     transform_expr, transform_fn, transform_implementation,
 };
-use fast_check_transform_imports::module_facts::ModuleFacts;
-use fast_check_transform_imports::module_facts::skeleton::DefaultRule;
+use fast_check_transform_classes::transform_class;
+use fast_check_transform_imports::ModuleFacts;
+use fast_check_transform_imports::skeleton::DefaultRule;
+use fast_check_tree_forms_classes::Function;
+use fast_check_tree_forms_expressions::{ClassExpr, FnExpr};
+use fast_check_tree_forms_programs::{ExportDefaultDecl, ExportDefaultExpr, Ident};
+use fast_check_tree_helpers::ranges::range_of_node;
+use fast_check_tree_syntax::{Part, SourceRange, Tree};
 use std::alloc::{AllocError, Global};
 
 /// Whether the default export of an expression is public: by its own range, or by that of the expression.

@@ -4,32 +4,29 @@
 /** @typedef {'program' | 'own' | 'refused'} Source */
 /** @typedef {{ label?: string, message?: string }} Told what the range is to a reader, and the message with what stands for the names in it */
 
-const REFERENCE = 'this is the reference';
 /** @type {Record<string, Told>} */
-const PROGRAM = {
+const PROGRAM = { // written by forms/write.py from forms/diagnostics.txt
+  'not-found-reference': { label: 'this is the reference', message: "could not resolve '{name}' referenced from '{referrer}'" },
   'missing-explicit-type': { label: 'this symbol is missing an explicit type' },
   'missing-explicit-return-type': { label: 'this function is missing an explicit return type' },
-  'not-found-reference': { label: REFERENCE, message: "could not resolve '{name}' referenced from '{referrer}'" },
   'unsupported-ambient-module': {},
-  'unsupported-complex-reference': { label: REFERENCE, message: "the reference '{name}' from '{referrer}' was too complex" },
+  'unsupported-complex-reference': { label: 'this is the reference', message: "the reference '{name}' from '{referrer}' was too complex" },
   'unsupported-default-export-expr': {},
   'unsupported-destructuring': {},
-  'unsupported-expando-property': {},
+  'unsupported-expando-property': { message: "expando property referencing '{reference_name}' conflicts with '{object_name}.{reference_name}'" },
   'unsupported-global-module': {},
-  'unsupported-javascript-entrypoint': {},
-  'unsupported-nested-javascript': {},
-  'unsupported-private-member-reference': {
-    label: REFERENCE, message: 'public API member ({referrer}) is referencing or transitively referencing a class private member ({name})',
-  },
   'unsupported-require': {},
+  'unsupported-private-member-reference': { label: 'this is the reference', message: 'public API member ({referrer}) is referencing or transitively referencing a class private member ({name})' },
   'unsupported-super-class-expr': { label: 'this is the superclass expression' },
   'unsupported-ts-export-assignment': {},
   'unsupported-ts-namespace-export': {},
   'unsupported-using': {},
+  'unsupported-nested-javascript': {},
+  'unsupported-javascript-entrypoint': {},
   'export-not-found': {},
 };
 /** What the program says of a function without return type: the hint at what may be written, and of an asynchronous one that answers nothing the line that says more. */
-const RETURNS = {
+const RETURNS = { // written by forms/write.py from forms/diagnostics.txt
   anything: 'add an explicit return type to the function',
   nothing: "add an explicit return type of 'void' or 'never' to the function",
   promise: "add an explicit return type of 'Promise<void>' or 'Promise<never>' to the function",

@@ -60,7 +60,7 @@ describe('explain', () => {
 });
 
 describe('the table of codes', () => {
-  const read = (/** @type {string} */ file) => fs.readFileSync(path.resolve(__dirname, '../../../../crates/fast_check_diagnostics/src', file), 'utf8');
+  const read = (/** @type {string} */ file) => fs.readFileSync(path.resolve(__dirname, '../../../../crates/fast_check_tables_diagnostics/src', file), 'utf8');
 
   it('has the texts of the program', () => {
     const texts = read('diagnostics/texts.rt');

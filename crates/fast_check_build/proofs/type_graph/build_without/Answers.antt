@@ -1,5 +1,5 @@
 use Rattle.std.proofs.Common.{map}
-use Rattle.fast_check_packages.specs.Package.{nv_of}
+use Rattle.fast_check_tables_packages.specs.Package.{nv_of}
 use Rattle.fast_check_build.specs.Found.{known_of}
 use Rattle.fast_check_build.proofs.Built.{all_owned}
 use Rattle.fast_check_build.proofs.type_graph.build_without.Goals as goal

@@ -1,12 +1,12 @@
 //! The forms, made.
 
 use crate::forms::fields::{part, span, text};
-use fast_check_class_forms::{ClassProp, Function};
-use fast_check_expression_forms::{PatExpr, RestPat, TplElement};
-use fast_check_program_forms::{Ident, ImportDecl, Null, Regex};
-use fast_check_statement_forms::{FnDecl, VarDecl};
-use fast_check_syntax::{Kind, SyntaxContext, Tree};
-use fast_check_type_forms::TsKeywordType;
+use fast_check_tree_forms_classes::{ClassProp, Function};
+use fast_check_tree_forms_expressions::{PatExpr, RestPat, TplElement};
+use fast_check_tree_forms_programs::{Ident, ImportDecl, Null, Regex};
+use fast_check_tree_forms_statements::{FnDecl, VarDecl};
+use fast_check_tree_forms_types::TsKeywordType;
+use fast_check_tree_syntax::{Kind, SyntaxContext, Tree};
 use std::alloc::{AllocError, Global};
 
 /// The node of a form of these by its kind, and else nothing.

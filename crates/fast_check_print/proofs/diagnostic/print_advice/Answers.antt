@@ -1,5 +1,5 @@
 use Rattle.std.proofs.Common.{OnOk, subst}
-use Rattle.fast_check_diagnostics.specs.Diagnostic.{view_of}
+use Rattle.fast_check_tables_diagnostics.specs.Diagnostic.{view_of}
 use Rattle.fast_check_print.specs.Writing.{Adds}
 use Rattle.fast_check_print.proofs.Adding.{adds-last, adds-token_ok}
 use Rattle.fast_check_print.proofs.DiagnosticViews.{diagnosed_advice-is}

@@ -2,7 +2,7 @@ use Rattle.std.proofs.Common.{OnOk, map, codes, ap, ◌∙◌, subst}
 use Rattle.serde_json.specs.Data.{string, array}
 use Rattle.serde_json.specs.View.{items_of}
 use Rattle.url.specs.Parts.{serialize}
-use Rattle.fast_check_diagnostics.specs.Diagnostic.{range_of, specifier_of, view_of}
+use Rattle.fast_check_tables_diagnostics.specs.Diagnostic.{range_of, specifier_of, view_of}
 use Rattle.fast_check_print.specs.Writing.{WritesData}
 use Rattle.fast_check_print.proofs.Adding.{adds-token, adds-last, adds-token_ok}
 use Rattle.fast_check_print.specs.Diagnostics.{diagnostic_data, named, text_or_null, level_text}

@@ -1,6 +1,6 @@
 use Rattle.std.proofs.Common.{◌∙◌, Some, option_map, sym, ap}
 use Rattle.serde_json.specs.Find.{as_str}
-use Rattle.fast_check_syntax.specs.Shape.{none_range}
+use Rattle.fast_check_tree_syntax.specs.Shape.{none_range}
 use Rattle.fast_check_read.specs.Comments.{comment_kind_of}
 use Rattle.fast_check_read.specs.Pieces.{range_of_data}
 use Rattle.fast_check_read.proofs.Each.{answers_none, answers_out, some_of_ok, none_of_err, then_none, then_some, found}

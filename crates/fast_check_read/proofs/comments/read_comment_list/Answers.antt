@@ -1,7 +1,7 @@
 use Rattle.std.proofs.Common.{◌∙◌, List, Option, Some, ap, sym, refl}
 use Rattle.serde_json.specs.View.{view, items_view}
 use Rattle.serde_json.specs.declared.value.Value.{Value}
-use Rattle.fast_check_comments.specs.declared.comment.Comment.{Comment}
+use Rattle.fast_check_tree_comments.specs.declared.comment.Comment.{Comment}
 use Rattle.fast_check_read.specs.Each.{each}
 use Rattle.fast_check_read.specs.Comments.{comment_of}
 use Rattle.fast_check_read.specs.Pieces.{items_list}

@@ -1,8 +1,8 @@
 use Rattle.std.proofs.Common.{◌∙◌, List, Option, option_map, sym, ap, refl}
 use Rattle.serde_json.specs.View.{view, items_view}
 use Rattle.serde_json.specs.declared.value.Value.{Value}
-use Rattle.fast_check_syntax.specs.declared.source.SourcePos.{SourcePos}
-use Rattle.fast_check_comments.specs.declared.comment.Comment.{Comment}
+use Rattle.fast_check_tree_syntax.specs.declared.source.SourcePos.{SourcePos}
+use Rattle.fast_check_tree_comments.specs.declared.comment.Comment.{Comment}
 use Rattle.fast_check_read.specs.Each.{each}
 use Rattle.fast_check_read.specs.Comments.{entry_of, laid}
 use Rattle.fast_check_read.specs.Pieces.{items_list}

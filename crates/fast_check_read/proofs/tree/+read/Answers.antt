@@ -3,8 +3,8 @@ use Rattle.std.proofs.Common.{ℕ, List, [], ◌∷◌, Bor, String, Global, Opt
 use Rattle.std.proofs.Common.{map, refl}
 use Rattle.serde_json.specs.View.{view, items_view, members_view}
 use Rattle.serde_json.specs.declared.value.Value.{Value}
-use Rattle.fast_check_syntax.specs.Shape.{list, node}
-use Rattle.fast_check_syntax.specs.declared.tree.Tree.{Tree, Flag, Context, Text, Range, Word}
+use Rattle.fast_check_tree_syntax.specs.Shape.{list, node}
+use Rattle.fast_check_tree_syntax.specs.declared.tree.Tree.{Tree, Flag, Context, Text, Range, Word}
 use Rattle.fast_check_read.specs.schema.Rows.{VariantRow, field_row}
 use Rattle.fast_check_read.specs.declared.schema.form.Count.{Count}
 use Rattle.fast_check_read.specs.declared.schema.form.Form.{Form}

@@ -1,4 +1,4 @@
-use Rattle.fast_check_syntax.specs.Part.{seen}
+use Rattle.fast_check_tree_syntax.specs.Part.{seen}
 use Rattle.fast_check_source_comments.proofs.Lower.{item_lower}
 use Rattle.fast_check_source_comments.proofs.leaves.+leaves.Goals as goal
 

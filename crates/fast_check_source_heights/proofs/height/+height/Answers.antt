@@ -1,5 +1,5 @@
 use Rattle.std.proofs.Common.{◌≤◌, refl, sym, rules}
-use Rattle.fast_check_syntax.specs.Height.{height}
+use Rattle.fast_check_tree_syntax.specs.Height.{height}
 use Rattle.fast_check_source_heights.proofs.Heights.{more_height}
 use Rattle.fast_check_source_heights.proofs.height.+height.Goals as goal
 

@@ -1,5 +1,5 @@
 use Rattle.std.proofs.Common.{◌≤◌, ◌+◌, ◌*◌, map, take}
-use Rattle.fast_check_syntax.specs.Height.{height, highest}
+use Rattle.fast_check_tree_syntax.specs.Height.{height, highest}
 use Rattle.fast_check_source_heights.proofs.height.+height.Given as goal
 
 abbrev pub decreases-is_at_most : goal.decreases-is_at_most

@@ -1,5 +1,5 @@
 use Rattle.std.proofs.Common.{◌≡◌, ◌+◌, ◌*◌, max, map, drop}
-use Rattle.fast_check_syntax.specs.Height.{height, highest}
+use Rattle.fast_check_tree_syntax.specs.Height.{height, highest}
 use Rattle.fast_check_source_ranges.specs.Ranges.{end_of}
 use Rattle.fast_check_source_ranges.proofs.ends.+ends.Given as goal
 

@@ -1,6 +1,6 @@
 use Rattle.std.proofs.Common.{◌≡◌, ◌+◌, ◌*◌, map, drop, take, true}
 use Rattle.std.specs.List.{list_all}
-use Rattle.fast_check_syntax.specs.Height.{height, highest}
+use Rattle.fast_check_tree_syntax.specs.Height.{height, highest}
 use Rattle.fast_check_source_ranges.specs.Ranges.{is_nested, follow}
 use Rattle.fast_check_source_ranges.proofs.nested.+nested.Given as goal
 

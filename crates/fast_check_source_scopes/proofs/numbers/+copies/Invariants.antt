@@ -1,5 +1,5 @@
 use Rattle.std.proofs.Common.{◌+◌, ◌*◌, map}
-use Rattle.fast_check_syntax.specs.Height.{height, highest}
+use Rattle.fast_check_tree_syntax.specs.Height.{height, highest}
 use Rattle.fast_check_source_scopes.proofs.numbers.+copies.Given as goal
 
 abbrev pub decreases-with_numbers : goal.decreases-with_numbers

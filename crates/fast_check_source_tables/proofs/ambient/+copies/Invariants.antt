@@ -1,5 +1,5 @@
 use Rattle.std.proofs.Common.{◌+◌, ◌*◌, map}
-use Rattle.fast_check_syntax.specs.Height.{height, highest}
+use Rattle.fast_check_tree_syntax.specs.Height.{height, highest}
 use Rattle.fast_check_source_tables.proofs.ambient.+copies.Given as goal
 
 abbrev pub decreases-with_words : goal.decreases-with_words

@@ -1,6 +1,6 @@
 use Rattle.std.proofs.Common.{rules, ap, ◌∙◌, sym, not}
-use Rattle.fast_check_syntax.specs.Part.{seen}
-use Rattle.fast_check_signatures.specs.Members.{is_private_computed}
+use Rattle.fast_check_tree_syntax.specs.Part.{seen}
+use Rattle.fast_check_meaning_signatures.specs.Members.{is_private_computed}
 use Rattle.fast_check_transform_classes.proofs.MembersKept.{one_stays, one_goes, all_filtered}
 use Rattle.fast_check_transform_classes.proofs.classes.ambient_members.Goals as goal
 

@@ -1,13 +1,13 @@
 use Rattle.std.proofs.Common.{ap, ◌∙◌, sym, refl}
-use Rattle.fast_check_transform_expressions.specs.bindings.Bindings.{bindings_of}
-use Rattle.fast_check_syntax.specs.Part.{seen}
-use Rattle.fast_check_modules.specs.diagnostics.PublicRanges.{is_implementation}
-use Rattle.fast_check_syntax.specs.Shape.{parts}
-use Rattle.fast_check_signatures.specs.Answers.{answer_to, answer_of, class_of}
-use Rattle.fast_check_signatures.specs.Classes.{class_head, superclass_seen, members_seen}
-use Rattle.fast_check_signatures.proofs.Adding.{adds_same, adds_joined, adds_settled, some_of}
+use Rattle.fast_check_transform_expressions.specs.nodes.Bindings.{bindings_of}
+use Rattle.fast_check_tree_syntax.specs.Part.{seen}
+use Rattle.fast_check_tables_modules.specs.diagnostics.PublicRanges.{is_implementation}
+use Rattle.fast_check_tree_syntax.specs.Shape.{parts}
+use Rattle.fast_check_meaning_signatures.specs.Answers.{answer_to, answer_of, class_of}
+use Rattle.fast_check_meaning_signatures.specs.Classes.{class_head, superclass_seen, members_seen}
+use Rattle.fast_check_meaning_signatures.proofs.Adding.{adds_same, adds_joined, adds_settled, some_of}
 use Rattle.std.proofs.Common.{Some}
-use Rattle.fast_check_syntax.specs.declared.tree.Tree.{Tree}
+use Rattle.fast_check_tree_syntax.specs.declared.tree.Tree.{Tree}
 use Rattle.fast_check_transform_classes.proofs.classes.transform_class.Goals as goal
 
 pub returns : goal.returns

@@ -1,10 +1,10 @@
 use Rattle.std.proofs.Common.{ap, ◌∙◌, sym, map}
-use Rattle.fast_check_transform_expressions.specs.bindings.Bindings.{bindings_of}
-use Rattle.fast_check_syntax.specs.Part.{seen}
-use Rattle.fast_check_syntax.specs.Shape.{parts, list}
-use Rattle.fast_check_modules.specs.diagnostics.PublicRanges.{is_implementation}
-use Rattle.fast_check_signatures.specs.Classes.{plain_param}
-use Rattle.fast_check_signatures.specs.Members.{is_private}
+use Rattle.fast_check_transform_expressions.specs.nodes.Bindings.{bindings_of}
+use Rattle.fast_check_tree_syntax.specs.Part.{seen}
+use Rattle.fast_check_tree_syntax.specs.Shape.{parts, list}
+use Rattle.fast_check_tables_modules.specs.diagnostics.PublicRanges.{is_implementation}
+use Rattle.fast_check_meaning_signatures.specs.Classes.{plain_param}
+use Rattle.fast_check_meaning_signatures.specs.Members.{is_private}
 use Rattle.fast_check_transform_classes.proofs.Constructed.{private_params, implementation_params, own_params}
 use Rattle.fast_check_transform_classes.proofs.constructors.constructor_params.Goals as goal
 

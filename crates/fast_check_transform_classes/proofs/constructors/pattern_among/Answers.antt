@@ -1,6 +1,6 @@
 use Rattle.std.proofs.Common.{rules, ap, ◌∙◌, sym, refl}
-use Rattle.fast_check_syntax.specs.Part.{seen}
-use Rattle.fast_check_swc_helpers.specs.ranges.Ranges.{range_of_node}
+use Rattle.fast_check_tree_syntax.specs.Part.{seen}
+use Rattle.fast_check_tree_helpers.specs.ranges.Ranges.{range_of_node}
 use Rattle.fast_check_transform_classes.proofs.Constructed.{pattern_here, pattern_later, no_pattern}
 use Rattle.fast_check_transform_classes.proofs.constructors.pattern_among.Goals as goal
 

@@ -1,11 +1,11 @@
 use Rattle.std.proofs.Common.{ap, ◌∙◌, sym, refl}
-use Rattle.fast_check_transform_expressions.specs.bindings.Bindings.{bindings_of}
-use Rattle.fast_check_syntax.specs.Part.{seen}
-use Rattle.fast_check_syntax.specs.Shape.{parts}
-use Rattle.fast_check_modules.specs.diagnostics.PublicRanges.{is_implementation}
+use Rattle.fast_check_transform_expressions.specs.nodes.Bindings.{bindings_of}
+use Rattle.fast_check_tree_syntax.specs.Part.{seen}
+use Rattle.fast_check_tree_syntax.specs.Shape.{parts}
+use Rattle.fast_check_tables_modules.specs.diagnostics.PublicRanges.{is_implementation}
 use Rattle.fast_check_transform_classes.proofs.Constructed.{constructor_faulty, constructor_stays}
 use Rattle.fast_check_transform_classes.proofs.Nothing.{none_of}
-use Rattle.fast_check_signatures.proofs.Adding.{some_of}
+use Rattle.fast_check_meaning_signatures.proofs.Adding.{some_of}
 use Rattle.fast_check_transform_classes.proofs.constructors.transform_constructor.Goals as goal
 
 pub returns-in-Some : goal.returns-in-Some

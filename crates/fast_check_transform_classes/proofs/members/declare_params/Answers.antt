@@ -1,6 +1,6 @@
 use Rattle.std.proofs.Common.{rules, ◌∙◌, sym, append-nil}
-use Rattle.fast_check_syntax.specs.Part.{seen}
-use Rattle.fast_check_signatures.specs.Classes.{is_param_property, param_property}
+use Rattle.fast_check_tree_syntax.specs.Part.{seen}
+use Rattle.fast_check_meaning_signatures.specs.Classes.{is_param_property, param_property}
 use Rattle.fast_check_transform_classes.proofs.MembersKept.{taken_more, passed_more, taken_all}
 use Rattle.fast_check_transform_classes.proofs.members.declare_params.Goals as goal
 

@@ -1,8 +1,8 @@
 use Rattle.std.proofs.Common.{ap, ◌∙◌, sym, append-nil, ◌++◌, List, map}
 use Rattle.std.specs.Prelude.{flat_map}
-use Rattle.fast_check_syntax.specs.Part.{seen}
-use Rattle.fast_check_syntax.specs.declared.tree.Tree.{Tree}
-use Rattle.fast_check_signatures.specs.Classes.{declared_by_params}
+use Rattle.fast_check_tree_syntax.specs.Part.{seen}
+use Rattle.fast_check_tree_syntax.specs.declared.tree.Tree.{Tree}
+use Rattle.fast_check_meaning_signatures.specs.Classes.{declared_by_params}
 use Rattle.fast_check_transform_classes.proofs.MembersKept.{declared_more, declared_all}
 use Rattle.fast_check_transform_classes.proofs.members.made_members.Goals as goal
 

@@ -1,7 +1,7 @@
 use Rattle.std.proofs.Common.{◌≡◌, ◌++◌, take, map}
 use Rattle.std.specs.Prelude.{flat_map}
-use Rattle.fast_check_syntax.specs.Part.{seen}
-use Rattle.fast_check_signatures.specs.Classes.{declared_by_params}
+use Rattle.fast_check_tree_syntax.specs.Part.{seen}
+use Rattle.fast_check_meaning_signatures.specs.Classes.{declared_by_params}
 use Rattle.fast_check_transform_classes.proofs.members.made_members.Given as goal
 
 abbrev pub invariant-loop-member : goal.invariant-loop-member

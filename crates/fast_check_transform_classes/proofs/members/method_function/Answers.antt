@@ -1,10 +1,10 @@
 use Rattle.std.proofs.Common.{ap, ◌∙◌, sym}
 use Rattle.std.proofs.lemmas.Result.{IfOk-weaker}
-use Rattle.fast_check_transform_expressions.specs.bindings.Bindings.{bindings_of}
-use Rattle.fast_check_syntax.specs.Part.{seen}
-use Rattle.fast_check_swc_helpers.specs.ranges.Ranges.{range_of_node}
-use Rattle.fast_check_modules.specs.diagnostics.PublicRanges.{is_implementation}
-use Rattle.fast_check_signatures.specs.Classes.{method_kind}
+use Rattle.fast_check_transform_expressions.specs.nodes.Bindings.{bindings_of}
+use Rattle.fast_check_tree_syntax.specs.Part.{seen}
+use Rattle.fast_check_tree_helpers.specs.ranges.Ranges.{range_of_node}
+use Rattle.fast_check_tables_modules.specs.diagnostics.PublicRanges.{is_implementation}
+use Rattle.fast_check_meaning_signatures.specs.Classes.{method_kind}
 use Rattle.fast_check_transform_classes.proofs.MembersKept.{implementation, signature}
 use Rattle.fast_check_transform_classes.proofs.members.method_function.Goals as goal
 

@@ -1,7 +1,7 @@
 use Rattle.std.proofs.Common.{map}
-use Rattle.fast_check_transform_expressions.specs.bindings.Bindings.{bindings_of}
-use Rattle.fast_check_syntax.specs.Part.{seen}
-use Rattle.fast_check_modules.specs.diagnostics.PublicRanges.{is_implementation}
+use Rattle.fast_check_transform_expressions.specs.nodes.Bindings.{bindings_of}
+use Rattle.fast_check_tree_syntax.specs.Part.{seen}
+use Rattle.fast_check_tables_modules.specs.diagnostics.PublicRanges.{is_implementation}
 use Rattle.fast_check_transform_classes.proofs.MembersKept.{kept_start, kept_step, kept_end}
 use Rattle.fast_check_transform_classes.proofs.members.transform_kept.Goals as goal
 

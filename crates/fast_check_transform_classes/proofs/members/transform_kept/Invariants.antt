@@ -1,8 +1,8 @@
 use Rattle.std.proofs.Common.{◌++◌, drop, map}
-use Rattle.fast_check_transform_expressions.specs.bindings.Bindings.{bindings_of}
-use Rattle.fast_check_syntax.specs.Part.{seen}
-use Rattle.fast_check_modules.specs.diagnostics.PublicRanges.{is_implementation}
-use Rattle.fast_check_signatures.specs.Answers.{made}
+use Rattle.fast_check_transform_expressions.specs.nodes.Bindings.{bindings_of}
+use Rattle.fast_check_tree_syntax.specs.Part.{seen}
+use Rattle.fast_check_tables_modules.specs.diagnostics.PublicRanges.{is_implementation}
+use Rattle.fast_check_meaning_signatures.specs.Answers.{made}
 use Rattle.fast_check_transform_expressions.proofs.Behind.{Behind}
 use Rattle.fast_check_transform_classes.specs.Parts.{kept_answer}
 use Rattle.fast_check_transform_classes.proofs.members.transform_kept.Given as goal

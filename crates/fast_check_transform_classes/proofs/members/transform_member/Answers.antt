@@ -1,9 +1,9 @@
 use Rattle.std.proofs.Common.{◌∙◌, sym}
 use Rattle.std.proofs.lemmas.Result.{IfOk-weaker}
-use Rattle.fast_check_transform_expressions.specs.bindings.Bindings.{bindings_of}
-use Rattle.fast_check_syntax.specs.Part.{seen}
-use Rattle.fast_check_modules.specs.diagnostics.PublicRanges.{is_implementation}
-use Rattle.fast_check_syntax.specs.declared.kind.Kind.TheVariants as kinds
+use Rattle.fast_check_transform_expressions.specs.nodes.Bindings.{bindings_of}
+use Rattle.fast_check_tree_syntax.specs.Part.{seen}
+use Rattle.fast_check_tables_modules.specs.diagnostics.PublicRanges.{is_implementation}
+use Rattle.fast_check_tree_syntax.specs.declared.kind.Kind.TheVariants as kinds
 use Rattle.fast_check_transform_classes.proofs.MembersKept.{a_constructor, a_method, a_property, an_accessor, another}
 use Rattle.fast_check_transform_classes.proofs.members.transform_member.Goals as goal
 

@@ -1,14 +1,14 @@
 use Rattle.std.proofs.Common.{ap, ◌∙◌, sym, ◌++◌, List, map}
 use Rattle.std.specs.Prelude.{flat_map}
 use Rattle.std.proofs.lemmas.Result.{IfOk-weaker}
-use Rattle.fast_check_transform_expressions.specs.bindings.Bindings.{bindings_of}
-use Rattle.fast_check_syntax.specs.Part.{seen}
-use Rattle.fast_check_modules.specs.diagnostics.PublicRanges.{is_implementation}
-use Rattle.fast_check_syntax.specs.declared.tree.Tree.{Tree}
-use Rattle.fast_check_signatures.specs.Answers.{answer_of}
-use Rattle.fast_check_signatures.specs.Classes.{declared_by_params, members_seen}
-use Rattle.fast_check_signatures.specs.Members.{hash_mark}
-use Rattle.fast_check_signatures.proofs.Adding.{adds_same}
+use Rattle.fast_check_transform_expressions.specs.nodes.Bindings.{bindings_of}
+use Rattle.fast_check_tree_syntax.specs.Part.{seen}
+use Rattle.fast_check_tables_modules.specs.diagnostics.PublicRanges.{is_implementation}
+use Rattle.fast_check_tree_syntax.specs.declared.tree.Tree.{Tree}
+use Rattle.fast_check_meaning_signatures.specs.Answers.{answer_of}
+use Rattle.fast_check_meaning_signatures.specs.Classes.{declared_by_params, members_seen}
+use Rattle.fast_check_meaning_signatures.specs.Members.{hash_mark}
+use Rattle.fast_check_meaning_signatures.proofs.Adding.{adds_same}
 use Rattle.fast_check_transform_classes.proofs.MembersKept.{all_members}
 use Rattle.fast_check_transform_classes.proofs.members.transform_members.Goals as goal
 

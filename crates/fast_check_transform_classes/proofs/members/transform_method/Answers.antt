@@ -1,11 +1,11 @@
 use Rattle.std.proofs.Common.{ap, ◌∙◌, sym, refl}
-use Rattle.fast_check_transform_expressions.specs.bindings.Bindings.{bindings_of}
-use Rattle.fast_check_syntax.specs.Part.{seen}
-use Rattle.fast_check_modules.specs.diagnostics.PublicRanges.{is_implementation}
-use Rattle.fast_check_signatures.specs.Answers.{declared_property}
-use Rattle.fast_check_signatures.specs.Members.{is_private}
+use Rattle.fast_check_transform_expressions.specs.nodes.Bindings.{bindings_of}
+use Rattle.fast_check_tree_syntax.specs.Part.{seen}
+use Rattle.fast_check_tables_modules.specs.diagnostics.PublicRanges.{is_implementation}
+use Rattle.fast_check_meaning_signatures.specs.Answers.{declared_property}
+use Rattle.fast_check_meaning_signatures.specs.Members.{is_private}
 use Rattle.fast_check_transform_classes.proofs.MembersKept.{private_method, method_made}
-use Rattle.fast_check_signatures.proofs.Adding.{some_of}
+use Rattle.fast_check_meaning_signatures.proofs.Adding.{some_of}
 use Rattle.fast_check_transform_classes.proofs.members.transform_method.Goals as goal
 
 pub returns-then-is_private : goal.returns-then-is_private

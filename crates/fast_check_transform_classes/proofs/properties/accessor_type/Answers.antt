@@ -1,8 +1,8 @@
 use Rattle.std.proofs.Common.{ap, ◌∙◌}
 use Rattle.std.proofs.lemmas.Result.{IfOk-weaker}
-use Rattle.fast_check_swc_helpers.specs.declared.literal_type.DeclMutabilityKind.TheVariants.{Mutable}
-use Rattle.fast_check_signatures.specs.Members.{is_private}
-use Rattle.fast_check_signatures.specs.Typing.{type_of}
+use Rattle.fast_check_tree_helpers.specs.declared.literal_type.DeclMutabilityKind.TheVariants.{Mutable}
+use Rattle.fast_check_meaning_signatures.specs.Members.{is_private}
+use Rattle.fast_check_meaning_signatures.specs.Typing.{type_of}
 use Rattle.fast_check_transform_classes.proofs.properties.accessor_type.Goals as goal
 
 pub returns : goal.returns

@@ -1,11 +1,11 @@
 use Rattle.std.proofs.Common.{ap, ◌∙◌, sym, ◌++◌, ◌∷◌, []}
-use Rattle.fast_check_transform_expressions.specs.bindings.Bindings.{bindings_of}
-use Rattle.fast_check_syntax.specs.Part.{seen}
-use Rattle.fast_check_swc_helpers.specs.ranges.Ranges.{range_of_node}
-use Rattle.fast_check_signatures.specs.Answers.{fault_at, declared_property}
-use Rattle.fast_check_signatures.specs.declared.fault.FaultKind.TheVariants.{MissingExplicitType}
+use Rattle.fast_check_transform_expressions.specs.nodes.Bindings.{bindings_of}
+use Rattle.fast_check_tree_syntax.specs.Part.{seen}
+use Rattle.fast_check_tree_helpers.specs.ranges.Ranges.{range_of_node}
+use Rattle.fast_check_meaning_signatures.specs.Answers.{fault_at, declared_property}
+use Rattle.fast_check_meaning_signatures.specs.declared.fault.FaultKind.TheVariants.{MissingExplicitType}
 use Rattle.fast_check_transform_classes.proofs.PropertyCases.{typed_accessor, untyped_accessor}
-use Rattle.fast_check_signatures.proofs.Adding.{some_of}
+use Rattle.fast_check_meaning_signatures.proofs.Adding.{some_of}
 use Rattle.fast_check_transform_classes.proofs.properties.transform_accessor.Goals as goal
 
 pub returns-in_ok-accessor_head-in-Some : goal.returns-in_ok-accessor_head-in-Some

@@ -1,9 +1,9 @@
 use Rattle.std.proofs.Common.{ap, ◌∙◌, sym}
-use Rattle.fast_check_transform_expressions.specs.bindings.Bindings.{bindings_of}
-use Rattle.fast_check_syntax.specs.Part.{seen}
-use Rattle.fast_check_signatures.specs.Answers.{declared_property, valued_property}
+use Rattle.fast_check_transform_expressions.specs.nodes.Bindings.{bindings_of}
+use Rattle.fast_check_tree_syntax.specs.Part.{seen}
+use Rattle.fast_check_meaning_signatures.specs.Answers.{declared_property, valued_property}
 use Rattle.fast_check_transform_classes.proofs.PropertyCases.{typed_property_stays, valued_property_stays}
-use Rattle.fast_check_signatures.proofs.Adding.{some_of}
+use Rattle.fast_check_meaning_signatures.proofs.Adding.{some_of}
 use Rattle.fast_check_transform_classes.proofs.properties.transform_property.Goals as goal
 
 pub returns-in_ok-property_head-in-Some : goal.returns-in_ok-property_head-in-Some

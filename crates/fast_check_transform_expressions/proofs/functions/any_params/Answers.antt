@@ -1,14 +1,14 @@
 use Rattle.std.proofs.Common.{◌≡◌, ℕ, ◌+◌, ◌<◌, Some, List, [], drop, length, get_or, refl, ap, ◌∙◌, sym, add-one}
 use Rattle.std.proofs.Math.Seq.{drop-cons}
-use Rattle.fast_check_syntax.specs.declared.kind.Kind.TheVariants.{RestPat}
-use Rattle.fast_check_syntax.specs.declared.tree.Tree.{Tree}
-use Rattle.fast_check_syntax.specs.Shape.{◌is◌, kind_of}
-use Rattle.fast_check_class_forms.specs.Functions.{Param-pat}
-use Rattle.fast_check_signatures.specs.Answers.{answer_of, answer_to, faultless, joined, with_tree}
-use Rattle.fast_check_signatures.specs.Functions.{any_params_from}
-use Rattle.fast_check_signatures.specs.NewNodes.{any_param}
-use Rattle.fast_check_signatures.specs.Seen.{written}
-use Rattle.fast_check_signatures.proofs.Adding.{adds_same, adds_nothing}
+use Rattle.fast_check_tree_syntax.specs.declared.kind.Kind.TheVariants.{RestPat}
+use Rattle.fast_check_tree_syntax.specs.declared.tree.Tree.{Tree}
+use Rattle.fast_check_tree_syntax.specs.Shape.{◌is◌, kind_of}
+use Rattle.fast_check_tree_forms_classes.specs.Functions.{Param-pat}
+use Rattle.fast_check_meaning_signatures.specs.Answers.{answer_of, answer_to, faultless, joined, with_tree}
+use Rattle.fast_check_meaning_signatures.specs.Functions.{any_params_from}
+use Rattle.fast_check_meaning_signatures.specs.NewNodes.{any_param}
+use Rattle.fast_check_meaning_signatures.specs.Seen.{written}
+use Rattle.fast_check_meaning_signatures.proofs.Adding.{adds_same, adds_nothing}
 use Rattle.fast_check_transform_expressions.proofs.Behind.{behind_along, items_step, trees_are}
 use Rattle.fast_check_transform_expressions.proofs.functions.any_params.Goals as goal
 

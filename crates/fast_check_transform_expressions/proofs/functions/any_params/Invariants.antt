@@ -1,6 +1,6 @@
 use Rattle.std.proofs.Common.{◌++◌, drop, []}
-use Rattle.fast_check_signatures.specs.Answers.{answer_of}
-use Rattle.fast_check_signatures.specs.Functions.{any_params_from}
+use Rattle.fast_check_meaning_signatures.specs.Answers.{answer_of}
+use Rattle.fast_check_meaning_signatures.specs.Functions.{any_params_from}
 use Rattle.fast_check_transform_expressions.proofs.Behind.{Behind}
 use Rattle.fast_check_transform_expressions.proofs.functions.any_params.Given as goal
 

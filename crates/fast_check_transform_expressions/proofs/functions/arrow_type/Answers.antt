@@ -1,16 +1,16 @@
 use Rattle.std.proofs.Common.{ap, ◌∙◌, sym}
-use Rattle.fast_check_syntax.specs.declared.kind.Kind.TheVariants as kinds
-use Rattle.fast_check_syntax.specs.Part.{seen}
-use Rattle.fast_check_syntax.specs.Shape.{◌is◌, kind_of, is_absent}
-use Rattle.fast_check_bindings.specs.Bindings.{bindings_of}
-use Rattle.fast_check_swc_helpers.specs.declared.literal_type.DeclMutabilityKind.TheVariants.{Mutable}
-use Rattle.fast_check_swc_helpers.specs.Builders.{type_ann}
-use Rattle.fast_check_swc_helpers.specs.InferredType.{inferred_type}
-use Rattle.fast_check_signatures.specs.declared.function_kind.FunctionKind.TheVariants.{ExpressionLike}
-use Rattle.fast_check_signatures.specs.Answers.{answer_to}
-use Rattle.fast_check_signatures.specs.Functions.{body_seen}
-use Rattle.fast_check_signatures.specs.NewNodes.{promised}
-use Rattle.fast_check_signatures.proofs.Adding.{adds_same}
+use Rattle.fast_check_tree_syntax.specs.declared.kind.Kind.TheVariants as kinds
+use Rattle.fast_check_tree_syntax.specs.Part.{seen}
+use Rattle.fast_check_tree_syntax.specs.Shape.{◌is◌, kind_of, is_absent}
+use Rattle.fast_check_transform_nodes.specs.Bindings.{bindings_of}
+use Rattle.fast_check_tree_helpers.specs.declared.literal_type.DeclMutabilityKind.TheVariants.{Mutable}
+use Rattle.fast_check_tree_helpers.specs.Builders.{type_ann}
+use Rattle.fast_check_tree_helpers.specs.InferredType.{inferred_type}
+use Rattle.fast_check_meaning_signatures.specs.declared.function_kind.FunctionKind.TheVariants.{ExpressionLike}
+use Rattle.fast_check_meaning_signatures.specs.Answers.{answer_to}
+use Rattle.fast_check_meaning_signatures.specs.Functions.{body_seen}
+use Rattle.fast_check_meaning_signatures.specs.NewNodes.{promised}
+use Rattle.fast_check_meaning_signatures.proofs.Adding.{adds_same}
 use Rattle.fast_check_transform_expressions.proofs.Arrows.{type_written, type_of_block, type_shown, type_unknown}
 use Rattle.fast_check_transform_expressions.proofs.functions.arrow_type.Goals as goal
 

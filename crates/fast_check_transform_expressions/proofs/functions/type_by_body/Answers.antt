@@ -1,13 +1,13 @@
 use Rattle.std.proofs.Common.{ap, ◌∙◌, sym}
 use Rattle.std.proofs.lemmas.Result.{IfOk-weaker}
-use Rattle.fast_check_syntax.specs.Part.{seen}
-use Rattle.fast_check_bindings.specs.Bindings.{bindings_of}
-use Rattle.fast_check_swc_helpers.specs.Builders.{type_ann}
-use Rattle.fast_check_swc_helpers.specs.NamedBodies.{named_return}
-use Rattle.fast_check_signatures.specs.Answers.{answer_to}
-use Rattle.fast_check_signatures.specs.Functions.{class_seen}
-use Rattle.fast_check_signatures.specs.NewNodes.{promised}
-use Rattle.fast_check_signatures.proofs.Adding.{adds_same}
+use Rattle.fast_check_tree_syntax.specs.Part.{seen}
+use Rattle.fast_check_transform_nodes.specs.Bindings.{bindings_of}
+use Rattle.fast_check_tree_helpers.specs.Builders.{type_ann}
+use Rattle.fast_check_tree_helpers.specs.NamedBodies.{named_return}
+use Rattle.fast_check_meaning_signatures.specs.Answers.{answer_to}
+use Rattle.fast_check_meaning_signatures.specs.Functions.{class_seen}
+use Rattle.fast_check_meaning_signatures.specs.NewNodes.{promised}
+use Rattle.fast_check_meaning_signatures.proofs.Adding.{adds_same}
 use Rattle.fast_check_transform_expressions.proofs.Arrows.{body_named, body_classed}
 use Rattle.fast_check_transform_expressions.proofs.functions.type_by_body.Goals as goal
 

@@ -1,7 +1,7 @@
 use Rattle.std.proofs.Common.{rules, subst}
-use Rattle.fast_check_syntax.specs.Part.{seen}
-use Rattle.fast_check_class_forms.specs.Functions.{Param-pat}
-use Rattle.fast_check_swc_helpers.specs.OptionalParams.{IsOptionalStart}
+use Rattle.fast_check_tree_syntax.specs.Part.{seen}
+use Rattle.fast_check_tree_forms_classes.specs.Functions.{Param-pat}
+use Rattle.fast_check_tree_helpers.specs.OptionalParams.{IsOptionalStart}
 use Rattle.fast_check_transform_expressions.proofs.Chains.{mapped_slice, start_of_params}
 use Rattle.fast_check_transform_expressions.proofs.parameters.start_of_params.Goals as goal
 

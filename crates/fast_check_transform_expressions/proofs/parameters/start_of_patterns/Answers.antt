@@ -1,6 +1,6 @@
 use Rattle.std.proofs.Common.{rules, ◌∙◌, subst, map-id}
-use Rattle.fast_check_syntax.specs.Part.{seen}
-use Rattle.fast_check_swc_helpers.specs.OptionalParams.{IsOptionalStart}
+use Rattle.fast_check_tree_syntax.specs.Part.{seen}
+use Rattle.fast_check_tree_helpers.specs.OptionalParams.{IsOptionalStart}
 use Rattle.fast_check_transform_expressions.proofs.Chains.{mapped_slice}
 use Rattle.fast_check_transform_expressions.proofs.parameters.start_of_patterns.Goals as goal
 

@@ -1,8 +1,8 @@
 use Rattle.std.proofs.Common.{sym, ◌∙◌, Some, None}
 use Rattle.std.proofs.lemmas.Result.{IfOk-weaker}
-use Rattle.fast_check_syntax.specs.Part.{seen}
-use Rattle.fast_check_syntax.specs.declared.tree.Tree.{Absent}
-use Rattle.fast_check_program_forms.specs.Literals.{str}
+use Rattle.fast_check_tree_syntax.specs.Part.{seen}
+use Rattle.fast_check_tree_syntax.specs.declared.tree.Tree.{Absent}
+use Rattle.fast_check_tree_forms_programs.specs.Literals.{str}
 use Rattle.fast_check_transform_imports.specs.module_facts.ModuleFacts.{facts_of}
 use Rattle.fast_check_transform_imports.proofs.ImportExportCases.{own_source, present_source}
 use Rattle.fast_check_transform_imports.proofs.imports_exports.answered_source.Goals as goal

@@ -1,6 +1,6 @@
 use Rattle.std.proofs.Common.{rules, ap, sym, ◌∙◌, ◌++◌, ◌∷◌, []}
-use Rattle.fast_check_syntax.specs.Part.{seen}
-use Rattle.fast_check_diagnostics.specs.PublicRanges.{is_public}
+use Rattle.fast_check_tree_syntax.specs.Part.{seen}
+use Rattle.fast_check_tables_diagnostics.specs.PublicRanges.{is_public}
 use Rattle.fast_check_transform_imports.specs.module_facts.ModuleFacts.{facts_of}
 use Rattle.fast_check_transform_imports.proofs.ImportExportCases.{public_more, private_more, all_specifiers}
 use Rattle.fast_check_transform_imports.proofs.imports_exports.public_specifiers.Goals as goal

@@ -1,8 +1,8 @@
 use Rattle.std.proofs.Common.{◌∙◌, ap, sym}
-use Rattle.fast_check_syntax.specs.Part.{seen}
-use Rattle.fast_check_diagnostics.specs.PublicRanges.{is_public}
-use Rattle.fast_check_program_forms.specs.ModuleDecls.{export_all}
-use Rattle.fast_check_skeleton.specs.ImportsExports.{answered_source}
+use Rattle.fast_check_tree_syntax.specs.Part.{seen}
+use Rattle.fast_check_tables_diagnostics.specs.PublicRanges.{is_public}
+use Rattle.fast_check_tree_forms_programs.specs.ModuleDecls.{export_all}
+use Rattle.fast_check_meaning_skeleton.specs.ImportsExports.{answered_source}
 use Rattle.fast_check_transform_imports.specs.module_facts.ModuleFacts.{facts_of}
 use Rattle.fast_check_transform_imports.proofs.ImportExportCases.{no_all, made_all}
 use Rattle.fast_check_transform_imports.proofs.imports_exports.transform_export_all.Goals as goal

@@ -1,6 +1,6 @@
 use Rattle.std.proofs.Common.{rules, ap, sym, ◌∙◌, append-nil}
-use Rattle.fast_check_syntax.specs.Part.{seen}
-use Rattle.fast_check_syntax.specs.Shape.{parts}
+use Rattle.fast_check_tree_syntax.specs.Part.{seen}
+use Rattle.fast_check_tree_syntax.specs.Shape.{parts}
 use Rattle.fast_check_transform_imports.specs.StaticSources.{as_sources}
 use Rattle.fast_check_transform_imports.proofs.SourceCases.{one_more, whole}
 use Rattle.fast_check_transform_imports.proofs.sources.static_sources.Goals as goal

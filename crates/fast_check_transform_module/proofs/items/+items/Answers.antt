@@ -2,23 +2,23 @@ use lib.ListN.{get_or}
 use Rattle.std.proofs.Common.{◌≡◌, refl, arith, ap, sym, ◌∙◌, ◌++◌, ◌∷◌, [], append-nil, true≢false}
 use Rattle.std.proofs.lemmas.List.{take_all}
 use Rattle.std.proofs.lemmas.Result.{IfOk-weaker}
-use Rattle.fast_check_comments.specs.Kept.{without_leading}
-use Rattle.fast_check_program_forms.specs.ModuleDecls.{export_decl}
-use Rattle.fast_check_swc_helpers.specs.ranges.Ranges.{range_of_node}
-use Rattle.fast_check_transform_statements.specs.transform_declarations.imports_exports.module_facts.skeleton.KeptComments.{removed_from, start_look, starts_in_body, without_all_leading}
-use Rattle.fast_check_syntax.specs.Part.{seen}
-use Rattle.fast_check_syntax.specs.Shape.{parts}
-use Rattle.fast_check_syntax.specs.Height.{height, height_at_most}
-use Rattle.fast_check_transform_statements.proofs.transform_declarations.class_proofs.Nothing.{none_of}
-use Rattle.fast_check_transform_statements.specs.transform_declarations.imports_exports.module_facts.ModuleFacts.{facts_of}
-use Rattle.fast_check_transform_statements.specs.transform_declarations.imports_exports.module_facts.Kept.{as_list}
+use Rattle.fast_check_tree_comments.specs.Kept.{without_leading}
+use Rattle.fast_check_tree_forms_programs.specs.ModuleDecls.{export_decl}
+use Rattle.fast_check_tree_helpers.specs.ranges.Ranges.{range_of_node}
+use Rattle.fast_check_transform_statements.specs.skeleton.KeptComments.{removed_from, start_look, starts_in_body, without_all_leading}
+use Rattle.fast_check_tree_syntax.specs.Part.{seen}
+use Rattle.fast_check_tree_syntax.specs.Shape.{parts}
+use Rattle.fast_check_tree_syntax.specs.Height.{height, height_at_most}
+use Rattle.fast_check_transform_statements.proofs.class_proofs.Nothing.{none_of}
+use Rattle.fast_check_transform_imports.specs.module_facts.ModuleFacts.{facts_of}
+use Rattle.fast_check_transform_imports.specs.module_facts.Kept.{as_list}
 use Rattle.fast_check_transform_module.proofs.ByRule.{variables, functions, classes, standing, namespaces, using_stays, undeclared}
 use Rattle.fast_check_transform_module.proofs.ByRule.{declared, no_export, made_export, import_export, default_export, refused, silent}
 use Rattle.fast_check_transform_module.proofs.ByRule.{no_items, one_more_item, one_more_assigned, all_items, with_namespaces}
 use Rattle.fast_check_transform_module.proofs.ByRule.{assigned_is, same_properties, more_properties, all_properties}
-use Rattle.fast_check_transform_statements.specs.transform_declarations.imports_exports.module_facts.skeleton.Rules.{is_assigned, item_rule}
+use Rattle.fast_check_transform_statements.specs.skeleton.Rules.{is_assigned, item_rule}
 use Rattle.fast_check_transform_module.proofs.Namespaces.{inside_at_most, refused_module, private_namespace, public_namespace}
-use Rattle.fast_check_transform_statements.specs.transform_declarations.imports_exports.module_facts.skeleton.ModuleFacts.{ModuleFacts}
+use Rattle.fast_check_transform_statements.specs.skeleton.ModuleFacts.{ModuleFacts}
 use Rattle.fast_check_transform_module.proofs.Namespaces.{nothing_refused, nothing_private, all_inside}
 use Rattle.fast_check_transform_module.proofs.Removed.{item_lower, inside, below, below_nothing, below_declared}
 use Rattle.fast_check_transform_module.proofs.Removed.{without_append, removed_if_none, removed_if_some, removed_if_assigned, one_more}

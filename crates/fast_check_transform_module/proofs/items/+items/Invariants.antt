@@ -1,11 +1,11 @@
 use Rattle.std.proofs.Common.{◌≡◌, ◌+◌, ◌*◌, take}
-use Rattle.fast_check_syntax.specs.Part.{seen}
-use Rattle.fast_check_syntax.specs.Height.{height}
-use Rattle.fast_check_signatures.specs.Answers.{Adds}
-use Rattle.fast_check_transform_statements.specs.transform_declarations.imports_exports.module_facts.skeleton.KeptComments.{removed_from, without_all_leading}
+use Rattle.fast_check_tree_syntax.specs.Part.{seen}
+use Rattle.fast_check_tree_syntax.specs.Height.{height}
+use Rattle.fast_check_meaning_signatures.specs.Answers.{Adds}
+use Rattle.fast_check_transform_statements.specs.skeleton.KeptComments.{removed_from, without_all_leading}
 use Rattle.std.specs.List.{flat_map}
-use Rattle.fast_check_transform_statements.specs.transform_declarations.imports_exports.module_facts.skeleton.Visible.{item_properties}
-use Rattle.fast_check_transform_statements.specs.transform_declarations.imports_exports.module_facts.ModuleFacts.{facts_of}
+use Rattle.fast_check_transform_statements.specs.skeleton.Visible.{item_properties}
+use Rattle.fast_check_transform_imports.specs.module_facts.ModuleFacts.{facts_of}
 use Rattle.fast_check_transform_imports.specs.Relative.{AreRelative}
 use Rattle.fast_check_transform_module.proofs.ByRule.{each_answer}
 use Rattle.fast_check_transform_module.proofs.items.+items.Given as goal

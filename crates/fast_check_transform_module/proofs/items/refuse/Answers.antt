@@ -1,4 +1,4 @@
-use Rattle.fast_check_syntax.specs.Part.{seen}
+use Rattle.fast_check_tree_syntax.specs.Part.{seen}
 use Rattle.fast_check_transform_module.proofs.ByRule.{diagnosed_refused}
 use Rattle.fast_check_transform_module.proofs.items.refuse.Goals as goal
 

@@ -1,6 +1,6 @@
 use Rattle.std.proofs.Common.{◌∙◌, ap}
-use Rattle.fast_check_graph.specs.Graph.{resolutions_of}
-use Rattle.fast_check_transform_statements.specs.transform_declarations.imports_exports.module_facts.ModuleFacts.{facts_by}
+use Rattle.fast_check_tables_graph.specs.Graph.{resolutions_of}
+use Rattle.fast_check_transform_imports.specs.module_facts.ModuleFacts.{facts_by}
 use Rattle.fast_check_transform_module.proofs.program.facts_of_module.Goals as goal
 
 pub returns : goal.returns

@@ -1,12 +1,12 @@
 use Rattle.std.proofs.Common.{ap, ◌∙◌, sym, codes}
-use Rattle.fast_check_syntax.specs.declared.kind.Kind.{Kind}
-use Rattle.fast_check_syntax.specs.declared.kind.Kind.TheVariants.{TsTypeRef}
-use Rattle.fast_check_syntax.specs.declared.tree.Tree.{Tree}
-use Rattle.fast_check_syntax.specs.Part.{seen}
-use Rattle.fast_check_syntax.specs.Shape.{◌is◌, parts}
-use Rattle.fast_check_type_forms.specs.TypeParams.{TsTypeParamInstantiation-params}
-use Rattle.fast_check_swc_helpers.specs.GlobalCalls.{is_global}
-use Rattle.fast_check_signatures.specs.NewNodes.{is_one}
+use Rattle.fast_check_tree_syntax.specs.declared.kind.Kind.{Kind}
+use Rattle.fast_check_tree_syntax.specs.declared.kind.Kind.TheVariants.{TsTypeRef}
+use Rattle.fast_check_tree_syntax.specs.declared.tree.Tree.{Tree}
+use Rattle.fast_check_tree_syntax.specs.Part.{seen}
+use Rattle.fast_check_tree_syntax.specs.Shape.{◌is◌, parts}
+use Rattle.fast_check_tree_forms_types.specs.TypeParams.{TsTypeParamInstantiation-params}
+use Rattle.fast_check_tree_helpers.specs.GlobalCalls.{is_global}
+use Rattle.fast_check_meaning_signatures.specs.NewNodes.{is_one}
 use Rattle.fast_check_transform_nodes.proofs.Promises.{no_reference, not_global, by_arguments}
 use Rattle.fast_check_transform_nodes.proofs.nodes.is_promise.Goals as goal
 

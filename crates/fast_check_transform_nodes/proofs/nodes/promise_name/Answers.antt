@@ -1,5 +1,5 @@
 use Rattle.std.proofs.Common.{◌≡◌, IfOk, ap, ◌∙◌, subst}
-use Rattle.fast_check_swc_helpers.specs.Builders.{new_ident}
+use Rattle.fast_check_tree_helpers.specs.Builders.{new_ident}
 use Rattle.fast_check_transform_nodes.proofs.nodes.promise_name.Goals as goal
 
 pub returns : goal.returns

@@ -1,9 +1,9 @@
 use Rattle.std.proofs.Common.{ap, ◌∙◌}
 use Rattle.std.specs.Prelude.{false}
 use Rattle.std.proofs.lemmas.Result.{IfOk-weaker}
-use Rattle.fast_check_swc_helpers.specs.declared.literal_type.DeclMutabilityKind.TheVariants.{Mutable}
-use Rattle.fast_check_program_forms.specs.Names.{BindingIdent-type_ann}
-use Rattle.fast_check_signatures.specs.Typing.{type_of}
+use Rattle.fast_check_tree_helpers.specs.declared.literal_type.DeclMutabilityKind.TheVariants.{Mutable}
+use Rattle.fast_check_tree_forms_programs.specs.Names.{BindingIdent-type_ann}
+use Rattle.fast_check_meaning_signatures.specs.Typing.{type_of}
 use Rattle.fast_check_transform_nodes.proofs.patterns.default_type.Goals as goal
 
 pub returns : goal.returns

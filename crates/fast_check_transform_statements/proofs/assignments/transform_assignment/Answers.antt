@@ -1,7 +1,7 @@
 use Rattle.std.proofs.Common.{◌∙◌, sym, ap, ◌++◌, append-nil}
 use Rattle.std.proofs.lemmas.Result.{on_ok_weaker}
-use Rattle.fast_check_syntax.specs.Part.{seen}
-use Rattle.fast_check_swc_helpers.specs.ranges.Ranges.{range_of_node}
+use Rattle.fast_check_tree_syntax.specs.Part.{seen}
+use Rattle.fast_check_tree_helpers.specs.ranges.Ranges.{range_of_node}
 use Rattle.fast_check_transform_imports.specs.module_facts.ModuleFacts.{facts_of}
 use Rattle.fast_check_transform_statements.proofs.AssignmentCases.{hidden_assignment, hidden_properties, tested_assignment, nothing_missing}
 use Rattle.fast_check_transform_statements.proofs.AssignmentCases.{no_property, property_stays}

@@ -1,17 +1,17 @@
 use Rattle.std.proofs.Common.{◌∙◌, sym, ap, refl, [], ◌∷◌, ◌++◌, append-nil}
 use Rattle.std.specs.Prelude.{if◌then◌else◌}
 use Rattle.std.specs.Option.{option_copied}
-use Rattle.fast_check_expandos.specs.Objects.{exports_name}
+use Rattle.fast_check_meaning_expandos.specs.Objects.{exports_name}
 use Rattle.std.proofs.lemmas.Result.{on_ok_weaker}
-use Rattle.fast_check_syntax.specs.Part.{seen}
-use Rattle.fast_check_expression_forms.specs.Calls.{MemberExpr-span}
-use Rattle.fast_check_expression_forms.specs.Operators.{AssignExpr-span, AssignExpr-left}
-use Rattle.fast_check_modules.specs.symbols.Tables.{symbol_of_swc}
-use Rattle.fast_check_signatures.specs.declared.fault.FaultKind.TheVariants.{MissingExplicitType}
-use Rattle.fast_check_signatures.specs.Answers.{fault_at}
-use Rattle.fast_check_expandos.specs.Assignments.{missing_place, kept_property}
-use Rattle.fast_check_expandos.specs.Expandos.{object_of, property_name, property_of}
-use Rattle.fast_check_expandos.specs.ModuleObjects.{objects_of}
+use Rattle.fast_check_tree_syntax.specs.Part.{seen}
+use Rattle.fast_check_tree_forms_expressions.specs.Calls.{MemberExpr-span}
+use Rattle.fast_check_tree_forms_expressions.specs.Operators.{AssignExpr-span, AssignExpr-left}
+use Rattle.fast_check_tables_modules.specs.symbols.Tables.{symbol_of_swc}
+use Rattle.fast_check_meaning_signatures.specs.declared.fault.FaultKind.TheVariants.{MissingExplicitType}
+use Rattle.fast_check_meaning_signatures.specs.Answers.{fault_at}
+use Rattle.fast_check_meaning_expandos.specs.Assignments.{missing_place, kept_property}
+use Rattle.fast_check_meaning_expandos.specs.Expandos.{object_of, property_name, property_of}
+use Rattle.fast_check_meaning_expandos.specs.ModuleObjects.{objects_of}
 use Rattle.fast_check_transform_statements.specs.Assigned.{missing_at}
 use Rattle.fast_check_transform_statements.proofs.AssignmentCases.{exports_are, keyword_is, missing_is, none_missing}
 use Rattle.fast_check_transform_statements.proofs.assignments.transform_expando.Goals as goal

@@ -1,8 +1,8 @@
 use Rattle.std.specs.Prelude.{false}
 use Rattle.std.proofs.Common.{ap, ◌∙◌}
 use Rattle.std.proofs.lemmas.Result.{IfOk-weaker}
-use Rattle.fast_check_program_forms.specs.Names.{BindingIdent-type_ann}
-use Rattle.fast_check_signatures.specs.Typing.{type_of}
+use Rattle.fast_check_tree_forms_programs.specs.Names.{BindingIdent-type_ann}
+use Rattle.fast_check_meaning_signatures.specs.Typing.{type_of}
 use Rattle.fast_check_transform_statements.proofs.declarations.declarator_type.Goals as goal
 
 pub returns : goal.returns

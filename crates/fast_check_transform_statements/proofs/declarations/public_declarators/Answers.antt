@@ -1,6 +1,6 @@
 use Rattle.std.proofs.Common.{rules, ap, sym, ◌∙◌, ◌++◌, append-nil}
-use Rattle.fast_check_syntax.specs.Part.{seen}
-use Rattle.fast_check_syntax.specs.Shape.{parts}
+use Rattle.fast_check_tree_syntax.specs.Part.{seen}
+use Rattle.fast_check_tree_syntax.specs.Shape.{parts}
 use Rattle.fast_check_transform_imports.specs.module_facts.ModuleFacts.{facts_of}
 use Rattle.fast_check_transform_imports.specs.module_facts.Kept.{as_list}
 use Rattle.fast_check_transform_statements.proofs.Declared.{no_declarators, one_more_declarator, all_declarators}

@@ -1,8 +1,8 @@
 use Rattle.std.proofs.Common.{ap, ◌∙◌, sym}
-use Rattle.fast_check_signatures.proofs.Adding.{adds_same}
-use Rattle.fast_check_transform_imports.specs.module_facts.skeleton.Mutability.{mutability_of}
-use Rattle.fast_check_syntax.specs.Part.{seen}
-use Rattle.fast_check_modules.specs.diagnostics.PublicRanges.{is_public}
+use Rattle.fast_check_meaning_signatures.proofs.Adding.{adds_same}
+use Rattle.fast_check_transform_imports.specs.skeleton.Mutability.{mutability_of}
+use Rattle.fast_check_tree_syntax.specs.Part.{seen}
+use Rattle.fast_check_tables_modules.specs.diagnostics.PublicRanges.{is_public}
 use Rattle.fast_check_transform_imports.specs.module_facts.ModuleFacts.{facts_of}
 use Rattle.fast_check_transform_statements.specs.PartAnswers.{declarator_answer}
 use Rattle.fast_check_transform_statements.proofs.Declared.{private_declarator, ambient_declarator, public_declarator_stays}

@@ -1,6 +1,6 @@
 use Rattle.std.proofs.Common.{sym, ◌∙◌}
 use Rattle.std.proofs.lemmas.Result.{IfOk-weaker}
-use Rattle.fast_check_syntax.specs.Part.{seen}
+use Rattle.fast_check_tree_syntax.specs.Part.{seen}
 use Rattle.fast_check_transform_imports.specs.module_facts.ModuleFacts.{facts_of}
 use Rattle.fast_check_transform_statements.proofs.Declared.{absent_value, present_value}
 use Rattle.fast_check_transform_statements.proofs.declarations.transform_init.Goals as goal

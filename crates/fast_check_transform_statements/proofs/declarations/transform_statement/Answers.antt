@@ -1,7 +1,7 @@
 use Rattle.std.proofs.Common.{refl, ◌∙◌}
 use Rattle.std.proofs.lemmas.Bool.{false≢true}
-use Rattle.fast_check_statement_forms.specs.Declarations.{var_decl}
-use Rattle.fast_check_syntax.specs.Part.{seen}
+use Rattle.fast_check_tree_forms_statements.specs.Declarations.{var_decl}
+use Rattle.fast_check_tree_syntax.specs.Part.{seen}
 use Rattle.fast_check_transform_imports.specs.module_facts.ModuleFacts.{facts_of}
 use Rattle.fast_check_transform_statements.proofs.Declared.{no_statement, made_statement}
 use Rattle.fast_check_transform_statements.proofs.declarations.transform_statement.Goals as goal

@@ -1,9 +1,9 @@
 use Rattle.std.proofs.Common.{ap, ◌∙◌, refl}
-use Rattle.fast_check_program_forms.specs.Names.{Ident-span, BindingIdent-id}
-use Rattle.fast_check_syntax.specs.Part.{seen}
+use Rattle.fast_check_tree_forms_programs.specs.Names.{Ident-span, BindingIdent-id}
+use Rattle.fast_check_tree_syntax.specs.Part.{seen}
 use Rattle.fast_check_transform_imports.specs.module_facts.ModuleFacts.{facts_of}
 use Rattle.fast_check_transform_statements.proofs.Declared.{value_stays, value_goes}
-use Rattle.fast_check_signatures.proofs.Adding.{some_of}
+use Rattle.fast_check_meaning_signatures.proofs.Adding.{some_of}
 use Rattle.fast_check_transform_statements.proofs.declarations.valued_declarator.Goals as goal
 
 pub returns-in-Some : goal.returns-in-Some

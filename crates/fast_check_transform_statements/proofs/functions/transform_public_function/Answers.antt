@@ -1,9 +1,9 @@
 use Rattle.std.proofs.Common.{ap, sym, ◌∙◌, Some}
-use Rattle.fast_check_program_forms.specs.Names.{Ident-span}
-use Rattle.fast_check_statement_forms.specs.Declarations.{fn_decl}
-use Rattle.fast_check_syntax.specs.Part.{seen}
-use Rattle.fast_check_signatures.specs.Answers.{Adds, answer_to}
-use Rattle.fast_check_transform_imports.specs.module_facts.skeleton.Visible.{signature_of}
+use Rattle.fast_check_tree_forms_programs.specs.Names.{Ident-span}
+use Rattle.fast_check_tree_forms_statements.specs.Declarations.{fn_decl}
+use Rattle.fast_check_tree_syntax.specs.Part.{seen}
+use Rattle.fast_check_meaning_signatures.specs.Answers.{Adds, answer_to}
+use Rattle.fast_check_transform_imports.specs.skeleton.Visible.{signature_of}
 use Rattle.fast_check_transform_imports.specs.module_facts.ModuleFacts.{facts_of}
 use Rattle.fast_check_transform_statements.proofs.Declared.{implementation, signature, ambient_function, made_function}
 use Rattle.fast_check_transform_statements.proofs.Joined.{adds_joined_way}

@@ -1,12 +1,12 @@
 use Rattle.std.proofs.Common.{arith, ◌≡◌, true, false, ap, sym, ◌∙◌}
 use Rattle.std.proofs.lemmas.Result.{IfOk-weaker}
-use Rattle.fast_check_syntax.specs.declared.kind.Kind.{Kind}
-use Rattle.fast_check_syntax.specs.declared.kind.Kind.TheVariants.{TsNamespaceDecl}
-use Rattle.fast_check_syntax.specs.Part.{seen}
-use Rattle.fast_check_syntax.specs.Shape.{◌is◌, kind_of}
-use Rattle.fast_check_syntax.specs.Height.{height}
-use Rattle.fast_check_statement_forms.specs.TsDeclarations.{ts_module_block}
-use Rattle.fast_check_transform_imports.specs.module_facts.skeleton.Namespaces.{inner_namespace, body_with}
+use Rattle.fast_check_tree_syntax.specs.declared.kind.Kind.{Kind}
+use Rattle.fast_check_tree_syntax.specs.declared.kind.Kind.TheVariants.{TsNamespaceDecl}
+use Rattle.fast_check_tree_syntax.specs.Part.{seen}
+use Rattle.fast_check_tree_syntax.specs.Shape.{◌is◌, kind_of}
+use Rattle.fast_check_tree_syntax.specs.Height.{height}
+use Rattle.fast_check_tree_forms_statements.specs.TsDeclarations.{ts_module_block}
+use Rattle.fast_check_transform_imports.specs.skeleton.Namespaces.{inner_namespace, body_with}
 use Rattle.fast_check_transform_statements.proofs.Blocks.{follows_lower, inner_made, block_made}
 use Rattle.fast_check_transform_statements.proofs.namespaces.+body_with.Goals as goal
 

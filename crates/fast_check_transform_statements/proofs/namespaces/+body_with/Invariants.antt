@@ -1,5 +1,5 @@
-use Rattle.fast_check_syntax.specs.Part.{seen}
-use Rattle.fast_check_syntax.specs.Height.{height}
+use Rattle.fast_check_tree_syntax.specs.Part.{seen}
+use Rattle.fast_check_tree_syntax.specs.Height.{height}
 use Rattle.fast_check_transform_statements.proofs.namespaces.+body_with.Given as goal
 
 abbrev pub decreases-body_with : goal.decreases-body_with

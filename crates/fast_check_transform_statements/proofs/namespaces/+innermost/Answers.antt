@@ -1,11 +1,11 @@
 use Rattle.std.proofs.Common.{arith, ◌≡◌, true, false, ap, sym, ◌∙◌}
-use Rattle.fast_check_syntax.specs.declared.kind.Kind.{Kind}
-use Rattle.fast_check_syntax.specs.declared.kind.Kind.TheVariants.{TsNamespaceDecl}
-use Rattle.fast_check_syntax.specs.Part.{seen}
-use Rattle.fast_check_syntax.specs.Shape.{◌is◌, kind_of}
-use Rattle.fast_check_syntax.specs.Height.{height}
-use Rattle.fast_check_transform_imports.specs.module_facts.skeleton.Namespaces.{innermost}
-use Rattle.fast_check_transform_imports.proofs.module_facts.skeleton_proofs.Namespaces.{innermost_block, innermost_inner}
+use Rattle.fast_check_tree_syntax.specs.declared.kind.Kind.{Kind}
+use Rattle.fast_check_tree_syntax.specs.declared.kind.Kind.TheVariants.{TsNamespaceDecl}
+use Rattle.fast_check_tree_syntax.specs.Part.{seen}
+use Rattle.fast_check_tree_syntax.specs.Shape.{◌is◌, kind_of}
+use Rattle.fast_check_tree_syntax.specs.Height.{height}
+use Rattle.fast_check_transform_imports.specs.skeleton.Namespaces.{innermost}
+use Rattle.fast_check_transform_imports.proofs.skeleton_proofs.Namespaces.{innermost_block, innermost_inner}
 use Rattle.fast_check_transform_statements.proofs.Blocks.{follows_lower}
 use Rattle.fast_check_transform_statements.proofs.namespaces.+innermost.Goals as goal
 

@@ -1,7 +1,7 @@
 use Rattle.std.proofs.Common.{sym, ap, ◌∙◌}
 use Rattle.std.specs.Prelude.{option_map}
 use denote.Enum.Bare.{sameb}
-use Rattle.fast_check_syntax.specs.contracts.kind.Word.{the_type as word_type}
+use Rattle.fast_check_tree_syntax.specs.contracts.kind.Word.{the_type as word_type}
 use Rattle.fast_check_read.specs.schema.Lookup.{row_of_word}
 use Rattle.fast_check_read.specs.schema.Rows.{word_row, WordRow}
 use Rattle.fast_check_read.proofs.schema.Scan.{found, passed_over, none_left}

@@ -1,9 +1,9 @@
 use Rattle.std.proofs.Common.{ap, ◌∙◌, sym}
-use Rattle.fast_check_syntax.specs.declared.kind.Kind.{Kind}
-use Rattle.fast_check_syntax.specs.declared.kind.Kind.TheVariants.{ExprStmt, CallExpr, Super}
-use Rattle.fast_check_syntax.specs.Part.{seen}
-use Rattle.fast_check_syntax.specs.Shape.{◌is◌, kind_of}
-use Rattle.fast_check_expression_forms.specs.Calls.{CallExpr-callee}
+use Rattle.fast_check_tree_syntax.specs.declared.kind.Kind.{Kind}
+use Rattle.fast_check_tree_syntax.specs.declared.kind.Kind.TheVariants.{ExprStmt, CallExpr, Super}
+use Rattle.fast_check_tree_syntax.specs.Part.{seen}
+use Rattle.fast_check_tree_syntax.specs.Shape.{◌is◌, kind_of}
+use Rattle.fast_check_tree_forms_expressions.specs.Calls.{CallExpr-callee}
 use Rattle.fast_check_transform_classes.proofs.class_nodes.SuperCalls.{no_statement, no_call, call_by_callee}
 use Rattle.fast_check_transform_classes.proofs.class_nodes.constructors.is_super_call.Goals as goal
 

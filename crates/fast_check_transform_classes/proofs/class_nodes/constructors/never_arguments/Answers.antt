@@ -1,7 +1,7 @@
 use Rattle.std.proofs.Common.{rules, ap, ◌∙◌}
-use Rattle.fast_check_syntax.specs.Part.{seen}
-use Rattle.fast_check_syntax.specs.Shape.{list}
-use Rattle.fast_check_signatures.specs.Classes.{never_argument}
+use Rattle.fast_check_tree_syntax.specs.Part.{seen}
+use Rattle.fast_check_tree_syntax.specs.Shape.{list}
+use Rattle.fast_check_meaning_signatures.specs.Classes.{never_argument}
 use Rattle.fast_check_transform_classes.proofs.class_nodes.Lists.{mapped_more, mapped_all}
 use Rattle.fast_check_transform_classes.proofs.class_nodes.constructors.never_arguments.Goals as goal
 

@@ -1,5 +1,5 @@
 use Rattle.std.proofs.Common.{◌≡◌, map, take}
-use Rattle.fast_check_signatures.specs.Classes.{never_argument}
+use Rattle.fast_check_meaning_signatures.specs.Classes.{never_argument}
 use Rattle.fast_check_transform_classes.proofs.class_nodes.constructors.never_arguments.Given as goal
 
 abbrev pub invariant-loop-arg : goal.invariant-loop-arg

@@ -1,9 +1,9 @@
 use Rattle.std.proofs.Common.{ap, ◌∙◌, map}
 use Rattle.std.proofs.lemmas.Result.{IfOk-weaker}
-use Rattle.fast_check_syntax.specs.declared.tree.Tree.{Tree}
-use Rattle.fast_check_syntax.specs.Shape.{parts, list}
-use Rattle.fast_check_expression_forms.specs.Calls.{call_expr}
-use Rattle.fast_check_signatures.specs.Classes.{never_argument}
+use Rattle.fast_check_tree_syntax.specs.declared.tree.Tree.{Tree}
+use Rattle.fast_check_tree_syntax.specs.Shape.{parts, list}
+use Rattle.fast_check_tree_forms_expressions.specs.Calls.{call_expr}
+use Rattle.fast_check_meaning_signatures.specs.Classes.{never_argument}
 use Rattle.fast_check_transform_classes.proofs.class_nodes.constructors.never_call.Goals as goal
 
 pub returns : goal.returns

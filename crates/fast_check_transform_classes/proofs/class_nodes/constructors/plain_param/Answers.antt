@@ -1,10 +1,10 @@
 use Rattle.std.proofs.Common.{ap, ◌∙◌, sym}
 use Rattle.std.proofs.lemmas.Result.{IfOk-weaker}
-use Rattle.fast_check_syntax.specs.declared.kind.Kind.{Kind}
-use Rattle.fast_check_syntax.specs.declared.kind.Kind.TheVariants.{TsParamProp}
-use Rattle.fast_check_syntax.specs.Part.{seen}
-use Rattle.fast_check_syntax.specs.Shape.{◌is◌, list}
-use Rattle.fast_check_class_forms.specs.Functions.{param}
+use Rattle.fast_check_tree_syntax.specs.declared.kind.Kind.{Kind}
+use Rattle.fast_check_tree_syntax.specs.declared.kind.Kind.TheVariants.{TsParamProp}
+use Rattle.fast_check_tree_syntax.specs.Part.{seen}
+use Rattle.fast_check_tree_syntax.specs.Shape.{◌is◌, list}
+use Rattle.fast_check_tree_forms_classes.specs.Functions.{param}
 use Rattle.fast_check_transform_classes.proofs.class_nodes.SuperCalls.{plain_property, plain_already}
 use Rattle.fast_check_transform_classes.proofs.class_nodes.constructors.plain_param.Goals as goal
 

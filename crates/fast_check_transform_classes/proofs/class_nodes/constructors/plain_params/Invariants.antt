@@ -1,5 +1,5 @@
 use Rattle.std.proofs.Common.{◌≡◌, map, take}
-use Rattle.fast_check_signatures.specs.Classes.{plain_param}
+use Rattle.fast_check_meaning_signatures.specs.Classes.{plain_param}
 use Rattle.fast_check_transform_classes.proofs.class_nodes.constructors.plain_params.Given as goal
 
 abbrev pub invariant-loop-param : goal.invariant-loop-param

@@ -1,6 +1,6 @@
 use Rattle.std.proofs.Common.{ap, ◌∙◌}
 use Rattle.std.proofs.lemmas.Result.{IfOk-weaker}
-use Rattle.fast_check_signatures.specs.NewNodes.{expr_stmt}
+use Rattle.fast_check_meaning_signatures.specs.NewNodes.{expr_stmt}
 use Rattle.fast_check_transform_classes.proofs.class_nodes.SuperCalls.{never_call}
 use Rattle.fast_check_transform_classes.proofs.class_nodes.constructors.super_call.Goals as goal
 

@@ -1,7 +1,7 @@
 use Rattle.std.proofs.Common.{rules, ap, sym, ◌∙◌}
-use Rattle.fast_check_syntax.specs.Part.{seen}
-use Rattle.fast_check_syntax.specs.Shape.{list}
-use Rattle.fast_check_signatures.specs.Classes.{super_call, is_super_call}
+use Rattle.fast_check_tree_syntax.specs.Part.{seen}
+use Rattle.fast_check_tree_syntax.specs.Shape.{list}
+use Rattle.fast_check_meaning_signatures.specs.Classes.{super_call, is_super_call}
 use Rattle.fast_check_transform_classes.proofs.class_nodes.Lists.{taken_more, passed_more, taken_all}
 use Rattle.fast_check_transform_classes.proofs.class_nodes.constructors.super_calls.Goals as goal
 use Rattle.fast_check_transform_classes.proofs.class_nodes.constructors.super_calls.Goals.{then-is_super_call+in_ok-super_call+in_ok-push, else-is_super_call}

@@ -1,6 +1,6 @@
 use Rattle.std.proofs.Common.{◌≡◌, map, take}
 use Rattle.std.specs.List.{filter}
-use Rattle.fast_check_signatures.specs.Classes.{super_call, is_super_call}
+use Rattle.fast_check_meaning_signatures.specs.Classes.{super_call, is_super_call}
 use Rattle.fast_check_transform_classes.proofs.class_nodes.constructors.super_calls.Given as goal
 
 abbrev pub invariant-loop-stmt : goal.invariant-loop-stmt

@@ -1,9 +1,9 @@
 use Rattle.std.specs.Prelude.{Vec}
 use Rattle.std.specs.declared.alloc.Global.{Global}
 use Rattle.std.proofs.Common.{rules, refl, sym, ap, ◌∙◌, ◌++◌, List, map, drop, [], ◌∷◌}
-use Rattle.fast_check_syntax.specs.declared.part.Part.{Part}
-use Rattle.fast_check_syntax.specs.Part.{seen}
-use Rattle.fast_check_signatures.specs.Members.{each_behind, if_kept, kept_members}
+use Rattle.fast_check_tree_syntax.specs.declared.part.Part.{Part}
+use Rattle.fast_check_tree_syntax.specs.Part.{seen}
+use Rattle.fast_check_meaning_signatures.specs.Members.{each_behind, if_kept, kept_members}
 use Rattle.fast_check_transform_classes.proofs.class_nodes.Kept.{kept_more, kept_same, kept_all}
 use Rattle.fast_check_transform_classes.proofs.class_nodes.earlier.kept_members.Goals as goal
 use Rattle.fast_check_transform_classes.proofs.class_nodes.earlier.kept_members.Goals.{then-branch+in_ok-push, else-branch}

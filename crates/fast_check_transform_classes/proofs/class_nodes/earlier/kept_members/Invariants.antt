@@ -1,7 +1,7 @@
 use Rattle.std.proofs.Common.{◌≡◌, List, map, drop, ◌++◌}
-use Rattle.fast_check_syntax.specs.Part.{seen}
-use Rattle.fast_check_syntax.specs.declared.tree.Tree.{Tree}
-use Rattle.fast_check_signatures.specs.Members.{each_behind, if_kept, kept_members}
+use Rattle.fast_check_tree_syntax.specs.Part.{seen}
+use Rattle.fast_check_tree_syntax.specs.declared.tree.Tree.{Tree}
+use Rattle.fast_check_meaning_signatures.specs.Members.{each_behind, if_kept, kept_members}
 use Rattle.fast_check_transform_classes.specs.class_nodes.Known.{Knows}
 use Rattle.fast_check_transform_classes.proofs.class_nodes.earlier.kept_members.Given as goal
 

@@ -1,13 +1,13 @@
 use Rattle.std.specs.Prelude.{if◌then◌else◌}
 use Rattle.std.proofs.Common.{ap, ◌∙◌}
 use Rattle.std.proofs.lemmas.Result.{IfOk-weaker}
-use Rattle.fast_check_syntax.specs.Shape.{◌is◌, kind_of}
-use Rattle.fast_check_syntax.specs.declared.kind.Kind.TheVariants.{AssignPat}
-use Rattle.fast_check_expression_forms.specs.Patterns.{AssignPat-right}
-use Rattle.fast_check_program_forms.specs.Names.{BindingIdent-type_ann}
-use Rattle.fast_check_signatures.specs.Classes.{mutability_of_property}
-use Rattle.fast_check_signatures.specs.Members.{is_private}
-use Rattle.fast_check_signatures.specs.Typing.{type_of}
+use Rattle.fast_check_tree_syntax.specs.Shape.{◌is◌, kind_of}
+use Rattle.fast_check_tree_syntax.specs.declared.kind.Kind.TheVariants.{AssignPat}
+use Rattle.fast_check_tree_forms_expressions.specs.Patterns.{AssignPat-right}
+use Rattle.fast_check_tree_forms_programs.specs.Names.{BindingIdent-type_ann}
+use Rattle.fast_check_meaning_signatures.specs.Classes.{mutability_of_property}
+use Rattle.fast_check_meaning_signatures.specs.Members.{is_private}
+use Rattle.fast_check_meaning_signatures.specs.Typing.{type_of}
 use Rattle.fast_check_transform_classes.proofs.class_nodes.properties.param_property_type.Goals as goal
 
 pub returns : goal.returns

@@ -1,5 +1,5 @@
 use Rattle.std.proofs.Common.{ap, ◌∙◌, false}
-use Rattle.fast_check_syntax.specs.declared.tree.Tree.{Tree}
+use Rattle.fast_check_tree_syntax.specs.declared.tree.Tree.{Tree}
 use Rattle.fast_check_transform_classes.proofs.class_nodes.properties.private_method_head.Goals as goal
 
 pub returns : goal.returns

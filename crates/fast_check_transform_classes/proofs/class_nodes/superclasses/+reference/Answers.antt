@@ -1,10 +1,10 @@
 use Rattle.std.proofs.Common.{ap, ◌∙◌, sym, refl, arith}
-use Rattle.fast_check_swc_helpers.specs.Places.{at-MemberExpr-obj, at-MemberExpr-prop}
-use Rattle.fast_check_syntax.specs.declared.tree.Tree.{Tree}
-use Rattle.fast_check_syntax.specs.Shape.{kind_of}
-use Rattle.fast_check_signatures.specs.Classes.{is_reference, property_of_kind}
-use Rattle.fast_check_syntax.specs.declared.kind.Kind.TheVariants as kinds
-use Rattle.fast_check_syntax.specs.Part.{seen}
+use Rattle.fast_check_tree_helpers.specs.Places.{at-MemberExpr-obj, at-MemberExpr-prop}
+use Rattle.fast_check_tree_syntax.specs.declared.tree.Tree.{Tree}
+use Rattle.fast_check_tree_syntax.specs.Shape.{kind_of}
+use Rattle.fast_check_meaning_signatures.specs.Classes.{is_reference, property_of_kind}
+use Rattle.fast_check_tree_syntax.specs.declared.kind.Kind.TheVariants as kinds
+use Rattle.fast_check_tree_syntax.specs.Part.{seen}
 use Rattle.fast_check_transform_classes.proofs.class_nodes.References.{reference_by, no_reference, no_property, member_reference, at-ComputedPropName-expr}
 use Rattle.fast_check_transform_classes.proofs.class_nodes.References.{lower, lower_odd}
 use Rattle.fast_check_transform_classes.proofs.class_nodes.superclasses.+reference.Goals as goal

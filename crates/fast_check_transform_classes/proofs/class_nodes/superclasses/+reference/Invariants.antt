@@ -1,6 +1,6 @@
 use Rattle.std.proofs.Common.{◌+◌, ◌*◌}
-use Rattle.fast_check_syntax.specs.Part.{seen}
-use Rattle.fast_check_syntax.specs.Height.{height}
+use Rattle.fast_check_tree_syntax.specs.Part.{seen}
+use Rattle.fast_check_tree_syntax.specs.Height.{height}
 use Rattle.fast_check_transform_classes.proofs.class_nodes.superclasses.+reference.Given as goal
 
 abbrev pub decreases-is_reference : goal.decreases-is_reference

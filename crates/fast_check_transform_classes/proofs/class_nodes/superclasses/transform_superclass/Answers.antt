@@ -1,9 +1,9 @@
 use Rattle.std.proofs.Common.{ap, ◌∙◌, sym, refl, ◌++◌, ◌∷◌, []}
-use Rattle.fast_check_syntax.specs.Part.{seen}
-use Rattle.fast_check_signatures.specs.Answers.{fault_at}
-use Rattle.fast_check_signatures.specs.declared.fault.FaultKind.TheVariants.{UnsupportedSuperClassExpr}
+use Rattle.fast_check_tree_syntax.specs.Part.{seen}
+use Rattle.fast_check_meaning_signatures.specs.Answers.{fault_at}
+use Rattle.fast_check_meaning_signatures.specs.declared.fault.FaultKind.TheVariants.{UnsupportedSuperClassExpr}
 use Rattle.fast_check_transform_classes.proofs.class_nodes.References.{no_superclass, reference_stays, superclass_faulty}
-use Rattle.fast_check_signatures.proofs.Adding.{some_of}
+use Rattle.fast_check_meaning_signatures.proofs.Adding.{some_of}
 use Rattle.fast_check_transform_classes.proofs.class_nodes.superclasses.transform_superclass.Goals as goal
 
 pub returns-then-is_absent : goal.returns-then-is_absent

@@ -5,8 +5,8 @@ use Rattle.std.specs.BTreeMap.{BTreeMap}
 use Rattle.std.specs.Borrow.{Bor}
 use Rattle.std.specs.declared.alloc.Global.{Global}
 use Rattle.url.specs.Parts.{Parts}
-use Rattle.fast_check_graph.specs.Resolutions.{text_resolved}
-use Rattle.fast_check_graph.proofs.Tied.{at_text}
+use Rattle.fast_check_tables_graph.specs.Resolutions.{text_resolved}
+use Rattle.fast_check_tables_graph.proofs.Tied.{at_text}
 use Rattle.fast_check_transform_imports.proofs.module_facts.sources.resolved.Goals as goal
 
 pub returns : goal.returns

@@ -1,6 +1,6 @@
 use Rattle.std.proofs.Common.{List, sym, subst}
-use Rattle.fast_check_modules.specs.diagnostics.declared.diagnostics.FastCheckDiagnostic.{FastCheckDiagnostic}
-use Rattle.fast_check_signatures.specs.declared.fault.Fault.{Fault}
+use Rattle.fast_check_tables_modules.specs.diagnostics.declared.diagnostics.FastCheckDiagnostic.{FastCheckDiagnostic}
+use Rattle.fast_check_meaning_signatures.specs.declared.fault.Fault.{Fault}
 use Rattle.fast_check_transform_module.specs.transform_faults.Diagnostics.{IsDiagnosticOf, AreDiagnosticsOf}
 use Rattle.fast_check_transform_module.proofs.transform_faults.Diagnosed.{next_of}
 use Rattle.fast_check_transform_module.proofs.transform_faults.diagnostics.diagnostics_of.Goals as goal

@@ -1,8 +1,8 @@
 use Rattle.std.proofs.Common.{rules, refl, ap, ◌∙◌, List, [], ◌∷◌}
-use Rattle.fast_check_syntax.specs.declared.tree.Tree.{Tree}
-use Rattle.fast_check_syntax.specs.Part.{seen}
-use Rattle.fast_check_syntax.specs.Shape.{parts}
-use Rattle.fast_check_transform_imports.specs.module_facts.skeleton.KeptComments.{without_all_leading}
+use Rattle.fast_check_tree_syntax.specs.declared.tree.Tree.{Tree}
+use Rattle.fast_check_tree_syntax.specs.Part.{seen}
+use Rattle.fast_check_tree_syntax.specs.Shape.{parts}
+use Rattle.fast_check_transform_imports.specs.skeleton.KeptComments.{without_all_leading}
 use Rattle.fast_check_transform_statements.proofs.transform_declarations.ClassCases.{starts_left, stays_more, goes_more, all_removed}
 use Rattle.fast_check_transform_statements.proofs.transform_declarations.classes.remove_before_members.Goals as goal
 

@@ -1,7 +1,7 @@
 use Rattle.std.proofs.Common.{◌≡◌, List, [], drop}
-use Rattle.fast_check_syntax.specs.declared.tree.Tree.{Tree}
+use Rattle.fast_check_tree_syntax.specs.declared.tree.Tree.{Tree}
 use Rattle.fast_check_transform_classes.specs.class_nodes.Known.{Knows}
-use Rattle.fast_check_transform_imports.specs.module_facts.skeleton.KeptComments.{without_all_leading}
+use Rattle.fast_check_transform_imports.specs.skeleton.KeptComments.{without_all_leading}
 use Rattle.fast_check_transform_statements.proofs.transform_declarations.ClassCases.{starts_left}
 use Rattle.fast_check_transform_statements.proofs.transform_declarations.classes.remove_before_members.Given as goal
 

@@ -1,8 +1,8 @@
 use Rattle.std.proofs.Common.{ap, sym, ◌∙◌, Some}
-use Rattle.fast_check_statement_forms.specs.Declarations.{class_decl}
-use Rattle.fast_check_syntax.specs.Part.{seen}
-use Rattle.fast_check_signatures.specs.Answers.{Adds, answer_to}
-use Rattle.fast_check_transform_imports.specs.module_facts.skeleton.Visible.{class_in}
+use Rattle.fast_check_tree_forms_statements.specs.Declarations.{class_decl}
+use Rattle.fast_check_tree_syntax.specs.Part.{seen}
+use Rattle.fast_check_meaning_signatures.specs.Answers.{Adds, answer_to}
+use Rattle.fast_check_transform_imports.specs.skeleton.Visible.{class_in}
 use Rattle.fast_check_transform_imports.specs.module_facts.ModuleFacts.{facts_of}
 use Rattle.fast_check_transform_statements.proofs.transform_declarations.ClassCases.{ambient_class_stays, plain_class_stays, made_class}
 use Rattle.fast_check_transform_statements.proofs.transform_declarations.PublicClasses.{class_stays, class_goes}

@@ -1,10 +1,10 @@
 use Rattle.std.proofs.Common.{ap, ◌∙◌, ◌∷◌, []}
-use Rattle.fast_check_syntax.specs.Part.{seen}
-use Rattle.fast_check_syntax.specs.Shape.{node}
-use Rattle.fast_check_syntax.specs.declared.kind.Kind.TheVariants.{ClassExpr}
+use Rattle.fast_check_tree_syntax.specs.Part.{seen}
+use Rattle.fast_check_tree_syntax.specs.Shape.{node}
+use Rattle.fast_check_tree_syntax.specs.declared.kind.Kind.TheVariants.{ClassExpr}
 use Rattle.fast_check_transform_imports.specs.module_facts.ModuleFacts.{facts_of}
 use Rattle.fast_check_transform_statements.proofs.transform_declarations.DefaultCases.{made_class}
-use Rattle.fast_check_signatures.proofs.Adding.{some_of}
+use Rattle.fast_check_meaning_signatures.proofs.Adding.{some_of}
 use Rattle.fast_check_transform_statements.proofs.transform_declarations.defaults.transform_class_decl.Goals as goal
 
 pub returns : goal.returns

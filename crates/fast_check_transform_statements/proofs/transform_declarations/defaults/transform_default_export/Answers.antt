@@ -1,5 +1,5 @@
 use Rattle.std.proofs.Common.{sym, ◌∙◌}
-use Rattle.fast_check_syntax.specs.Part.{seen}
+use Rattle.fast_check_tree_syntax.specs.Part.{seen}
 use Rattle.fast_check_transform_imports.specs.module_facts.ModuleFacts.{facts_of}
 use Rattle.fast_check_transform_statements.proofs.transform_declarations.DefaultCases.{public_default_stays, private_default}
 use Rattle.fast_check_transform_statements.proofs.transform_declarations.defaults.transform_default_export.Goals as goal

@@ -1,11 +1,11 @@
 use Rattle.std.proofs.Common.{refl, ap, sym, ◌∙◌, Some}
-use Rattle.fast_check_expression_forms.specs.Expressions.{fn_expr}
-use Rattle.fast_check_syntax.specs.Part.{seen}
-use Rattle.fast_check_signatures.specs.Answers.{Adds, answer_to}
-use Rattle.fast_check_transform_imports.specs.module_facts.skeleton.Defaults.{default_signature}
+use Rattle.fast_check_tree_forms_expressions.specs.Expressions.{fn_expr}
+use Rattle.fast_check_tree_syntax.specs.Part.{seen}
+use Rattle.fast_check_meaning_signatures.specs.Answers.{Adds, answer_to}
+use Rattle.fast_check_transform_imports.specs.skeleton.Defaults.{default_signature}
 use Rattle.fast_check_transform_imports.specs.module_facts.ModuleFacts.{facts_of}
 use Rattle.fast_check_transform_statements.proofs.transform_declarations.DefaultCases.{implementation, signature, ambient_function, made_function}
-use Rattle.fast_check_signatures.proofs.Adding.{some_of}
+use Rattle.fast_check_meaning_signatures.proofs.Adding.{some_of}
 use Rattle.fast_check_transform_statements.proofs.Joined.{adds_joined_way}
 use Rattle.fast_check_transform_statements.proofs.transform_declarations.defaults.transform_default_function.Goals as goal
 use Rattle.fast_check_transform_statements.proofs.transform_declarations.defaults.transform_default_function.Goals.{then-is_impl_with_overloads+in_ok-function}

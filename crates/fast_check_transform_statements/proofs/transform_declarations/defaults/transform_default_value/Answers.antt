@@ -1,10 +1,10 @@
 use Rattle.std.proofs.Common.{ap}
-use Rattle.fast_check_program_forms.specs.ModuleDecls.{export_default_expr}
-use Rattle.fast_check_syntax.specs.Part.{seen}
-use Rattle.fast_check_syntax.specs.declared.tree.Tree.{Absent}
+use Rattle.fast_check_tree_forms_programs.specs.ModuleDecls.{export_default_expr}
+use Rattle.fast_check_tree_syntax.specs.Part.{seen}
+use Rattle.fast_check_tree_syntax.specs.declared.tree.Tree.{Absent}
 use Rattle.fast_check_transform_imports.specs.module_facts.ModuleFacts.{facts_of}
 use Rattle.fast_check_transform_statements.proofs.transform_declarations.DefaultCases.{value_stays, value_goes}
-use Rattle.fast_check_signatures.proofs.Adding.{some_of}
+use Rattle.fast_check_meaning_signatures.proofs.Adding.{some_of}
 use Rattle.fast_check_transform_statements.proofs.transform_declarations.defaults.transform_default_value.Goals as goal
 
 pub returns-in-Some : goal.returns-in-Some

@@ -1,10 +1,10 @@
 use Rattle.std.proofs.Common.{ap, ◌∙◌}
 use Rattle.std.proofs.lemmas.Result.{IfOk-weaker}
-use Rattle.fast_check_program_forms.specs.ModuleDecls.{export_default_decl}
-use Rattle.fast_check_syntax.specs.Part.{seen}
+use Rattle.fast_check_tree_forms_programs.specs.ModuleDecls.{export_default_decl}
+use Rattle.fast_check_tree_syntax.specs.Part.{seen}
 use Rattle.fast_check_transform_imports.specs.module_facts.ModuleFacts.{facts_of}
 use Rattle.fast_check_transform_statements.proofs.transform_declarations.DefaultCases.{value_decl, class_decl, function_decl, interface_decl}
-use Rattle.fast_check_signatures.proofs.Adding.{some_of}
+use Rattle.fast_check_meaning_signatures.proofs.Adding.{some_of}
 use Rattle.fast_check_transform_statements.proofs.transform_declarations.defaults.transform_public_default.Goals as goal
 
 pub returns-in-Value : goal.returns-in-Value

@@ -1,6 +1,6 @@
 use Rattle.std.proofs.Common.{ap, ◌∙◌, sym, refl}
-use Rattle.fast_check_syntax.specs.Part.{seen}
-use Rattle.fast_check_signatures.specs.Members.{is_private, is_computed, key_text}
+use Rattle.fast_check_tree_syntax.specs.Part.{seen}
+use Rattle.fast_check_meaning_signatures.specs.Members.{is_private, is_computed, key_text}
 use Rattle.fast_check_transform_classes.proofs.class_nodes.Telling.{next_method}
 use Rattle.fast_check_transform_classes.proofs.class_nodes.earlier.Earlier.method_stays.Goals as goal
 

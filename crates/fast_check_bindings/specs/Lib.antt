@@ -1,2 +1,0 @@
-pub mod Bindings
-pub mod Rows

@@ -1,4 +1,0 @@
-pub use Rattle.fast_check_requests.specs.Refusal
-pub mod Commands
-pub mod build_command
-pub mod pair_command

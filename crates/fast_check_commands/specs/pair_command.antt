@@ -1,7 +1,0 @@
-pub use Rattle.fast_check_requests.specs.Refusal
-pub use Rattle.fast_check_requests.specs.Run
-pub mod Request
-pub mod Input
-pub mod Line
-pub mod Pair
-pub mod Second

@@ -1,5 +1,0 @@
-use Rattle.std.proofs.Common.{rules}
-use Rattle.fast_check_comments.proofs.comments_mut.CommentsMut.into_comments.Goals as goal
-
-pub returns : goal.returns
-returns c = search rules

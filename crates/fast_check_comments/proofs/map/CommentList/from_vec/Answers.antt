@@ -1,5 +1,0 @@
-use Rattle.std.proofs.Common.{rules}
-use Rattle.fast_check_comments.proofs.map.CommentList.from_vec.Goals as goal
-
-pub returns : goal.returns
-returns c = search rules

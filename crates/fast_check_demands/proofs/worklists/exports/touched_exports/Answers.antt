@@ -1,8 +1,0 @@
-use Rattle.fast_check_lattice.specs.Names.{path_of, paths_below}
-use Rattle.fast_check_demands.proofs.worklists.ExportsAsked.{touched_asked}
-use Rattle.fast_check_demands.proofs.worklists.exports.touched_exports.Goals as goal
-
-pub returns : goal.returns
-returns c = touched_asked c.args.first.now (path_of c.args.rest.now) c.in_ok-one_name.field-0
-    (paths_below c.in_ok-below.below) c.in_ok-below.ensures
-    c.in_ok-one_name.ensures

@@ -1,9 +1,0 @@
-pub mod PublicRanges
-pub mod DiagnosticRange
-pub mod DiagnosticView
-pub mod Subject
-pub mod Report
-pub mod Diagnostic
-pub mod DiagnosticCopy
-pub mod KindTexts
-pub mod parsed_source

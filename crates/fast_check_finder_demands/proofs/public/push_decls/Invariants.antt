@@ -1,0 +1,6 @@
+use Rattle.std.proofs.Common.{◌≡◌, ◌++◌, take}
+use Rattle.fast_check_finder_demands.specs.Yields.{decl_ranges}
+use Rattle.fast_check_finder_demands.proofs.public.push_decls.Given as goal
+
+abbrev pub invariant-loop-decl : goal.invariant-loop-decl
+invariant-loop-decl l = l.out.items ≡ l.initial.out.items ++ decl_ranges (take l.decl-index l.decls)

@@ -1,0 +1,4 @@
+pub mod Demands
+pub mod Decls
+pub mod Rules
+pub mod Passed

@@ -1,5 +1,0 @@
-use Rattle.std.proofs.Common.{rules}
-use Rattle.fast_check_lattice.proofs.lattice.imported_exports.ImportedExports.subset.Goals as goal
-
-pub returns : goal.returns
-returns c = search rules

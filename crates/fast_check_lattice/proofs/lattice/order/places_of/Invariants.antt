@@ -1,5 +1,0 @@
-use Rattle.fast_check_lattice.specs.Order.{IsCount}
-use Rattle.fast_check_lattice.proofs.lattice.order.places_of.Given as goal
-
-abbrev pub invariant-loop-number : goal.invariant-loop-number
-invariant-loop-number l = IsCount l.places.items l.number

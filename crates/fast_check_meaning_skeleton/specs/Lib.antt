@@ -1,0 +1,35 @@
+pub use Rattle.fast_check_meaning_signatures.specs as signatures
+pub use Rattle.fast_check_meaning_expandos.specs as expandos
+pub mod SameValues
+pub mod SameClasses
+pub mod HiddenChanges
+pub mod HiddenRules
+pub mod TypedGrammar
+pub mod ClassGrammar
+pub mod ModuleFacts
+pub mod Kinds
+pub mod Rules
+pub mod Mutability
+pub mod ImportsExports
+pub mod Defaults
+pub mod Namespaces
+pub mod Visible
+pub mod Skeleton
+pub mod Grammar
+pub mod KeptComments
+pub mod SameComments
+pub mod SameAssignments
+pub mod SameImportsExports
+pub mod SameDefaults
+pub mod Hidden
+pub mod HashMark
+pub mod Worlds
+pub mod Example
+pub mod ClassExample
+pub mod ModuleExample
+pub mod NamespaceExample
+pub mod ExpandoExample
+pub mod PrivateClassExample
+pub mod SilentAssignmentExample
+pub mod HiddenChangesExample
+pub mod HiddenItems

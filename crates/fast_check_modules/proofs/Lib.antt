@@ -1,3 +1,0 @@
-pub use Rattle.fast_check_symbols.proofs as symbol_proofs
-pub mod ExpandosOut
-pub mod FaultsFound

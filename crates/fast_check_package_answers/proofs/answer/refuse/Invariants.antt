@@ -1,6 +1,0 @@
-use Rattle.std.specs.List.{AllZip}
-use Rattle.fast_check_package_answers.specs.PackageAnswer.{IsRefused}
-use Rattle.fast_check_package_answers.proofs.answer.refuse.Given as goal
-
-abbrev pub invariant-loop-entrypoint : goal.invariant-loop-entrypoint
-invariant-loop-entrypoint l = AllZip (IsRefused l.diagnostics) l.yielded l.answers.items

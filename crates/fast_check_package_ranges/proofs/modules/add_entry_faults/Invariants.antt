@@ -1,8 +1,0 @@
-use Rattle.std.specs.List.{flat_map}
-use Rattle.fast_check_packages.specs.Package.{Nv}
-use Rattle.fast_check_package_ranges.specs.findings.Found.{entry_fault_yields}
-use Rattle.fast_check_package_ranges.specs.Parts.{Joins}
-use Rattle.fast_check_package_ranges.proofs.modules.add_entry_faults.Given as goal
-
-abbrev pub invariant-loop-specifier : goal.invariant-loop-specifier
-invariant-loop-specifier l = (nv : Nv) → Joins (flat_map (entry_fault_yields nv) l.yielded) l.initial.modules.entries l.modules.entries

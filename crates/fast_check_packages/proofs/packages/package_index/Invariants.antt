@@ -1,6 +1,0 @@
-use Rattle.std.proofs.Common.{take}
-use Rattle.fast_check_packages.specs.Packages.{IsPackageIndex}
-use Rattle.fast_check_packages.proofs.packages.package_index.Given as goal
-
-abbrev pub invariant-loop-place : goal.invariant-loop-place
-invariant-loop-place l = IsPackageIndex (take l.place l.rows) l.places

@@ -1,0 +1,20 @@
+use Rattle.std.proofs.Common.{◌≡◌, ℕ, ◌-◌, List, ◌++◌, length, take, drop, sym, ap, ◌∙◌, append_assoc, take-append-drop}
+use Rattle.std.proofs.lemmas.List.{take_rest}
+use Rattle.std.proofs.KnownBytes.{Appends-trans, Appends-kept}
+use Rattle.fast_check_program_requests.proofs.lines.write_front.Goals as goal
+
+moves_front : (all done rest : List ℕ) (n : ℕ) → all ≡ done ++ rest → all ≡ (done ++ take n rest) ++ take (length rest - n) (drop n rest)
+moves_front all done rest n e =
+    e ∙ ap (λ l. done ++ l) (sym (take-append-drop n rest)) ∙ sym (append_assoc done (take n rest) (drop n rest)) ∙
+    ap (λ l. (done ++ take n rest) ++ l) (sym (take_rest rest n))
+
+pub writes-preserved-then-taken-gt0 : goal.writes-preserved-then-taken-gt0
+writes-preserved-then-taken-gt0 g c =
+    let (done, split, appended) = c.writes.invariant in
+    let rest = c.writes.rest.now in
+    let n = c.in-Ok.taken in
+    (done ++ take n rest, moves_front _ done rest n split, Appends-trans _ _ _ _ _ appended c.in-Ok.ensures.bytes)
+
+pub writes-preserved : goal.writes-preserved
+writes-preserved g c =
+    let (done, split, appended) = c.writes.invariant in (done, split, Appends-kept _ _ _ done appended c.in-Err.ensures.bytes)

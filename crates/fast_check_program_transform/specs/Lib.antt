@@ -1,0 +1,10 @@
+pub use Rattle.fast_check_program_requests.specs.Call
+pub use Rattle.fast_check_program_requests.specs.Refusal
+pub use Rattle.fast_check_program_requests.specs.Request
+pub use Rattle.fast_check_program_requests.specs.Input
+pub use Rattle.fast_check_program_requests.specs.Run
+pub use Rattle.fast_check_print.specs.Answer
+pub use Rattle.fast_check_print.specs.Diagnostics
+pub mod Line
+pub mod Only
+pub mod Transform

@@ -1,7 +1,0 @@
-use Rattle.std.proofs.Common.{map}
-use Rattle.fast_check_range_finder.specs.Finder.{depends}
-use Rattle.fast_check_range_finder.specs.Packages.{Adds}
-use Rattle.fast_check_range_finder.proofs.packages.add_dependencies.Given as goal
-
-abbrev pub invariant-loop-dependency : goal.invariant-loop-dependency
-invariant-loop-dependency l = Adds (map depends l.yielded) l.initial.found.entries l.found.entries

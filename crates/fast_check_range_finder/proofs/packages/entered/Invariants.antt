@@ -1,8 +1,0 @@
-use Rattle.std.proofs.Common.{map}
-use Rattle.fast_check_range_finder.specs.Finder.{entered_nv}
-use Rattle.fast_check_range_finder.specs.Once.{AreApart}
-use Rattle.fast_check_range_finder.specs.Packages.{IsEntered}
-use Rattle.fast_check_range_finder.proofs.packages.entered.Given as goal
-
-abbrev pub invariant-loop-nv : goal.invariant-loop-nv
-invariant-loop-nv l = AreApart (map entered_nv l.fn.entrances.items) → IsEntered l.yielded l.found.entries

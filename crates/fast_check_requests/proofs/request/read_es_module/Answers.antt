@@ -1,9 +1,0 @@
-use Rattle.std.proofs.Common.{◌∙◌, sym}
-use Rattle.fast_check_read_tables.proofs.graph.Given.{given_some}
-use Rattle.fast_check_requests.proofs.request.read_es_module.Goals as goal
-
-pub returns : goal.returns
-returns c =
-    given_some _ c.in_ok-read_member.ensures
-    ∙ (given_some _ (given_some _ (sym c.in_ok-member.ensures.member) ∙ c.in_ok-read_source.ensures)
-    ∙ given_some _ c.in_ok-read_module_tables.ensures)

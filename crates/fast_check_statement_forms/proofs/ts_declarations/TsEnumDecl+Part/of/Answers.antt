@@ -1,6 +1,0 @@
--- Written by forms/write.py from forms/forms.txt.
-use Rattle.std.proofs.Common.{rules}
-use Rattle.fast_check_statement_forms.proofs.ts_declarations.TsEnumDecl+Part.of.Goals as goal
-
-pub returns : goal.returns
-returns c = search rules

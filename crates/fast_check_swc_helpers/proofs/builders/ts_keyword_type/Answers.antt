@@ -1,5 +1,0 @@
-use Rattle.std.proofs.Common.{rules}
-use Rattle.fast_check_swc_helpers.proofs.builders.ts_keyword_type.Goals as goal
-
-pub returns : goal.returns
-returns c = search rules

@@ -1,8 +1,0 @@
-use Rattle.std.proofs.Common.{rules}
-use Rattle.fast_check_swc_helpers.proofs.global_calls.object_freeze_call_arg.Goals as goal
-
-pub returns-then-is_global_member : goal.returns-then-is_global_member
-returns-then-is_global_member c = search rules
-
-pub returns-else-is_global_member : goal.returns-else-is_global_member
-returns-else-is_global_member c = search rules

@@ -1,0 +1,6 @@
+use Rattle.std.proofs.Common.{◌∙◌}
+use Rattle.fast_check_tables_graph.proofs.Tied.{at_specifier}
+use Rattle.fast_check_tables_graph.proofs.graph.ModuleGraph.resolutions_of.Goals as goal
+
+pub returns : goal.returns
+returns c = c.get.ensures.value ∙ at_specifier c.args.referrer.now c.args.self.now.resolutions.entries

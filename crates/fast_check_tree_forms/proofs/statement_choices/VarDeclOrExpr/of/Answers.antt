@@ -1,0 +1,16 @@
+-- Written by forms/write.py from forms/forms.txt.
+use Rattle.std.proofs.Common.{sym, ◌∙◌, ap}
+use Rattle.fast_check_tree_forms.specs.ExpressionChoices.{if_expr}
+use Rattle.fast_check_tree_forms.specs.declared.statement_choices.VarDeclOrExpr.{VarDeclOrExpr}
+use Rattle.fast_check_tree_forms.proofs.Within.{is_expr, var_decl_or_expr_else}
+use Rattle.fast_check_tree_forms.proofs.statement_choices.VarDeclOrExpr.of.Goals as goal
+
+pub returns-in-Other : goal.returns-in-Other
+returns-in-Other c =
+    sym (var_decl_or_expr_else _ (λ p. c.in_default.not-VarDecl (c.kind.ensures ∙ p)) ∙
+    ap (λ this. if_expr this VarDeclOrExpr.Expr VarDeclOrExpr.Other) (sym c.of.ensures ∙ c.in-Other.is))
+
+pub returns-in_default-of : goal.returns-in_default-of
+returns-in_default-of c =
+    sym (var_decl_or_expr_else _ (λ p. c.in_default.not-VarDecl (c.kind.ensures ∙ p)) ∙
+    ap (λ this. if_expr this VarDeclOrExpr.Expr VarDeclOrExpr.Other) (sym c.of.ensures) ∙ is_expr c.of.result _ _ c.in_default-of.not-Other)

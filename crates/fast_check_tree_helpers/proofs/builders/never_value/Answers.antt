@@ -1,0 +1,11 @@
+use Rattle.std.proofs.Common.{rules}
+use Rattle.fast_check_tree_helpers.proofs.builders.never_value.Goals as goal
+
+pub returns-in_err-into_tree : goal.returns-in_err-into_tree
+returns-in_err-into_tree c = search rules
+
+pub returns-in_err-into_tree-2 : goal.returns-in_err-into_tree-2
+returns-in_err-into_tree-2 c = search rules
+
+pub returns : goal.returns
+returns c = search rules

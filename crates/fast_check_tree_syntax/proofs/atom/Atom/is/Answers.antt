@@ -1,0 +1,5 @@
+use Rattle.std.proofs.Common.{rules}
+use Rattle.fast_check_tree_syntax.proofs.atom.Atom.is.Goals as goal
+
+pub returns : goal.returns
+returns c = search rules
