@@ -24,7 +24,7 @@ def main(words):
         print(__doc__ + "\n" + "\n".join(known), file=sys.stderr)
         return 2
     sys.argv = words
-    runpy.run_module(known[words[0]], run_name="__main__")
+    runpy.run_module(known[words[0]], run_name="__main__", alter_sys=True)
     return 0
 
 

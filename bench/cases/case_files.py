@@ -232,6 +232,8 @@ class Folder:
                 self.sources[case] = file, text_of(os.path.join(HERE, name, file))
                 SOURCES.ask(case.split(".")[0], *self.sources[case])
         self.expected = {file[:-9]: text_of(os.path.join(HERE, name, file)) for file in files if file.endswith(".expected")}
+        for case in sorted({case.split(".")[0] for case in self.sources} - {case for _, cases in self.titles for case in cases}):
+            raise SystemExit(f"{name}/{case} is not in the list {name}/cases")
 
     def cases(self):
         """Each title with its cases."""
@@ -240,6 +242,8 @@ class Folder:
 
     def case(self, name):
         if name not in self.sources:
+            if name not in self.others:
+                raise SystemExit(f"{name} is in a list of cases, and there is no such file")
             return self.others[name]
         file, text = self.sources[name]
         case = case_of(name, self.expected[name])
