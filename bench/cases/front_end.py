@@ -1,7 +1,7 @@
 """Trees of TypeScript as the front end reads them (`read.js`), with all fields in the order of docs/FORMATS.md, and with the scope numbers of cases.
 
-Scope numbers of cases say of a name what rules ask: 1 for a name that nothing binds and that rules know, 3 for one of a function, a class or a pattern, and 2
-for all others. swc's would number each scope.
+Scope numbers of cases say of a name what rules ask: 1 for one of `KNOWN`, which nothing binds, 3 for one of a function, a class or a pattern, and 2 for all
+others. swc's would number each scope.
 """
 import json
 import os
@@ -13,7 +13,7 @@ from bench.oracle.trees import ARROW, BLOCK, FREE, FUNCTION, MODULE
 
 HERE = os.path.dirname(os.path.abspath(__file__))
 ENDINGS = {"TypeScript": ".ts", "Tsx": ".tsx", "Mts": ".mts", "JavaScript": ".js", "Dts": ".d.ts", "Dmts": ".d.mts", "Dcts": ".d.cts"}
-# the names that rules know, where nothing binds them
+# names that nothing binds
 KNOWN = ("Symbol", "Object", "Promise", "String", "Map")
 SCOPES = {"Function": FUNCTION, "Class": FUNCTION, "Constructor": FUNCTION, "ArrowExpr": ARROW}
 # the fields that stand behind all others
