@@ -1,4 +1,4 @@
-use Rattle.std.proofs.Common.{◌∙◌, sym, subst, List, map}
+use Rattle.std.proofs.Common.{◌∙◌, sym, subst, List, map, IfErr}
 use Rattle.std.proofs.lemmas.Result.{err_from_is_err_and}
 use Rattle.fast_check_tables_packages.specs.Package.{nv_of}
 use Rattle.fast_check_tables_packages.specs.declared.package.PackageNv.{PackageNv}
