@@ -253,7 +253,9 @@ function hashOfTool() {
     return it.isDirectory() ? below(name) : name.endsWith('.js') ? [name] : [];
   });
   const names = below(path.resolve(__dirname, '..')).sort();
-  toolHash = hashOf(names.map((name) => `${name}\n${fs.readFileSync(name, 'utf8')}`).join('\n'));
+  const hash = crypto.createHash('sha256');
+  for (const name of names) hash.update(`${name}\n`).update(/** @type {Uint8Array} */ (fs.readFileSync(name)));
+  toolHash = hash.digest('hex');
   return toolHash;
 }
 
