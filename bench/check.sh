@@ -11,9 +11,9 @@ set -u
 [ $# -ge 1 ] && [ $# -le 3 ] || { sed -n 's/^# usage: /usage: /p' "$0" >&2; exit 2; }
 program=$(readlink -f "$1") count=${2:-1000} seed=${3:-1}
 top=$(cd "$(dirname "$(readlink -f "${BASH_SOURCE[0]}")")/.." && pwd)
-check=$top/bench/check
-vectors=${VECTORS:-$top/crates/fast_check_vectors/out/fast_check_vectors}
+vectors=$(readlink -f "${VECTORS:-$top/crates/fast_check_vectors/out/fast_check_vectors}")
 [ -x "$program" ] || { echo "check.sh: there is no program $1" >&2; exit 2; }
+cd "$top" || exit
 status=0
 
 # Takes how a check ended and how many of its inputs are wrong, which its last line says. Where it did not end well, what it said stands below its line.
@@ -28,7 +28,7 @@ judge() {
 run() {
   local name=$1 said differ began=$SECONDS
   shift
-  said=$("$check/$name.py" "$@" 2>&1)
+  said=$(python3 -m bench "$name" "$@" 2>&1)
   local ended=$?
   differ=$(tail -n 1 <<< "$said" | sed -nE 's/.*[ ,]([0-9]+) differ.*/\1/p')
   printf '%-16s %7s inputs  seed %-6s %5s differ    %5s s\n' "$name" "$count" "$seed" "${differ:-?}" $((SECONDS - began))
@@ -52,14 +52,14 @@ run_vectors packages run "$count" "$seed" "$vectors"
 run_vectors random_names "$vectors" "$count" "$seed"
 
 began=$SECONDS
-said=$("$check/mutate.py" "$program" "$count" "$seed" 2>&1)
+said=$(python3 -m bench mutate "$program" "$count" "$seed" 2>&1)
 ended=$?
 read -r inputs breaches < <(sed -nE '$s/^inputs=([0-9]+) breaches=([0-9]+) .*$/\1 \2/p' <<< "$said")
 printf '%-16s %7s inputs  seed %-6s %5s breach    %5s s\n' mutate "${inputs:-?}" "$seed" "${breaches:-?}" $((SECONDS - began))
 judge "$ended" "${breaches:-}" "$said"
 
 began=$SECONDS
-said=$("$check/files.py" "$program" 2>&1)
+said=$(python3 -m bench files "$program" 2>&1)
 ended=$?
 read -r runs differ < <(sed -nE '$s/^runs=([0-9]+) differing=([0-9]+)$/\1 \2/p' <<< "$said")
 printf '%-16s %7s runs                %5s differ    %5s s\n' files "${runs:-?}" "${differ:-?}" $((SECONDS - began))
@@ -71,7 +71,7 @@ if [ "$count" -lt 1000 ]; then
 fi
 
 began=$SECONDS
-said=$("$check/shapes.py" "$program" 2>&1)
+said=$(python3 -m bench shapes "$program" 2>&1)
 ended=$?
 read -r shapes above < <(sed -nE '$s/^shapes=([0-9]+) above=([0-9]+)$/\1 \2/p' <<< "$said")
 printf '%-16s %7s shapes              %5s above     %5s s\n' shapes "${shapes:-?}" "${above:-?}" $((SECONDS - began))

@@ -2,21 +2,27 @@
 `build_worlds` and by what docs/proofs/rules.md says of the cache."""
 import json
 
-import random_builds
-from build_cases import drawing, faulty, single
-from build_worlds import JsonModule, Module, World, sources_of
-from cache_cases import OWN, RULES, hash_of
-from items import const, func, let, unknown
-from module_trees import export, export_all
-from package_accounts import Closure, without_nested
-from package_rules import World as Rules, join, order_of
-from package_worlds import nv_of, url_of
-from trees import lit, returned
+from bench.cases import build_files
+from bench.cases.cache_cases import OWN, RULES, hash_of
+from bench.cases.odd_builds import single
+from bench.check import random_builds
+from bench.oracle.build_worlds import JsonModule, Module, World, sources_of
+from bench.oracle.items import const, func, let, unknown
+from bench.oracle.module_trees import export, export_all
+from bench.oracle.package_accounts import Closure, without_nested
+from bench.oracle.package_rules import World as Rules, join, order_of
+from bench.oracle.package_worlds import nv_of, url_of
+from bench.oracle.trees import lit, returned
 
 NODES = ("Js", "Json", "Wasm")
 # random workspaces by their seeds, each with a package whose sources are changed: it is found again beside others whose items are used. In all but the
 # last three that shows less or other things of it, since some of it was asked for by modules of the others alone
 CHANGED = [(4117, "p"), (4121, "r"), (4151, "q"), (4306, "p"), (4365, "q"), (4371, "r"), (4391, "q"), (4100, "q"), (4111, "p"), (4128, "r")]
+
+
+def world_of(name):
+    """The world of a build that is a file."""
+    return build_files.files()[name].world
 
 
 class Refused(Exception):
@@ -252,8 +258,8 @@ def runs():
     yield "the_hash_of_the_last_diagnostic_is_changed", {}, [three(), three(m2=99), three(m3=99)]
     yield "an_entry_point_that_the_graph_lacks", {}, [none_there(), none_there()]
     yield "two_packages_of_one_key", {"one_key": True}, [pair(), pair()]
-    yield "two_packages", {}, [with_hashes(drawing()), with_hashes(drawing())]
-    yield "two_entry_points_with_faults", {}, [with_hashes(faulty()), with_hashes(faulty())]
+    yield "two_packages", {}, [with_hashes(world_of("build_canvas")), with_hashes(world_of("build_canvas"))]
+    yield "two_entry_points_with_faults", {}, [with_hashes(world_of("build_faults_of_two_entry_points")), with_hashes(world_of("build_faults_of_two_entry_points"))]
     yield "a_cache_with_a_seed_of_its_own", {"own_seed": True}, [three(), three()]
     yield "an_item_without_modules", needed, [pair(pending=["p"]), pair(pending=["p"])]
     # the item of q is made where nothing asks for its module; the second build answers the module as without a cache, and sets it
@@ -268,7 +274,7 @@ def runs():
     # the item without modules again; the third takes the new item of p as well
     without_modules = {"items": [[nv_of("r"), [url_of("r/mod.ts")], [nv_of("s")]]]}
     yield from refused("four_packages", without_modules, [four(), four("p"), four("p")])
-    yield from refused("two_packages_of_three_modules", {}, [with_hashes(drawing())] * 2)
+    yield from refused("two_packages_of_three_modules", {}, [with_hashes(world_of("build_canvas"))] * 2)
     for seed in range(30):
         world = with_hashes(random_builds.Writer(4000 + seed).world())
         yield f"a_random_workspace_{seed}", {}, [world, world]

@@ -14,6 +14,7 @@ for each fault as `case` says it. Lines before that begin with `//`, and say wha
                                 what the tables know of an object, and tables of `TABLES`
     // source: WORDS, sources: none, levels: NUMBER
                                 the sources of the answer, and how deep the request is
+    // answers: the same        of the second of two modules: whether both answers are the same under a renaming, or `others`
     // tree: PATH VALUE         what the items have there in place of what is read
     // comments: 1 20!          the places of tokens that documentation stands before and behind; where a `!` stands, that before it goes
     // leading comments: 1 20!  the same of what stands before them alone
@@ -21,11 +22,11 @@ for each fault as `case` says it. Lines before that begin with `//`, and say wha
 import json
 import os
 
-import front_end
-from case import Case
-from known_tables import TABLES, known
-from runs import DATA
-from trees import MODULE
+from bench.cases import front_end
+from bench.cases.case import Case
+from bench.cases.known_tables import TABLES, known
+from bench.cases.runs import DATA
+from bench.oracle.trees import MODULE
 
 HERE = os.path.dirname(os.path.abspath(__file__))
 
@@ -75,7 +76,6 @@ class Sources:
             if program is None:
                 program, self.stored = stored_program(name, text), self.stored + 1
             self.programs[file, text] = program
-
 
     def told(self):
         """How many texts were read, and by what."""
@@ -193,6 +193,7 @@ HEADS = {
     "source": lambda value, case: case.more.setdefault("sources", []).append(value),
     "sources": lambda value, case: case.more.update(sources=[]),
     "levels": lambda value, case: case.more.update(levels=int(value)),
+    "answers": lambda value, case: case.more.update(answers=value),
     "tree": other_tree,
     "comments": documented,
     "leading comments": lambda value, case: documented(value, case, True),
@@ -226,11 +227,13 @@ class Folder:
         self.titles, self.others, self.sources = listed(name), others, {}
         files = os.listdir(os.path.join(HERE, name))
         for file in files:
-            case = file.split(".")[0]
             if file.endswith(tuple(front_end.ENDINGS.values())):
+                case = file.removesuffix(front_end.ENDINGS[media_type(file)])
                 self.sources[case] = file, text_of(os.path.join(HERE, name, file))
-                SOURCES.ask(case, *self.sources[case])
-        self.expected = {file.split(".")[0]: text_of(os.path.join(HERE, name, file)) for file in files if file.endswith(".expected")}
+                SOURCES.ask(case.split(".")[0], *self.sources[case])
+        self.expected = {file[:-9]: text_of(os.path.join(HERE, name, file)) for file in files if file.endswith(".expected")}
+        for case in sorted({case.split(".")[0] for case in self.sources} - {case for _, cases in self.titles for case in cases}):
+            raise SystemExit(f"{name}/{case} is not in the list {name}/cases")
 
     def cases(self):
         """Each title with its cases."""
@@ -239,6 +242,8 @@ class Folder:
 
     def case(self, name):
         if name not in self.sources:
+            if name not in self.others:
+                raise SystemExit(f"{name} is in a list of cases, and there is no such file")
             return self.others[name]
         file, text = self.sources[name]
         case = case_of(name, self.expected[name])

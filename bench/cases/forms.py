@@ -7,8 +7,8 @@ import json
 import os
 import re
 
-from programs import TOP
-from trees import (
+from bench.oracle.programs import TOP
+from bench.oracle.trees import (
     Source, block, class_, declarator, fn_stmt, form, free, function, ident, lay_as, lit, name as named, paren, returned, run, stmt, thrown, unshared,
     var_stmt,
 )

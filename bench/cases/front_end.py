@@ -8,8 +8,8 @@ import os
 import shutil
 import subprocess
 
-from forms import CHOICES, FORMS
-from trees import ARROW, BLOCK, FREE, FUNCTION, MODULE
+from bench.cases.forms import CHOICES, FORMS
+from bench.oracle.trees import ARROW, BLOCK, FREE, FUNCTION, MODULE
 
 HERE = os.path.dirname(os.path.abspath(__file__))
 ENDINGS = {"TypeScript": ".ts", "Tsx": ".tsx", "Mts": ".mts", "JavaScript": ".js", "Dts": ".d.ts", "Dmts": ".d.mts", "Dcts": ".d.cts"}

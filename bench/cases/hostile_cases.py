@@ -1,8 +1,8 @@
 """Runs of `fast-check build` on hostile tables, in the shapes that `bench/check/shapes.py` measures and in some of its own: rings, long
 paths, names that come twice, and modules that lead back to themselves. The trees are empty, so that each module with something public is answered by an
 empty skeleton: what is shown is that the call ends, which modules are answered, and which fault of the tables is reported."""
-import hostile_shapes
-import tables
+from bench.cases import hostile_shapes
+from bench.check import tables
 
 def skeleton(leading=(), trailing=()):
     """An empty skeleton with these comments."""

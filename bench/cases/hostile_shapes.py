@@ -2,8 +2,8 @@
 small (`hostile_cases.py`), and `bench/check/shapes.py` makes each of 100 KB. The trees are empty."""
 import math
 
-from one_hash import NAME_LETTERS, URL_LETTERS, colliding
-from tables import (
+from bench.cases.one_hash import NAME_LETTERS, URL_LETTERS, colliding
+from bench.check.tables import (
     FEW, HOST, NO_TEXT, RANGES, by_name, chain_to, decl, definition, exports_of, file_ref, import_type, module, names_that_ask, namespace_of_items,
     one_name, part, request, single, symbol, target, url,
 )

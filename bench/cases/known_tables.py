@@ -1,5 +1,5 @@
 """Tables of modules that say what is known of objects, and of names behind `new`."""
-from trees import MODULE
+from bench.oracle.trees import MODULE
 
 OTHER = 7
 

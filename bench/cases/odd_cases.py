@@ -1,12 +1,12 @@
 """Cases whose trees no text is read as: patterns and expressions that are none, what only swc's parser takes, and names of two scopes."""
-from case import Case
-from items import F, ONE, T, THROW, const, func, if_, public_class, put, unknown
-from known_tables import OTHER, known
-from module_trees import ambient_module, default_export, export, global_module, import_, default_import, namespace, star_export, star_import
-from trees import (
+from bench.cases.case import Case
+from bench.cases.known_tables import OTHER, known
+from bench.oracle.items import F, ONE, T, const, func, if_, public_class, put, unknown
+from bench.oracle.module_trees import ambient_module, default_export, export, global_module, import_, default_import, namespace, star_export, star_import
+from bench.oracle.trees import (
     MODULE, angle, array, array_pattern, arrow, as_, as_const, assign, assigned, binary, block, call, class_, computed, cond, declarator, decorated, default,
     expr, exported, fn_stmt, form, free, freeze, function, function_type, getter, hash_member, ident, index, instantiation, intersection, key_literal, lit,
-    member, method, name, named, new, non_null, object_, object_pattern, optional_member, optional_type, pair, paren, ref, rest, rest_type, returned, run,
+    member, method, name, new, non_null, object_, object_pattern, optional_member, optional_type, pair, paren, ref, rest, rest_type, returned, run,
     satisfies, setter, shorthand, spread, spread_of, stmt, template, thrown, tpl, tuple_type, type_operator, unary, unexported, update, var_stmt, variables,
 )
 

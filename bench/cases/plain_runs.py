@@ -1,6 +1,6 @@
 """Runs of `transform` whose trees are written out: variables, values, types and comments."""
-from runs import Module, NEVER, answered, first_module, ident, keyword, missing_type, module_answer, program, request, title, transforms
-from trees import DUMMY
+from bench.cases.runs import Module, NEVER, answered, first_module, ident, keyword, missing_type, module_answer, program, request, title, transforms
+from bench.oracle.trees import DUMMY
 
 
 def variables():
@@ -57,10 +57,6 @@ def variables():
 
 
 # ---- values and types beyond literals: each node as it is written, with what stands for it
-
-
-def text_type(value, raw):
-    return {"TsLitType": {"span": DUMMY, "lit": {"Str": {"span": DUMMY, "value": value, "raw": raw}}}}
 
 
 def quasi(text, tail=True):

@@ -1,12 +1,12 @@
 """Runs of what may be left out of a request and of what is refused: JSON, trees, tables and graphs."""
 import json
 
-from runs import (
+from bench.cases.runs import (
     BODY, DOCS, FIRST_VAR, Module, NEVER, NO_TABLES, SOURCE, SPECIFIER, answered, changed, first_module, ident, keyword, module_answer, program, refused,
     request, title,
 )
-from skeletons import diagnostic
-from trees import DUMMY
+from bench.oracle.skeletons import diagnostic
+from bench.oracle.trees import DUMMY
 
 
 def defaults():

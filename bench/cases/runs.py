@@ -3,9 +3,9 @@ import json
 import os
 import sys
 
-from module_skeletons import sources_of
-from programs import TOP
-from trees import DUMMY, Source
+from bench.oracle.module_skeletons import sources_of
+from bench.oracle.programs import TOP
+from bench.oracle.trees import DUMMY, Source
 
 CRATE = os.path.join(TOP, "crates/fast_check_vectors")
 DATA = os.path.join(CRATE, "data")

@@ -7,9 +7,8 @@ to all that is asked, and the entry point of the package exports it.
 import json
 import os
 
-import reference_cases  # which adds to the same list before
-from package_cases import CASES, case
-from package_worlds import FLAGS, HOST, NAMESPACES, WorldText, with_ranges
+from bench.cases.worlds import CASES, case
+from bench.oracle.package_worlds import FLAGS, HOST, NAMESPACES, WorldText, with_ranges
 
 HERE = os.path.dirname(os.path.abspath(__file__))
 FLAGS = {**FLAGS, 'default_class': 'is_default_class_expr', 'exported': 'has_export_keyword'}

@@ -9,13 +9,11 @@ import json
 import os
 import sys
 
-import cache_cases
-import cached_builds
-import forms
-import packages
-import search_cases  # which adds to the worlds, as reference_cases does
-from package_cases import CASES as WORLDS
-from runs import EXAMPLES, FILES, Module, keyword, line
+from bench.cases import search_cases  # which adds to the worlds
+from bench.cases import cache_cases, cached_builds, forms
+from bench.cases.runs import EXAMPLES, FILES, Module, keyword, line
+from bench.cases.worlds import CASES as WORLDS
+from bench.check import packages
 
 STATED = os.path.join(os.path.dirname(os.path.abspath(__file__)), "stated")
 

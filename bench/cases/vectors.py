@@ -1,35 +1,26 @@
-#!/usr/bin/env python3
 """Writes what `crates/fast_check_vectors` reads (`data/`), and what it must print (`stdout`): runs of the program, and single calls (`single_calls`).
 
 Most runs stand in the folders beside this script as TypeScript, with what has to come out (`case_files`); their trees are those that tools/typescript reads.
-Trees that no text is read as, and odd tables, are made by Python (`odd_cases`, `plain_runs`, `refused_runs`, `hostile_cases`). What a skeleton has to be follows
-from the rules of `bench/rules` alone: the program's own output is nowhere taken for right.
+Trees that no text is read as, and odd tables, are made by Python (`odd_cases`, `odd_builds`, `plain_runs`, `refused_runs`, `hostile_cases`). What a skeleton has to be follows
+from the rules of `bench/oracle` alone: the program's own output is nowhere taken for right.
 
-Usage: bench/cases/vectors.py             writes them. What the installed TypeScript does not read is taken as it is stored
-       bench/cases/vectors.py --check     compares them with what is stored, and names what differs
+Usage: python3 -m bench vectors             writes them. What the installed TypeScript does not read is taken as it is stored
+       python3 -m bench vectors --check     compares them with what is stored, and names what differs
 """
 import os
 import sys
 
-sys.dont_write_bytecode = True
-sys.path[:0] = [os.path.join(os.path.dirname(os.path.dirname(os.path.abspath(__file__))), folder) for folder in ("rules", "cases", "check", "time")]
-
-import build_cases
-import build_demand_cases
-import hostile_cases
-import odd_cases
-import pair_cases
-import single_calls
-from case_files import SOURCES, Folder
-from plain_runs import comments, types, values, variables
-from ranges import public_ranges, ranges_of_members, ranges_within
-from refused_runs import defaults, refusals, tables, with_tables
-from runs import (
+from bench.cases import build_files, hostile_cases, odd_builds, odd_cases, pair_cases, single_calls
+from bench.cases.case_files import SOURCES, Folder
+from bench.cases.plain_runs import comments, types, values, variables
+from bench.cases.refused_runs import defaults, refusals, tables, with_tables
+from bench.cases.runs import (
     CASES, CRATE, DATA, DOCS, FILES, NO_GRAPH, RUNS, SPECIFIER, STDOUT, answered, case, line, module_answer, program, put, put_example, request, title,
 )
-from skeletons import Skeleton, diagnostic
-from programs import TOP
-from trees import lay_items
+from bench.oracle.programs import TOP
+from bench.oracle.ranges import public_ranges, ranges_of_members, ranges_within
+from bench.oracle.skeletons import Skeleton, diagnostic
+from bench.oracle.trees import lay_items
 
 # ---- functions and values of all forms: what is stated by hand has to agree with what the rules give
 
@@ -122,21 +113,26 @@ def transform_cases(folder):
             answered(case.name, *laid_out(case))
 
 
-def builds():
+def builds(files):
     """Each group of builds, with what it shows."""
-    for words, cases in build_cases.GROUPS + build_demand_cases.GROUPS:
+    for words, names in build_files.titles():
         title(words)
-        for each in cases():
-            if isinstance(each, build_cases.Refused):
-                put(f"{each.name}.json", each.content)
-                case(f"build {each.name}.json", 2, f"error: input refused: {each.word}\n")
-                continue
-            answers = each.world.answers(DOCS, each.without)
-            agree(each.name, "answer", each.expected, build_cases.given(each.world, answers, lambda items: lay_items(items)[1]))
-            put(f"{each.name}.json", each.request or each.world.request())
-            case(f"build {each.name}.json", int(any("Err" in answer for _, answer in answers)), line(answers))
-            if each.name in build_cases.EXAMPLES:
-                put_example(each.name, each.name, answers)
+        for name in names:
+            build(name, files.get(name) or odd_builds.CASES[name])
+
+
+def build(name, each):
+    """A run of a build, whose answer has to be the one that is stated."""
+    if isinstance(each, odd_builds.Refused):
+        put(f"{name}.json", each.content)
+        case(f"build {name}.json", 2, f"error: input refused: {each.word}\n")
+        return
+    answers = each.world.answers(DOCS, each.without)
+    agree(name, "answer", each.expected, odd_builds.given(each.world, answers, lambda items: lay_items(items)[1]))
+    put(f"{name}.json", each.request or each.world.request())
+    case(f"build {name}.json", int(any("Err" in answer for _, answer in answers)), line(answers))
+    if name in odd_builds.EXAMPLES:
+        put_example(name, name, answers)
 
 
 def hostile_builds():
@@ -187,6 +183,7 @@ def streams():
 def make():
     """Makes all files."""
     folders = {name: Folder(name, odd_cases.CASES) for name in ("functions", "new", "returns", "values", "classes", "modules", "namespaces", "expandos")}
+    pairs, files = Folder("pairs", {}), build_files.files()
     variables()
     values()
     types()
@@ -196,9 +193,9 @@ def make():
     defaults()
     refusals()
     tables()
-    builds()
+    builds(files)
     hostile_builds()
-    pair_cases.pairs(laid_out, agree)
+    pair_cases.pairs(pairs, laid_out, agree)
     words()
     streams()
     put("cases", "".join(CASES).encode())

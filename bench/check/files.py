@@ -1,7 +1,6 @@
-#!/usr/bin/env python3
 """Files and streams that are not as they should be, each with the status and the lines that have to come (docs/FORMATS.md).
 
-Usage: bench/check/files.py PROGRAM
+Usage: python3 -m bench files PROGRAM
 """
 import os
 import resource
@@ -9,7 +8,7 @@ import subprocess
 import sys
 import tempfile
 
-from program_path import program_path
+from bench.check.program_path import program_path
 
 TOP = os.path.dirname(os.path.dirname(os.path.dirname(os.path.abspath(__file__))))
 COMMANDS = {"transform": "examples/first.json", "build": "examples/build_hello.json", "pair": "examples/pair.json"}

@@ -8,7 +8,7 @@ import subprocess
 import sys
 import tempfile
 
-from program_path import program_path
+from bench.check.program_path import program_path
 
 MOST_EXPONENT, RUNS = 1.2, 3
 

@@ -3,12 +3,12 @@
 What an edit adds has no numbers, and so is never public. `edit` changes a module in place. What may be hidden is stated here by rules of this script alone:
 where an edit stands in a list, whether a body is one of the same kind, and whether a value shows the same type.
 """
-from class_skeletons import is_hash_named
-from items import put
-from module_trees import export_all, import_, interface, named_export, named_import, namespace, property_signature
-from nodes import variant
-from skeletons import names_type, return_class, shown, single_return_arg
-from trees import (
+from bench.oracle.class_skeletons import is_hash_named
+from bench.oracle.items import put
+from bench.oracle.module_trees import export_all, import_, interface, named_export, named_import, namespace, property_signature
+from bench.oracle.nodes import variant
+from bench.oracle.skeletons import names_type, return_class, shown, single_return_arg
+from bench.oracle.trees import (
     FREE, array_pattern, block, class_stmt, declarator, decorator, empty_member, exported, fn_stmt, form, hash_method, hash_prop, lit, name,
     named, object_pattern, paren, ref, returned, run, static_block, stmt, thrown, unexported, var_stmt,
 )

@@ -1,4 +1,3 @@
-#!/usr/bin/env python3
 """Mutated inputs of all commands through the program: whatever the bytes are, a run ends by one line with a status of docs/FORMATS.md.
 
 Each input is one of the stored runs or examples with some of it changed: as text (bytes turned, cut out, doubled, put in), or as JSON (a value replaced
@@ -9,7 +8,7 @@ of a breach is written to a file, whose name is printed. An input goes by the se
 The last line has the processor seconds of the slowest run, and of the runs on 30 KB and more the most bytes that one held at once, beside those of a run on
 no bytes, for each byte of its input.
 
-Usage: bench/check/mutate.py PROGRAM [COUNT [SEED [SIDE_BY_SIDE [FIRST]]]]
+Usage: python3 -m bench mutate PROGRAM [COUNT [SEED [SIDE_BY_SIDE [FIRST]]]]
        (1000 inputs of some seed, as many side by side as there are processors, from number 0 on; an interrupt ends it with what was tried so far)
 """
 import collections
@@ -26,8 +25,8 @@ import sys
 import tempfile
 import time
 
-from fork_server import ForkServer, compile_library
-from program_path import program_path
+from bench.check.fork_server import ForkServer, compile_library
+from bench.check.program_path import program_path
 
 TOP = os.path.dirname(os.path.dirname(os.path.dirname(os.path.abspath(__file__))))
 DATA = os.path.join(TOP, "crates/fast_check_vectors/data")

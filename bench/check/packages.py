@@ -1,15 +1,14 @@
-#!/usr/bin/env python3
 """Worlds of packages and modules for the finder, with what a plain and slow closure finds in each.
 
 The rules stand in package_rules.py, in words of docs/proofs/rules.md and by nothing of the code; package_accounts.py says which answers
 an account of demands gives. Compared is exactly that: whether the program's answer is what some account gives, no more and no
 less, where who asked first may decide between accounts. For most worlds there is one answer, that of all demands; they are counted.
 
-The stated worlds are those of package_cases.py, reference_cases.py and search_cases.py; `bench/cases/vectors.py` writes them with what must come.
+The stated worlds are those of worlds.txt and search_cases.py; `python3 -m bench vectors` writes them with what must come.
 
-usage: bench/check/packages.py random COUNT SEED      random worlds, as the driver reads them
-       bench/check/packages.py compare WORLDS PRINTED   what the driver printed for these worlds, compared
-       bench/check/packages.py run COUNT SEED [PROGRAM]   random worlds, run and compared; else by fast_check_vectors, which was built
+usage: python3 -m bench packages random COUNT SEED      random worlds, as the driver reads them
+       python3 -m bench packages compare WORLDS PRINTED   what the driver printed for these worlds, compared
+       python3 -m bench packages run COUNT SEED [PROGRAM]   random worlds, run and compared; else by fast_check_vectors, which was built
 """
 import json
 import os
@@ -18,15 +17,12 @@ import subprocess
 import sys
 import tempfile
 
-sys.dont_write_bytecode = True
-sys.path[:0] = [os.path.join(os.path.dirname(os.path.dirname(os.path.abspath(__file__))), folder) for folder in ("rules", "cases", "check", "time")]
-
-from program_path import VECTORS, program_path
-from package_accounts import Closure, mismatch, without_nested
-from package_rules import World, order_of
-from package_worlds import request_of, with_ranges, world_of
-from programs import built
-from random_packages import random_world
+from bench.check.program_path import VECTORS, program_path
+from bench.check.random_packages import random_world
+from bench.oracle.package_accounts import Closure, mismatch, without_nested
+from bench.oracle.package_rules import World, order_of
+from bench.oracle.package_worlds import request_of, with_ranges, world_of
+from bench.oracle.programs import built
 
 PROGRAM = built('fast_check_vectors')
 

@@ -1,4 +1,3 @@
-#!/usr/bin/env python3
 """Random workspaces through `fast-check build`, against the answers that `build_worlds` puts together by rules of its own.
 
 Each has packages of some modules, which import and export names of each other, of modules that are lacking, of JSON and of JavaScript, with public
@@ -7,9 +6,9 @@ follow, or where who asks first decides what is found, by what the part `worlds`
 (`packages`). A workspace that differs from both is written to a file. One that needs the finder
 is not judged where that is not built: the status is 2 then.
 
-Usage: bench/check/random_builds.py [COUNT [SEED [PROGRAM [FINDER]]]]     both have to be built first: ./fast-check build examples/build_hello.json, and
+Usage: python3 -m bench random_builds [COUNT [SEED [PROGRAM [FINDER]]]]     both have to be built first: ./fast-check build examples/build_hello.json, and
                                                                     `rt run` in crates/fast_check_vectors
-       bench/check/random_builds.py write FOLDER COUNT SEED       workspaces NAME.json and what must come, NAME.json.stdout
+       python3 -m bench random_builds write FOLDER COUNT SEED       workspaces NAME.json and what must come, NAME.json.stdout
 """
 import json
 import os
@@ -18,19 +17,16 @@ import subprocess
 import sys
 import tempfile
 
-sys.dont_write_bytecode = True
-sys.path[:0] = [os.path.join(os.path.dirname(os.path.dirname(os.path.abspath(__file__))), folder) for folder in ("rules", "cases", "check", "time")]
-
-from program_path import program_path
-import packages as finders
-from build_worlds import JsonModule, Module, World
-from items import ONE, THROW, func, part_of, unknown
-from module_trees import (
+from bench.check import packages as finders
+from bench.check.program_path import program_path
+from bench.oracle.build_worlds import JsonModule, Module, World
+from bench.oracle.items import ONE, THROW, func, part_of, unknown
+from bench.oracle.module_trees import (
     default_import, default_value, export, export_all, import_, interface, named_export, named_import, property_signature, star_export, star_import,
 )
-from package_worlds import with_ranges
-from programs import TOP, built, fast_check
-from trees import (
+from bench.oracle.package_worlds import with_ranges
+from bench.oracle.programs import TOP, built, fast_check
+from bench.oracle.trees import (
     array, class_method, class_stmt, constructor, declarator, default, exported, fn_stmt, hash_prop, lit, name, named, object_, pair, param_prop, prop, ref,
     returned, unexported, var_stmt,
 )

@@ -1,11 +1,10 @@
-#!/usr/bin/env python3
 """Random modules through `fast-check transform`, against the skeletons that `skeletons` makes by rules of its own.
 
 Each module has items of all kinds, nested at random, with random public ranges and implementations with overloads, and tables of its objects and classes.
 What the program answers has to be what the rules give: the skeleton and its sources, or the diagnostics, under the option the first alone. A module that
 differs is written to a file.
 
-Usage: bench/check/random_modules.py [COUNT [SEED [PROGRAM]]]       the program has to be built first: ./fast-check transform examples/first.json
+Usage: python3 -m bench random_modules [COUNT [SEED [PROGRAM]]]       the program has to be built first: ./fast-check transform examples/first.json
 """
 import json
 import os
@@ -14,20 +13,17 @@ import subprocess
 import sys
 import tempfile
 
-sys.dont_write_bytecode = True
-sys.path[:0] = [os.path.join(os.path.dirname(os.path.dirname(os.path.abspath(__file__))), folder) for folder in ("rules", "cases", "check", "time")]
-
-from program_path import program_path
-import programs
-from items import put
-from module_skeletons import range_of_default, range_of_specifier, sources_of
-from module_trees import (
+from bench.check.program_path import program_path
+from bench.oracle import programs
+from bench.oracle.items import put
+from bench.oracle.module_skeletons import range_of_default, range_of_specifier, sources_of
+from bench.oracle.module_trees import (
     alias, ambient_module, default_decl, default_import, default_interface, default_value, export, export_all, export_assignment, global_module, import_,
     interface, named_export, named_import, namespace, namespace_export, property_signature, require, star_export, star_import, using,
 )
-from nodes import variant
-from skeletons import Skeleton, diagnostic
-from trees import (
+from bench.oracle.nodes import variant
+from bench.oracle.skeletons import Skeleton, diagnostic
+from bench.oracle.trees import (
     FREE, MODULE, accessor, angle, array, array_of, array_pattern, arrow, as_, as_const, assign, assign_to, binary, block, call, class_, class_method,
     class_stmt, computed, computed_of, cond, constructor, declarator, decorated, decorator, default, empty_member, exported, fn_stmt, free, freeze,
     function, function_type, getter, hash_method, hash_prop, index, index_signature, instantiation, key_literal, lay_items, lit, literal_type, member, method,

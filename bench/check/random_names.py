@@ -1,4 +1,3 @@
-#!/usr/bin/env python3
 """Random pairs of name sets through the calls of `fast_check_finder_lattice`, against plain sets of paths.
 
 Both sets of a pair are trees of at most three names at a level and four levels: each name is demanded whole, has a subset that may be empty, or is
@@ -6,7 +5,7 @@ absent. In one of fifty pairs both have 50 to 200 names more at their first leve
 other; then random calls change it: `add`, `add_qualified`, `add_named`. After each call the answer, what the set has and its `node_count` have to be those of
 the trees, by the rules of docs/proofs/rules.md; at the end the set has to equal itself, and not itself with one name more.
 
-Usage: bench/check/random_names.py PROGRAM [PAIRS [SEED]]
+Usage: python3 -m bench random_names PROGRAM [PAIRS [SEED]]
 PROGRAM runs the calls of the file `names` in its folder when its word is `names`, as the program of all cases does.
 """
 import os
@@ -15,7 +14,7 @@ import subprocess
 import sys
 import tempfile
 
-from program_path import VECTORS, program_path
+from bench.check.program_path import VECTORS, program_path
 
 NAMES = ("a", "b", "c", "default")
 LEVELS = 4

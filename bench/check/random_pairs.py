@@ -1,4 +1,3 @@
-#!/usr/bin/env python3
 """Random pairs of modules through `fast-check pair`: a random module, and the same after random edits of what is hidden, with other scope numbers.
 
 Each node of the first module has a number, which stays with it through the edits (`hidden_edits`). Where it stands in the one text and in the other says what
@@ -6,7 +5,7 @@ the renaming takes its start and its end to. Both answers have to be the same un
 positions fall together in one text alone, is made anew. Comments stand before and behind some items and members of both. A pair that differs is written to
 a file.
 
-Usage: bench/check/random_pairs.py [COUNT [SEED [PROGRAM]]]       the program has to be built first: ./fast-check pair examples/pair.json
+Usage: python3 -m bench random_pairs [COUNT [SEED [PROGRAM]]]       the program has to be built first: ./fast-check pair examples/pair.json
 """
 import copy
 import json
@@ -15,16 +14,13 @@ import subprocess
 import sys
 import tempfile
 
-sys.dont_write_bytecode = True
-sys.path[:0] = [os.path.join(os.path.dirname(os.path.dirname(os.path.abspath(__file__))), folder) for folder in ("rules", "cases", "check", "time")]
-
-from program_path import program_path
-import programs
-from hidden_edits import Edits, new_nodes
-from nodes import variant
-from random_modules import RESOLVED, SPECIFIER, Writer, members
-from renamings import Renaming
-from trees import FREE, lay_items, unshared
+from bench.check.hidden_edits import Edits, new_nodes
+from bench.check.program_path import program_path
+from bench.check.random_modules import RESOLVED, SPECIFIER, Writer, members
+from bench.oracle import programs
+from bench.oracle.nodes import variant
+from bench.oracle.renamings import Renaming
+from bench.oracle.trees import FREE, lay_items, unshared
 
 RANGES = ("span", "dot3_token", "spread")
 

@@ -1,9 +1,8 @@
-#!/usr/bin/env python3
 """Runs a program with each of its requests for memory refused in turn, and reports which runs do not end as out of memory has to.
 
-    bench/check/refuse.py PROGRAM COMMAND FILE..
-    bench/check/refuse.py --where NUMBER PROGRAM COMMAND FILE
-    bench/check/refuse.py --stored COUNT PROGRAM COMMAND
+    python3 -m bench refuse PROGRAM COMMAND FILE..
+    python3 -m bench refuse --where NUMBER PROGRAM COMMAND FILE
+    python3 -m bench refuse --stored COUNT PROGRAM COMMAND
 
 PROGRAM COMMAND FILE is run with its first request refused, then with its second, and so on, until a run ends before
 the request that it was to be refused; each once with this request refused alone, and once with all from there on. Each run has to end with
@@ -25,8 +24,8 @@ import subprocess
 import sys
 import tempfile
 
-from fork_server import ForkServer, compile_library
-from program_path import program_path
+from bench.check.fork_server import ForkServer, compile_library
+from bench.check.program_path import program_path
 
 WANT = (3, b"", b"error: out of memory\n")
 PASSED_OVER = "the answer is as if nothing had been refused"

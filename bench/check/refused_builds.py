@@ -1,4 +1,3 @@
-#!/usr/bin/env python3
 """Refuses each request for memory of builds with a cache in turn, and reports where the answer is another one than out of memory.
 
 The program of all cases (`fast_check_vectors`) makes two of the runs of its part `cached_builds`, each by itself: one whose first build fills the cache
@@ -9,7 +8,7 @@ has got nothing then that no build of the run sets. A build behind it answers as
 One line is printed: how many requests there are, how many runs were made, how many of them change nothing, and how many differ; lines below it say in
 what. The status is 1 where any differs, or no run says out of memory.
 
-Usage: bench/check/refused_builds.py PROGRAM
+Usage: python3 -m bench refused_builds PROGRAM
 """
 import collections
 import json
@@ -17,8 +16,8 @@ import os
 import sys
 import tempfile
 
-from fork_server import ForkServer, compile_library
-from program_path import VECTORS, program_path
+from bench.check.fork_server import ForkServer, compile_library
+from bench.check.program_path import VECTORS, program_path
 
 DATA = os.path.join(os.path.dirname(os.path.abspath(__file__)), "../../crates/fast_check_vectors/data")
 PART = "cached_builds"

@@ -15,8 +15,8 @@ program=${1:-$built}
 program=$(readlink -f "$program")
 status=0
 stored=crates/fast_check_vectors/data
-bench/check/refuse.py "$program" transform examples/{first,functions,classes,modules,namespaces}.json $stored/an_exported_expando_namespace.json || status=1
-bench/check/refuse.py "$program" build examples/build_{hello,canvas}.json \
+python3 -m bench refuse "$program" transform examples/{first,functions,classes,modules,namespaces}.json $stored/an_exported_expando_namespace.json || status=1
+python3 -m bench refuse "$program" build examples/build_{hello,canvas}.json \
   $stored/build_an_{entry_point_of_javascript_beside_another,export_that_does_not_join}.json || status=1
-bench/check/refuse.py "$program" pair examples/pair.json $stored/pair_a_readonly_property.json || status=1
+python3 -m bench refuse "$program" pair examples/pair.json $stored/pair_a_readonly_property.json || status=1
 exit "$status"

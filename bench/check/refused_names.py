@@ -1,4 +1,3 @@
-#!/usr/bin/env python3
 """Refuses each request for memory of calls that change a name set, or a map of modules with one, and reports where the value is not what it was before.
 
 For each call the driver (`bench/time/driver.sh refused DRIVER`) makes a value, calls, and, where that runs out of memory, compares the value with what it
@@ -7,14 +6,14 @@ says how many requests there are, and how many runs ended as what: `done` (a req
 is made, or the words are read: then with status 1).
 The status is 1 where a run ended otherwise, or no run as before.
 
-Usage: bench/check/refused_names.py DRIVER
+Usage: python3 -m bench refused_names DRIVER
 """
 import os
 import sys
 import tempfile
 
-from fork_server import ForkServer, compile_library
-from program_path import program_path
+from bench.check.fork_server import ForkServer, compile_library
+from bench.check.program_path import program_path
 
 CALLS = ("add_new", "add_covering", "path_new", "path_below", "path_covering", "named_new", "named_joined", "extend", "extend_joint", "extend_covering",
          "imported", "star_default", "imported_star", "handled", "handled_more", "pending", "pending_more")

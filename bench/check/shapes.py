@@ -1,4 +1,3 @@
-#!/usr/bin/env python3
 """How the time of `build` grows with workspaces as they are, and what hostile tables of 100 KB take.
 
 A line for each shape of a workspace: the largest number, its megabytes, the status, the processor seconds of three sizes (each twice the one before; of three
@@ -8,18 +7,14 @@ too much.
 A line for each hostile shape (`bench/cases/hostile_shapes.py`): the largest number of which it has at most 100 KB, its kilobytes, the status, the processor
 seconds and the megabytes held. More than 5 seconds or 500 MB are too much. A run that ends by a signal is too much anyway.
 
-Usage: bench/check/shapes.py PROGRAM [SHAPE ..]
+Usage: python3 -m bench shapes PROGRAM [SHAPE ..]
 """
 import json
-import os
 import sys
 
-sys.dont_write_bytecode = True
-sys.path[:0] = [os.path.join(os.path.dirname(os.path.dirname(os.path.abspath(__file__))), folder) for folder in ("rules", "cases", "check", "time")]
-
-import hostile_shapes
-from growth import MOST_EXPONENT, exponent, measured, row, spent
-from tables import HOST, by_name, chain_to, definition, exports_of, file_ref, import_type, module, one_name, part, request, single, symbol, url
+from bench.cases import hostile_shapes
+from bench.check.growth import MOST_EXPONENT, exponent, measured, row, spent
+from bench.check.tables import HOST, by_name, chain_to, definition, exports_of, file_ref, import_type, module, one_name, part, request, single, symbol, url
 
 HOSTILE_BYTES, MOST_SECONDS, MOST_BYTES_HELD = 100_000, 5, 500_000_000
 

@@ -1,11 +1,10 @@
-#!/usr/bin/env python3
 """The stack that a level of nesting takes: the program runs on each of these shapes, ever deeper, with as little stack as it answers with.
 
 A line for each shape: the levels of the deepest run (JSON is at most 127 deep, and a level of a tree is two to seven levels of JSON), the kilobytes
 of stack with which the shallowest and the deepest run still answer, the bytes that each level adds, and how many levels 8 MB would hold. The last
 shapes are nested by tables alone, which a JSON depth does not bound: they have to answer at each depth with the same stack.
 
-Usage: bench/check/stack.py PROGRAM [SHAPE ..]    under `ulimit -s unlimited`, since this script nests its inputs as deep
+Usage: python3 -m bench stack PROGRAM [SHAPE ..]    under `ulimit -s unlimited`, since this script nests its inputs as deep
 """
 import json
 import os
@@ -13,18 +12,16 @@ import subprocess
 import sys
 import tempfile
 
-sys.dont_write_bytecode = True
-sys.setrecursionlimit(100_000)
-sys.path[:0] = [os.path.join(os.path.dirname(os.path.dirname(os.path.abspath(__file__))), folder) for folder in ("rules", "cases", "check", "time")]
-
-from program_path import program_path
-import hostile_shapes
-from items import ONE, const, func, if_
-from module_trees import namespace
-from runs import request
-from trees import (
-    array, array_of, arrow, as_, binary, block, call, cond, exported, expr, lay_items, member, name, object_, pair, paren, ref, returned,
+from bench.cases import hostile_shapes
+from bench.cases.runs import request
+from bench.check.program_path import program_path
+from bench.oracle.items import ONE, const, func, if_
+from bench.oracle.module_trees import namespace
+from bench.oracle.trees import (
+    array, array_of, arrow, as_, binary, block, call, cond, exported, lay_items, member, name, object_, pair, paren, ref, returned,
 )
+
+sys.setrecursionlimit(100_000)
 
 EIGHT_MEGABYTES, PAGE, LARGEST = 8 << 20, 4096, 64 << 20
 

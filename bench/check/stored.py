@@ -1,14 +1,13 @@
-#!/usr/bin/env python3
 """Runs a program on all stored inputs and compares what it prints with what is stored, without the gate: to see within a minute what a change of code changes.
 
-usage: stored.py PROGRAM [WORD..]    the runs whose lines have one of the words; without any, all. Runs that redirect are left out: `rt ci` has them.
+usage: python3 -m bench stored PROGRAM [WORD..]    the runs whose lines have one of the words; without any, all. Runs that redirect are left out: `rt ci` has them.
 """
 import subprocess
 import sys
 from concurrent.futures import ThreadPoolExecutor
 from pathlib import Path
 
-from program_path import program_path
+from bench.check.program_path import program_path
 
 CRATE = Path(__file__).resolve().parents[2] / "crates/fast_check_vectors"
 

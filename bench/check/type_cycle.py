@@ -1,7 +1,6 @@
-#!/usr/bin/env python3
 """Asks the kit whether it proves COUNT types that reach one another, as swc's forms do. docs/dev/decisions.md says why one plain tree stands for them.
 
-    bench/check/type_cycle.py COUNT
+    python3 -m bench type_cycle COUNT
 
 Each type holds the next one and the first. A line tells the kit's version, whether the crate was proved, and the seconds; below it stands what was
 refused. With rattle-kit-13f 28 types were proved, and 32 refused for want of steps.

@@ -1,4 +1,3 @@
-#!/usr/bin/env python3
 """Builds the original fast check of deno_graph 0.111.1 over shims of the crates below it: OUT/original, and OUT/explain with the listed differences.
 
 usage: build.py CRATE OUT              or with --coverage: OUT/covered alone, which notes the blocks that it reaches, for coverage.py
@@ -14,7 +13,7 @@ import subprocess
 import sys
 from pathlib import Path
 
-import patches
+from bench.original import patches
 
 HERE = Path(__file__).resolve().parent
 FILES = ("cache", "mod", "range_finder", "swc_helpers", "transform")

@@ -1,4 +1,3 @@
-#!/usr/bin/env python3
 """Compares a program `fast-check` with the original.
 
 usage: compare.py PROGRAM OUT [FILE ..]                       inputs of transform, build or pair; without any, all stored runs and those with a cache
@@ -28,9 +27,8 @@ import tempfile
 from concurrent.futures import ThreadPoolExecutor
 from pathlib import Path
 
-import normal
-import patches
-from inputs import runs_of, cached_runs, files_of, package_input, random_inputs, stored_files
+from bench.original import normal, patches
+from bench.original.inputs import runs_of, cached_runs, files_of, package_input, random_inputs, stored_files
 
 sys.setrecursionlimit(1000000)
 WORDS = {"transform": ("else_branch", "single_return", "faulty_arrow")}

@@ -1,4 +1,3 @@
-#!/usr/bin/env python3
 """Says which blocks of the original no input reaches.
 
 usage: coverage.py CRATE OUT [FILE ..]      after build.py CRATE OUT --coverage; FILEs, or all stored runs, those with a cache, and 400 random inputs of each kind
@@ -13,9 +12,9 @@ import sys
 import tempfile
 from pathlib import Path
 
-import patches
-from build import FILES
-from inputs import REQUESTS, cached_runs, random_inputs, runs_of, stored_files
+from bench.original import patches
+from bench.original.build import FILES
+from bench.original.inputs import REQUESTS, cached_runs, random_inputs, runs_of, stored_files
 
 LIMITS = ["sh", "-c", 'ulimit -t 1; ulimit -v 1500000; exec "$@"', "sh"]
 

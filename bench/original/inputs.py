@@ -11,8 +11,6 @@ from pathlib import Path
 TOP = Path(__file__).resolve().parents[2]
 VECTORS = TOP / "crates/fast_check_vectors"
 STEP = 500
-sys.dont_write_bytecode = True
-sys.path[:0] = [str(TOP / "bench" / folder) for folder in ("rules", "cases", "check", "time")]
 
 
 def files_of(listed):
@@ -45,25 +43,25 @@ def cached_runs():
 
 
 def module_requests(seed, count):
-    from random_modules import Writer
+    from bench.check.random_modules import Writer
     return (Writer(number).case()[0] for number in range(seed, seed + count))
 
 
 def build_requests(seed, count):
-    from random_builds import Writer
+    from bench.check.random_builds import Writer
     return (Writer(number).world().request() for number in range(seed, seed + count))
 
 
 def pair_requests(seed, count):
-    from random_pairs import PairMaker
+    from bench.check.random_pairs import PairMaker
     made = (PairMaker(number).pair() for number in itertools.count(seed))
     return itertools.islice((pair[0] for pair in made if pair), count)
 
 
 def world_requests(seed, count):
     """Worlds of packages without trees. Of an alias in a module of JSON the original follows nothing, and no analysis makes one: these are left out."""
-    from package_worlds import request_of, with_ranges
-    from random_packages import random_world
+    from bench.oracle.package_worlds import request_of, with_ranges
+    from bench.check.random_packages import random_world
     source = random.Random(seed)
     for number in range(count):
         world = random_world(source, f"random-{seed}-{number}")

@@ -1,4 +1,3 @@
-#!/usr/bin/env python3
 """Checks what nodes.py states from memory against the trees and tables that `fast-check-ts input` makes, which come from TypeScript's compiler.
 
 usage: node_ranges.py FILE ..      inputs of build, as `fast-check-ts input DIR` prints them; status 1 where something differs
@@ -11,7 +10,7 @@ import json
 import sys
 from pathlib import Path
 
-from nodes import LEAVES, RANGES, TABLE
+from bench.original.nodes import LEAVES, RANGES, TABLE
 from table import Table  # noqa: E402, on the path by nodes
 
 FORMS = Table(TABLE.read_text())

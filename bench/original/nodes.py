@@ -1,4 +1,3 @@
-#!/usr/bin/env python3
 """Writes swc's structs and enums in Rust from forms/forms.txt: with serde's reading and printing, the range of each node, and a visitor.
 
 usage: nodes.py > nodes.rs
@@ -11,7 +10,6 @@ import sys
 from pathlib import Path
 
 sys.path.insert(0, str(Path(__file__).resolve().parents[2] / "forms"))
-sys.dont_write_bytecode = True
 from table import Table  # noqa: E402
 
 TABLE = Path(__file__).resolve().parents[2] / "forms/forms.txt"

@@ -1,4 +1,3 @@
-#!/usr/bin/env python3
 """Times `fast-check build` on workspaces of growing size.
 
 For each shape and size it prints the input's megabytes, the modules that are answered, the program's processor seconds and peak memory, the processor
@@ -15,9 +14,9 @@ The program has to be built: run `./fast-check build examples/build_hello.json` 
 The program lends no cache. With a driver that does (`bench/time/driver.sh builds DRIVER`) it prints the seconds of a build without a cache, of one that fills
 an empty cache, and of one with the filled cache, all without reading and printing.
 
-Usage: bench/time/build.py [SHAPE ..] [PACKAGES ..] [modules=N] [PROGRAM]        (all shapes, 10 100 1000 and three modules a package where nothing is given;
+Usage: python3 -m bench build [SHAPE ..] [PACKAGES ..] [modules=N] [PROGRAM]        (all shapes, 10 100 1000 and three modules a package where nothing is given;
                                                                                   of `names` 8000 16000 100000)
-       bench/time/build.py cached=DRIVER [SHAPE ..] [PACKAGES ..] [modules=N]    (the shape `packages`, and 10 100 1000)
+       python3 -m bench build cached=DRIVER [SHAPE ..] [PACKAGES ..] [modules=N]    (the shape `packages`, and 10 100 1000)
 """
 import json
 import os
@@ -25,22 +24,19 @@ import subprocess
 import sys
 import tempfile
 
-sys.dont_write_bytecode = True
-sys.path[:0] = [os.path.join(os.path.dirname(os.path.dirname(os.path.abspath(__file__))), folder) for folder in ("rules", "cases", "check", "time")]
-
-from program_path import program_path
-import tables
-from build_worlds import Module, World
-from items import ONE, const, func, if_
-from module_trees import export, export_all, import_, interface, named_export, named_import, property_signature
-from package_worlds import HOST
-from programs import fast_check
-from growth import spent
-from transform import COLUMNS, LOAD, columns
-from trees import (
+from bench.check import tables
+from bench.check.growth import spent
+from bench.check.program_path import program_path
+from bench.oracle.build_worlds import Module, World
+from bench.oracle.items import ONE, const, func, if_
+from bench.oracle.module_trees import export, export_all, import_, interface, named_export, named_import, property_signature
+from bench.oracle.package_worlds import HOST
+from bench.oracle.programs import fast_check
+from bench.oracle.trees import (
     array, array_of, binary, call, class_method, class_stmt, constructor, declarator, default, exported, fn_stmt, hash_prop, lit, name, named, param_prop, prop,
     ref, returned, run, type_params, unexported, union, var_stmt,
 )
+from bench.time.transform import COLUMNS, LOAD, columns
 
 PROGRAM = fast_check()
 SHAPES = ["packages", "modules", "faults", "hidden", "names"]

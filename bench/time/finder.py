@@ -1,4 +1,3 @@
-#!/usr/bin/env python3
 """Times the finder on packages, modules and symbols of growing number.
 
 Each shape is one world for the part `worlds` of fast_check_vectors, which reads it, follows the packages and prints what is found.
@@ -10,7 +9,7 @@ difference for each thousand symbols, and the peak memory. The program has to be
     chain      one package whose modules ask for one name each of the next
     star       one package whose entry point exports all of every other module
 
-usage: bench/time/finder.py [SHAPE PACKAGES MODULES SYMBOLS] [PROGRAM]     modules of a package, and symbols of a module
+usage: python3 -m bench finder [SHAPE PACKAGES MODULES SYMBOLS] [PROGRAM]     modules of a package, and symbols of a module
 """
 import json
 import os
@@ -18,13 +17,10 @@ import subprocess
 import sys
 import tempfile
 
-sys.dont_write_bytecode = True
-sys.path[:0] = [os.path.join(os.path.dirname(os.path.dirname(os.path.abspath(__file__))), folder) for folder in ("rules", "cases", "check", "time")]
-
-from growth import runner
-from program_path import VECTORS, program_path
-from package_worlds import request_of
-from programs import built
+from bench.check.growth import runner
+from bench.check.program_path import VECTORS, program_path
+from bench.oracle.package_worlds import request_of
+from bench.oracle.programs import built
 
 PROGRAM = built('fast_check_vectors')
 HOST = 'https://host.example/'

@@ -1,4 +1,3 @@
-#!/usr/bin/env python3
 """Times `fast-check transform` on modules of growing size.
 
 For each shape and size it prints the input's megabytes, the program's processor seconds and peak memory, the processor seconds that a JSON library of
@@ -6,7 +5,7 @@ Python (orjson, or json where that isn't there) takes to load and dump the same 
 to the first.
 The program has to be built: run `./fast-check transform examples/first.json` once.
 
-Usage: bench/time/transform.py [MEGABYTES ..] [PROGRAM]        (1 2 5 10 20 where none is given)
+Usage: python3 -m bench transform [MEGABYTES ..] [PROGRAM]        (1 2 5 10 20 where none is given)
 """
 import gc
 import json
@@ -16,16 +15,11 @@ import subprocess
 import sys
 import time
 
-sys.dont_write_bytecode = True
-sys.path[:0] = [os.path.join(os.path.dirname(os.path.dirname(os.path.abspath(__file__))), folder) for folder in ("rules", "cases", "check", "time")]
-
-import items as cases
-import module_trees
-import programs
-import trees
-from growth import spent
-from program_path import program_path
-from ranges import ranges_of_item
+from bench.check.growth import spent
+from bench.check.program_path import program_path
+from bench.oracle import items as cases
+from bench.oracle import module_trees, programs, trees
+from bench.oracle.ranges import ranges_of_item
 
 try:
     import orjson

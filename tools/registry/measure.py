@@ -16,12 +16,12 @@ from pathlib import Path
 
 HERE = Path(__file__).resolve().parent
 sys.dont_write_bytecode = True
-sys.path[:0] = [str(HERE), str(HERE.parent.parent / "bench" / "time")]
+sys.path[:0] = [str(HERE), str(HERE.parent.parent)]
 os.environ["PYTHONPATH"] = str(HERE)
 os.environ["PYTHONDONTWRITEBYTECODE"] = "1"
 
 import registry
-from build import workspace
+from bench.time.build import workspace
 from distributed import Client
 
 BUILT = registry.TOP / "crates/fast_check_cli/out/fast_check_cli"

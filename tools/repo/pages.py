@@ -20,7 +20,7 @@ FENCED = re.compile(r"^ *(```|~~~).*?^ *\1", re.M | re.S)
 WORD = re.compile(r"[A-Za-z_][A-Za-z0-9_]*")
 FILE = re.compile(r"[\w./-]+\.(antt|rt|py|js|sh|json|txt|md)")
 # Commands that read files of this repository alone, and write nothing in it.
-RUN = r"(\./fast-check(-ts)?|bench/check/(stored|edits|fragments|definitions)\.py|forms/write\.py --|tools/repo/pages\.py$)"
+RUN = r"(\./fast-check(-ts)?|python3 -m bench stored|tools/repo/(edits|fragments|definitions)\.py|forms/write\.py --|tools/repo/pages\.py$)"
 # Pages that name what is gone, or stands in other projects.
 OF_OTHERS = {"CHANGELOG.md", "docs/DIFFERENCES.md", "docs/dev/evaluation.md"}
 

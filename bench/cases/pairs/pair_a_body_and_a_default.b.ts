@@ -1,0 +1,1 @@
+export function f(a: number = 2): string { const t = 1; return String(t); }

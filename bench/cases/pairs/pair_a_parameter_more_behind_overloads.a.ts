@@ -1,0 +1,1 @@
+export function f(): void; export function f(x) {}

@@ -1,0 +1,1 @@
+export class C { private constructor(a: number) {} }

@@ -1,0 +1,1 @@
+function f() {} f.a = 1; f.b = 2;

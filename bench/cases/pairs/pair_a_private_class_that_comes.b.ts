@@ -1,0 +1,1 @@
+class H {} export const x: number = 1;

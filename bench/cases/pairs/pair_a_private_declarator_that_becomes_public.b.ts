@@ -1,0 +1,1 @@
+export const x: number = 1, y = f();

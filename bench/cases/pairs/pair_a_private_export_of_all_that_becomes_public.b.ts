@@ -1,0 +1,1 @@
+export * from "@x/y"; export const x: number = 1;

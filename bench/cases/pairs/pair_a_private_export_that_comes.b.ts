@@ -1,0 +1,1 @@
+export { a }; export const x: number = 1;

@@ -1,0 +1,1 @@
+function p() {} export const x: number = 1;

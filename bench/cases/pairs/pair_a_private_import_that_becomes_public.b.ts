@@ -1,0 +1,1 @@
+import { a } from "@x/y"; export const x: number = 1;

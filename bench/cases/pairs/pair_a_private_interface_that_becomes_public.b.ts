@@ -1,0 +1,1 @@
+interface I { a: number; } export const x: number = 1;

@@ -1,0 +1,1 @@
+export class C { private m(a: string): void {} }

@@ -1,0 +1,1 @@
+export class C { private m(): number { return 1; } }

@@ -1,0 +1,1 @@
+namespace N { function f() {} } export const x: number = 1;

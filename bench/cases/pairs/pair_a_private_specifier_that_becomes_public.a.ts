@@ -1,0 +1,1 @@
+import { a, b } from "@x/y";

@@ -1,0 +1,1 @@
+export class C { readonly x = 2; }

@@ -1,0 +1,1 @@
+f(); export const x: number = 1;

@@ -1,0 +1,1 @@
+export class C { protected x: number; }

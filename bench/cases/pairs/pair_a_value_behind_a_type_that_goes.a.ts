@@ -1,0 +1,1 @@
+export let x: number = 1;

@@ -1,0 +1,1 @@
+export class C { private x = 1; }

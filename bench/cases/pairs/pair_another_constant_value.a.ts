@@ -1,0 +1,1 @@
+export const o = [1] as const;

@@ -1,0 +1,1 @@
+export const o = [2] as const;

@@ -1,0 +1,1 @@
+export const o = { a: 1 };

@@ -1,0 +1,1 @@
+export class C { set x(v: number) { f(); } }

@@ -1,0 +1,1 @@
+export class C { static { f(); } ; x: number; }

@@ -1,0 +1,1 @@
+export const v = [new g(1, 2)];
