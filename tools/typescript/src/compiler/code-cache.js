@@ -33,23 +33,31 @@ function escaped(/** @type {string} */ text) {
   return Buffer.from(text.replace(/[^\x00-\x7f]/g, (it) => `\\u${it.charCodeAt(0).toString(16).padStart(4, '0')}`));
 }
 
+// What stands before and behind the code of a module.
+const [HEAD, TAIL] = Module.wrap('\0').split('\0');
+
 /**
- * The text of a file of JavaScript in which what is no ASCII stands as an escape: V8 reads a text of one byte a character in less than half the time. Where an escape
- * would say something else, and before Node 18.15, the text as it is.
+ * The code of a file of JavaScript as the function of a module. What is no ASCII stands in it as an escape: V8 reads a text of one byte a character in less than half
+ * the time. Where an escape would say something else, and before Node 18.15, the text as it is.
  */
 function codeOf(/** @type {string} */ file) {
   const bytes = fs.readFileSync(file);
-  if (!isAscii) return bytes.toString();
-  const parts = [];
+  if (!isAscii) return Module.wrap(bytes.toString());
+  const parts = [Buffer.from(HEAD)];
+  let copied = 0;
   for (let at = 0; at < bytes.length;) {
     const line = bytes.indexOf(NEWLINE, at + CHUNK);
-    const part = bytes.subarray(at, line < 0 ? bytes.length : line + 1);
-    const isPlain = isAscii(/** @type {Uint8Array} */ (part));
-    if (!isPlain && /\\[^\x00-\x7f]|String\.raw/.test(part.toString())) return bytes.toString();
-    parts.push(isPlain ? part : escaped(part.toString()));
-    at += part.length;
+    const end = line < 0 ? bytes.length : line + 1;
+    if (!isAscii(/** @type {Uint8Array} */ (bytes.subarray(at, end)))) {
+      const text = bytes.toString('utf8', at, end);
+      if (/\\[^\x00-\x7f]|String\.raw/.test(text)) return Module.wrap(bytes.toString());
+      parts.push(bytes.subarray(copied, at), escaped(text));
+      copied = end;
+    }
+    at = end;
   }
-  return Buffer.concat(/** @type {Uint8Array[]} */ (parts)).toString('latin1');
+  // One text in one piece, of which V8 makes no copy.
+  return Buffer.concat(/** @type {Uint8Array[]} */ ([...parts, bytes.subarray(copied), Buffer.from(TAIL)])).toString('latin1');
 }
 
 /** Writes compiled code beside its place, and moves it there. Where that fails, the next run compiles anew. */
@@ -70,7 +78,7 @@ function requireCompiled(/** @type {string} */ file, /** @type {string} */ folde
   if (known) return known.exports;
   const entry = entryOf(folder, file);
   const cachedData = readOr(entry);
-  const script = new vm.Script(Module.wrap(codeOf(file)), { filename: file, cachedData });
+  const script = new vm.Script(codeOf(file), { filename: file, cachedData });
   const module = new Module(file);
   module.filename = file;
   module.paths = Module.createRequire(file).resolve.paths('typescript') || [];

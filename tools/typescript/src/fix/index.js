@@ -49,6 +49,28 @@ function optionsOf(/** @type {string} */ dir, /** @type {string | null} */ works
   return { allowImportingTsExtensions: true, ...defaults, jsx: ts.JsxEmit.ReactJSX, ...ofDeno(dir, top, files), resolveJsonModule: true, ...written, ...own };
 }
 
+const LIBRARIES = path.dirname(ts.getDefaultLibFilePath({}));
+/**
+ * The compiler's own libraries, which folders share, by the version of the language that they are read for.
+ *
+ * @type {Map<string, ts.SourceFile | undefined>}
+ */
+const shared = new Map();
+
+/**
+ * A file that is none of the folder's, as a host of the compiler reads it.
+ *
+ * @param {ts.CompilerHost} host
+ * @param {string} name
+ * @param {ts.ScriptTarget | ts.CreateSourceFileOptions} target
+ */
+function libraryOf(host, name, target) {
+  if (path.dirname(name) !== LIBRARIES) return host.getSourceFile(name, target);
+  const key = `${name} ${typeof target === 'object' ? target.languageVersion : target}`;
+  if (!shared.has(key)) shared.set(key, host.getSourceFile(name, target));
+  return shared.get(key);
+}
+
 /** The compiler over the modules of a folder, with texts in place of those of the files, and the packages that are found. */
 class Project {
   constructor(/** @type {string} */ dir) {
@@ -125,7 +147,7 @@ class Project {
     const getSourceFile = (name, target) => {
       const text = texts.get(name);
       if (text !== undefined) return this.source(name, text, target);
-      if (!this.libraries.has(name)) this.libraries.set(name, this.host.getSourceFile(name, target));
+      if (!this.libraries.has(name)) this.libraries.set(name, libraryOf(this.host, name, target));
       return this.libraries.get(name);
     };
     /** @type {ts.CompilerHost} */

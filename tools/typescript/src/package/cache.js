@@ -241,15 +241,22 @@ function folderFor({ XDG_CACHE_HOME: own, HOME: home }) {
   return home && path.isAbsolute(home) ? path.join(home, '.cache', 'fast-check-ts') : null;
 }
 
-/** A hash of the sources of this tool, which change what is made though its version stays. */
+/** @type {string | null} */
+let toolHash = null;
+
+/** A hash of the sources of this tool, which change what is made though its version stays. Those that run were there when it is asked for first. */
 function hashOfTool() {
+  if (toolHash) return toolHash;
   /** @type {(folder: string) => string[]} */
   const below = (folder) => fs.readdirSync(folder, { withFileTypes: true }).flatMap((it) => {
     const name = path.join(folder, it.name);
     return it.isDirectory() ? below(name) : name.endsWith('.js') ? [name] : [];
   });
   const names = below(path.resolve(__dirname, '..')).sort();
-  return hashOf(names.map((name) => `${name}\n${fs.readFileSync(name, 'utf8')}`).join('\n'));
+  const hash = crypto.createHash('sha256');
+  for (const name of names) hash.update(`${name}\n`).update(/** @type {Uint8Array} */ (fs.readFileSync(name)));
+  toolHash = hash.digest('hex');
+  return toolHash;
 }
 
 /** Which compiler makes trees: its version, and how long its file is. It is loaded where the folder does not say it of the compilers that are there. */

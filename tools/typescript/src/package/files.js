@@ -196,7 +196,7 @@ function isInside(/** @type {string} */ root, /** @type {string} */ file) {
 class Files {
   constructor(/** @type {string} */ root) {
     this.root = root;
-    this.realRoot = fs.realpathSync(root);
+    this.realRoot = fs.realpathSync.native(root);
     /** @type {Map<string, string>} */
     this.kinds = new Map();
     /** @type {Map<string, string>} */
@@ -209,7 +209,7 @@ class Files {
 
   /** The path of a file behind all links. */
   real(/** @type {string} */ file) {
-    const found = this.reals.get(file) || fs.realpathSync(file);
+    const found = this.reals.get(file) || fs.realpathSync.native(file);
     this.reals.set(file, found);
     return found;
   }

@@ -22,7 +22,7 @@ const kindOf = (/** @type {{ isFile(): boolean, isDirectory(): boolean, isSymbol
  */
 const ANSWERS = {
   kind: (file) => kindOf(original.statSync(file)),
-  real: (file) => original.realpathSync(file),
+  real: (file) => original.realpathSync.native(file),
   names: (file) => hashOf(original.readdirSync(file, { withFileTypes: true }).map((it) => `${it.name}\n${kindOf(it)}`).join('\n')),
   text: (file) => (original.statSync(file).isFile() ? hashOf(/** @type {Uint8Array} */ (original.readFileSync(file))) : 'other'),
 };

@@ -5,6 +5,7 @@ const fs = require('fs');
 const os = require('os');
 const path = require('path');
 const { PROGRAM, isNpm } = require('../cli/installed.js');
+const { answersOf } = require('./answers.js');
 const { requestText } = require('./request.js');
 const { restored } = require('../skeleton/restored.js');
 
@@ -92,7 +93,7 @@ async function build(request, { unproved, environment, tell, isCommand, signal: 
     fs.writeFileSync(file, textOf(request));
     const words = command({ unproved, environment });
     const { status, out, said, signal } = await run([...words, file], tell, ended);
-    if (status === 0 || status === 1) return restored(JSON.parse(out), request);
+    if (status === 0 || status === 1) return restored(answersOf(out), request);
     const why = said || (signal ? `it was stopped by ${signal}` : `it ended with status ${status}`);
     throw new ProgramError(`the program did not answer: ${why.replace(/^error: /, '')}`, status <= 5 ? status : 5);
   } finally {

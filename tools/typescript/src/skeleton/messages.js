@@ -2,6 +2,7 @@
 // What is wrong with skeletons that the program does not know: names that it wrote and that stand for something else in the module, and literals that are wider in
 // the source.
 
+const { mayHave, mayKeepValue } = require('../program/answers.js');
 const { partsOf, variantOf } = require('../tree/walk.js');
 const { scopesOf } = require('./value-scopes.js');
 const { madeLiteral, textOf } = require('./value-types.js');
@@ -259,12 +260,19 @@ function literalMessages(/** @type {forms.ModuleItem[]} */ items, /** @type {Sco
   }));
 }
 
-/** Gives a message its place in a file. */
-function placedIn(/** @type {SourceFile} */ { specifier, lines }, /** @type {string} */ shown) {
+/** Gives a message its place in a file, whose lines are counted for the first message. */
+function placedIn(/** @type {SourceFile} */ file, /** @type {string} */ shown) {
   /** @type {Placed} */
-  const placed = (span, message) => ({ ...message, specifier, file: shown, lines, start: lines.offset((span || [1, 1])[0]), end: lines.offset((span || [1, 1])[1]) });
+  const placed = (span, message) => {
+    const { specifier, lines } = file;
+    return { ...message, specifier, file: shown, lines, start: lines.offset((span || [1, 1])[0]), end: lines.offset((span || [1, 1])[1]) };
+  };
   return placed;
 }
+
+// In the JSON of a skeleton: a reference to a type that the program wrote, and a value that is the default export.
+const MADE = /"TsTypeRef":\{"span":\[0,/;
+const DEFAULT = /"ExportDefaultExpr":/;
 
 /**
  * What is wrong with the skeletons of a folder that was analysed, as messages. `shownName(path)` is how they name a file.
@@ -272,13 +280,16 @@ function placedIn(/** @type {SourceFile} */ { specifier, lines }, /** @type {str
  * @returns {import('../messages/types').Message[]}
  */
 function skeletonMessages(/** @type {SkeletonWorld} */ world, /** @type {(file: string) => string} */ shownName) {
-  const scopes = scopesOf(world);
-  return [...world.skeletons].flatMap(([specifier, { program }]) => {
+  /** @type {ReturnType<typeof scopesOf> | null} */
+  let scopes = null;
+  return [...world.skeletons].flatMap(([specifier, skeleton]) => {
     const file = world.files.get(specifier);
     if (!file || /\.d\.[cm]?ts$/.test(specifier)) return [];
     const placed = placedIn(file, shownName(file.path));
-    const { body = [] } = program;
-    return [...shadowedMessages(body, placed), ...literalMessages(body, scopes(specifier), placed)];
+    const shadowing = mayHave(skeleton, MADE) ? shadowedMessages(skeleton.program.body || [], placed) : [];
+    if (!mayKeepValue(skeleton) && !mayHave(skeleton, DEFAULT)) return shadowing;
+    scopes = scopes || scopesOf(world);
+    return [...shadowing, ...literalMessages(skeleton.program.body || [], scopes(specifier), placed)];
   });
 }
 

@@ -100,7 +100,7 @@ describe('fix', () => {
   it('ends early', async () => {
     const controller = new AbortController();
     const asked = fix(of('fixed'), { signal: controller.signal });
-    setTimeout(() => controller.abort(), 200);
+    setTimeout(() => controller.abort(), 20);
     await assert.rejects(asked, { name: 'AbortError' });
     assert.ok((await fix(of('fixed'))).types > 3);
   });

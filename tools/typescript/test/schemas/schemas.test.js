@@ -8,9 +8,9 @@ const { describe, it } = require('node:test');
 
 const { inputOf } = require('../../src/program/input.js');
 const { requestText } = require('../../src/program/request.js');
+const { run, PACKAGES } = require('../support/helpers.js');
 
 const TOP = path.resolve(__dirname, '../../../..');
-const PACKAGES = path.resolve(__dirname, '../packages');
 const TOOL = path.resolve(__dirname, '../../bin/fast-check-ts.js');
 /** @typedef {((value: unknown) => boolean) & { errors: object[] }} Validate */
 /** @typedef {{ getSchema(name: string): Validate | undefined, compile(schema: object): Validate, errorsText(errors: object[]): string }} Checker */
@@ -26,11 +26,7 @@ try {
 
 const read = (/** @type {string} */ file) => JSON.parse(fs.readFileSync(path.join(TOP, file), 'utf8'));
 
-/** The lines that a command prints, as JSON. */
-function linesOf(/** @type {string[]} */ words, /** @type {string} */ cwd, input = '') {
-  const { stdout } = childProcess.spawnSync(process.execPath, [TOOL, ...words], { cwd, input, encoding: 'utf8', maxBuffer: 1 << 28 });
-  return stdout.split('\n').filter(Boolean).map((line) => JSON.parse(line));
-}
+const objects = (/** @type {string} */ out) => out.split('\n').filter(Boolean).map((line) => JSON.parse(line));
 
 describe('schemas', { skip: Ajv ? false : "Debian's node-ajv is not there" }, () => {
   const ajv = /** @type {Checker} */ (Ajv && new Ajv({ schemas: ['program', 'tool', 'settings'].map((name) => ({ $id: `${name}.json`, ...read(`tools/schemas/${name}.json`) })) }));
@@ -71,13 +67,15 @@ describe('schemas', { skip: Ajv ? false : "Debian's node-ajv is not there" }, ()
     }
   });
 
-  it('fit the lines of the tool', () => {
+  it('fit the lines of the tool', async () => {
     for (const name of ['several-messages', 'syntax-error', 'fixed-workspace', 'unresolved-import', 'workspace-messages']) {
-      for (const line of linesOf(['check', '--json', '--list-externals', '.'], path.join(PACKAGES, name))) assert.strictEqual(wrong('tool.json#/definitions/CheckLine', line), null, name);
+      const { out } = await run(['check', '--json', '--list-externals', '.'], { cwd: path.join(PACKAGES, name) });
+      for (const line of objects(out)) assert.strictEqual(wrong('tool.json#/definitions/CheckLine', line), null, name);
     }
-    for (const line of linesOf(['diff', '--json', 'instead-constant', 'apart-constant'], PACKAGES)) assert.strictEqual(wrong('tool.json#/definitions/DiffLine', line), null);
+    for (const line of objects((await run(['diff', '--json', 'instead-constant', 'apart-constant'])).out)) assert.strictEqual(wrong('tool.json#/definitions/DiffLine', line), null);
     const asked = [{ dir: 'classes' }, { dir: 'several-messages', want: 'skeletons' }, { dir: 'dts', want: 'declarations' }, { dir: 'nowhere' }, { dir: 1 }];
-    const answers = linesOf(['serve'], PACKAGES, asked.map((it) => `${JSON.stringify(it)}\n`).join(''));
+    const input = asked.map((it) => `${JSON.stringify(it)}\n`).join('');
+    const answers = objects(childProcess.spawnSync(process.execPath, [TOOL, 'serve'], { cwd: PACKAGES, input, encoding: 'utf8' }).stdout);
     assert.deepStrictEqual(asked.map((it) => wrong('tool.json#/definitions/ServeRequest', it) === null), [true, true, true, true, false]);
     for (const answer of answers) assert.strictEqual(wrong('tool.json#/definitions/ServeAnswer', answer), null);
     assert.deepStrictEqual(answers.map(({ status }) => status), [0, 1, 0, 2, 2]);

@@ -1,4 +1,4 @@
-use Rattle.std.proofs.Common.{◌∙◌, sym, subst, List, map}
+use Rattle.std.proofs.Common.{◌∙◌, sym, subst, List, map, IfErr}
 use Rattle.std.proofs.lemmas.Result.{err_from_is_err_and}
 use Rattle.fast_check_tables_packages.specs.Package.{nv_of}
 use Rattle.fast_check_tables_packages.specs.declared.package.PackageNv.{PackageNv}
@@ -39,12 +39,12 @@ returns-in_err-found-clause-refused g c =
     let used = used_of c.args.cache (λ x. let n = goal.FastCheckCache-dyn g x.now in
     used_item (n.hash_of x.now.1 c.seed_of-seed.result.now) (n.stored x.now.1) c.args.graph.now) in
     let k = with_used used (by_members (members_in c.in_ok-members.members)) in
-    let e = err_from_is_err_and c.from_residual.result c.from_residual.ensures.1 in
+    let e = err_from_is_err_and c.from_residual-in_err-found.result c.from_residual-in_err-found.ensures.1 in
     with_lent c.args.cache (λ x. (goal.FastCheckCache-dyn g x.now).seed_text x.now.1)
     (λ x seed. let n = goal.FastCheckCache-dyn g x.now in used_item (n.hash_of x.now.1 seed) (n.stored x.now.1) c.args.graph.now)
     c.seed_of-seed.result.now (by_members c.args.workspace_members.now)
-    (λ j. IfErr c.from_residual.result (IsRefusal j (map nv_of c.args.pending_nvs.items))) c.seed_of-seed.ensures
-    (subst (λ (ms : List WorkspaceMember). IfErr c.from_residual.result (IsRefusal (with_used used (by_members ms)) (map nv_of c.args.pending_nvs.items)))
+    (λ j. IfErr c.from_residual-in_err-found.result (IsRefusal j (map nv_of c.args.pending_nvs.items))) c.seed_of-seed.ensures
+    (subst (λ (ms : List WorkspaceMember). IfErr c.from_residual-in_err-found.result (IsRefusal (with_used used (by_members ms)) (map nv_of c.args.pending_nvs.items)))
     c.in_ok-members.ensures
     (rw e.1 (subst (IsRefusal k (map nv_of c.args.pending_nvs.items)) (sym e.2)
     (subst (λ (ps : List PackageNv). IsRefusal k (map nv_of ps) c.in_err-found.field-0.0) (c.as_slice.ensures.value ∙ c.into_vec-roots.ensures.items)
