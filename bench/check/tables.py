@@ -91,12 +91,6 @@ def ident(name):
 ONE = {"Lit": {"Num": {"span": NOWHERE, "raw": "1"}}}
 
 
-def exported_const(i, name, value):
-    """`export const name = value;` at span(i)."""
-    declarator = {"span": span(i), "name": {"Ident": {"id": ident(name)}}, "init": value}
-    return {"ModuleDecl": {"ExportDecl": {"span": span(i), "decl": {"Var": {"span": span(i), "kind": "Const", "decls": [declarator]}}}}}
-
-
 def assigned(i, name, key):
     """`name.key = 1;` at span(i)."""
     member = {"Member": {"span": NOWHERE, "obj": {"Ident": ident(name)}, "prop": {"Ident": {"span": NOWHERE, "sym": key}}}}

@@ -25,11 +25,6 @@ def source(value):
     return text(value) if isinstance(value, str) else value
 
 
-def attributes(**pairs):
-    props = [{"Prop": {"KeyValue": {"key": {"Ident": ident_name(key)}, "value": {"Lit": {"Str": text(value)}}}}} for key, value in pairs.items()]
-    return form(props=props)
-
-
 # ---- imports
 
 

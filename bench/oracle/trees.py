@@ -313,17 +313,13 @@ def function(params, *stmts, name=None, **more):
 # ---- classes
 
 
-def class_(super_class=None, *members, decorators=(), is_abstract=False, generics=None, super_args=None, implements=()):
+def class_(super_class=None, *members, decorators=(), is_abstract=False, generics=None):
     return form(ctxt=FUNCTION, decorators=list(decorators), body=list(members), super_class=super_class, is_abstract=is_abstract, type_params=generics,
-        super_type_params=super_args, implements=list(implements))
+        super_type_params=None, implements=[])
 
 
 def class_stmt(name, *members, super_class=None, declare=False, **more):
     return {"Decl": {"Class": {"ident": ident(name), "declare": declare, "class": class_(super_class, *members, **more)}}}
-
-
-def implemented(name, *args):
-    return form(expr=ref(name), type_args=instantiation(*args) if args else None)
 
 
 def decorator(name="d"):
