@@ -71,8 +71,7 @@ describe('the table of codes', () => {
     assert.deepStrictEqual(known.map((row) => [row[1], label(row)]).sort(), Object.entries(PROGRAM).map(([code, it]) => [code, it.label]).sort());
     const written = read('diagnostics.rt');
     for (const { message } of Object.values(PROGRAM)) assert.ok(message === undefined || written.includes(`"${message}"`), message);
-    const shown = read('diagnostics/shown.rt');
-    for (const text of Object.values(RETURNS)) assert.ok(shown.includes(`"${text}"`), text);
+    for (const text of Object.values(RETURNS)) assert.ok(texts.includes(`"${text}"`), text);
   });
 
   it('finds names in messages', () => {
