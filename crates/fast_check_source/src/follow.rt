@@ -127,7 +127,8 @@ fn read_module(alloc: Global, tree: &Tree, text: &str, media_type: MediaType) ->
     let comments = comments_of(alloc, text, tree)?;
     let short = short_tree(alloc, text, tree)?;
     let scoped = with_scopes(alloc, &short, is_declaration)?;
-    let program = with_exports(alloc, mended(alloc, scoped)?, is_declaration)?;
+    let whole = mended(alloc, scoped)?;
+    let program = with_exports(alloc, &whole, is_declaration)?;
     let tables = tables_of(alloc, &program, is_declaration)?;
     let source = ParsedSource {
         media_type,

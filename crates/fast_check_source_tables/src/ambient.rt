@@ -137,12 +137,17 @@ fn all_with_words(
     Ok(copies)
 }
 
-// Where the declarations of a module begin that get the word.
-fn implied_starts(
+/// A program with the implied exports written in.
+pub fn with_exports(
     alloc: Global,
-    body: Part<'_>,
+    program: &Tree,
     is_declaration_file: bool,
-) -> Result<BTreeSet<u32>, AllocError> {
+) -> Result<Tree, AllocError> {
+    let part = program.read();
+    if part.kind() != Kind::Module {
+        return part.to_tree(alloc);
+    }
+    let body = Module::of(part).body;
     let mut implied = Implied {
         starts: BTreeSet::new(alloc),
         waiting: Vec::new(alloc),
@@ -153,23 +158,5 @@ fn implied_starts(
     };
     implied.items(task, is_declaration_file && !says_exports(body))?;
     implied.run()?;
-    let Implied { starts, .. } = implied;
-    Ok(starts)
-}
-
-/// A program with the implied exports written in.
-pub fn with_exports(
-    alloc: Global,
-    program: Tree,
-    is_declaration_file: bool,
-) -> Result<Tree, AllocError> {
-    if program.read().kind() != Kind::Module {
-        return Ok(program);
-    }
-    let body = Module::of(program.read()).body;
-    let starts = implied_starts(alloc, body, is_declaration_file)?;
-    if starts.is_empty() {
-        return Ok(program);
-    }
-    with_words(alloc, &program, &starts)
+    with_words(alloc, program, &implied.starts)
 }
