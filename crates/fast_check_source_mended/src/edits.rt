@@ -1,14 +1,14 @@
 //! What stands in place of parts of a tree.
 use fast_check_tree_forms_expressions::{CallExpr, ThisExpr};
-use fast_check_tree_syntax::{Items, Part, SourceRange, SyntaxContext, Tree};
+use fast_check_tree_syntax::{Items, Kind, Part, SourceRange, SyntaxContext, Tree};
 use std::alloc::{AllocError, Global};
 use std::collections::BTreeMap;
 
-/// Trees by the ranges of the nodes that they stand in place of.
+/// Trees by the ranges of the nodes that they stand in place of, with the kinds of these.
 #[derive(Drop)]
 pub struct Edits {
     pub alloc: Global,
-    found: BTreeMap<(u32, u32), Tree>,
+    found: BTreeMap<(u32, u32), (Kind, Tree)>,
 }
 
 /// The range of a node that has one.
@@ -40,22 +40,30 @@ impl Edits {
         self.found.is_empty()
     }
 
-    pub fn put(&mut self, range: SourceRange, tree: Tree) -> Result<(), AllocError> {
-        let _ = self.found.insert((range.start.0, range.end.0), tree)?;
+    /// Has a tree stand in place of a node.
+    pub fn put(&mut self, part: Part<'_>, tree: Tree) -> Result<(), AllocError> {
+        let range = range_of(part);
+        let key = (range.start.0, range.end.0);
+        let _ = self.found.insert(key, (part.kind(), tree))?;
         Ok(())
     }
 
     /// Has a value stand in place of another one, of which no skeleton is made.
     pub fn hide(&mut self, value: Part<'_>) -> Result<(), AllocError> {
-        let span = range_of(value);
-        let tree = hidden(self.alloc, span)?;
-        self.put(span, tree)
+        let tree = hidden(self.alloc, range_of(value))?;
+        self.put(value, tree)
     }
 
-    fn at(&self, parts: &[Tree]) -> Option<&Tree> {
-        match parts.first() {
-            Some(Tree::Range(range)) => self.found.get(&(range.start.0, range.end.0)),
-            _ => None,
+    fn at(&self, kind: Kind, parts: &[Tree]) -> Option<&Tree> {
+        let key = match parts.first() {
+            Some(Tree::Range(range)) => (range.start.0, range.end.0),
+            _ => return None,
+        };
+        let found = self.found.get(&key)?;
+        if found.0 == kind {
+            Some(&found.1)
+        } else {
+            None
         }
     }
 }
@@ -65,7 +73,7 @@ impl Edits {
 #[tactic(auto, using(fast_check_source_heights::proofs::Heights::node_height))]
 pub fn with_edits(alloc: Global, tree: &Tree, edits: &Edits) -> Result<Tree, AllocError> {
     match tree {
-        Tree::Node(kind, parts) => match edits.at(parts.as_slice()) {
+        Tree::Node(kind, parts) => match edits.at(*kind, parts.as_slice()) {
             Some(edit) => edit.read().to_tree(alloc),
             None => Ok(Tree::Node(*kind, all_with_edits(alloc, parts.as_slice(), edits)?)),
         },

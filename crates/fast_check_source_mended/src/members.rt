@@ -266,7 +266,7 @@ pub fn put_static_names(edits: &mut Edits, members: Part<'_>) -> Result<(), Allo
                     sym: Atom::from_str(alloc, marked.as_str())?,
                 };
                 let tree = made.into_tree(alloc)?;
-                edits.put(span, tree)?;
+                edits.put(key, tree)?;
             }
         }
     }

@@ -20,7 +20,7 @@ fn put_name(edits: &mut Edits, part: Part<'_>) -> Result<(), AllocError> {
             sym: Atom::from_str(alloc, name)?,
         };
         let tree = made.into_tree(alloc)?;
-        edits.put(span, tree)?;
+        edits.put(part, tree)?;
     }
     Ok(())
 }
@@ -40,7 +40,7 @@ fn put_source(edits: &mut Edits, source: Part<'_>, own: &str) -> Result<(), Allo
         raw: Str::of(source).raw.to_tree(alloc)?,
     };
     let tree = made.into_tree(alloc)?;
-    edits.put(span, tree)
+    edits.put(source, tree)
 }
 
 /// The skeleton of a module without the marks of the module's tree. Where the module names itself, by its file `own`, the skeleton does so by that name too; a module

@@ -235,7 +235,7 @@ fn put_block(edits: &mut Edits, block: Part<'_>, stmts: Items<Tree>) -> Result<(
         stmts: Tree::list(stmts),
     };
     let tree = made.into_tree(edits.alloc)?;
-    edits.put(span, tree)
+    edits.put(block, tree)
 }
 
 /// Cuts a body: behind a written type nothing of it is seen, and else how it returns, and the value by which it names the type.

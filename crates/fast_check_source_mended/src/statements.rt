@@ -167,7 +167,7 @@ fn put_variables(edits: &mut Edits, statement: Part<'_>) -> Result<(), AllocErro
         decls: Tree::list(decls),
     }
     .into_tree(alloc)?;
-    edits.put(span, tree)
+    edits.put(statement, tree)
 }
 
 // The text that stands in the brackets of a member, if it may stand behind a dot.
@@ -216,7 +216,7 @@ fn put_property(edits: &mut Edits, statement: Part<'_>) -> Result<(), AllocError
     if obj.kind() != Kind::Ident || prop.kind() != Kind::ComputedPropName {
         return Ok(());
     }
-    let ComputedPropName { span, expr: key } = ComputedPropName::of(prop);
+    let ComputedPropName { expr: key, .. } = ComputedPropName::of(prop);
     if let Some(name) = name_in(key) {
         let alloc = edits.alloc;
         let made = IdentName {
@@ -224,7 +224,7 @@ fn put_property(edits: &mut Edits, statement: Part<'_>) -> Result<(), AllocError
             sym: Atom::from_str(alloc, name)?,
         };
         let tree = made.into_tree(alloc)?;
-        edits.put(span, tree)?;
+        edits.put(prop, tree)?;
     }
     Ok(())
 }
