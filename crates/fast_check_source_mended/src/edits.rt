@@ -90,3 +90,12 @@ fn all_with_edits(alloc: Global, trees: &[Tree], edits: &Edits) -> Result<Items<
     }
     Ok(copies)
 }
+
+/// A tree with the edits.
+pub fn edited(alloc: Global, tree: Tree, edits: &Edits) -> Result<Tree, AllocError> {
+    if edits.is_empty() {
+        Ok(tree)
+    } else {
+        with_edits(alloc, &tree, edits)
+    }
+}

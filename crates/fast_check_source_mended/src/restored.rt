@@ -1,5 +1,5 @@
 //! A skeleton by the words of its source.
-use crate::edits::{Edits, range_of, with_edits};
+use crate::edits::{Edits, edited, range_of};
 use crate::members::STATIC;
 use crate::statements::push_parts;
 use fast_check_tree_forms_programs::{ExportAll, IdentName, ImportDecl, NamedExport, Str};
@@ -43,12 +43,11 @@ fn put_source(edits: &mut Edits, source: Part<'_>, own: &str) -> Result<(), Allo
     edits.put(source, tree)
 }
 
-/// The skeleton of a module without the marks of the module's tree. Where the module names itself, by its file `own`, the skeleton does so by that name too; a module
-/// that does not has none.
-pub fn restored_skeleton(alloc: Global, program: Tree, own: &str) -> Result<Tree, AllocError> {
+// What a skeleton says by other words than its source.
+fn edits_of(alloc: Global, program: Part<'_>, own: &str) -> Result<Edits, AllocError> {
     let mut edits = Edits::new(alloc);
     let mut waiting = Vec::new(alloc);
-    waiting.push(program.read())?;
+    waiting.push(program)?;
     for _turn in 0..u64::MAX {
         let Some(next) = waiting.pop() else {
             break;
@@ -63,8 +62,12 @@ pub fn restored_skeleton(alloc: Global, program: Tree, own: &str) -> Result<Tree
         }
         push_parts(next, &mut waiting)?;
     }
-    if edits.is_empty() {
-        return Ok(program);
-    }
-    with_edits(alloc, &program, &edits)
+    Ok(edits)
+}
+
+/// The skeleton of a module without the marks of the module's tree. Where the module names itself, by its file `own`, the skeleton does so by that name too; a module
+/// that does not has none.
+pub fn restored_skeleton(alloc: Global, program: Tree, own: &str) -> Result<Tree, AllocError> {
+    let edits = edits_of(alloc, program.read(), own)?;
+    edited(alloc, program, &edits)
 }

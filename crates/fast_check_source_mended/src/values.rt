@@ -1,5 +1,5 @@
 //! A tree with its edits.
-use crate::edits::{Edits, with_edits};
+use crate::edits::{Edits, edited};
 use crate::members::put_static_names;
 use crate::statements::{push_parts, put_statements};
 use crate::unsaid::Unsaid;
@@ -63,14 +63,6 @@ fn edits_of_values(alloc: Global, program: Part<'_>) -> Result<Edits, AllocError
     }
     let Values { edits, .. } = values;
     Ok(edits)
-}
-
-fn edited(alloc: Global, tree: Tree, edits: &Edits) -> Result<Tree, AllocError> {
-    if edits.is_empty() {
-        Ok(tree)
-    } else {
-        with_edits(alloc, &tree, edits)
-    }
 }
 
 /// A tree in which the names have the numbers of their scopes, without what the program would take for something else.
