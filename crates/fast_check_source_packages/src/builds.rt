@@ -246,22 +246,27 @@ fn is_project(path: &str) -> bool {
     name == "tsconfig.json" || (name.starts_with("tsconfig.") && name.ends_with(".json"))
 }
 
+// Adds the configurations of the compiler in a folder, its own first.
+fn push_projects(files: &Files<'_>, folder: &str, out: &mut Vec<String>) -> Result<(), AllocError> {
+    let own = inside(files.alloc(), folder, "tsconfig.json")?;
+    if files.is_file(own.as_str())? {
+        out.push(own.clone()?)?;
+    }
+    for path in files.listed(folder)? {
+        if is_project(path.as_str()) && path.as_str() != own.as_str() {
+            out.push(path)?;
+        }
+    }
+    Ok(())
+}
+
 // The configurations of the compiler by which a folder may be built: its own, those beside it, those of its `src`, and those that they refer to.
 fn projects_of(files: &Files<'_>, folder: &str) -> Result<Vec<String>, AllocError> {
     let alloc = files.alloc();
     let mut found = Vec::new(alloc);
     let src = inside(alloc, folder, "src")?;
-    for at in [folder, src.as_str()] {
-        let own = inside(alloc, at, "tsconfig.json")?;
-        if files.is_file(own.as_str())? {
-            found.push(own.clone()?)?;
-        }
-        for path in files.listed(at)? {
-            if is_project(path.as_str()) && path.as_str() != own.as_str() {
-                found.push(path)?;
-            }
-        }
-    }
+    push_projects(files, folder, &mut found)?;
+    push_projects(files, src.as_str(), &mut found)?;
     let mut referred = Vec::new(alloc);
     for path in found.iter() {
         for other in references(files, path.as_str())? {
@@ -289,16 +294,20 @@ pub fn built_files(
         }
         let own = folder_of(path.as_str());
         let taken = sources_of(files, own, &project)?;
-        let roots = match &project.root {
-            Some(root) => [root.as_str(), root.as_str()],
-            None => [common_folder(taken.as_slice()), own],
-        };
-        for root in roots {
+        let mut roots = Vec::new(alloc);
+        match &project.root {
+            Some(root) => roots.push(root.clone()?)?,
+            None => {
+                roots.push(String::from_str(alloc, common_folder(taken.as_slice()))?)?;
+                roots.push(String::from_str(alloc, own)?)?;
+            }
+        }
+        for root in roots.iter() {
             for source in taken.iter() {
                 push_outputs(
                     alloc,
                     source.as_str(),
-                    root,
+                    root.as_str(),
                     scripts,
                     declarations,
                     &mut found,
