@@ -1,0 +1,91 @@
+//! What stands in place of parts of a tree.
+use fast_check_tree_forms_expressions::{CallExpr, ThisExpr};
+use fast_check_tree_syntax::{Items, Part, SourceRange, SyntaxContext, Tree};
+use std::alloc::{AllocError, Global};
+use std::collections::BTreeMap;
+
+/// Trees by the ranges of the nodes that they stand in place of.
+#[derive(Drop)]
+pub struct Edits {
+    pub alloc: Global,
+    found: BTreeMap<(u32, u32), Tree>,
+}
+
+/// The range of a node that has one.
+pub fn range_of(part: Part<'_>) -> SourceRange {
+    part.part(0).range()
+}
+
+/// A value of which no skeleton is made.
+pub fn hidden(alloc: Global, span: SourceRange) -> Result<Tree, AllocError> {
+    CallExpr {
+        span,
+        ctxt: SyntaxContext(0),
+        callee: ThisExpr { span }.into_tree(alloc)?,
+        args: Tree::list(Items::new(alloc)),
+        type_args: Tree::Absent,
+    }
+    .into_tree(alloc)
+}
+
+impl Edits {
+    pub fn new(alloc: Global) -> Edits {
+        Edits {
+            alloc,
+            found: BTreeMap::new(alloc),
+        }
+    }
+
+    pub fn is_empty(&self) -> bool {
+        self.found.is_empty()
+    }
+
+    pub fn put(&mut self, range: SourceRange, tree: Tree) -> Result<(), AllocError> {
+        let _ = self.found.insert((range.start.0, range.end.0), tree)?;
+        Ok(())
+    }
+
+    /// Has a value stand in place of another one that names no type.
+    pub fn take_type(&mut self, value: Part<'_>) -> Result<(), AllocError> {
+        let span = range_of(value);
+        let tree = ThisExpr { span }.into_tree(self.alloc)?;
+        self.put(span, tree)
+    }
+
+    /// Has a value stand in place of another one, of which no skeleton is made.
+    pub fn hide(&mut self, value: Part<'_>) -> Result<(), AllocError> {
+        let span = range_of(value);
+        let tree = hidden(self.alloc, span)?;
+        self.put(span, tree)
+    }
+
+    fn at(&self, parts: &[Tree]) -> Option<&Tree> {
+        match parts.first() {
+            Some(Tree::Range(range)) => self.found.get(&(range.start.0, range.end.0)),
+            _ => None,
+        }
+    }
+}
+
+/// A copy of a tree with the edits.
+#[cycle(copies)]
+#[tactic(auto, using(fast_check_source_heights::proofs::Heights::node_height))]
+pub fn with_edits(alloc: Global, tree: &Tree, edits: &Edits) -> Result<Tree, AllocError> {
+    match tree {
+        Tree::Node(kind, parts) => match edits.at(parts.as_slice()) {
+            Some(edit) => edit.read().to_tree(alloc),
+            None => Ok(Tree::Node(*kind, all_with_edits(alloc, parts.as_slice(), edits)?)),
+        },
+        _ => tree.read().to_tree(alloc),
+    }
+}
+
+#[cycle(copies)]
+#[tactic(auto, using(fast_check_source_heights::proofs::Heights::one_height))]
+fn all_with_edits(alloc: Global, trees: &[Tree], edits: &Edits) -> Result<Items<Tree>, AllocError> {
+    let mut copies = Items::new(alloc);
+    for tree in trees {
+        copies.push(with_edits(alloc, tree, edits)?)?;
+    }
+    Ok(copies)
+}

@@ -1,0 +1,12 @@
+//! A tree without what the program would take for something else than TypeScript's compiler does: values that name another type than they have, and declarations
+//! that stand where the program looks for none. It asks for a type where such a value goes.
+#![tactic(auto)]
+
+mod edits;
+mod members;
+mod returns;
+mod statements;
+mod unsaid;
+mod values;
+
+pub use values::mended;
