@@ -1,14 +1,29 @@
 //! Where the text by which a module names another one leads.
-use crate::config::Package;
+use crate::builds::{file_of, is_script};
+use crate::comments::self_types;
+use crate::exports::Entry;
 use crate::tsconfig::Projects;
-use fast_check_source_files::files::{Files, below, folder_of, joined};
+use fast_check_source_files::files::{Files, below, folder_of, joined, media_type};
 use std::alloc::{AllocError, Global};
+use std::collections::BTreeMap;
+
+/// A package: its folder below the one that was named, its name, its version and its entry points, each with the path of its file.
+#[derive(Drop)]
+pub struct Package {
+    pub folder: String,
+    pub name: String,
+    pub version: String,
+    pub exports: Vec<Entry>,
+    /// What names of imports stand for: the path of a file, or nothing where they lead elsewhere.
+    pub imports: BTreeMap<String, Option<String>>,
+}
 
 pub fn is_relative(text: &str) -> bool {
     text.starts_with("./") || text.starts_with("../") || text == "." || text == ".."
 }
 
-fn package_at<'a>(packages: &'a [Package], path: &str) -> Option<&'a Package> {
+/// The innermost package that a file lies in.
+pub fn package_at<'a>(packages: &'a [Package], path: &str) -> Option<&'a Package> {
     let mut best: Option<&Package> = None;
     for package in packages {
         let folder = package.folder.as_str();
@@ -136,65 +151,142 @@ fn of_package<'a>(
             continue;
         };
         let key = joined(alloc, ".", path)?;
-        for (own, file) in package.exports.iter() {
-            if own.as_str() == key.as_str() {
-                return Ok(Some(file.as_str()));
+        for entry in package.exports.iter() {
+            if entry.key.as_str() == key.as_str() {
+                return Ok(Some(entry.path.as_str()));
             }
         }
     }
     Ok(None)
 }
 
-// The paths that a text in a module may stand for.
-fn wanted(
-    files: &Files<'_>,
-    projects: &mut Projects,
-    packages: &[Package],
-    from: &str,
-    text: &str,
-) -> Result<Vec<String>, AllocError> {
-    let alloc = files.alloc();
-    if is_relative(text) {
-        let Some(path) = below(alloc, folder_of(from), text)? else {
-            return Ok(Vec::new(alloc));
-        };
-        let mut found = projects.beside(files, from, path.as_str())?;
-        found.push(path)?;
-        return Ok(found);
-    }
-    if let Some(package) = package_at(packages, from) {
-        match by_imports(alloc, package, text)? {
-            Mapped::Elsewhere => return Ok(Vec::new(alloc)),
-            Mapped::Path(path) => {
-                let mut found = Vec::new(alloc);
-                found.push(path)?;
-                return Ok(found);
-            }
-            Mapped::Unknown => {}
+fn has_scheme(text: &str) -> bool {
+    match text.split_once(':') {
+        Some((scheme, _)) => {
+            !scheme.is_empty()
+                && scheme.bytes().all(|byte| {
+                    byte.is_ascii_alphanumeric() || byte == b'+' || byte == b'-' || byte == b'.'
+                })
         }
+        None => false,
     }
-    let mut found = projects.paths(files, from, text)?;
-    if let Some(path) = of_package(alloc, packages, text)? {
-        found.push(String::from_str(alloc, path)?)?;
-    }
-    Ok(found)
 }
 
-/// The file that a text in a module leads to, if it lies in the folder.
-pub fn resolve(
+// The file of a relative path in a module.
+fn relative(
+    files: &Files<'_>,
+    projects: &mut Projects,
+    from: &str,
+    text: &str,
+) -> Result<Option<String>, AllocError> {
+    let Some(path) = below(files.alloc(), folder_of(from), text)? else {
+        return Ok(None);
+    };
+    for path in projects.beside(files, from, path)? {
+        if let Some(found) = projects.find(files, from, path.as_str())? {
+            return Ok(Some(found));
+        }
+    }
+    Ok(None)
+}
+
+// The file of a text that is no relative path, and that no map of imports has.
+fn of_name(
     files: &Files<'_>,
     projects: &mut Projects,
     packages: &[Package],
     from: &str,
     text: &str,
 ) -> Result<Option<String>, AllocError> {
-    for path in wanted(files, projects, packages, from, text)? {
-        if let Some(found) = files.find(path.as_str())? {
-            return match files.behind_links(found.as_str())? {
-                Some(real) => Ok(Some(real)),
-                None => Ok(Some(found)),
-            };
+    if !has_scheme(text) {
+        for path in projects.paths(files, from, text)? {
+            if let Some(found) = projects.find(files, from, path.as_str())? {
+                return Ok(Some(found));
+            }
         }
     }
-    Ok(None)
+    match of_package(files.alloc(), packages, text)? {
+        Some(path) => Ok(Some(String::from_str(files.alloc(), path)?)),
+        None => Ok(None),
+    }
+}
+
+// The file that a text leads to before links are followed.
+fn found(
+    files: &Files<'_>,
+    projects: &mut Projects,
+    packages: &[Package],
+    from: &str,
+    text: &str,
+) -> Result<Option<String>, AllocError> {
+    if is_relative(text) {
+        return relative(files, projects, from, text);
+    }
+    let mapped = match package_at(packages, from) {
+        Some(package) => by_imports(files.alloc(), package, text)?,
+        None => Mapped::Unknown,
+    };
+    match mapped {
+        Mapped::Elsewhere => Ok(None),
+        Mapped::Path(path) => file_of(files, projects, path.as_str()),
+        Mapped::Unknown => of_name(files, projects, packages, from, text),
+    }
+}
+
+/// The declaration file of JavaScript, or the file itself.
+pub fn typed(
+    files: &Files<'_>,
+    projects: &mut Projects,
+    file: String,
+) -> Result<String, AllocError> {
+    if !is_script(media_type(file.as_str())) {
+        return Ok(file);
+    }
+    let found = match file_of(files, projects, file.as_str())? {
+        Some(found) => found,
+        None => file,
+    };
+    if !is_script(media_type(found.as_str())) {
+        return Ok(found);
+    }
+    if let Some(text) = files.read(found.as_str())?
+        && let Some(named) = self_types(text.as_str())
+        && is_relative(named)
+        && let Some(types) = relative(files, projects, found.as_str(), named)?
+    {
+        return Ok(types);
+    }
+    Ok(found)
+}
+
+/// A file behind links, where these do not lead out of the folder.
+pub fn behind_links(files: &Files<'_>, file: String) -> Result<String, AllocError> {
+    match files.behind_links(file.as_str())? {
+        Some(real) => Ok(real),
+        None => Ok(file),
+    }
+}
+
+/// The file that a text in a module leads to, if it lies in the folder. A comment may have `named` its declarations.
+pub fn resolve(
+    files: &Files<'_>,
+    projects: &mut Projects,
+    packages: &[Package],
+    from: &str,
+    text: &str,
+    named: Option<&str>,
+) -> Result<Option<String>, AllocError> {
+    if let Some(named) = named
+        && is_relative(named)
+        && let Some(types) = relative(files, projects, from, named)?
+    {
+        return Ok(Some(types));
+    }
+    match found(files, projects, packages, from, text)? {
+        Some(found) => {
+            let real = behind_links(files, found)?;
+            Ok(Some(typed(files, projects, real)?))
+        }
+        None => Ok(None),
+    }
 }

@@ -1,16 +1,15 @@
-//! What the `tsconfig.json` above a file says of imports: `paths`, `baseUrl` and `rootDirs`, also by `extends` and `references`.
+//! What the `tsconfig.json` above a file says of imports: `paths`, `baseUrl`, `rootDirs` and `moduleSuffixes`, also by `extends` and `references`.
+use crate::builds::behind;
+use crate::options::{Options, object_of, options_of, written};
 use crate::resolve::{rest_of, with_rest};
-use fast_check_source_files::files::{Files, below, folder_of, joined};
-use fast_check_source_files::jsonc::value_of;
+use fast_check_source_files::files::{Files, below, folder_of};
 use serde_json::Value;
 use std::alloc::{AllocError, Global};
-use std::collections::{BTreeMap, BTreeSet};
+use std::collections::BTreeMap;
 
 const NAME: &str = "tsconfig.json";
 
-const CONFIG_DIR: &str = "${configDir}";
-
-/// What a project says of imports. Its paths begin at the folder that was named.
+// What a project says of imports. Its paths begin at the folder that was named.
 #[derive(Drop)]
 struct Project {
     base: Option<String>,
@@ -18,6 +17,7 @@ struct Project {
     aliases: Vec<(String, Vec<String>)>,
     has_aliases: bool,
     roots: Vec<String>,
+    suffixes: Vec<String>,
 }
 
 /// The projects of the folders that were asked for.
@@ -25,73 +25,6 @@ struct Project {
 pub struct Projects {
     known: BTreeMap<String, usize>,
     projects: Vec<Project>,
-}
-
-// A path that is written in a file of a folder. `${configDir}` is the folder of the outermost file.
-fn written(
-    alloc: Global,
-    folder: &str,
-    outer: &str,
-    path: &str,
-) -> Result<Option<String>, AllocError> {
-    match path.strip_prefix(CONFIG_DIR) {
-        Some(rest) => below(alloc, outer, rest),
-        None => below(alloc, folder, path),
-    }
-}
-
-fn object_of(files: &Files<'_>, path: &str) -> Result<Option<Value>, AllocError> {
-    match files.read(path)? {
-        Some(text) => value_of(files.alloc(), text.as_str()),
-        None => Ok(None),
-    }
-}
-
-// The file that a text behind `extends` names.
-fn extended(files: &Files<'_>, folder: &str, text: &str) -> Result<Option<String>, AllocError> {
-    let alloc = files.alloc();
-    let is_path = text.starts_with("./") || text.starts_with("../") || text == "." || text == "..";
-    let wanted = if is_path {
-        below(alloc, folder, text)?
-    } else {
-        below(alloc, "node_modules", text)?
-    };
-    let Some(wanted) = wanted else {
-        return Ok(None);
-    };
-    for ending in ["", ".json", "/tsconfig.json"] {
-        let path = joined(alloc, wanted.as_str(), ending)?;
-        if files.is_file(path.as_str())? {
-            return Ok(Some(path));
-        }
-    }
-    Ok(None)
-}
-
-// Pushes the files that a configuration extends, the one that counts most last.
-fn push_extended(
-    files: &Files<'_>,
-    folder: &str,
-    object: &Value,
-    out: &mut Vec<String>,
-) -> Result<(), AllocError> {
-    let Some(extends) = object.get("extends") else {
-        return Ok(());
-    };
-    if let Some(text) = extends.as_str() {
-        if let Some(path) = extended(files, folder, text)? {
-            out.push(path)?;
-        }
-    } else if let Some(list) = extends.as_array() {
-        for each in list.iter() {
-            if let Some(text) = each.as_str()
-                && let Some(path) = extended(files, folder, text)?
-            {
-                out.push(path)?;
-            }
-        }
-    }
-    Ok(())
 }
 
 // The paths of `paths`, which begin at a folder.
@@ -121,77 +54,23 @@ fn aliases_of(
     Ok(made)
 }
 
-// What is read of a file and those that it extends, as far as no file before says it.
-#[derive(Drop)]
-struct Options {
-    base: Option<String>,
-    paths: Option<(Value, String)>,
-    roots: Option<Vec<String>>,
-}
-
-fn take_options(
-    alloc: Global,
-    options: &mut Options,
-    object: &Value,
-    folder: &str,
-    outer: &str,
-) -> Result<(), AllocError> {
-    let Some(own) = object.get("compilerOptions") else {
-        return Ok(());
-    };
-    if options.base.is_none()
-        && let Some(text) = own.get("baseUrl").and_then(Value::as_str)
-    {
-        options.base = written(alloc, folder, outer, text)?;
+fn or_none(alloc: Global, texts: Option<Vec<String>>) -> Vec<String> {
+    match texts {
+        Some(texts) => texts,
+        None => Vec::new(alloc),
     }
-    if options.paths.is_none()
-        && let Some(paths) = own.get("paths")
-    {
-        options.paths = Some((paths.clone()?, String::from_str(alloc, folder)?));
-    }
-    if options.roots.is_none()
-        && let Some(list) = own.get("rootDirs").and_then(Value::as_array)
-    {
-        let mut roots = Vec::new(alloc);
-        for each in list.iter() {
-            if let Some(text) = each.as_str()
-                && let Some(path) = written(alloc, folder, outer, text)?
-            {
-                roots.push(path)?;
-            }
-        }
-        options.roots = Some(roots);
-    }
-    Ok(())
 }
 
 // The project of a file, without those that it refers to.
 fn project_of(files: &Files<'_>, file: &str) -> Result<Project, AllocError> {
     let alloc = files.alloc();
-    let outer = folder_of(file);
-    let mut options = Options {
-        base: None,
-        paths: None,
-        roots: None,
-    };
-    let mut seen = BTreeSet::new(alloc);
-    let mut waiting = Vec::new(alloc);
-    waiting.push(String::from_str(alloc, file)?)?;
-    for _turn in 0..u64::MAX {
-        let Some(path) = waiting.pop() else {
-            break;
-        };
-        let Some(object) = object_of(files, path.as_str())? else {
-            continue;
-        };
-        let folder = folder_of(path.as_str());
-        take_options(alloc, &mut options, &object, folder, outer)?;
-        if !seen.contains(path.as_str()) {
-            push_extended(files, folder, &object, &mut waiting)?;
-            let _ = seen.insert(String::from_str(alloc, path.as_str())?)?;
-        }
-    }
-    let Options { base, paths, roots } = options;
+    let Options {
+        base,
+        paths,
+        roots,
+        suffixes,
+        ..
+    } = options_of(files, file)?;
     let has_aliases = base.is_some() || paths.is_some();
     let aliases = match paths {
         Some((paths, folder)) => {
@@ -199,7 +78,7 @@ fn project_of(files: &Files<'_>, file: &str) -> Result<Project, AllocError> {
                 Some(base) => base.as_str(),
                 None => folder.as_str(),
             };
-            aliases_of(alloc, &paths, from, outer)?
+            aliases_of(alloc, &paths, from, folder_of(file))?
         }
         None => Vec::new(alloc),
     };
@@ -207,15 +86,13 @@ fn project_of(files: &Files<'_>, file: &str) -> Result<Project, AllocError> {
         base,
         aliases,
         has_aliases,
-        roots: match roots {
-            Some(roots) => roots,
-            None => Vec::new(alloc),
-        },
+        roots: or_none(alloc, roots),
+        suffixes: or_none(alloc, suffixes),
     })
 }
 
-// The files of the projects that a file refers to.
-fn references(files: &Files<'_>, file: &str) -> Result<Vec<String>, AllocError> {
+/// The files of the projects that a file refers to.
+pub fn references(files: &Files<'_>, file: &str) -> Result<Vec<String>, AllocError> {
     let alloc = files.alloc();
     let mut found = Vec::new(alloc);
     let Some(object) = object_of(files, file)? else {
@@ -259,6 +136,7 @@ fn no_project(alloc: Global) -> Project {
         aliases: Vec::new(alloc),
         has_aliases: false,
         roots: Vec::new(alloc),
+        suffixes: Vec::new(alloc),
     }
 }
 
@@ -288,45 +166,65 @@ fn rank(key: &str) -> usize {
     }
 }
 
-// The paths that the aliases of a project make of a text.
-fn push_aliases(
-    alloc: Global,
-    project: &Project,
-    text: &str,
-    out: &mut Vec<String>,
-) -> Result<(), AllocError> {
-    let mut best: Option<(usize, &(String, Vec<String>))> = None;
-    for alias in project.aliases.iter() {
-        let own = rank(alias.0.as_str());
-        let is_better = match best {
-            Some((before, _)) => own > before,
-            None => true,
-        };
-        if is_better && rest_of(alias.0.as_str(), text).is_some() {
-            best = Some((own, alias));
+impl Project {
+    // The paths that the aliases make of a text.
+    fn push_aliases(
+        &self,
+        alloc: Global,
+        text: &str,
+        out: &mut Vec<String>,
+    ) -> Result<(), AllocError> {
+        let mut best: Option<(usize, &(String, Vec<String>))> = None;
+        for alias in self.aliases.iter() {
+            let own = rank(alias.0.as_str());
+            let is_better = match best {
+                Some((before, _)) => own > before,
+                None => true,
+            };
+            if is_better && rest_of(alias.0.as_str(), text).is_some() {
+                best = Some((own, alias));
+            }
         }
-    }
-    if let Some((_, alias)) = best
-        && let Some(rest) = rest_of(alias.0.as_str(), text)
-    {
-        for target in alias.1.iter() {
-            out.push(with_rest(alloc, target.as_str(), rest)?)?;
+        if let Some((_, alias)) = best
+            && let Some(rest) = rest_of(alias.0.as_str(), text)
+        {
+            for target in alias.1.iter() {
+                out.push(with_rest(alloc, target.as_str(), rest)?)?;
+            }
         }
+        if let Some(base) = &self.base
+            && let Some(path) = below(alloc, base.as_str(), text)?
+        {
+            out.push(path)?;
+        }
+        Ok(())
     }
-    if let Some(base) = &project.base
-        && let Some(path) = below(alloc, base.as_str(), text)?
-    {
-        out.push(path)?;
-    }
-    Ok(())
-}
 
-// What is left of a path behind one of some folders.
-fn behind<'a>(path: &'a str, folder: &str) -> Option<&'a str> {
-    if folder.is_empty() {
-        return Some(path);
+    // The paths that a path may stand for beside itself, since its folder is one of several that the compiler takes as one.
+    fn push_beside(
+        &self,
+        alloc: Global,
+        wanted: &str,
+        out: &mut Vec<String>,
+    ) -> Result<(), AllocError> {
+        let mut best: Option<&str> = None;
+        for root in self.roots.iter() {
+            if let Some(rest) = behind(wanted, root.as_str()) {
+                best = match best {
+                    Some(before) if before.len() <= rest.len() => Some(before),
+                    _ => Some(rest),
+                };
+            }
+        }
+        if let Some(rest) = best {
+            for root in self.roots.iter() {
+                if let Some(path) = below(alloc, root.as_str(), rest)? {
+                    out.push(path)?;
+                }
+            }
+        }
+        Ok(())
     }
-    path.strip_prefix(folder)?.strip_prefix("/")
 }
 
 impl Projects {
@@ -348,7 +246,21 @@ impl Projects {
         Ok(place)
     }
 
-    /// The paths that a text in a file may stand for, which is no relative path.
+    /// The file that a path stands for in a module, as the compiler finds it.
+    pub fn find(
+        &mut self,
+        files: &Files<'_>,
+        from: &str,
+        wanted: &str,
+    ) -> Result<Option<String>, AllocError> {
+        let place = self.of_folder(files, folder_of(from))?;
+        match self.projects.get(place) {
+            Some(project) => files.find(wanted, project.suffixes.as_slice()),
+            None => files.find(wanted, &[]),
+        }
+    }
+
+    /// The paths that a text in a module may stand for, which is no relative path.
     pub fn paths(
         &mut self,
         files: &Files<'_>,
@@ -358,40 +270,24 @@ impl Projects {
         let mut found = Vec::new(files.alloc());
         let place = self.of_folder(files, folder_of(from))?;
         if let Some(project) = self.projects.get(place) {
-            push_aliases(files.alloc(), project, text, &mut found)?;
+            project.push_aliases(files.alloc(), text, &mut found)?;
         }
         Ok(found)
     }
 
-    /// The paths that a path may stand for beside itself, since its folder is one of several that the compiler takes as one.
+    /// The paths that a path in a module may stand for.
     pub fn beside(
         &mut self,
         files: &Files<'_>,
         from: &str,
-        wanted: &str,
+        wanted: String,
     ) -> Result<Vec<String>, AllocError> {
-        let alloc = files.alloc();
-        let mut found = Vec::new(alloc);
+        let mut found = Vec::new(files.alloc());
         let place = self.of_folder(files, folder_of(from))?;
-        let Some(project) = self.projects.get(place) else {
-            return Ok(found);
-        };
-        let mut best: Option<&str> = None;
-        for root in project.roots.iter() {
-            if let Some(rest) = behind(wanted, root.as_str()) {
-                best = match best {
-                    Some(before) if before.len() <= rest.len() => Some(before),
-                    _ => Some(rest),
-                };
-            }
+        if let Some(project) = self.projects.get(place) {
+            project.push_beside(files.alloc(), wanted.as_str(), &mut found)?;
         }
-        if let Some(rest) = best {
-            for root in project.roots.iter() {
-                if let Some(path) = below(alloc, root.as_str(), rest)? {
-                    found.push(path)?;
-                }
-            }
-        }
+        found.push(wanted)?;
         Ok(found)
     }
 }
