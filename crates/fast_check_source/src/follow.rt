@@ -1,21 +1,23 @@
 //! The modules that entry points lead to.
-use crate::sources::sources_of;
+use crate::sources::{SourceText, sources_of};
 use anyhow::Result;
-use fast_check_tables_diagnostics::parsed_source::{MediaType, ParsedSource};
-use fast_check_tables_graph::Module;
 use fast_check_source_comments::comments_of;
 use fast_check_source_files::files::{Files, media_type};
 use fast_check_source_files::messages::Message;
-use fast_check_source_packages::config::Package;
-use fast_check_source_packages::resolve::{is_relative, resolve};
+use fast_check_source_mended::mended;
+use fast_check_source_packages::comments::named_types;
+use fast_check_source_packages::config::Messages;
+use fast_check_source_packages::resolve::{Package, is_relative, resolve};
 use fast_check_source_packages::tsconfig::Projects;
 use fast_check_source_parser::{ParseError, parse_program};
 use fast_check_source_scopes::with_scopes;
 use fast_check_source_tables::{tables_of, with_exports};
+use fast_check_tables_diagnostics::parsed_source::{MediaType, ParsedSource};
+use fast_check_tables_graph::Module;
 use fast_check_tables_symbols::ModuleTables;
 use fast_check_tree_syntax::{SyntaxContext, Tree};
 use std::alloc::{AllocError, Global};
-use std::collections::BTreeMap;
+use std::collections::{BTreeMap, BTreeSet};
 use std::rc::RcStr;
 use url::Url;
 
@@ -34,18 +36,47 @@ pub struct Found {
     pub resolutions: BTreeMap<Url, BTreeMap<String, Url>>,
 }
 
-/// What is said of the files.
-#[derive(Drop)]
-pub struct Messages {
-    /// What keeps a file from being read.
-    pub errors: Vec<Message>,
-    pub warnings: Vec<Message>,
+const HEX: &str = "0123456789ABCDEF";
+
+fn is_plain(each: char) -> bool {
+    matches!(
+        each,
+        'a'..='z' | 'A'..='Z' | '0'..='9' | '-' | '_' | '.' | '!' | '~' | '*' | '\'' | '(' | ')' | '@' | '/'
+    )
+}
+
+fn push_digit(out: &mut String, digit: u8) -> Result<(), AllocError> {
+    let at = digit as usize;
+    match HEX.get(at..at.saturating_add(1)) {
+        Some(text) => out.push_str(text),
+        None => Ok(()),
+    }
+}
+
+/// A path as a URL writes it.
+pub fn encoded(alloc: Global, path: &str) -> Result<String, AllocError> {
+    let mut made = String::new(alloc);
+    for (at, each) in path.char_indices() {
+        let Some(text) = path.get(at..at.saturating_add(each.len_utf8())) else {
+            continue;
+        };
+        if is_plain(each) {
+            made.push_str(text)?;
+            continue;
+        }
+        for byte in text.as_bytes() {
+            made.push_str("%")?;
+            push_digit(&mut made, *byte / 16)?;
+            push_digit(&mut made, *byte % 16)?;
+        }
+    }
+    Ok(made)
 }
 
 /// The URL of a file by its path from the folder.
 pub fn url_of(alloc: Global, path: &str) -> Result<Url> {
     let mut text = String::from_str(alloc, "file:///")?;
-    text.push_str(path)?;
+    text.push_str(encoded(alloc, path)?.as_str())?;
     Ok(Url::parse(alloc, text.as_str())?)
 }
 
@@ -93,7 +124,8 @@ fn read_module(alloc: Global, tree: &Tree, text: &str, media_type: MediaType) ->
     let is_declaration = media_type.is_declaration();
     let comments = comments_of(alloc, text, tree)?;
     let scoped = with_scopes(alloc, tree, is_declaration)?;
-    let program = with_exports(alloc, &scoped, is_declaration)?;
+    let whole = mended(alloc, text, scoped)?;
+    let program = with_exports(alloc, &whole, is_declaration)?;
     let tables = tables_of(alloc, &program, is_declaration)?;
     let source = ParsedSource {
         media_type,
@@ -105,11 +137,20 @@ fn read_module(alloc: Global, tree: &Tree, text: &str, media_type: MediaType) ->
     Ok(Parsed { source, tables })
 }
 
+// What is known of a folder while its modules are read.
+#[derive(Clone, Copy)]
+struct Folder<'a> {
+    files: &'a Files<'a>,
+    packages: &'a [Package],
+    entries: &'a BTreeSet<String>,
+}
+
 /// A folder while its modules are read.
 #[derive(Drop)]
 struct Reading {
     found: Found,
     messages: Messages,
+    seen: BTreeSet<String>,
     // The paths of files that are still to be read, the next one last.
     waiting: Vec<String>,
     projects: Projects,
@@ -119,17 +160,23 @@ impl Reading {
     // Where a text of a module leads: a module to be read, a package outside, or nowhere.
     fn lead(
         &mut self,
-        files: &Files<'_>,
-        packages: &[Package],
+        folder: Folder<'_>,
         path: &str,
         text: &str,
+        named: Option<&str>,
     ) -> Result<Option<Url>> {
-        let alloc = files.alloc();
-        if let Some(next) = resolve(files, &mut self.projects, packages, path, text)? {
+        let alloc = folder.files.alloc();
+        let next = resolve(
+            folder.files,
+            &mut self.projects,
+            folder.packages,
+            path,
+            text,
+            named,
+        )?;
+        if let Some(next) = next {
             let target = url_of(alloc, next.as_str())?;
-            if !self.found.graph.contains_key(&target) {
-                self.waiting.push(next)?;
-            }
+            self.waiting.push(next)?;
             return Ok(Some(target));
         }
         if is_relative(text) {
@@ -140,17 +187,42 @@ impl Reading {
         Ok(Some(target))
     }
 
+    // A module that is not there: an entry point that exports names of it says what nobody could import.
+    fn missing(
+        &mut self,
+        folder: Folder<'_>,
+        path: &str,
+        text: &str,
+        source: SourceText<'_>,
+    ) -> Result<()> {
+        let offset = (source.start as usize).saturating_sub(1);
+        let why = "there is no such module";
+        let message = Message::at(
+            folder.files.alloc(),
+            path,
+            text,
+            offset,
+            "missing-module",
+            why,
+        )?;
+        if source.is_exported && folder.entries.contains(path) {
+            self.messages.faults.push(message)?;
+        } else {
+            self.messages.warnings.push(message)?;
+        }
+        Ok(())
+    }
+
     fn module(
         &mut self,
-        files: &Files<'_>,
-        packages: &[Package],
+        folder: Folder<'_>,
         path: &str,
         url: Url,
         media_type: MediaType,
     ) -> Result<()> {
-        let alloc = files.alloc();
-        let Some(text) = files.read(path)? else {
-            let why = Message::of_file(alloc, path, "refused-file", "the file is no UTF-8")?;
+        let alloc = folder.files.alloc();
+        let Some(text) = folder.files.read(path)? else {
+            let why = Message::of_file(alloc, path, "syntax-error", "the file is no UTF-8")?;
             self.messages.errors.push(why)?;
             return Ok(());
         };
@@ -167,63 +239,88 @@ impl Reading {
         let module = read_module(alloc, &tree, text, media_type)?;
         let mut resolved: BTreeMap<String, Url> = BTreeMap::new(alloc);
         for source in sources_of(alloc, module.source.program.read())? {
-            match self.lead(files, packages, path, source.text)? {
+            let named = named_types(text, (source.around as usize).saturating_sub(1));
+            match self.lead(folder, path, source.text, named)? {
                 Some(target) => {
                     let _ = resolved.insert(String::from_str(alloc, source.text)?, target)?;
                 }
-                None => {
-                    let offset = (source.start as usize).saturating_sub(1);
-                    let why = Message::at(
-                        alloc,
-                        path,
-                        text,
-                        offset,
-                        "missing-module",
-                        "there is no such module",
-                    )?;
-                    self.messages.warnings.push(why)?;
-                }
+                None => self.missing(folder, path, text, source)?,
             }
         }
+        let _ = self.found.graph.insert(url.clone()?, js(media_type))?;
         let _ = self.found.resolutions.insert(url.clone()?, resolved)?;
         let _ = self.found.modules.insert(url, module)?;
         Ok(())
     }
 
-    fn file(&mut self, files: &Files<'_>, packages: &[Package], path: &str) -> Result<()> {
-        let alloc = files.alloc();
-        let url = url_of(alloc, path)?;
-        if self.found.graph.contains_key(&url) {
+    fn file(&mut self, folder: Folder<'_>, path: &str) -> Result<()> {
+        let alloc = folder.files.alloc();
+        if !self.seen.insert(String::from_str(alloc, path)?)? {
             return Ok(());
         }
-        let media_type = media_type(path);
-        let module = if path.ends_with(".json") {
-            Module::Json { source_hash: None }
-        } else {
-            js(media_type)
-        };
-        let _ = self.found.graph.insert(url.clone()?, module)?;
-        if let Some(why) = files.refusal(path)? {
+        if let Some(why) = folder.files.refusal(path)? {
             self.messages
                 .errors
                 .push(Message::of_file(alloc, path, "refused-file", why)?)?;
             return Ok(());
         }
+        let url = url_of(alloc, path)?;
+        let media_type = media_type(path);
         if media_type.is_typed() {
-            self.module(files, packages, path, url, media_type)?;
+            return self.module(folder, path, url, media_type);
+        }
+        if path.ends_with(".json") {
+            let _ = self
+                .found
+                .graph
+                .insert(url, Module::Json { source_hash: None })?;
+        } else if media_type != MediaType::Unknown {
+            let _ = self.found.graph.insert(url, js(media_type))?;
         }
         Ok(())
     }
 }
 
-/// Reads the modules that entry points lead to inside of a folder.
+// Leaves out what leads to a module that cannot be read.
+fn readable(alloc: Global, found: Found) -> Result<Found> {
+    let Found {
+        modules,
+        graph,
+        resolutions,
+    } = found;
+    let mut kept = BTreeMap::new(alloc);
+    for (url, resolved) in resolutions {
+        let mut own = BTreeMap::new(alloc);
+        for (text, target) in resolved {
+            if graph.contains_key(&target) {
+                let _ = own.insert(text, target)?;
+            }
+        }
+        let _ = kept.insert(url, own)?;
+    }
+    Ok(Found {
+        modules,
+        graph,
+        resolutions: kept,
+    })
+}
+
+/// Reads the modules that the entry points of packages lead to inside of a folder.
 pub fn follow(
     files: &Files<'_>,
     packages: &[Package],
-    entries: Vec<String>,
+    projects: Projects,
     messages: Messages,
 ) -> Result<(Found, Messages)> {
     let alloc = files.alloc();
+    let mut entries = BTreeSet::new(alloc);
+    let mut waiting = Vec::new(alloc);
+    for package in packages.iter().rev() {
+        for entry in package.exports.iter().rev() {
+            waiting.push(entry.path.clone()?)?;
+            let _ = entries.insert(entry.path.clone()?)?;
+        }
+    }
     let mut reading = Reading {
         found: Found {
             modules: BTreeMap::new(alloc),
@@ -231,19 +328,25 @@ pub fn follow(
             resolutions: BTreeMap::new(alloc),
         },
         messages,
-        waiting: entries,
-        projects: Projects::new(alloc),
+        seen: BTreeSet::new(alloc),
+        waiting,
+        projects,
+    };
+    let folder = Folder {
+        files,
+        packages,
+        entries: &entries,
     };
     for _turn in 0..u64::MAX {
         let Some(path) = reading.waiting.pop() else {
             break;
         };
-        reading.file(files, packages, path.as_str())?;
+        reading.file(folder, path.as_str())?;
     }
     let Reading {
         found,
         messages,
         ..
     } = reading;
-    Ok((found, messages))
+    Ok((readable(alloc, found)?, messages))
 }

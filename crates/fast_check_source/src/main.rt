@@ -1,5 +1,5 @@
-//! `fast-check-source DIR`: reads the packages of a folder, and answers what `fast-check build` answers of them: a skeleton or the diagnostics of each
-//! of their public modules, with what is wrong with their files, as a line of JSON. The status is 2 where a file cannot be read, and else 1 where a module
+//! `fast-check-source DIR ..`: reads the packages of each folder, and answers what `fast-check build` answers of them: a skeleton or the diagnostics of each
+//! of their public modules, with what is wrong with their files, as a line of JSON. The status is 2 where a package cannot be read, and else 1 where a module
 //! has diagnostics.
 #![tactic(auto)]
 
@@ -7,25 +7,28 @@ mod follow;
 mod sources;
 mod world;
 
-use crate::follow::{Found, Messages, follow, url_of};
+use crate::follow::{Found, encoded, follow, url_of};
 use crate::world::{answered, in_order, names_of};
-use anyhow::{Context, Result};
-use fast_check_build::build_fast_check_type_graph;
+use anyhow::Result;
 use fast_check_build::answers::ModuleAnswer;
-use fast_check_tables_graph::{AnyModuleInfo, ModuleGraph, RootSymbol};
-use fast_check_tables_modules::EsModuleInfo;
-use fast_check_tables_packages::{ListedPackages, PackageNv, WorkspaceMember};
+use fast_check_build::build_fast_check_type_graph;
 use fast_check_print::print_answers;
 use fast_check_source_files::files::Files;
 use fast_check_source_files::messages::Message;
-use fast_check_source_packages::config::{Package, packages_of};
+use fast_check_source_packages::config::Messages;
+use fast_check_source_packages::packages::packages_of;
+use fast_check_source_packages::resolve::{Package, package_at};
+use fast_check_source_packages::tsconfig::Projects;
+use fast_check_tables_graph::{AnyModuleInfo, ModuleGraph, RootSymbol};
+use fast_check_tables_modules::EsModuleInfo;
+use fast_check_tables_packages::{ListedPackages, PackageNv, WorkspaceMember};
 use fast_check_tables_symbols::ModuleTables;
 use fast_check_transform_module::TransformOptions;
 use indexmap::IndexMap;
 use json::Writer;
 use semver::Version;
 use std::alloc::{AllocError, Global};
-use std::collections::{BTreeMap, VecDeque};
+use std::collections::{BTreeMap, BTreeSet, VecDeque};
 use std::env;
 use std::process::ExitCode;
 use url::Url;
@@ -85,14 +88,15 @@ fn member_of(alloc: Global, package: &Package) -> Result<(WorkspaceMember, Packa
         base.push_str("/")?;
     }
     let mut exports = IndexMap::new(alloc);
-    for (key, path) in package.exports.iter() {
-        let own = match path.as_str().strip_prefix(base.as_str()) {
+    for entry in package.exports.iter() {
+        let path = entry.path.as_str();
+        let own = match path.strip_prefix(base.as_str()) {
             Some(own) => own,
-            None => path.as_str(),
+            None => path,
         };
         let mut text = String::from_str(alloc, "./")?;
-        text.push_str(own)?;
-        let _ = exports.insert(key.clone()?, text)?;
+        text.push_str(encoded(alloc, own)?.as_str())?;
+        let _ = exports.insert(entry.key.clone()?, text)?;
     }
     let member = WorkspaceMember {
         base: url_of(alloc, base.as_str())?,
@@ -152,57 +156,91 @@ fn print_messages(out: &mut Writer, messages: &[Message]) -> Result<(), AllocErr
     out.end_array()
 }
 
-// The line that is written, and the status.
-fn line_of(rt: &HostRuntime, folder: &str) -> Result<(String, u8)> {
-    let alloc = rt.alloc();
-    let files = Files::new(rt, folder)?;
-    let mut messages = Messages {
-        errors: Vec::new(alloc),
-        warnings: Vec::new(alloc),
-    };
-    let packages = packages_of(&files, &mut messages.errors)?;
-    let mut entries = Vec::new(alloc);
-    for package in packages.iter() {
-        for (_, path) in package.exports.iter() {
-            entries.push(path.clone()?)?;
+// The packages that can be read: those in which no error lies. One that lies in none of them is an error of all.
+fn readable(
+    alloc: Global,
+    packages: Vec<Package>,
+    errors: &[Message],
+) -> Result<Vec<Package>, AllocError> {
+    let mut broken = BTreeSet::new(alloc);
+    let mut is_lost = false;
+    for error in errors {
+        match package_at(packages.as_slice(), error.path.as_str()) {
+            Some(package) => {
+                let _ = broken.insert(package.folder.clone()?)?;
+            }
+            None => is_lost = true,
         }
     }
-    let (found, messages) = follow(&files, packages.as_slice(), entries, messages)?;
-    let is_whole = messages.errors.is_empty();
-    let answers = if is_whole {
-        build(alloc, packages.as_slice(), found)?
-    } else {
-        Vec::new(alloc)
-    };
-    let has_diagnostics = answers.iter().any(|answer| answer.1.is_err());
+    let mut kept = Vec::new(alloc);
+    if is_lost {
+        return Ok(kept);
+    }
+    for package in packages {
+        if !broken.contains(package.folder.as_str()) {
+            kept.push(package)?;
+        }
+    }
+    Ok(kept)
+}
+
+fn line_of(
+    alloc: Global,
+    answers: Vec<ModuleAnswer>,
+    messages: &Messages,
+) -> Result<String, AllocError> {
     let mut out = Writer::new(Vec::new(alloc));
     out.begin_object()?;
     out.key("answers")?;
     print_answers(alloc, &mut out, answers)?;
     out.key("errors")?;
     print_messages(&mut out, messages.errors.as_slice())?;
+    out.key("faults")?;
+    print_messages(&mut out, messages.faults.as_slice())?;
     out.key("warnings")?;
     print_messages(&mut out, messages.warnings.as_slice())?;
     out.end_object()?;
-    let line = match String::from_utf8(out.into_inner()) {
+    Ok(match String::from_utf8(out.into_inner()) {
         Ok(line) => line,
         Err(_) => String::new(alloc),
+    })
+}
+
+// What is answered of a folder: a line, and the status.
+fn answer(rt: &HostRuntime, folder: &str) -> Result<(String, u8)> {
+    let alloc = rt.alloc();
+    let files = Files::new(rt, folder)?;
+    let mut messages = Messages::new(alloc);
+    let mut projects = Projects::new(alloc);
+    let packages = packages_of(&files, &mut projects, &mut messages)?;
+    let (found, messages) = follow(&files, packages.as_slice(), projects, messages)?;
+    let packages = readable(alloc, packages, messages.errors.as_slice())?;
+    let answers = if packages.is_empty() {
+        Vec::new(alloc)
+    } else {
+        build(alloc, packages.as_slice(), found)?
     };
-    let status = if !is_whole {
+    let is_faulty = !messages.faults.is_empty() || answers.iter().any(|answer| answer.1.is_err());
+    let status = if !messages.errors.is_empty() {
         2
-    } else if has_diagnostics {
+    } else if is_faulty {
         1
     } else {
         0
     };
-    Ok((line, status))
+    Ok((line_of(alloc, answers, &messages)?, status))
 }
 
 fn main(rt: HostRuntime) -> Result<ExitCode> {
     let mut words = env::args(&rt)?;
     let _ = words.next();
-    let folder = words.next().context("no folder")?;
-    let (line, status) = line_of(&rt, folder.as_str())?;
-    println!(rt; "{line}")?;
+    let mut status = 0;
+    for folder in words {
+        let (line, own) = answer(&rt, folder.as_str())?;
+        println!(rt; "{line}")?;
+        if own > status {
+            status = own;
+        }
+    }
     Ok(ExitCode::from(status))
 }

@@ -30,9 +30,26 @@ fn named_by<'a>(comment: &'a str, words: [&str; 2]) -> Option<&'a str> {
     None
 }
 
-/// The declaration file that the text of a comment names for the import behind it: `@deno-types="./a.d.ts"` or `@ts-types="./a.d.ts"`.
-pub fn named_types(comment: &str) -> Option<&str> {
-    named_by(comment, ["@deno-types", "@ts-types"])
+// The text of the last comment before a place of a text, if nothing else stands between.
+fn comment_before(text: &str, place: usize) -> Option<&str> {
+    let before = text.get(..place)?.trim_end();
+    if let Some(rest) = before.strip_suffix("*/") {
+        let start = rest.rfind("/*")?;
+        return rest.get(start.saturating_add(2)..);
+    }
+    let line = match before.rsplit_once('\n') {
+        Some((_, line)) => line,
+        None => before,
+    };
+    line.trim_start().strip_prefix("//")
+}
+
+/// The declaration file that the comment before a statement names for what that imports: `// @deno-types="./a.d.ts"` or `// @ts-types="./a.d.ts"`.
+pub fn named_types(text: &str, statement: usize) -> Option<&str> {
+    named_by(
+        comment_before(text, statement)?,
+        ["@deno-types", "@ts-types"],
+    )
 }
 
 // The path in a third slash with `<reference types=".." />` behind it.
