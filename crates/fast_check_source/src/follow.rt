@@ -137,19 +137,13 @@ fn read_module(alloc: Global, tree: &Tree, text: &str, media_type: MediaType) ->
     Ok(Parsed { source, tables })
 }
 
-// What is known of a folder while its modules are read.
-#[derive(Clone, Copy)]
-struct Folder<'a> {
-    files: &'a Files<'a>,
-    packages: &'a [Package],
-    entries: &'a BTreeSet<String>,
-}
-
 /// A folder while its modules are read.
 #[derive(Drop)]
 struct Reading {
     found: Found,
     messages: Messages,
+    // The paths of entry points.
+    entries: BTreeSet<String>,
     seen: BTreeSet<String>,
     // The paths of files that are still to be read, the next one last.
     waiting: Vec<String>,
@@ -160,20 +154,14 @@ impl Reading {
     // Where a text of a module leads: a module to be read, a package outside, or nowhere.
     fn lead(
         &mut self,
-        folder: Folder<'_>,
+        files: &Files<'_>,
+        packages: &[Package],
         path: &str,
         text: &str,
         named: Option<&str>,
     ) -> Result<Option<Url>> {
-        let alloc = folder.files.alloc();
-        let next = resolve(
-            folder.files,
-            &mut self.projects,
-            folder.packages,
-            path,
-            text,
-            named,
-        )?;
+        let alloc = files.alloc();
+        let next = resolve(files, &mut self.projects, packages, path, text, named)?;
         if let Some(next) = next {
             let target = url_of(alloc, next.as_str())?;
             self.waiting.push(next)?;
@@ -190,22 +178,15 @@ impl Reading {
     // A module that is not there: an entry point that exports names of it says what nobody could import.
     fn missing(
         &mut self,
-        folder: Folder<'_>,
+        files: &Files<'_>,
         path: &str,
         text: &str,
         source: SourceText<'_>,
     ) -> Result<()> {
         let offset = (source.start as usize).saturating_sub(1);
         let why = "there is no such module";
-        let message = Message::at(
-            folder.files.alloc(),
-            path,
-            text,
-            offset,
-            "missing-module",
-            why,
-        )?;
-        if source.is_exported && folder.entries.contains(path) {
+        let message = Message::at(files.alloc(), path, text, offset, "missing-module", why)?;
+        if source.is_exported && self.entries.contains(path) {
             self.messages.faults.push(message)?;
         } else {
             self.messages.warnings.push(message)?;
@@ -215,13 +196,14 @@ impl Reading {
 
     fn module(
         &mut self,
-        folder: Folder<'_>,
+        files: &Files<'_>,
+        packages: &[Package],
         path: &str,
         url: Url,
         media_type: MediaType,
     ) -> Result<()> {
-        let alloc = folder.files.alloc();
-        let Some(text) = folder.files.read(path)? else {
+        let alloc = files.alloc();
+        let Some(text) = files.read(path)? else {
             let why = Message::of_file(alloc, path, "syntax-error", "the file is no UTF-8")?;
             self.messages.errors.push(why)?;
             return Ok(());
@@ -240,11 +222,11 @@ impl Reading {
         let mut resolved: BTreeMap<String, Url> = BTreeMap::new(alloc);
         for source in sources_of(alloc, module.source.program.read())? {
             let named = named_types(text, (source.around as usize).saturating_sub(1));
-            match self.lead(folder, path, source.text, named)? {
+            match self.lead(files, packages, path, source.text, named)? {
                 Some(target) => {
                     let _ = resolved.insert(String::from_str(alloc, source.text)?, target)?;
                 }
-                None => self.missing(folder, path, text, source)?,
+                None => self.missing(files, path, text, source)?,
             }
         }
         let _ = self.found.graph.insert(url.clone()?, js(media_type))?;
@@ -253,12 +235,12 @@ impl Reading {
         Ok(())
     }
 
-    fn file(&mut self, folder: Folder<'_>, path: &str) -> Result<()> {
-        let alloc = folder.files.alloc();
+    fn file(&mut self, files: &Files<'_>, packages: &[Package], path: &str) -> Result<()> {
+        let alloc = files.alloc();
         if !self.seen.insert(String::from_str(alloc, path)?)? {
             return Ok(());
         }
-        if let Some(why) = folder.files.refusal(path)? {
+        if let Some(why) = files.refusal(path)? {
             self.messages
                 .errors
                 .push(Message::of_file(alloc, path, "refused-file", why)?)?;
@@ -267,7 +249,7 @@ impl Reading {
         let url = url_of(alloc, path)?;
         let media_type = media_type(path);
         if media_type.is_typed() {
-            return self.module(folder, path, url, media_type);
+            return self.module(files, packages, path, url, media_type);
         }
         if path.ends_with(".json") {
             let _ = self
@@ -328,20 +310,16 @@ pub fn follow(
             resolutions: BTreeMap::new(alloc),
         },
         messages,
+        entries,
         seen: BTreeSet::new(alloc),
         waiting,
         projects,
-    };
-    let folder = Folder {
-        files,
-        packages,
-        entries: &entries,
     };
     for _turn in 0..u64::MAX {
         let Some(path) = reading.waiting.pop() else {
             break;
         };
-        reading.file(folder, path.as_str())?;
+        reading.file(files, packages, path.as_str())?;
     }
     let Reading {
         found,

@@ -175,11 +175,11 @@ fn name_in(expr: Part<'_>) -> Option<&str> {
     let text = match expr.kind() {
         Kind::Str => Str::of(expr).value,
         Kind::Tpl => {
-            let quasis = Tpl::of(expr).quasis;
-            match quasis.parts() {
-                [only] => TplElement::of(only.read()).cooked.text(),
-                _ => return None,
+            let quasis = Tpl::of(expr).quasis.parts();
+            if quasis.len() != 1 {
+                return None;
             }
+            TplElement::of(quasis.first()?.read()).cooked.text()
         }
         _ => return None,
     };

@@ -187,7 +187,11 @@ impl<'a> Written<'a> {
             }
         }
         let build = sources_of_build(files, projects, self.folder, all.as_slice())?;
-        for (written, entry) in paths.into_iter().zip(all) {
+        for (place, entry) in all.into_iter().enumerate() {
+            let written = match paths.get(place) {
+                Some(path) => path.clone()?,
+                None => continue,
+            };
             let source = source_of(entry.path.as_str(), &built, &build)?;
             let candidate = Candidate {
                 written,
