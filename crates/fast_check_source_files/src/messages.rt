@@ -1,4 +1,6 @@
 //! What is wrong with a file, and where.
+ghost use Rattle.std.specs.Prelude.{◌≤◌};
+
 use std::alloc::{AllocError, Global};
 
 /// What keeps a file from being read.
@@ -21,7 +23,10 @@ pub struct Place {
 }
 
 /// The place of a byte of a text.
-pub fn place_of(text: &str, offset: usize) -> Place {
+pub fn place_of(text: &str, offset: usize) -> Place
+    ensures line { 1 ≤ result.line }
+    ensures column { 1 ≤ result.column }
+{
     let mut place = Place { line: 1, column: 1 };
     let mut is_behind_return = false;
     for (at, each) in text.char_indices() {
