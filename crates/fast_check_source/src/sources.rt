@@ -77,7 +77,8 @@ impl<'a> Sources<'a> {
         } = ImportDecl::of(part);
         let mut is_exported = false;
         for specifier in specifiers.parts() {
-            is_exported = is_exported || self.exported.contains(local_name(specifier.read()));
+            let name = local_name(specifier.read());
+            is_exported = is_exported || self.exported.contains(&name);
         }
         self.push(part, src, is_exported)
     }

@@ -35,7 +35,7 @@ struct Accessor<'a> {
     inner: Part<'a>,
 }
 
-fn getter(member: Part<'_>) -> Option<Accessor<'_>> {
+fn getter_of(member: Part<'_>) -> Option<Accessor<'_>> {
     match member.kind() {
         Kind::ClassMethod => {
             let ClassMethod {
@@ -68,7 +68,7 @@ fn getter(member: Part<'_>) -> Option<Accessor<'_>> {
     }
 }
 
-fn setter(member: Part<'_>) -> Option<Accessor<'_>> {
+fn setter_of(member: Part<'_>) -> Option<Accessor<'_>> {
     match member.kind() {
         Kind::ClassMethod => {
             let ClassMethod {
@@ -103,7 +103,7 @@ fn setter(member: Part<'_>) -> Option<Accessor<'_>> {
 // The type that is written at the parameter of the setter of a getter.
 fn type_of_setter<'a>(text: &str, getter: Accessor<'_>, members: Part<'a>) -> Option<Part<'a>> {
     for member in members.parts() {
-        if let Some(setter) = setter(member.read())
+        if let Some(setter) = setter_of(member.read())
             && setter.is_static == getter.is_static
             && written(text, setter.key) == written(text, getter.key)
         {
@@ -142,7 +142,7 @@ pub fn put_accessors(
     out: &mut BTreeSet<u32>,
 ) -> Result<(), AllocError> {
     for member in members.parts() {
-        let Some(getter) = getter(member.read()) else {
+        let Some(getter) = getter_of(member.read()) else {
             continue;
         };
         if getter.inner.kind() != Kind::BlockStmt {
@@ -258,7 +258,7 @@ pub fn put_static_names(edits: &mut Edits, members: Part<'_>) -> Result<(), Allo
             && is_static
         {
             let IdentName { span, sym } = IdentName::of(key);
-            if others.contains(sym) {
+            if others.contains(&sym) {
                 let mut marked = String::from_str(alloc, sym)?;
                 marked.push_str(STATIC)?;
                 let made = IdentName {

@@ -1,6 +1,6 @@
 //! Files of a build, and the sources that stand for them.
 use crate::exports::Entry;
-use crate::options::{options_of, sources};
+use crate::options::{options_of, sources_of};
 use crate::tsconfig::{Projects, references};
 use fast_check_source_files::files::{Files, Standing, folder_of, joined, media_type, name_of};
 use fast_check_tables_diagnostics::parsed_source::MediaType;
@@ -17,7 +17,7 @@ const BUILT: [&str; 9] = [
     ".d.ts", ".d.mts", ".d.cts", ".ts", ".mts", ".cts", ".js", ".mjs", ".cjs",
 ];
 
-const SOURCES: [&str; 4] = [".ts", ".tsx", ".mts", ".cts"];
+const WRITTEN: [&str; 4] = [".ts", ".tsx", ".mts", ".cts"];
 
 const WHOLE: [&str; 3] = ["src/index.ts", "src/index.tsx", "src/index.mts"];
 
@@ -110,7 +110,7 @@ fn namesake(files: &Files<'_>, folder: &str, wanted: &str) -> Result<Option<Stri
             break;
         };
         rest = below;
-        for ending in SOURCES {
+        for ending in WRITTEN {
             let mut name = joined(alloc, "src/", rest)?;
             name.push_str(ending)?;
             let path = inside(alloc, folder, name.as_str())?;
@@ -305,7 +305,7 @@ pub fn built_files(
             continue;
         }
         let own = folder_of(path.as_str());
-        let taken = sources(files, own, &project)?;
+        let taken = sources_of(files, own, &project)?;
         let roots = match &project.root {
             Some(root) => [root.as_str(), root.as_str()],
             None => [common_folder(taken.as_slice()), own],

@@ -301,7 +301,7 @@ fn takes(alloc: Global, options: &Options, path: &str) -> Result<bool, AllocErro
 }
 
 /// The sources that a configuration in a folder takes.
-pub fn sources(
+pub fn sources_of(
     files: &Files<'_>,
     folder: &str,
     options: &Options,

@@ -212,7 +212,7 @@ fn of_name(
 }
 
 // The file that a text leads to before links are followed.
-fn found(
+fn first_found(
     files: &Files<'_>,
     projects: &mut Projects,
     packages: &[Package],
@@ -282,9 +282,9 @@ pub fn resolve(
     {
         return Ok(Some(types));
     }
-    match found(files, projects, packages, from, text)? {
-        Some(found) => {
-            let real = behind_links(files, found)?;
+    match first_found(files, projects, packages, from, text)? {
+        Some(file) => {
+            let real = behind_links(files, file)?;
             Ok(Some(typed(files, projects, real)?))
         }
         None => Ok(None),

@@ -32,7 +32,7 @@ fn push_texts(
 
 /// The paths that the workspace of a folder lists.
 #[derive(Drop)]
-pub struct Listed {
+pub struct MemberList {
     pub texts: Vec<String>,
     /// Whether it is npm's or pnpm's, whose members may be anything.
     pub is_npm: bool,
@@ -41,7 +41,7 @@ pub struct Listed {
 }
 
 /// The paths that the workspace of a folder lists: those of Deno's and npm's, or else those of pnpm's.
-pub fn listed_members(files: &Files<'_>, top: &[Config]) -> Result<Listed, AllocError> {
+pub fn listed_members(files: &Files<'_>, top: &[Config]) -> Result<MemberList, AllocError> {
     let alloc = files.alloc();
     let mut texts = Vec::new(alloc);
     let (deno, npm) = (member(top, "workspace"), member(top, "workspaces"));
@@ -55,7 +55,7 @@ pub fn listed_members(files: &Files<'_>, top: &[Config]) -> Result<Listed, Alloc
         texts = listed(alloc, text.as_str())?;
         is_npm = true;
     }
-    Ok(Listed {
+    Ok(MemberList {
         texts,
         is_npm,
         is_deno: deno.is_some(),
@@ -194,11 +194,11 @@ impl Members {
 /// The folders of a workspace's members.
 pub fn members_of(
     files: &Files<'_>,
-    listed: &Listed,
+    list: &MemberList,
     messages: &mut Messages,
 ) -> Result<Vec<String>, AllocError> {
     let alloc = files.alloc();
-    let texts = listed.texts.as_slice();
+    let texts = list.texts.as_slice();
     let folders = if texts.iter().any(|it| is_pattern(it.as_str())) {
         files.all_below("", Standing::Folder)?
     } else {
@@ -210,7 +210,7 @@ pub fn members_of(
         found: Vec::new(alloc),
     };
     for text in texts.iter().filter(|it| !it.as_str().starts_with("!")) {
-        members.add_written(files, text.as_str(), listed.is_deno, messages)?;
+        members.add_written(files, text.as_str(), list.is_deno, messages)?;
     }
     let Members { found, .. } = members;
     Ok(found)
