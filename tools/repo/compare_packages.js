@@ -12,6 +12,8 @@ const os = require('os');
 const path = require('path');
 const { spawnSync } = require('child_process');
 
+const { restored } = require('../typescript/src/skeleton/restored.js');
+
 const TOOL = path.join(__dirname, '../typescript/bin/fast-check-ts.js');
 
 /** A value without the members that have their defaults. Scopes are numbered in the order of the members, but for 1 and 2. */
@@ -52,7 +54,7 @@ function answersOf(program, input) {
   fs.writeFileSync(file, input);
   const ran = spawnSync(program, ['build', file], { maxBuffer: 1 << 30, encoding: 'utf8' });
   fs.rmSync(path.dirname(file), { recursive: true });
-  return ran.stdout.trim() ? JSON.parse(ran.stdout) : null;
+  return ran.stdout.trim() ? restored(JSON.parse(ran.stdout), JSON.parse(input)) : null;
 }
 
 function compare(program, fastCheck, folder) {
@@ -67,7 +69,7 @@ function compare(program, fastCheck, folder) {
   if (errors.length && made.status === 0) return `mine alone refuses: ${show(errors)}`;
   const wanted = answersOf(fastCheck, made.stdout);
   if (wanted === null) return 'the program answers nothing';
-  const found = difference(bySpecifier(answers), bySpecifier(Array.isArray(wanted) ? wanted : wanted.answers || []));
+  const found = difference(bySpecifier(answers), bySpecifier(wanted));
   return found ? `differs at ${found.at}: mine ${show(found.mine)} wanted ${show(found.wanted)}` : 'equal';
 }
 

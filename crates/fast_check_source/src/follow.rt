@@ -2,7 +2,7 @@
 use crate::sources::{SourceText, sources_of};
 use anyhow::Result;
 use fast_check_source_comments::comments_of;
-use fast_check_source_files::files::{Files, media_type};
+use fast_check_source_files::files::{Files, media_type, name_of};
 use fast_check_source_files::messages::Message;
 use fast_check_source_mended::mended;
 use fast_check_source_packages::comments::named_types;
@@ -34,6 +34,8 @@ pub struct Found {
     pub modules: BTreeMap<Url, Parsed>,
     pub graph: BTreeMap<Url, Module>,
     pub resolutions: BTreeMap<Url, BTreeMap<String, Url>>,
+    /// The names of the files of modules that name themselves.
+    pub own_names: BTreeMap<Url, String>,
 }
 
 const HEX: &str = "0123456789ABCDEF";
@@ -224,6 +226,10 @@ impl Reading {
             let named = named_types(text, (source.around as usize).saturating_sub(1));
             match self.lead(files, packages, path, source.text, named)? {
                 Some(target) => {
+                    if target == url {
+                        let own = String::from_str(alloc, name_of(path))?;
+                        let _ = self.found.own_names.insert(url.clone()?, own)?;
+                    }
                     let _ = resolved.insert(String::from_str(alloc, source.text)?, target)?;
                 }
                 None => self.missing(files, path, text, source)?,
@@ -269,6 +275,7 @@ fn readable(alloc: Global, found: Found) -> Result<Found> {
         modules,
         graph,
         resolutions,
+        own_names,
     } = found;
     let mut kept = BTreeMap::new(alloc);
     for (url, resolved) in resolutions {
@@ -284,11 +291,12 @@ fn readable(alloc: Global, found: Found) -> Result<Found> {
         modules,
         graph,
         resolutions: kept,
+        own_names,
     })
 }
 
 /// Reads the modules that the entry points of packages lead to inside of a folder.
-pub fn follow(
+pub fn modules_of(
     files: &Files<'_>,
     packages: &[Package],
     projects: Projects,
@@ -308,6 +316,7 @@ pub fn follow(
             modules: BTreeMap::new(alloc),
             graph: BTreeMap::new(alloc),
             resolutions: BTreeMap::new(alloc),
+            own_names: BTreeMap::new(alloc),
         },
         messages,
         entries,

@@ -7,7 +7,7 @@ mod follow;
 mod sources;
 mod world;
 
-use crate::follow::{Found, encoded, follow, url_of};
+use crate::follow::{Found, Parsed, encoded, modules_of, url_of};
 use crate::world::{answered, in_order, names_of};
 use anyhow::Result;
 use fast_check_build::answers::ModuleAnswer;
@@ -15,11 +15,13 @@ use fast_check_build::build_fast_check_type_graph;
 use fast_check_print::print_answers;
 use fast_check_source_files::files::Files;
 use fast_check_source_files::messages::Message;
+use fast_check_source_mended::restored_skeleton;
 use fast_check_source_packages::config::Messages;
 use fast_check_source_packages::packages::packages_of;
 use fast_check_source_packages::resolve::{Package, package_at};
 use fast_check_source_packages::tsconfig::Projects;
-use fast_check_tables_graph::{AnyModuleInfo, ModuleGraph, RootSymbol};
+use fast_check_tables_diagnostics::parsed_source::FastCheckModule;
+use fast_check_tables_graph::{AnyModuleInfo, Module, ModuleGraph, RootSymbol};
 use fast_check_tables_modules::EsModuleInfo;
 use fast_check_tables_packages::{ListedPackages, PackageNv, WorkspaceMember};
 use fast_check_tables_symbols::ModuleTables;
@@ -34,12 +36,12 @@ use std::process::ExitCode;
 use url::Url;
 
 // The modules, each with the names that it answers.
-fn root_of(alloc: Global, found: Found) -> Result<(ModuleGraph, RootSymbol)> {
-    let Found {
-        modules,
-        graph,
-        resolutions,
-    } = found;
+fn root_of(
+    alloc: Global,
+    modules: BTreeMap<Url, Parsed>,
+    graph: BTreeMap<Url, Module>,
+    resolutions: BTreeMap<Url, BTreeMap<String, Url>>,
+) -> Result<(ModuleGraph, RootSymbol)> {
     let mut world = BTreeMap::new(alloc);
     for (url, module) in modules.iter() {
         let names = names_of(alloc, &module.tables, resolutions.get(url))?;
@@ -47,13 +49,14 @@ fn root_of(alloc: Global, found: Found) -> Result<(ModuleGraph, RootSymbol)> {
     }
     let mut made = BTreeMap::new(alloc);
     for (url, module) in modules {
+        let Parsed { source, tables } = module;
         let ModuleTables {
             symbols,
             module_symbol,
             swc_ids,
             re_export_all_nodes,
             ..
-        } = module.tables;
+        } = tables;
         let tables = ModuleTables {
             symbols,
             module_symbol,
@@ -67,7 +70,7 @@ fn root_of(alloc: Global, found: Found) -> Result<(ModuleGraph, RootSymbol)> {
             )?,
             resolved_exports: answered(alloc, &world, &url)?,
         };
-        let info = EsModuleInfo::new(alloc, url.clone()?, module.source, tables)?;
+        let info = EsModuleInfo::new(alloc, url.clone()?, source, tables)?;
         let _ = made.insert(url, AnyModuleInfo::Esm(info))?;
     }
     let graph = ModuleGraph::from_parts(alloc, graph, resolutions, BTreeMap::new(alloc))?;
@@ -111,6 +114,39 @@ fn member_of(alloc: Global, package: &Package) -> Result<(WorkspaceMember, Packa
     Ok((member, asked))
 }
 
+// The answers with skeletons by the words of their sources.
+fn in_own_words(
+    alloc: Global,
+    answers: Vec<ModuleAnswer>,
+    own_names: &BTreeMap<Url, String>,
+) -> Result<Vec<ModuleAnswer>> {
+    let mut made = Vec::new(alloc);
+    for (url, answer) in answers {
+        let own = match own_names.get(&url) {
+            Some(own) => own.as_str(),
+            None => "",
+        };
+        match answer {
+            Ok(module) => {
+                let FastCheckModule {
+                    module_info,
+                    program,
+                    comments,
+                } = module;
+                let program = restored_skeleton(alloc, program, own)?;
+                let module = FastCheckModule {
+                    module_info,
+                    program,
+                    comments,
+                };
+                made.push((url, Ok(module)))?;
+            }
+            Err(diagnostics) => made.push((url, Err(diagnostics)))?,
+        }
+    }
+    Ok(made)
+}
+
 fn build(alloc: Global, packages: &[Package], found: Found) -> Result<Vec<ModuleAnswer>> {
     let mut by_length = BTreeMap::new(alloc);
     let mut pending = VecDeque::new(alloc);
@@ -125,7 +161,13 @@ fn build(alloc: Global, packages: &[Package], found: Found) -> Result<Vec<Module
     for (_, member) in by_length {
         members.push(member)?;
     }
-    let (graph, root) = root_of(alloc, found)?;
+    let Found {
+        modules,
+        graph,
+        resolutions,
+        own_names,
+    } = found;
+    let (graph, root) = root_of(alloc, modules, graph, resolutions)?;
     let options = TransformOptions {
         workspace_members: members,
         should_error_on_first_diagnostic: false,
@@ -134,7 +176,10 @@ fn build(alloc: Global, packages: &[Package], found: Found) -> Result<Vec<Module
         packages: Vec::new(alloc),
         fallback: Url::parse(alloc, "https://package.test/")?,
     };
-    Ok(build_fast_check_type_graph(alloc, None, &provider, &graph, &root, pending, &options)?)
+    let answers = build_fast_check_type_graph(
+        alloc, None, &provider, &graph, &root, pending, &options,
+    )?;
+    in_own_words(alloc, answers, &own_names)
 }
 
 fn print_messages(out: &mut Writer, messages: &[Message]) -> Result<(), AllocError> {
@@ -213,7 +258,7 @@ fn answer(rt: &HostRuntime, folder: &str) -> Result<(String, u8)> {
     let mut messages = Messages::new(alloc);
     let mut projects = Projects::new(alloc);
     let packages = packages_of(&files, &mut projects, &mut messages)?;
-    let (found, messages) = follow(&files, packages.as_slice(), projects, messages)?;
+    let (found, messages) = modules_of(&files, packages.as_slice(), projects, messages)?;
     let packages = readable(alloc, packages, messages.errors.as_slice())?;
     let answers = if packages.is_empty() {
         Vec::new(alloc)

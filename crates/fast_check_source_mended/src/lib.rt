@@ -4,9 +4,11 @@
 
 mod edits;
 mod members;
+mod restored;
 mod returns;
 mod statements;
 mod unsaid;
 mod values;
 
+pub use restored::restored_skeleton;
 pub use values::mended;

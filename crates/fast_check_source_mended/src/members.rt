@@ -13,7 +13,7 @@ use std::alloc::{AllocError, Global};
 use std::collections::BTreeSet;
 
 /// What stands behind the name of a private static member beside another private one of that name, since the program takes both for one. No name has a blank.
-const STATIC: &str = " static";
+pub const STATIC: &str = " static";
 
 /// The written text of a node.
 fn written<'a>(text: &'a str, part: Part<'_>) -> &'a str {
