@@ -2,13 +2,13 @@
 use crate::sources::{SourceText, sources_of};
 use anyhow::Result;
 use fast_check_source_comments::comments_of;
+use fast_check_source_configs::comments::named_types;
+use fast_check_source_configs::config::Messages;
+use fast_check_source_configs::tsconfig::Projects;
 use fast_check_source_files::files::{Files, media_type, name_of};
 use fast_check_source_files::messages::Message;
 use fast_check_source_mended::mended;
-use fast_check_source_packages::comments::named_types;
-use fast_check_source_packages::config::Messages;
 use fast_check_source_packages::resolve::{Package, is_relative, resolve};
-use fast_check_source_packages::tsconfig::Projects;
 use fast_check_source_parser::{ParseError, parse_program};
 use fast_check_source_scopes::with_scopes;
 use fast_check_source_tables::{tables_of, with_exports};

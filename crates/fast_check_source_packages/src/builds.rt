@@ -1,7 +1,8 @@
 //! Files of a build, and the sources that stand for them.
 use crate::exports::Entry;
-use crate::options::{options_of, sources_of};
-use crate::tsconfig::{Projects, references};
+use fast_check_source_configs::options::{options_of, sources_of};
+use fast_check_source_configs::paths::{behind, inside};
+use fast_check_source_configs::tsconfig::{Projects, references};
 use fast_check_source_files::files::{Files, Standing, folder_of, joined, media_type, name_of};
 use fast_check_tables_diagnostics::parsed_source::MediaType;
 use std::alloc::{AllocError, Global};
@@ -29,24 +30,6 @@ fn without_ending(path: &str) -> Option<&str> {
         }
     }
     None
-}
-
-/// What is left of a path below a folder.
-pub fn behind<'a>(path: &'a str, folder: &str) -> Option<&'a str> {
-    if folder.is_empty() {
-        return Some(path);
-    }
-    path.strip_prefix(folder)?.strip_prefix("/")
-}
-
-/// A path below a folder.
-pub fn inside(alloc: Global, folder: &str, path: &str) -> Result<String, AllocError> {
-    if folder.is_empty() {
-        return String::from_str(alloc, path);
-    }
-    let mut made = joined(alloc, folder, "/")?;
-    made.push_str(path)?;
-    Ok(made)
 }
 
 fn is_written(media_type: MediaType) -> bool {

@@ -1,8 +1,9 @@
 //! The entry points of a package, by the paths of their files.
-use crate::builds::{behind, built_files, file_of, inside, is_unread, sources_of_build};
-use crate::config::{Config, path_in, quoted, text_of};
+use crate::builds::{built_files, file_of, is_unread, sources_of_build};
 use crate::exports::{Entry, expanded, written_exports};
-use crate::tsconfig::Projects;
+use fast_check_source_configs::config::{Config, path_in, quoted, text_of};
+use fast_check_source_configs::paths::{behind, inside};
+use fast_check_source_configs::tsconfig::Projects;
 use fast_check_source_files::files::{Files, joined, media_type};
 use fast_check_source_files::messages::Message;
 use fast_check_tables_diagnostics::parsed_source::MediaType;

@@ -1,5 +1,5 @@
 //! The entry points that a configuration writes.
-use crate::config::{Config, member, path_in, path_of, text_of};
+use fast_check_source_configs::config::{Config, member, path_in, path_of, text_of};
 use fast_check_source_files::files::{Files, Standing, joined, media_type};
 use fast_check_tables_diagnostics::parsed_source::MediaType;
 use serde_json::Value;

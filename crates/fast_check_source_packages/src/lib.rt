@@ -2,13 +2,7 @@
 #![tactic(auto)]
 
 mod builds;
-mod checks;
-pub mod comments;
-pub mod config;
 mod entries;
 pub mod exports;
-mod options;
 pub mod packages;
 pub mod resolve;
-pub mod tsconfig;
-mod workspace;

@@ -1,11 +1,13 @@
 //! What a folder says of its packages: names, versions, entry points, and the map of imports.
-use crate::builds::behind;
-use crate::config::{Config, Messages, add_imports, configs_of, member, text_of};
 use crate::entries::{Entries, entry_points};
 use crate::exports::Entry;
 use crate::resolve::{Package, behind_links, typed};
-use crate::tsconfig::Projects;
-use crate::workspace::{listed_members, members_of};
+use fast_check_source_configs::config::{
+    Config, Messages, add_imports, configs_of, member, text_of,
+};
+use fast_check_source_configs::paths::behind;
+use fast_check_source_configs::tsconfig::Projects;
+use fast_check_source_configs::workspace::{listed_members, members_of};
 use fast_check_source_files::files::{Files, joined, name_of};
 use fast_check_source_files::messages::Message;
 use std::alloc::{AllocError, Global};

@@ -1,8 +1,9 @@
 //! Where the text by which a module names another one leads.
 use crate::builds::{file_of, is_script};
-use crate::comments::self_types;
 use crate::exports::Entry;
-use crate::tsconfig::Projects;
+use fast_check_source_configs::comments::self_types;
+use fast_check_source_configs::paths::{rest_of, with_rest};
+use fast_check_source_configs::tsconfig::Projects;
 use fast_check_source_files::files::{Files, below, folder_of, joined, media_type};
 use std::alloc::{AllocError, Global};
 use std::collections::BTreeMap;
@@ -41,31 +42,6 @@ pub fn package_at<'a>(packages: &'a [Package], path: &str) -> Option<&'a Package
         }
     }
     best
-}
-
-/// What stands for the `*` of a key, or nothing where a text does not fit it.
-pub fn rest_of<'a>(key: &str, text: &'a str) -> Option<&'a str> {
-    match key.split_once('*') {
-        None => if key == text { Some("") } else { None },
-        Some((before, after)) => {
-            if text.len() < before.len().saturating_add(after.len()) {
-                return None;
-            }
-            text.strip_prefix(before)?.strip_suffix(after)
-        }
-    }
-}
-
-/// A text in which another one stands for its `*`, if it has one.
-pub fn with_rest(alloc: Global, target: &str, rest: &str) -> Result<String, AllocError> {
-    match target.split_once('*') {
-        None => String::from_str(alloc, target),
-        Some((before, after)) => {
-            let mut made = joined(alloc, before, rest)?;
-            made.push_str(after)?;
-            Ok(made)
-        }
-    }
 }
 
 // What the map of imports makes of a text: nothing where no entry fits, and no path where it leads elsewhere.

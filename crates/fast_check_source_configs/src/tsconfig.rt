@@ -1,7 +1,6 @@
 //! What the `tsconfig.json` above a file says of imports: `paths`, `baseUrl`, `rootDirs` and `moduleSuffixes`, also by `extends` and `references`.
-use crate::builds::behind;
 use crate::options::{Options, object_of, options_of, written};
-use crate::resolve::{rest_of, with_rest};
+use crate::paths::{behind, rest_of, with_rest};
 use fast_check_source_files::files::{Files, below, folder_of};
 use serde_json::Value;
 use std::alloc::{AllocError, Global};

@@ -1,5 +1,5 @@
 //! What a `tsconfig.json` says, with the files that it extends.
-use crate::builds::behind;
+use crate::paths::behind;
 use fast_check_source_files::files::{Files, Standing, below, folder_of, joined, media_type};
 use fast_check_source_files::globs::fits;
 use fast_check_source_files::jsonc::value_of;
