@@ -7,7 +7,7 @@ use fast_check_source_configs::config::Messages;
 use fast_check_source_configs::tsconfig::Projects;
 use fast_check_source_files::files::{Files, media_type, name_of};
 use fast_check_source_files::messages::Message;
-use fast_check_source_mended::mended;
+use fast_check_source_mended::{mended, short_tree};
 use fast_check_source_packages::resolve::{Package, is_relative, resolve};
 use fast_check_source_parser::{ParseError, parse_program};
 use fast_check_source_scopes::with_scopes;
@@ -125,9 +125,9 @@ fn refused(
 fn read_module(alloc: Global, tree: &Tree, text: &str, media_type: MediaType) -> Result<Parsed> {
     let is_declaration = media_type.is_declaration();
     let comments = comments_of(alloc, text, tree)?;
-    let scoped = with_scopes(alloc, tree, is_declaration)?;
-    let whole = mended(alloc, text, scoped)?;
-    let program = with_exports(alloc, &whole, is_declaration)?;
+    let short = short_tree(alloc, text, tree)?;
+    let scoped = with_scopes(alloc, &short, is_declaration)?;
+    let program = with_exports(alloc, mended(alloc, scoped)?, is_declaration)?;
     let tables = tables_of(alloc, &program, is_declaration)?;
     let source = ParsedSource {
         media_type,

@@ -141,9 +141,10 @@ impl Members {
         let code = "no-entry-point";
         let Some(folder) = below(alloc, "", path)? else {
             let why = "this member of the workspace lies outside of the folder";
-            return messages
+            messages
                 .errors
-                .push(Message::of_file(alloc, path, code, why)?);
+                .push(Message::of_file(alloc, path, code, why)?)?;
+            return Ok(());
         };
         if files.standing(folder.as_str())? != Standing::Nothing {
             return self.add(alloc, folder.as_str());
@@ -151,10 +152,11 @@ impl Members {
         let why = "this member of the workspace is not there";
         let absence = Message::of_file(alloc, folder.as_str(), code, why)?;
         if is_deno {
-            messages.errors.push(absence)
+            messages.errors.push(absence)?;
         } else {
-            messages.warnings.push(absence)
+            messages.warnings.push(absence)?;
         }
+        Ok(())
     }
 
     // The folders of a path of the list.

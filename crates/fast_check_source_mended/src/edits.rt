@@ -45,13 +45,6 @@ impl Edits {
         Ok(())
     }
 
-    /// Has a value stand in place of another one that names no type.
-    pub fn take_type(&mut self, value: Part<'_>) -> Result<(), AllocError> {
-        let span = range_of(value);
-        let tree = ThisExpr { span }.into_tree(self.alloc)?;
-        self.put(span, tree)
-    }
-
     /// Has a value stand in place of another one, of which no skeleton is made.
     pub fn hide(&mut self, value: Part<'_>) -> Result<(), AllocError> {
         let span = range_of(value);

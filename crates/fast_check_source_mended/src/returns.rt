@@ -1,20 +1,23 @@
-//! The value by which a body names its return type.
-use crate::edits::Edits;
+//! Bodies of functions, cut to what says how they return.
+use crate::edits::{Edits, range_of};
 use crate::statements::{holds_statements, push_names, push_parts, variables_of};
-use fast_check_source_references::names::id_of;
-use fast_check_tree_forms_expressions::{ParenExpr, TsAsExpr, TsSatisfiesExpr, TsTypeAssertion};
-use fast_check_tree_forms_statements::{
-    BlockStmt, ClassDecl, FnDecl, ReturnStmt, TsEnumDecl, TsInterfaceDecl, TsModuleDecl,
-    TsTypeAliasDecl, UsingDecl, VarDecl, VarDeclarator,
+use fast_check_tree_forms_expressions::{
+    CallExpr, ParenExpr, ThisExpr, TsAsExpr, TsSatisfiesExpr, TsTypeAssertion,
 };
-use fast_check_tree_syntax::{Id, Kind, Part};
+use fast_check_tree_forms_programs::Ident;
+use fast_check_tree_forms_statements::{
+    BlockStmt, ClassDecl, EmptyStmt, ExprStmt, FnDecl, ReturnStmt, TsEnumDecl, TsInterfaceDecl,
+    TsModuleDecl, TsTypeAliasDecl, UsingDecl, VarDecl, VarDeclarator,
+};
+use fast_check_tree_syntax::{Items, Kind, Part, Tree};
 use std::alloc::{AllocError, Global};
 use std::collections::BTreeSet;
 
-/// A body without a written type.
+/// The body of a function.
 #[derive(Clone, Copy)]
 pub struct Body<'a> {
     pub block: Part<'a>,
+    pub has_type: bool,
     pub is_generator: bool,
     /// Whether it is the one of a getter that has the type of its setter.
     pub is_of_setter: bool,
@@ -59,8 +62,8 @@ fn names_type(value: Part<'_>) -> bool {
     )
 }
 
-// The values that a body returns, in the order of the text. Of a return without one what is absent.
-fn returned<'a>(alloc: Global, block: Part<'a>) -> Result<Vec<Part<'a>>, AllocError> {
+// The statements by which a body returns, in the order of the text.
+fn returns<'a>(alloc: Global, block: Part<'a>) -> Result<Vec<Part<'a>>, AllocError> {
     let mut found = Vec::new(alloc);
     let mut waiting = Vec::new(alloc);
     waiting.push(block)?;
@@ -69,7 +72,7 @@ fn returned<'a>(alloc: Global, block: Part<'a>) -> Result<Vec<Part<'a>>, AllocEr
             break;
         };
         if next.kind() == Kind::ReturnStmt {
-            found.push(ReturnStmt::of(next).arg)?;
+            found.push(next)?;
         } else if holds_statements(next.kind()) {
             push_parts(next, &mut waiting)?;
         }
@@ -83,26 +86,36 @@ pub fn naming<'a>(alloc: Global, block: Part<'a>) -> Result<Option<Part<'a>>, Al
         return Ok(None);
     };
     let last = last.read();
-    if last.kind() != Kind::ReturnStmt || returned(alloc, block)?.len() != 1 {
+    if last.kind() != Kind::ReturnStmt || returns(alloc, block)?.len() != 1 {
         return Ok(None);
     }
     let arg = ReturnStmt::of(last).arg;
     Ok(if names_type(arg) { Some(arg) } else { None })
 }
 
-// The patterns and names of what a statement declares in its own block.
+// The name of what a statement declares in its own block, if that is no list of variables.
+fn name_of(statement: Part<'_>) -> Option<Part<'_>> {
+    match statement.kind() {
+        Kind::FnDecl => Some(FnDecl::of(statement).ident),
+        Kind::ClassDecl => Some(ClassDecl::of(statement).ident),
+        Kind::TsInterfaceDecl => Some(TsInterfaceDecl::of(statement).id),
+        Kind::TsTypeAliasDecl => Some(TsTypeAliasDecl::of(statement).id),
+        Kind::TsEnumDecl => Some(TsEnumDecl::of(statement).id),
+        Kind::TsModuleDecl => Some(TsModuleDecl::of(statement).id),
+        _ => None,
+    }
+}
+
+// The names of what a statement declares in its own block.
 fn push_declared<'a>(
     alloc: Global,
     statement: Part<'a>,
     out: &mut Vec<Part<'a>>,
 ) -> Result<(), AllocError> {
+    if let Some(name) = name_of(statement) {
+        out.push(name)?;
+    }
     let decls = match statement.kind() {
-        Kind::FnDecl => return out.push(FnDecl::of(statement).ident),
-        Kind::ClassDecl => return out.push(ClassDecl::of(statement).ident),
-        Kind::TsInterfaceDecl => return out.push(TsInterfaceDecl::of(statement).id),
-        Kind::TsTypeAliasDecl => return out.push(TsTypeAliasDecl::of(statement).id),
-        Kind::TsEnumDecl => return out.push(TsEnumDecl::of(statement).id),
-        Kind::TsModuleDecl => return out.push(TsModuleDecl::of(statement).id),
         Kind::VarDecl => VarDecl::of(statement).decls,
         Kind::UsingDecl => UsingDecl::of(statement).decls,
         _ => return Ok(()),
@@ -114,7 +127,7 @@ fn push_declared<'a>(
 }
 
 // The names that a body declares.
-fn declared(alloc: Global, block: Part<'_>) -> Result<BTreeSet<Id>, AllocError> {
+fn declared<'a>(alloc: Global, block: Part<'a>) -> Result<BTreeSet<&'a str>, AllocError> {
     let mut names = Vec::new(alloc);
     for statement in BlockStmt::of(block).stmts.parts() {
         push_declared(alloc, statement.read(), &mut names)?;
@@ -128,8 +141,8 @@ fn declared(alloc: Global, block: Part<'_>) -> Result<BTreeSet<Id>, AllocError> 
     }
     let mut made = BTreeSet::new(alloc);
     for name in names {
-        if let Some(id) = id_of(alloc, name)? {
-            let _ = made.insert(id)?;
+        if name.kind() == Kind::Ident {
+            let _ = made.insert(Ident::of(name).sym)?;
         }
     }
     Ok(made)
@@ -144,10 +157,11 @@ fn is_local(alloc: Global, block: Part<'_>, type_ann: Part<'_>) -> Result<bool, 
         let Some(next) = waiting.pop() else {
             break;
         };
-        if let Some(id) = id_of(alloc, next)?
-            && names.contains(&id)
-        {
-            return Ok(true);
+        if next.kind() == Kind::Ident {
+            let name = Ident::of(next).sym;
+            if names.contains(&name) {
+                return Ok(true);
+            }
         }
         push_parts(next, &mut waiting)?;
     }
@@ -163,21 +177,94 @@ fn kept<'a>(alloc: Global, body: Body<'a>) -> Result<Option<Part<'a>>, AllocErro
         return Ok(None);
     };
     match asserted(value) {
-        Some(type_ann) if is_local(alloc, body.block, type_ann)? => Ok(None),
-        _ => Ok(Some(value)),
+        Some(type_ann) => if is_local(alloc, body.block, type_ann)? {
+            Ok(None)
+        } else {
+            Ok(Some(value))
+        },
+        None => Ok(Some(value)),
     }
 }
 
-/// Takes the types of the values that a body returns, but for the one by which it names its type.
-pub fn put_returns(edits: &mut Edits, body: Body<'_>) -> Result<(), AllocError> {
-    let alloc = edits.alloc;
-    if kept(alloc, body)?.is_some() {
+// A return with the value that stays, or with one that names no type.
+fn short_return(
+    alloc: Global,
+    statement: Part<'_>,
+    kept: Option<Part<'_>>,
+) -> Result<Tree, AllocError> {
+    let ReturnStmt { span, arg } = ReturnStmt::of(statement);
+    let arg = if arg.is_absent() {
+        Tree::Absent
+    } else {
+        match kept {
+            Some(value) => value.to_tree(alloc)?,
+            None => {
+                let span = range_of(arg);
+                ThisExpr { span }.into_tree(alloc)?
+            }
+        }
+    };
+    ReturnStmt { span, arg }.into_tree(alloc)
+}
+
+// The statements that stay of a body.
+fn short_statements(alloc: Global, body: Body<'_>) -> Result<Items<Tree>, AllocError> {
+    let mut made = Items::new(alloc);
+    if body.has_type {
+        return Ok(made);
+    }
+    let kept = kept(alloc, body)?;
+    let all = returns(alloc, body.block)?;
+    for statement in all.iter() {
+        made.push(short_return(alloc, *statement, kept)?)?;
+    }
+    if all.is_empty()
+        && let Some(first) = BlockStmt::of(body.block).stmts.parts().first()
+    {
+        let span = range_of(first.read());
+        made.push(EmptyStmt { span }.into_tree(alloc)?)?;
+    }
+    Ok(made)
+}
+
+fn put_block(edits: &mut Edits, block: Part<'_>, stmts: Items<Tree>) -> Result<(), AllocError> {
+    let BlockStmt { span, ctxt, .. } = BlockStmt::of(block);
+    let made = BlockStmt {
+        span,
+        ctxt,
+        stmts: Tree::list(stmts),
+    };
+    let tree = made.into_tree(edits.alloc)?;
+    edits.put(span, tree)
+}
+
+/// Cuts a body: behind a written type nothing of it is seen, and else how it returns, and the value by which it names the type.
+pub fn put_body(edits: &mut Edits, body: Body<'_>) -> Result<(), AllocError> {
+    if body.block.kind() != Kind::BlockStmt {
         return Ok(());
     }
-    for value in returned(alloc, body.block)? {
-        if !value.is_absent() {
-            edits.take_type(value)?;
+    let stmts = short_statements(edits.alloc, body)?;
+    put_block(edits, body.block, stmts)
+}
+
+fn is_super_call(statement: Part<'_>) -> bool {
+    if statement.kind() != Kind::ExprStmt {
+        return false;
+    }
+    let call = ExprStmt::of(statement).expr;
+    call.kind() == Kind::CallExpr && CallExpr::of(call).callee.kind() == Kind::Super
+}
+
+/// Cuts the body of a constructor to its calls of the superclass.
+pub fn put_constructor(edits: &mut Edits, block: Part<'_>) -> Result<(), AllocError> {
+    if block.kind() != Kind::BlockStmt {
+        return Ok(());
+    }
+    let mut stmts = Items::new(edits.alloc);
+    for statement in BlockStmt::of(block).stmts.parts() {
+        if is_super_call(statement.read()) {
+            stmts.push(statement.read().to_tree(edits.alloc)?)?;
         }
     }
-    Ok(())
+    put_block(edits, block, stmts)
 }

@@ -53,18 +53,26 @@ fn asserted(part: Part<'_>) -> Option<(Part<'_>, Part<'_>)> {
     }
 }
 
+fn push_look<'a>(
+    part: Part<'a>,
+    is_asserted: bool,
+    waiting: &mut Vec<Look<'a>>,
+) -> Result<(), AllocError> {
+    waiting.push(Look { part, is_asserted })?;
+    Ok(())
+}
+
 // Pushes the parts of a part of a value that are not judged by themselves.
 fn push_looks<'a>(look: Look<'a>, waiting: &mut Vec<Look<'a>>) -> Result<(), AllocError> {
     let Look { part, is_asserted } = look;
+    if let Some((expr, type_ann)) = asserted(part) {
+        push_look(expr, true, waiting)?;
+        return push_look(type_ann, true, waiting);
+    }
     match part.kind() {
-        Kind::BindingIdent => waiting.push(Look {
-            part: BindingIdent::of(part).type_ann,
-            is_asserted,
-        }),
-        Kind::AssignPat => waiting.push(Look {
-            part: AssignPat::of(part).left,
-            is_asserted,
-        }),
+        Kind::BlockStmt => Ok(()),
+        Kind::BindingIdent => push_look(BindingIdent::of(part).type_ann, is_asserted, waiting),
+        Kind::AssignPat => push_look(AssignPat::of(part).left, is_asserted, waiting),
         Kind::ArrowExpr => {
             let ArrowExpr {
                 params,
@@ -72,31 +80,13 @@ fn push_looks<'a>(look: Look<'a>, waiting: &mut Vec<Look<'a>>) -> Result<(), All
                 return_type,
                 ..
             } = ArrowExpr::of(part);
-            for each in [params, type_params, return_type] {
-                waiting.push(Look {
-                    part: each,
-                    is_asserted,
-                })?;
-            }
-            Ok(())
+            push_look(params, is_asserted, waiting)?;
+            push_look(type_params, is_asserted, waiting)?;
+            push_look(return_type, is_asserted, waiting)
         }
-        Kind::BlockStmt => Ok(()),
         _ => {
-            if let Some((expr, type_ann)) = asserted(part) {
-                waiting.push(Look {
-                    part: expr,
-                    is_asserted: true,
-                })?;
-                return waiting.push(Look {
-                    part: type_ann,
-                    is_asserted: true,
-                });
-            }
             for inner in part.parts() {
-                waiting.push(Look {
-                    part: inner.read(),
-                    is_asserted,
-                })?;
+                push_look(inner.read(), is_asserted, waiting)?;
             }
             Ok(())
         }

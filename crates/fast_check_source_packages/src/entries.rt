@@ -124,7 +124,8 @@ impl<'a> Written<'a> {
         let (text, wanted) = (written.as_str(), entry.path.as_str());
         if text.starts_with("/") || behind(wanted, self.folder).is_none() {
             let why = " lies outside of the package";
-            return out.errors.push(self.message(alloc, text, code, why)?);
+            out.errors.push(self.message(alloc, text, code, why)?)?;
+            return Ok(());
         }
         let is_source = source.is_some();
         let file = match source {
@@ -132,9 +133,9 @@ impl<'a> Written<'a> {
             None => file_of(files, projects, wanted)?,
         };
         let Some(file) = file else {
-            return out
-                .wrong
-                .push(self.message(alloc, text, code, " is not there")?);
+            out.wrong
+                .push(self.message(alloc, text, code, " is not there")?)?;
+            return Ok(());
         };
         if !is_source && is_unread(files, projects, self.folder, wanted)? {
             let why = " is a built file, and nothing of src/ is read";
@@ -146,13 +147,15 @@ impl<'a> Written<'a> {
         }
         if media_type(file.as_str()) == MediaType::Unknown {
             let why = " is no module, and is passed over";
-            return out.passed.push(self.message(alloc, text, code, why)?);
+            out.passed.push(self.message(alloc, text, code, why)?)?;
+            return Ok(());
         }
         let found = Entry {
             key: entry.key.clone()?,
             path: file,
         };
-        out.found.push(found)
+        out.found.push(found)?;
+        Ok(())
     }
 
     // The entry points that are written.

@@ -18,7 +18,8 @@ fn push(alloc: Global, out: &mut Vec<Entry>, key: &str, path: &str) -> Result<()
         key: String::from_str(alloc, key)?,
         path: String::from_str(alloc, path)?,
     };
-    out.push(entry)
+    out.push(entry)?;
+    Ok(())
 }
 
 fn is_keyed(exports: &Value) -> bool {

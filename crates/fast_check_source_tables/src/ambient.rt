@@ -137,17 +137,12 @@ fn all_with_words(
     Ok(copies)
 }
 
-/// A program with the implied exports written in.
-pub fn with_exports(
+// Where the declarations of a module begin that get the word.
+fn implied_starts(
     alloc: Global,
-    program: &Tree,
+    body: Part<'_>,
     is_declaration_file: bool,
-) -> Result<Tree, AllocError> {
-    let part = program.read();
-    if part.kind() != Kind::Module {
-        return part.to_tree(alloc);
-    }
-    let body = Module::of(part).body;
+) -> Result<BTreeSet<u32>, AllocError> {
     let mut implied = Implied {
         starts: BTreeSet::new(alloc),
         waiting: Vec::new(alloc),
@@ -158,5 +153,23 @@ pub fn with_exports(
     };
     implied.items(task, is_declaration_file && !says_exports(body))?;
     implied.run()?;
-    with_words(alloc, program, &implied.starts)
+    let Implied { starts, .. } = implied;
+    Ok(starts)
+}
+
+/// A program with the implied exports written in.
+pub fn with_exports(
+    alloc: Global,
+    program: Tree,
+    is_declaration_file: bool,
+) -> Result<Tree, AllocError> {
+    if program.read().kind() != Kind::Module {
+        return Ok(program);
+    }
+    let body = Module::of(program.read()).body;
+    let starts = implied_starts(alloc, body, is_declaration_file)?;
+    if starts.is_empty() {
+        return Ok(program);
+    }
+    with_words(alloc, &program, &starts)
 }
