@@ -97,18 +97,23 @@ fn by_imports(alloc: Global, package: &Package, text: &str) -> Result<Mapped, Al
     Ok(found)
 }
 
+// A text without the scheme of a registry.
+fn without_scheme(text: &str) -> &str {
+    for scheme in ["jsr:/", "npm:/", "jsr:", "npm:"] {
+        if let Some(rest) = text.strip_prefix(scheme) {
+            return rest;
+        }
+    }
+    text
+}
+
 // The entry point of one of the packages that a text names.
 fn of_package<'a>(
     alloc: Global,
     packages: &'a [Package],
     text: &str,
 ) -> Result<Option<&'a str>, AllocError> {
-    let mut plain = text;
-    for scheme in ["jsr:/", "npm:/", "jsr:", "npm:"] {
-        if let Some(rest) = plain.strip_prefix(scheme) {
-            plain = rest;
-        }
-    }
+    let plain = without_scheme(text);
     for package in packages {
         let Some(rest) = plain.strip_prefix(package.name.as_str()) else {
             continue;
