@@ -52,9 +52,7 @@ fn instead(name: &str) -> (&str, &'static [&'static str]) {
     (name, &[])
 }
 
-const ADDED: [&str; 9] = [
-    ".ts", ".tsx", ".d.ts", ".mts", ".cts", ".js", ".jsx", ".mjs", ".json",
-];
+const ADDED: [&str; 5] = [".ts", ".tsx", ".d.ts", ".js", ".jsx"];
 
 /// What stands at a path.
 #[derive(Clone, Copy, PartialEq, Eq, Debug)]
@@ -211,33 +209,47 @@ impl<'a> Files<'a> {
         }
     }
 
-    fn first_of(&self, stem: &str, endings: &[&str]) -> Result<Option<String>, AllocError> {
+    fn first_of(
+        &self,
+        stem: &str,
+        endings: &[&str],
+        suffixes: &[String],
+    ) -> Result<Option<String>, AllocError> {
         for ending in endings {
-            let path = joined(self.alloc(), stem, *ending)?;
-            if self.is_file(path.as_str())? {
-                return Ok(Some(path));
+            for suffix in suffixes {
+                let mut path = joined(self.alloc(), stem, suffix.as_str())?;
+                path.push_str(*ending)?;
+                if self.is_file(path.as_str())? {
+                    return Ok(Some(path));
+                }
+            }
+            if suffixes.is_empty() {
+                let path = joined(self.alloc(), stem, *ending)?;
+                if self.is_file(path.as_str())? {
+                    return Ok(Some(path));
+                }
             }
         }
         Ok(None)
     }
 
-    /// The file that a path without or with an ending stands for, as TypeScript finds it.
-    pub fn find(&self, wanted: &str) -> Result<Option<String>, AllocError> {
+    /// The file that a path without or with an ending stands for, as TypeScript finds it. Before the ending stands one of the `suffixes`, if there are any.
+    pub fn find(&self, wanted: &str, suffixes: &[String]) -> Result<Option<String>, AllocError> {
         let (stem, endings) = instead(wanted);
-        if let Some(found) = self.first_of(stem, endings)? {
+        if let Some(found) = self.first_of(stem, endings, suffixes)? {
             return Ok(Some(found));
         }
         if self.is_file(wanted)? {
             return Ok(Some(String::from_str(self.alloc(), wanted)?));
         }
-        if let Some(found) = self.first_of(wanted, &ADDED)? {
+        if let Some(found) = self.first_of(wanted, &ADDED, suffixes)? {
             return Ok(Some(found));
         }
         let index = joined(self.alloc(), wanted, "/index")?;
-        self.first_of(index.as_str(), &ADDED)
+        self.first_of(index.as_str(), &ADDED, suffixes)
     }
 
-    /// The paths of what lies in a folder, but for what is hidden and for `node_modules`.
+    // Pushes the paths of what lies in a folder, but for what is hidden and for `node_modules`.
     fn push_listed(&self, folder: &str, out: &mut Vec<String>) -> Result<(), AllocError> {
         let name = self.whole(folder)?;
         let Ok(entries) = fs::read_dir(self.rt, name.as_str()) else {
@@ -260,6 +272,14 @@ impl<'a> Files<'a> {
             }
         }
         Ok(())
+    }
+
+    /// The paths of what lies in a folder, in order, but for what is hidden and for `node_modules`.
+    pub fn listed(&self, folder: &str) -> Result<Vec<String>, AllocError> {
+        let mut found = Vec::new(self.alloc());
+        self.push_listed(folder, &mut found)?;
+        found.sort()?;
+        Ok(found)
     }
 
     /// The paths of the files (or of the folders) below a folder, in order.

@@ -1,4 +1,6 @@
 //! What is wrong with a file, and where.
+ghost use Rattle.std.specs.Prelude.{◌≤◌};
+
 use std::alloc::{AllocError, Global};
 
 /// What keeps a file from being read.
@@ -21,8 +23,11 @@ pub struct Place {
 }
 
 /// The place of a byte of a text.
-pub fn place_of(text: &str, offset: usize) -> Place {
-    let mut place = Place { line: 1, column: 1 };
+pub fn place_of(text: &str, offset: usize) -> Place
+    ensures line { 1 ≤ result.line }
+    ensures column { 1 ≤ result.column }
+{
+    let (mut line, mut column): (usize, usize) = (0, 0);
     let mut is_behind_return = false;
     for (at, each) in text.char_indices() {
         if at >= offset {
@@ -34,15 +39,16 @@ pub fn place_of(text: &str, offset: usize) -> Place {
         }
         is_behind_return = each == '\r';
         if each == '\n' || each == '\r' {
-            place = Place {
-                line: place.line.saturating_add(1),
-                column: 1,
-            };
+            line = line.saturating_add(1);
+            column = 0;
         } else {
-            place.column = place.column.saturating_add(each.len_utf16());
+            column = column.saturating_add(each.len_utf16());
         }
     }
-    place
+    Place {
+        line: line.saturating_add(1),
+        column: column.saturating_add(1),
+    }
 }
 
 impl Message {

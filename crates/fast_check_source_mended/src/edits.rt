@@ -1,0 +1,101 @@
+//! What stands in place of parts of a tree.
+use fast_check_tree_forms_expressions::{CallExpr, ThisExpr};
+use fast_check_tree_syntax::{Items, Kind, Part, SourceRange, SyntaxContext, Tree};
+use std::alloc::{AllocError, Global};
+use std::collections::BTreeMap;
+
+/// Trees by the ranges of the nodes that they stand in place of, with the kinds of these.
+#[derive(Drop)]
+pub struct Edits {
+    pub alloc: Global,
+    found: BTreeMap<(u32, u32), (Kind, Tree)>,
+}
+
+/// The range of a node that has one.
+pub fn range_of(part: Part<'_>) -> SourceRange {
+    part.part(0).range()
+}
+
+/// A value of which no skeleton is made.
+pub fn hidden(alloc: Global, span: SourceRange) -> Result<Tree, AllocError> {
+    CallExpr {
+        span,
+        ctxt: SyntaxContext(0),
+        callee: ThisExpr { span }.into_tree(alloc)?,
+        args: Tree::list(Items::new(alloc)),
+        type_args: Tree::Absent,
+    }
+    .into_tree(alloc)
+}
+
+impl Edits {
+    pub fn new(alloc: Global) -> Edits {
+        Edits {
+            alloc,
+            found: BTreeMap::new(alloc),
+        }
+    }
+
+    pub fn is_empty(&self) -> bool {
+        self.found.is_empty()
+    }
+
+    /// Has a tree stand in place of a node.
+    pub fn put(&mut self, part: Part<'_>, tree: Tree) -> Result<(), AllocError> {
+        let range = range_of(part);
+        let key = (range.start.0, range.end.0);
+        let _ = self.found.insert(key, (part.kind(), tree))?;
+        Ok(())
+    }
+
+    /// Has a value stand in place of another one, of which no skeleton is made.
+    pub fn hide(&mut self, value: Part<'_>) -> Result<(), AllocError> {
+        let tree = hidden(self.alloc, range_of(value))?;
+        self.put(value, tree)
+    }
+
+    fn at(&self, kind: Kind, parts: &[Tree]) -> Option<&Tree> {
+        let key = match parts.first() {
+            Some(Tree::Range(range)) => (range.start.0, range.end.0),
+            _ => return None,
+        };
+        let found = self.found.get(&key)?;
+        if found.0 == kind {
+            Some(&found.1)
+        } else {
+            None
+        }
+    }
+}
+
+/// A copy of a tree with the edits.
+#[cycle(copies)]
+#[tactic(auto, using(fast_check_source_heights::proofs::Heights::node_height))]
+pub fn with_edits(alloc: Global, tree: &Tree, edits: &Edits) -> Result<Tree, AllocError> {
+    match tree {
+        Tree::Node(kind, parts) => match edits.at(*kind, parts.as_slice()) {
+            Some(edit) => edit.read().to_tree(alloc),
+            None => Ok(Tree::Node(*kind, all_with_edits(alloc, parts.as_slice(), edits)?)),
+        },
+        _ => tree.read().to_tree(alloc),
+    }
+}
+
+#[cycle(copies)]
+#[tactic(auto, using(fast_check_source_heights::proofs::Heights::one_height))]
+fn all_with_edits(alloc: Global, trees: &[Tree], edits: &Edits) -> Result<Items<Tree>, AllocError> {
+    let mut copies = Items::new(alloc);
+    for tree in trees {
+        copies.push(with_edits(alloc, tree, edits)?)?;
+    }
+    Ok(copies)
+}
+
+/// A tree with the edits.
+pub fn edited(alloc: Global, tree: Tree, edits: &Edits) -> Result<Tree, AllocError> {
+    if edits.is_empty() {
+        Ok(tree)
+    } else {
+        with_edits(alloc, &tree, edits)
+    }
+}

@@ -1,0 +1,274 @@
+//! Members of classes and objects that others of them bear on: getters beside their setters, and private static members beside others of their names.
+use crate::edits::{Edits, range_of};
+use crate::returns::{asserted, naming};
+use fast_check_source_references::functions::type_of_pattern;
+use fast_check_tree_forms_classes::{
+    AutoAccessor, ClassMethod, ClassProp, Constructor, Function, Param, TsParamProp,
+};
+use fast_check_tree_forms_expressions::{AssignPat, GetterProp, SetterProp};
+use fast_check_tree_forms_programs::{BindingIdent, Ident, IdentName};
+use fast_check_tree_forms_types::{TsKeywordType, TsTypeAnn};
+use fast_check_tree_syntax::{Atom, Kind, Part, Word};
+use std::alloc::{AllocError, Global};
+use std::collections::BTreeSet;
+
+/// What stands behind the name of a private static member beside another private one of that name, since the program takes both for one. No name has a blank.
+pub const STATIC: &str = " static";
+
+/// The written text of a node.
+fn written<'a>(text: &'a str, part: Part<'_>) -> &'a str {
+    let range = range_of(part);
+    let start = (range.start.0 as usize).saturating_sub(1);
+    let end = (range.end.0 as usize).saturating_sub(1);
+    match text.get(start..end) {
+        Some(found) => found,
+        None => "",
+    }
+}
+
+// An accessor: its key, and whether it is static.
+#[derive(Clone, Copy)]
+struct Accessor<'a> {
+    key: Part<'a>,
+    is_static: bool,
+    // The body of a getter, or the parameter of a setter.
+    inner: Part<'a>,
+}
+
+fn getter_of(member: Part<'_>) -> Option<Accessor<'_>> {
+    match member.kind() {
+        Kind::ClassMethod => {
+            let ClassMethod {
+                key,
+                function,
+                kind,
+                is_static,
+                ..
+            } = ClassMethod::of(member);
+            let inner = Function::of(function).body;
+            if kind.has_word(Word::Getter) {
+                Some(Accessor {
+                    key,
+                    is_static,
+                    inner,
+                })
+            } else {
+                None
+            }
+        }
+        Kind::GetterProp => {
+            let GetterProp { key, body, .. } = GetterProp::of(member);
+            Some(Accessor {
+                key,
+                is_static: false,
+                inner: body,
+            })
+        }
+        _ => None,
+    }
+}
+
+fn setter_of(member: Part<'_>) -> Option<Accessor<'_>> {
+    match member.kind() {
+        Kind::ClassMethod => {
+            let ClassMethod {
+                key,
+                function,
+                kind,
+                is_static,
+                ..
+            } = ClassMethod::of(member);
+            if !kind.has_word(Word::Setter) {
+                return None;
+            }
+            let param = Function::of(function).params.parts().first()?;
+            Some(Accessor {
+                key,
+                is_static,
+                inner: Param::of(param.read()).pat,
+            })
+        }
+        Kind::SetterProp => {
+            let SetterProp { key, param, .. } = SetterProp::of(member);
+            Some(Accessor {
+                key,
+                is_static: false,
+                inner: param,
+            })
+        }
+        _ => None,
+    }
+}
+
+// The type that is written at the parameter of the setter of a getter.
+fn type_of_setter<'a>(text: &str, getter: Accessor<'_>, members: Part<'a>) -> Option<Part<'a>> {
+    for member in members.parts() {
+        if let Some(setter) = setter_of(member.read())
+            && setter.is_static == getter.is_static
+            && written(text, setter.key) == written(text, getter.key)
+        {
+            let mut pattern = setter.inner;
+            if pattern.kind() == Kind::AssignPat {
+                pattern = AssignPat::of(pattern).left;
+            }
+            let annotation = type_of_pattern(pattern);
+            return if annotation.kind() == Kind::TsTypeAnn {
+                Some(TsTypeAnn::of(annotation).type_ann)
+            } else {
+                None
+            };
+        }
+    }
+    None
+}
+
+// Whether a type is the word for the type of a literal.
+fn is_word_of(type_ann: Part<'_>, value: Part<'_>) -> bool {
+    let word = match value.kind() {
+        Kind::Str | Kind::Tpl => Word::TsStringKeyword,
+        Kind::Number => Word::TsNumberKeyword,
+        Kind::BigInt => Word::TsBigIntKeyword,
+        Kind::Bool => Word::TsBooleanKeyword,
+        _ => return false,
+    };
+    type_ann.kind() == Kind::TsKeywordType && TsKeywordType::of(type_ann).kind.has_word(word)
+}
+
+/// The places of the bodies of those getters that have the type of their setter, and another one than the value says by which they name a type.
+pub fn put_accessors(
+    alloc: Global,
+    text: &str,
+    members: Part<'_>,
+    out: &mut BTreeSet<u32>,
+) -> Result<(), AllocError> {
+    for member in members.parts() {
+        let Some(getter) = getter_of(member.read()) else {
+            continue;
+        };
+        if getter.inner.kind() != Kind::BlockStmt {
+            continue;
+        }
+        let Some(value) = naming(alloc, getter.inner)? else {
+            continue;
+        };
+        let Some(type_ann) = type_of_setter(text, getter, members) else {
+            continue;
+        };
+        let is_same = match asserted(value) {
+            Some(named) => written(text, named) == written(text, type_ann),
+            None => is_word_of(type_ann, value),
+        };
+        if !is_same {
+            let _ = out.insert(range_of(getter.inner).start.0)?;
+        }
+    }
+    Ok(())
+}
+
+// The name of a private member, and whether it is static.
+fn private_name(member: Part<'_>) -> Option<(Part<'_>, bool)> {
+    let (key, is_static, accessibility) = match member.kind() {
+        Kind::ClassMethod => {
+            let ClassMethod {
+                key,
+                is_static,
+                accessibility,
+                ..
+            } = ClassMethod::of(member);
+            (key, is_static, accessibility)
+        }
+        Kind::ClassProp => {
+            let ClassProp {
+                key,
+                is_static,
+                accessibility,
+                ..
+            } = ClassProp::of(member);
+            (key, is_static, accessibility)
+        }
+        Kind::AutoAccessor => {
+            let AutoAccessor {
+                key,
+                is_static,
+                accessibility,
+                ..
+            } = AutoAccessor::of(member);
+            (key, is_static, accessibility)
+        }
+        _ => return None,
+    };
+    if key.kind() == Kind::IdentName && accessibility.has_word(Word::Private) {
+        Some((key, is_static))
+    } else {
+        None
+    }
+}
+
+// The name of a parameter that is a private property too.
+fn property_name(param: Part<'_>) -> Option<&str> {
+    if param.kind() != Kind::TsParamProp {
+        return None;
+    }
+    let TsParamProp {
+        accessibility,
+        param,
+        ..
+    } = TsParamProp::of(param);
+    let name = if param.kind() == Kind::AssignPat {
+        AssignPat::of(param).left
+    } else {
+        param
+    };
+    if name.kind() == Kind::BindingIdent && accessibility.has_word(Word::Private) {
+        Some(Ident::of(BindingIdent::of(name).id).sym)
+    } else {
+        None
+    }
+}
+
+// The names of the private members of a class that are not static.
+fn other_names<'a>(alloc: Global, members: Part<'a>) -> Result<BTreeSet<&'a str>, AllocError> {
+    let mut names = BTreeSet::new(alloc);
+    for member in members.parts() {
+        let member = member.read();
+        if member.kind() == Kind::Constructor {
+            for param in Constructor::of(member).params.parts() {
+                if let Some(name) = property_name(param.read()) {
+                    let _ = names.insert(name)?;
+                }
+            }
+        } else if let Some((key, is_static)) = private_name(member)
+            && !is_static
+        {
+            let _ = names.insert(IdentName::of(key).sym)?;
+        }
+    }
+    Ok(names)
+}
+
+/// Has a word stand behind the names of private static members of a class beside other private ones of their names.
+pub fn put_static_names(edits: &mut Edits, members: Part<'_>) -> Result<(), AllocError> {
+    let alloc = edits.alloc;
+    let others = other_names(alloc, members)?;
+    if others.is_empty() {
+        return Ok(());
+    }
+    for member in members.parts() {
+        if let Some((key, is_static)) = private_name(member.read())
+            && is_static
+        {
+            let IdentName { span, sym } = IdentName::of(key);
+            if others.contains(&sym) {
+                let mut marked = String::from_str(alloc, sym)?;
+                marked.push_str(STATIC)?;
+                let made = IdentName {
+                    span,
+                    sym: Atom::from_str(alloc, marked.as_str())?,
+                };
+                let tree = made.into_tree(alloc)?;
+                edits.put(key, tree)?;
+            }
+        }
+    }
+    Ok(())
+}

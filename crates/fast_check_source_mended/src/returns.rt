@@ -1,0 +1,270 @@
+//! Bodies of functions, cut to what says how they return.
+use crate::edits::{Edits, range_of};
+use crate::statements::{holds_statements, push_names, push_parts, variables_of};
+use fast_check_tree_forms_expressions::{
+    CallExpr, ParenExpr, ThisExpr, TsAsExpr, TsSatisfiesExpr, TsTypeAssertion,
+};
+use fast_check_tree_forms_programs::Ident;
+use fast_check_tree_forms_statements::{
+    BlockStmt, ClassDecl, EmptyStmt, ExprStmt, FnDecl, ReturnStmt, TsEnumDecl, TsInterfaceDecl,
+    TsModuleDecl, TsTypeAliasDecl, UsingDecl, VarDecl, VarDeclarator,
+};
+use fast_check_tree_syntax::{Items, Kind, Part, Tree};
+use std::alloc::{AllocError, Global};
+use std::collections::BTreeSet;
+
+/// The body of a function.
+#[derive(Clone, Copy)]
+pub struct Body<'a> {
+    pub block: Part<'a>,
+    pub has_type: bool,
+    pub is_generator: bool,
+    /// Whether it is the one of a getter that has the type of its setter.
+    pub is_of_setter: bool,
+}
+
+// What stands in parentheses, or before `satisfies`.
+fn inner(value: Part<'_>) -> Part<'_> {
+    let mut at = value;
+    for _turn in 0..u64::MAX {
+        at = match at.kind() {
+            Kind::ParenExpr => ParenExpr::of(at).expr,
+            Kind::TsSatisfiesExpr => TsSatisfiesExpr::of(at).expr,
+            _ => break,
+        };
+    }
+    at
+}
+
+/// The type that a value asserts.
+pub fn asserted(value: Part<'_>) -> Option<Part<'_>> {
+    let at = inner(value);
+    match at.kind() {
+        Kind::TsAsExpr => Some(TsAsExpr::of(at).type_ann),
+        Kind::TsTypeAssertion => Some(TsTypeAssertion::of(at).type_ann),
+        _ => None,
+    }
+}
+
+fn names_type(value: Part<'_>) -> bool {
+    matches!(
+        inner(value).kind(),
+        Kind::Str
+            | Kind::Number
+            | Kind::BigInt
+            | Kind::Bool
+            | Kind::Null
+            | Kind::Regex
+            | Kind::Tpl
+            | Kind::TsAsExpr
+            | Kind::TsTypeAssertion
+            | Kind::TsConstAssertion
+    )
+}
+
+// The statements by which a body returns, in the order of the text.
+fn returns<'a>(alloc: Global, block: Part<'a>) -> Result<Vec<Part<'a>>, AllocError> {
+    let mut found = Vec::new(alloc);
+    let mut waiting = Vec::new(alloc);
+    waiting.push(block)?;
+    for _turn in 0..u64::MAX {
+        let Some(next) = waiting.pop() else {
+            break;
+        };
+        if next.kind() == Kind::ReturnStmt {
+            found.push(next)?;
+        } else if holds_statements(next.kind()) {
+            push_parts(next, &mut waiting)?;
+        }
+    }
+    Ok(found)
+}
+
+/// The only value that a body returns, by its last statement, where it names a type.
+pub fn naming<'a>(alloc: Global, block: Part<'a>) -> Result<Option<Part<'a>>, AllocError> {
+    let Some(last) = BlockStmt::of(block).stmts.parts().last() else {
+        return Ok(None);
+    };
+    let last = last.read();
+    if last.kind() != Kind::ReturnStmt || returns(alloc, block)?.len() != 1 {
+        return Ok(None);
+    }
+    let arg = ReturnStmt::of(last).arg;
+    Ok(if names_type(arg) { Some(arg) } else { None })
+}
+
+// The name of what a statement declares in its own block, if that is no list of variables.
+fn name_of(statement: Part<'_>) -> Option<Part<'_>> {
+    match statement.kind() {
+        Kind::FnDecl => Some(FnDecl::of(statement).ident),
+        Kind::ClassDecl => Some(ClassDecl::of(statement).ident),
+        Kind::TsInterfaceDecl => Some(TsInterfaceDecl::of(statement).id),
+        Kind::TsTypeAliasDecl => Some(TsTypeAliasDecl::of(statement).id),
+        Kind::TsEnumDecl => Some(TsEnumDecl::of(statement).id),
+        Kind::TsModuleDecl => Some(TsModuleDecl::of(statement).id),
+        _ => None,
+    }
+}
+
+// The names of what a statement declares in its own block.
+fn push_declared<'a>(
+    alloc: Global,
+    statement: Part<'a>,
+    out: &mut Vec<Part<'a>>,
+) -> Result<(), AllocError> {
+    if let Some(name) = name_of(statement) {
+        out.push(name)?;
+    }
+    let decls = match statement.kind() {
+        Kind::VarDecl => VarDecl::of(statement).decls,
+        Kind::UsingDecl => UsingDecl::of(statement).decls,
+        _ => return Ok(()),
+    };
+    for each in decls.parts() {
+        push_names(alloc, VarDeclarator::of(each.read()).name, out)?;
+    }
+    Ok(())
+}
+
+// The names that a body declares.
+fn declared<'a>(alloc: Global, block: Part<'a>) -> Result<BTreeSet<&'a str>, AllocError> {
+    let mut names = Vec::new(alloc);
+    for statement in BlockStmt::of(block).stmts.parts() {
+        push_declared(alloc, statement.read(), &mut names)?;
+        for variable in variables_of(alloc, statement.read())? {
+            push_names(
+                alloc,
+                VarDeclarator::of(variable.declarator).name,
+                &mut names,
+            )?;
+        }
+    }
+    let mut made = BTreeSet::new(alloc);
+    for name in names {
+        if name.kind() == Kind::Ident {
+            let _ = made.insert(Ident::of(name).sym)?;
+        }
+    }
+    Ok(made)
+}
+
+// Whether a type has a name that a body declares, which no skeleton could say.
+fn is_local(alloc: Global, block: Part<'_>, type_ann: Part<'_>) -> Result<bool, AllocError> {
+    let names = declared(alloc, block)?;
+    let mut waiting = Vec::new(alloc);
+    waiting.push(type_ann)?;
+    for _turn in 0..u64::MAX {
+        let Some(next) = waiting.pop() else {
+            break;
+        };
+        if next.kind() == Kind::Ident {
+            let name = Ident::of(next).sym;
+            if names.contains(&name) {
+                return Ok(true);
+            }
+        }
+        push_parts(next, &mut waiting)?;
+    }
+    Ok(false)
+}
+
+// The returned value that stays: the one by which the body names its type.
+fn kept<'a>(alloc: Global, body: Body<'a>) -> Result<Option<Part<'a>>, AllocError> {
+    if body.is_generator || body.is_of_setter {
+        return Ok(None);
+    }
+    let Some(value) = naming(alloc, body.block)? else {
+        return Ok(None);
+    };
+    match asserted(value) {
+        Some(type_ann) => if is_local(alloc, body.block, type_ann)? {
+            Ok(None)
+        } else {
+            Ok(Some(value))
+        },
+        None => Ok(Some(value)),
+    }
+}
+
+// A return with the value that stays, or with one that names no type.
+fn short_return(
+    alloc: Global,
+    statement: Part<'_>,
+    kept: Option<Part<'_>>,
+) -> Result<Tree, AllocError> {
+    let ReturnStmt { span, arg } = ReturnStmt::of(statement);
+    let arg = if arg.is_absent() {
+        Tree::Absent
+    } else {
+        match kept {
+            Some(value) => value.to_tree(alloc)?,
+            None => {
+                let span = range_of(arg);
+                ThisExpr { span }.into_tree(alloc)?
+            }
+        }
+    };
+    ReturnStmt { span, arg }.into_tree(alloc)
+}
+
+// The statements that stay of a body.
+fn short_statements(alloc: Global, body: Body<'_>) -> Result<Items<Tree>, AllocError> {
+    let mut made = Items::new(alloc);
+    if body.has_type {
+        return Ok(made);
+    }
+    let kept = kept(alloc, body)?;
+    let all = returns(alloc, body.block)?;
+    for statement in all.iter() {
+        made.push(short_return(alloc, *statement, kept)?)?;
+    }
+    if all.is_empty()
+        && let Some(first) = BlockStmt::of(body.block).stmts.parts().first()
+    {
+        let span = range_of(first.read());
+        made.push(EmptyStmt { span }.into_tree(alloc)?)?;
+    }
+    Ok(made)
+}
+
+fn put_block(edits: &mut Edits, block: Part<'_>, stmts: Items<Tree>) -> Result<(), AllocError> {
+    let BlockStmt { span, ctxt, .. } = BlockStmt::of(block);
+    let made = BlockStmt {
+        span,
+        ctxt,
+        stmts: Tree::list(stmts),
+    };
+    let tree = made.into_tree(edits.alloc)?;
+    edits.put(block, tree)
+}
+
+/// Cuts a body: behind a written type nothing of it is seen, and else how it returns, and the value by which it names the type.
+pub fn put_body(edits: &mut Edits, body: Body<'_>) -> Result<(), AllocError> {
+    if body.block.kind() != Kind::BlockStmt {
+        return Ok(());
+    }
+    let stmts = short_statements(edits.alloc, body)?;
+    put_block(edits, body.block, stmts)
+}
+
+fn is_super_call(statement: Part<'_>) -> bool {
+    if statement.kind() != Kind::ExprStmt {
+        return false;
+    }
+    let call = ExprStmt::of(statement).expr;
+    call.kind() == Kind::CallExpr && CallExpr::of(call).callee.kind() == Kind::Super
+}
+
+/// Cuts the body of a constructor to its calls of the superclass.
+pub fn put_constructor(edits: &mut Edits, block: Part<'_>) -> Result<(), AllocError> {
+    if block.kind() != Kind::BlockStmt {
+        return Ok(());
+    }
+    let mut stmts = Items::new(edits.alloc);
+    for statement in BlockStmt::of(block).stmts.parts() {
+        if is_super_call(statement.read()) {
+            stmts.push(statement.read().to_tree(edits.alloc)?)?;
+        }
+    }
+    put_block(edits, block, stmts)
+}

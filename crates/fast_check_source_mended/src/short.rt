@@ -1,0 +1,94 @@
+//! A tree without what no rule looks at.
+use crate::edits::{Edits, range_of, with_edits};
+use crate::members::put_accessors;
+use crate::returns::{Body, put_body, put_constructor};
+use crate::statements::push_parts;
+use fast_check_tree_forms_classes::{Class, Constructor, Function, StaticBlock};
+use fast_check_tree_forms_expressions::{ArrowExpr, GetterProp, ObjectLit, SetterProp};
+use fast_check_tree_syntax::{Kind, Part, Tree};
+use std::alloc::{AllocError, Global};
+use std::collections::BTreeSet;
+
+// A tree while its bodies are cut.
+#[derive(Drop)]
+struct Bodies<'a> {
+    text: &'a str,
+    // Where the bodies begin of getters that have the types of their setters.
+    of_setters: BTreeSet<u32>,
+    edits: Edits,
+}
+
+impl<'a> Bodies<'a> {
+    fn body(
+        &mut self,
+        block: Part<'_>,
+        has_type: bool,
+        is_generator: bool,
+    ) -> Result<(), AllocError> {
+        let is_of_setter = self.of_setters.contains(&range_of(block).start.0);
+        let body = Body {
+            block,
+            has_type,
+            is_generator,
+            is_of_setter,
+        };
+        put_body(&mut self.edits, body)
+    }
+
+    fn accessors(&mut self, members: Part<'_>) -> Result<(), AllocError> {
+        put_accessors(self.edits.alloc, self.text, members, &mut self.of_setters)
+    }
+
+    fn part(&mut self, part: Part<'_>) -> Result<(), AllocError> {
+        match part.kind() {
+            Kind::Function => {
+                let Function {
+                    body,
+                    is_generator,
+                    return_type,
+                    ..
+                } = Function::of(part);
+                self.body(body, !return_type.is_absent(), is_generator)
+            }
+            Kind::GetterProp => {
+                let GetterProp { type_ann, body, .. } = GetterProp::of(part);
+                self.body(body, !type_ann.is_absent(), false)
+            }
+            Kind::ArrowExpr => {
+                let ArrowExpr {
+                    body,
+                    return_type,
+                    ..
+                } = ArrowExpr::of(part);
+                self.body(body, !return_type.is_absent(), false)
+            }
+            Kind::SetterProp => self.body(SetterProp::of(part).body, true, false),
+            Kind::StaticBlock => self.body(StaticBlock::of(part).body, true, false),
+            Kind::Constructor => put_constructor(&mut self.edits, Constructor::of(part).body),
+            Kind::ObjectLit => self.accessors(ObjectLit::of(part).props),
+            Kind::Class => self.accessors(Class::of(part).body),
+            _ => Ok(()),
+        }
+    }
+}
+
+/// A copy of the tree of a text in which the bodies of functions are cut to what says how they return.
+pub fn short_tree(alloc: Global, text: &str, tree: &Tree) -> Result<Tree, AllocError> {
+    let mut bodies = Bodies {
+        text,
+        of_setters: BTreeSet::new(alloc),
+        edits: Edits::new(alloc),
+    };
+    let mut waiting = Vec::new(alloc);
+    waiting.push(tree.read())?;
+    for _turn in 0..u64::MAX {
+        let Some(next) = waiting.pop() else {
+            break;
+        };
+        if next.kind() != Kind::BlockStmt {
+            bodies.part(next)?;
+            push_parts(next, &mut waiting)?;
+        }
+    }
+    with_edits(alloc, tree, &bodies.edits)
+}

@@ -1,0 +1,257 @@
+//! Variables in the blocks of a module's statements, which the module declares, and properties that are assigned to functions under a text.
+use crate::edits::{Edits, hidden, range_of};
+use fast_check_tree_forms_expressions::{
+    AssignExpr, AssignPat, AssignPatProp, ComputedPropName, MemberExpr, Tpl, TplElement,
+};
+use fast_check_tree_forms_programs::{BindingIdent, IdentName, Str};
+use fast_check_tree_forms_statements::{ExprStmt, ForInStmt, ForOfStmt, VarDecl, VarDeclarator};
+use fast_check_tree_syntax::{Atom, Items, Kind, Part, SyntaxContext, Tree, Word};
+use std::alloc::{AllocError, Global};
+
+/// Whether a node is a statement, or a part of one, in which statements of the same function may stand.
+pub fn holds_statements(kind: Kind) -> bool {
+    matches!(
+        kind,
+        Kind::List
+            | Kind::BlockStmt
+            | Kind::WithStmt
+            | Kind::LabeledStmt
+            | Kind::IfStmt
+            | Kind::SwitchStmt
+            | Kind::SwitchCase
+            | Kind::TryStmt
+            | Kind::CatchClause
+            | Kind::WhileStmt
+            | Kind::DoWhileStmt
+            | Kind::ForStmt
+            | Kind::ForInStmt
+            | Kind::ForOfStmt
+    )
+}
+
+/// Pushes the parts of a node, the first one last.
+pub fn push_parts<'a>(part: Part<'a>, waiting: &mut Vec<Part<'a>>) -> Result<(), AllocError> {
+    for inner in part.parts().iter().rev() {
+        waiting.push(inner.read())?;
+    }
+    Ok(())
+}
+
+/// Pushes the patterns of the names that a pattern binds.
+pub fn push_names<'a>(
+    alloc: Global,
+    pattern: Part<'a>,
+    out: &mut Vec<Part<'a>>,
+) -> Result<(), AllocError> {
+    let mut waiting = Vec::new(alloc);
+    waiting.push(pattern)?;
+    for _turn in 0..u64::MAX {
+        let Some(next) = waiting.pop() else {
+            break;
+        };
+        match next.kind() {
+            Kind::BindingIdent => out.push(BindingIdent::of(next).id)?,
+            Kind::AssignPat => waiting.push(AssignPat::of(next).left)?,
+            Kind::AssignPatProp => waiting.push(AssignPatProp::of(next).key)?,
+            Kind::ArrayPat | Kind::ObjectPat | Kind::RestPat | Kind::KeyValuePatProp | Kind::List =>
+                push_parts(next, &mut waiting)?,
+            _ => {}
+        }
+    }
+    Ok(())
+}
+
+/// A variable of a list behind `var`.
+#[derive(Clone, Copy)]
+pub struct Variable<'a> {
+    pub declarator: Part<'a>,
+    /// The list, where a loop gives it values.
+    pub given: Option<Part<'a>>,
+}
+
+fn is_var(part: Part<'_>) -> bool {
+    part.kind() == Kind::VarDecl && VarDecl::of(part).kind.has_word(Word::Var)
+}
+
+fn push_variables<'a>(
+    list: Part<'a>,
+    given: Option<Part<'a>>,
+    out: &mut Vec<Variable<'a>>,
+) -> Result<(), AllocError> {
+    for each in VarDecl::of(list).decls.parts() {
+        out.push(Variable {
+            declarator: each.read(),
+            given,
+        })?;
+    }
+    Ok(())
+}
+
+fn head_of(statement: Part<'_>) -> Option<Part<'_>> {
+    match statement.kind() {
+        Kind::ForInStmt => Some(ForInStmt::of(statement).left),
+        Kind::ForOfStmt => Some(ForOfStmt::of(statement).left),
+        _ => None,
+    }
+}
+
+/// The variables behind `var` in a statement, however deep in blocks, but not in functions, classes or namespaces.
+pub fn variables_of<'a>(
+    alloc: Global,
+    statement: Part<'a>,
+) -> Result<Vec<Variable<'a>>, AllocError> {
+    let mut found = Vec::new(alloc);
+    let mut waiting = Vec::new(alloc);
+    waiting.push(statement)?;
+    for _turn in 0..u64::MAX {
+        let Some(next) = waiting.pop() else {
+            break;
+        };
+        if is_var(next) {
+            push_variables(next, None, &mut found)?;
+        } else if let Some(head) = head_of(next) {
+            if is_var(head) {
+                push_variables(head, Some(head), &mut found)?;
+            }
+            for inner in next.parts().iter().rev() {
+                if !is_var(inner.read()) {
+                    waiting.push(inner.read())?;
+                }
+            }
+        } else if holds_statements(next.kind()) {
+            push_parts(next, &mut waiting)?;
+        }
+    }
+    Ok(found)
+}
+
+// A variable as its module declares it. What a loop gives has no value there.
+fn declared(alloc: Global, variable: Variable<'_>) -> Result<Tree, AllocError> {
+    let VarDeclarator {
+        span,
+        name,
+        init,
+        definite,
+    } = VarDeclarator::of(variable.declarator);
+    let name = name.to_tree(alloc)?;
+    let init = match variable.given {
+        Some(list) => hidden(alloc, range_of(list))?,
+        None => init.to_tree(alloc)?,
+    };
+    VarDeclarator {
+        span,
+        name,
+        init,
+        definite,
+    }
+    .into_tree(alloc)
+}
+
+fn put_variables(edits: &mut Edits, statement: Part<'_>) -> Result<(), AllocError> {
+    let alloc = edits.alloc;
+    let mut decls = Items::new(alloc);
+    let mut has_some = false;
+    for variable in variables_of(alloc, statement)? {
+        decls.push(declared(alloc, variable)?)?;
+        has_some = true;
+    }
+    if !has_some {
+        return Ok(());
+    }
+    let span = range_of(statement);
+    let tree = VarDecl {
+        span,
+        ctxt: SyntaxContext(0),
+        kind: Tree::Word(Word::Var),
+        declare: false,
+        decls: Tree::list(decls),
+    }
+    .into_tree(alloc)?;
+    edits.put(statement, tree)
+}
+
+// The text that stands in the brackets of a member, if it may stand behind a dot.
+fn name_in(expr: Part<'_>) -> Option<&str> {
+    let text = match expr.kind() {
+        Kind::Str => Str::of(expr).value,
+        Kind::Tpl => {
+            let quasis = Tpl::of(expr).quasis.parts();
+            if quasis.len() != 1 {
+                return None;
+            }
+            TplElement::of(quasis.first()?.read()).cooked.text()
+        }
+        _ => return None,
+    };
+    if is_name(text) { Some(text) } else { None }
+}
+
+fn is_name(text: &str) -> bool {
+    for (at, each) in text.char_indices() {
+        let is_right = each == '$'
+            || each == '_'
+            || (if at == 0 {
+                unicode_ident::is_xid_start(each)
+            } else {
+                each == '\u{200C}' || each == '\u{200D}' || unicode_ident::is_xid_continue(each)
+            });
+        if !is_right {
+            return false;
+        }
+    }
+    !text.is_empty()
+}
+
+// `object["name"] = value;` is `object.name = value;`.
+fn put_property(edits: &mut Edits, statement: Part<'_>) -> Result<(), AllocError> {
+    let expr = ExprStmt::of(statement).expr;
+    if expr.kind() != Kind::AssignExpr {
+        return Ok(());
+    }
+    let AssignExpr { op, left, .. } = AssignExpr::of(expr);
+    if op != "=" || left.kind() != Kind::MemberExpr {
+        return Ok(());
+    }
+    let MemberExpr { obj, prop, .. } = MemberExpr::of(left);
+    if obj.kind() != Kind::Ident || prop.kind() != Kind::ComputedPropName {
+        return Ok(());
+    }
+    let ComputedPropName { expr: key, .. } = ComputedPropName::of(prop);
+    if let Some(name) = name_in(key) {
+        let alloc = edits.alloc;
+        let made = IdentName {
+            span: range_of(key),
+            sym: Atom::from_str(alloc, name)?,
+        };
+        let tree = made.into_tree(alloc)?;
+        edits.put(prop, tree)?;
+    }
+    Ok(())
+}
+
+/// The edits of the statements of a module and of its namespaces.
+pub fn put_statements(edits: &mut Edits, program: Part<'_>) -> Result<(), AllocError> {
+    let mut waiting = Vec::new(edits.alloc);
+    waiting.push(program)?;
+    for _turn in 0..u64::MAX {
+        let Some(next) = waiting.pop() else {
+            break;
+        };
+        match next.kind() {
+            Kind::Module
+            | Kind::Script
+            | Kind::ExportDecl
+            | Kind::TsModuleDecl
+            | Kind::TsNamespaceDecl
+            | Kind::TsModuleBlock
+            | Kind::List => push_parts(next, &mut waiting)?,
+            Kind::ExprStmt => put_property(edits, next)?,
+            kind => {
+                if holds_statements(kind) {
+                    put_variables(edits, next)?;
+                }
+            }
+        }
+    }
+    Ok(())
+}

@@ -1,0 +1,179 @@
+//! Names whose type no skeleton says: those of parameters with a default, which may be left out there, and those in patterns, of which a skeleton has no names.
+use crate::statements::{push_names, push_parts};
+use fast_check_source_references::names::id_of;
+use fast_check_tree_forms_classes::{Constructor, Function, Param, TsParamProp};
+use fast_check_tree_forms_expressions::{
+    ArrowExpr, AssignPat, RestPat, SetterProp, TsAsExpr, TsNonNullExpr, TsTypeAssertion,
+};
+use fast_check_tree_forms_programs::BindingIdent;
+use fast_check_tree_syntax::{Id, Kind, Part};
+use std::alloc::{AllocError, Global};
+use std::collections::BTreeMap;
+
+/// The names of a tree whose type no skeleton says.
+#[derive(Drop)]
+pub struct Unsaid {
+    alloc: Global,
+    // Whether an assertion says the type.
+    names: BTreeMap<Id, bool>,
+}
+
+// A part of a value.
+#[derive(Clone, Copy)]
+struct Look<'a> {
+    part: Part<'a>,
+    is_asserted: bool,
+}
+
+// The pattern of a parameter.
+fn pattern_of(param: Part<'_>) -> Part<'_> {
+    match param.kind() {
+        Kind::Param => Param::of(param).pat,
+        Kind::TsParamProp => TsParamProp::of(param).param,
+        _ => param,
+    }
+}
+
+// A value whose type an assertion says.
+fn asserted(part: Part<'_>) -> Option<(Part<'_>, Part<'_>)> {
+    match part.kind() {
+        Kind::TsAsExpr => {
+            let TsAsExpr { expr, type_ann, .. } = TsAsExpr::of(part);
+            Some((expr, type_ann))
+        }
+        Kind::TsTypeAssertion => {
+            let TsTypeAssertion { expr, type_ann, .. } = TsTypeAssertion::of(part);
+            Some((expr, type_ann))
+        }
+        Kind::TsNonNullExpr => {
+            let TsNonNullExpr { expr, .. } = TsNonNullExpr::of(part);
+            Some((expr, expr))
+        }
+        _ => None,
+    }
+}
+
+fn push_look<'a>(
+    part: Part<'a>,
+    is_asserted: bool,
+    waiting: &mut Vec<Look<'a>>,
+) -> Result<(), AllocError> {
+    waiting.push(Look { part, is_asserted })?;
+    Ok(())
+}
+
+// Pushes the parts of a part of a value that are not judged by themselves.
+fn push_looks<'a>(look: Look<'a>, waiting: &mut Vec<Look<'a>>) -> Result<(), AllocError> {
+    let Look { part, is_asserted } = look;
+    if let Some((expr, type_ann)) = asserted(part) {
+        push_look(expr, true, waiting)?;
+        return push_look(type_ann, true, waiting);
+    }
+    match part.kind() {
+        Kind::BlockStmt => Ok(()),
+        Kind::BindingIdent => push_look(BindingIdent::of(part).type_ann, is_asserted, waiting),
+        Kind::AssignPat => push_look(AssignPat::of(part).left, is_asserted, waiting),
+        Kind::ArrowExpr => {
+            let ArrowExpr {
+                params,
+                type_params,
+                return_type,
+                ..
+            } = ArrowExpr::of(part);
+            push_look(params, is_asserted, waiting)?;
+            push_look(type_params, is_asserted, waiting)?;
+            push_look(return_type, is_asserted, waiting)
+        }
+        _ => {
+            for inner in part.parts() {
+                push_look(inner.read(), is_asserted, waiting)?;
+            }
+            Ok(())
+        }
+    }
+}
+
+impl Unsaid {
+    // The names of a parameter.
+    fn add(&mut self, pattern: Part<'_>) -> Result<(), AllocError> {
+        let mut inner = pattern;
+        let mut has_default = false;
+        if inner.kind() == Kind::AssignPat {
+            inner = AssignPat::of(inner).left;
+            has_default = true;
+        }
+        if inner.kind() == Kind::RestPat {
+            inner = RestPat::of(inner).arg;
+        }
+        let is_name = inner.kind() == Kind::BindingIdent;
+        if is_name && !has_default {
+            return Ok(());
+        }
+        let mut names = Vec::new(self.alloc);
+        push_names(self.alloc, inner, &mut names)?;
+        for name in names {
+            if let Some(id) = id_of(self.alloc, name)? {
+                let _ = self.names.insert(id, is_name)?;
+            }
+        }
+        Ok(())
+    }
+
+    fn add_all(&mut self, params: Part<'_>) -> Result<(), AllocError> {
+        for param in params.parts() {
+            self.add(pattern_of(param.read()))?;
+        }
+        Ok(())
+    }
+
+    /// Those of a tree.
+    pub fn of(alloc: Global, program: Part<'_>) -> Result<Unsaid, AllocError> {
+        let mut unsaid = Unsaid {
+            alloc,
+            names: BTreeMap::new(alloc),
+        };
+        let mut waiting = Vec::new(alloc);
+        waiting.push(program)?;
+        for _turn in 0..u64::MAX {
+            let Some(next) = waiting.pop() else {
+                break;
+            };
+            match next.kind() {
+                Kind::BlockStmt => continue,
+                Kind::Function => unsaid.add_all(Function::of(next).params)?,
+                Kind::ArrowExpr => unsaid.add_all(ArrowExpr::of(next).params)?,
+                Kind::Constructor => unsaid.add_all(Constructor::of(next).params)?,
+                Kind::SetterProp => unsaid.add(SetterProp::of(next).param)?,
+                _ => {}
+            }
+            push_parts(next, &mut waiting)?;
+        }
+        Ok(unsaid)
+    }
+
+    /// Whether such a name stands in a value.
+    pub fn stands_in(&self, value: Part<'_>) -> Result<bool, AllocError> {
+        if self.names.is_empty() {
+            return Ok(false);
+        }
+        let mut waiting = Vec::new(self.alloc);
+        waiting.push(Look {
+            part: value,
+            is_asserted: false,
+        })?;
+        for _turn in 0..u64::MAX {
+            let Some(look) = waiting.pop() else {
+                break;
+            };
+            if let Some(id) = id_of(self.alloc, look.part)? {
+                match self.names.get(&id) {
+                    Some(is_said) if !(look.is_asserted && *is_said) => return Ok(true),
+                    _ => {}
+                }
+            } else {
+                push_looks(look, &mut waiting)?;
+            }
+        }
+        Ok(false)
+    }
+}
