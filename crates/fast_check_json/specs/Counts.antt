@@ -1,5 +1,5 @@
--- How often each field of each form stands, by its name. From this follows what a missing member of an object stands for. Like the words and the
--- variants it does not come from the page of forms, so a wrong line of that page has no proof.
+-- How often each field of each form stands, by its name. From this follows what a missing member of an object stands for. It was taken from
+-- the page of forms once, and is not written from it: a later change of that page has no proof unless this one changes too.
 use Prim.Native.String.{String}
 use Rattle.std.specs.Prelude.{◌≡◌, ℕ, List, [], ◌∷◌, ◌||◌, Bool, if◌then◌else◌, map, codes}
 use Rattle.std.specs.List.{list_any}
