@@ -1,5 +1,6 @@
 -- How often each field of each form stands, by its name. From this follows what a missing member of an object stands for. It was taken from
--- the page of forms once, and is not written from it: a later change of that page has no proof unless this one changes too.
+-- the page of forms once, was read through beside the list of swc's forms, and is not written from the page: a later change of that has no proof
+-- unless this one changes too.
 use Prim.Native.String.{String}
 use Rattle.std.specs.Prelude.{◌≡◌, ℕ, List, [], ◌∷◌, ◌||◌, Bool, if◌then◌else◌, map, codes}
 use Rattle.std.specs.List.{list_any}

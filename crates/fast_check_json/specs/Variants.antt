@@ -1,5 +1,5 @@
--- The names of the variants of each choice, and what each holds. It was taken from the page of forms once, and is not written from it:
--- a later change of that page has no proof unless this one changes too.
+-- The names of the variants of each choice, and what each holds. It was taken from the page of forms once, was read through beside the list of
+-- swc's forms, and is not written from the page: a later change of that has no proof unless this one changes too.
 use Prim.Native.String.{String}
 use Rattle.std.specs.Prelude.{◌≡◌, List, [], ◌∷◌, codes}
 use Rattle.fast_check_tree_syntax.specs.declared.kind.Kind.{Kind}
