@@ -1,22 +1,23 @@
 //! What stays of a class, and of one that is ambient.
-ghost use Rattle.std.specs.Prelude.{◌≡◌, IfOk, Some};
+ghost use Rattle.std.specs.Prelude.{◌≡◌, IfOk};
 ghost use Rattle.fast_check_tree_syntax.specs.Part.{seen};
 ghost use Rattle.fast_check_tree_syntax.specs.Shape.{parts, list};
-ghost use Rattle.fast_check_meaning_signatures.specs.Answers.{Adds, answer_to};
+ghost use Rattle.fast_check_meaning_signatures.specs.Answers.{answer_to};
 ghost use Rattle.fast_check_tree_forms_classes.specs.Classes as forms;
 ghost use Rattle.fast_check_tree_forms_classes.specs.Classes.{Class-span, Class-ctxt, Class-is_abstract, Class-type_params, Class-super_type_params, Class-implements};
 ghost use Rattle.fast_check_meaning_signatures.specs.Answers as answers;
 ghost use Rattle.fast_check_meaning_signatures.specs.Classes.{class_head, plain_class_seen, ambient_class};
 ghost use Rattle.fast_check_meaning_signatures.specs.Members.{ambient_members, is_private_computed};
 ghost use Rattle.fast_check_tables_modules.specs.diagnostics.PublicRanges.{is_implementation};
-ghost use Rattle.fast_check_transform_expressions.specs.nodes.Bindings.{bindings_of};
+ghost use Rattle.fast_check_transform_expressions.specs.nodes.Bindings.{names_of};
+ghost use Rattle.fast_check_transform_expressions.specs.nodes.Gives.{GivesTree};
 
 use crate::class_nodes::{is_computed, is_private, transform_superclass, two_trees};
 use crate::copies::three_trees;
 use crate::members::transform_members;
 use fast_check_meaning_signatures::Fault;
-use fast_check_tables_modules::EsModuleInfo;
 use fast_check_tables_modules::diagnostics::ModulePublicRanges;
+use fast_check_transform_expressions::nodes::Bindings;
 use fast_check_tree_forms_classes::{AutoAccessor, Class, ClassMethod, ClassProp};
 use fast_check_tree_syntax::{Items, Kind, Part, Tree};
 use std::alloc::{AllocError, Global};
@@ -68,17 +69,16 @@ fn class_with(
 }
 
 /// A class that is not ambient, a `Class` (deno_graph's `transform_class`). A superclass that is no name and no chain of
-/// members on one is a fault at it, before those of the members. `info` is the module that it stands in.
+/// members on one is a fault at it, before those of the members.
 pub fn transform_class(
     alloc: Global,
     public_ranges: &ModulePublicRanges,
-    info: &EsModuleInfo,
+    bindings: Bindings<'_>,
     class: Part<'_>,
     faults: &mut Vec<Fault>,
 ) -> Result<Tree, AllocError>
-    ensures { IfOk result (λ tree.
-        Adds (answer_to (plain_class_seen (bindings_of info.now) (is_implementation public_ranges.now) (seen class.entry)))
-        (Some tree) faults.old.items faults.new.items) }
+    ensures { GivesTree result (answer_to (plain_class_seen (names_of bindings.entry) (is_implementation public_ranges.now) (seen class.entry)))
+        faults.old faults.new }
 {
     let Class {
         body,
@@ -86,7 +86,7 @@ pub fn transform_class(
         ..
     } = Class::of(class);
     let super_class = transform_superclass(alloc, super_class, faults)?;
-    let members = transform_members(alloc, public_ranges, info, body, faults)?;
+    let members = transform_members(alloc, public_ranges, bindings, body, faults)?;
     class_of(alloc, class, super_class, members)
 }
 

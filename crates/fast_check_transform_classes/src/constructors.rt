@@ -1,19 +1,20 @@
 //! What stays of a constructor, and the properties that its parameters declare.
-ghost use Rattle.std.specs.Prelude.{◌≡◌, ◌&&◌, IfOk, Some};
+ghost use Rattle.std.specs.Prelude.{◌≡◌, ◌&&◌, IfOk};
 ghost use Rattle.fast_check_tree_syntax.specs.Part.{seen};
 ghost use Rattle.fast_check_tree_syntax.specs.Shape.{parts};
-ghost use Rattle.fast_check_meaning_signatures.specs.Answers.{Adds, answer_to, answer_of};
+ghost use Rattle.fast_check_meaning_signatures.specs.Answers.{answer_to, answer_of};
 ghost use Rattle.fast_check_meaning_signatures.specs.Classes.{is_param_property, takes_apart, constructor_params_seen, constructor_seen};
 ghost use Rattle.fast_check_tables_modules.specs.diagnostics.PublicRanges.{is_implementation};
 ghost use Rattle.fast_check_transform_classes.specs.Parts.{first_pattern, signed_constructor};
-ghost use Rattle.fast_check_transform_expressions.specs.nodes.Bindings.{bindings_of};
+ghost use Rattle.fast_check_transform_expressions.specs.nodes.Bindings.{names_of};
+ghost use Rattle.fast_check_transform_expressions.specs.nodes.Gives.{Gives, GivesTree};
 
 use crate::class_nodes::{
     constructor_body, is_private, param_target, plain_params, takes_apart, two_trees,
 };
 use fast_check_meaning_signatures::{Fault, FaultKind};
-use fast_check_tables_modules::EsModuleInfo;
 use fast_check_tables_modules::diagnostics::ModulePublicRanges;
+use fast_check_transform_expressions::nodes::Bindings;
 use fast_check_transform_expressions::{any_params, transform_params};
 use fast_check_tree_forms_classes::Constructor;
 use fast_check_tree_helpers::ranges::range_of_node;
@@ -51,13 +52,12 @@ pub fn pattern_among(params: &[Tree]) -> Option<SourceRange>
 fn constructor_params(
     alloc: Global,
     public_ranges: &ModulePublicRanges,
-    info: &EsModuleInfo,
+    bindings: Bindings<'_>,
     member: Part<'_>,
     faults: &mut Vec<Fault>,
 ) -> Result<Items<Tree>, AllocError>
-    ensures { IfOk result (λ items.
-        Adds (answer_of (constructor_params_seen (bindings_of info.now) (is_implementation public_ranges.now) (seen member.entry))) items
-        faults.old.items faults.new.items) }
+    ensures { Gives result (answer_of (constructor_params_seen (names_of bindings.entry) (is_implementation public_ranges.now) (seen member.entry)))
+        faults.old faults.new }
 {
     let Constructor {
         span,
@@ -72,7 +72,7 @@ fn constructor_params(
     if public_ranges.is_impl_with_overloads(&span) {
         return any_params(alloc, params.read());
     }
-    transform_params(alloc, info, params.read(), faults)
+    transform_params(alloc, bindings, params.read(), faults)
 }
 
 /// A constructor with its parameters, and of its body the calls of the superclass.
@@ -102,13 +102,12 @@ fn signed_constructor(
 pub fn transform_constructor(
     alloc: Global,
     public_ranges: &ModulePublicRanges,
-    info: &EsModuleInfo,
+    bindings: Bindings<'_>,
     member: Part<'_>,
     faults: &mut Vec<Fault>,
 ) -> Result<Tree, AllocError>
-    ensures { IfOk result (λ tree.
-        Adds (answer_to (constructor_seen (bindings_of info.now) (is_implementation public_ranges.now) (seen member.entry))) (Some tree)
-        faults.old.items faults.new.items) }
+    ensures { GivesTree result (answer_to (constructor_seen (names_of bindings.entry) (is_implementation public_ranges.now) (seen member.entry)))
+        faults.old faults.new }
 {
     if let Some(range) = pattern_among(Constructor::of(member).params.parts()) {
         faults.push(Fault {
@@ -117,6 +116,6 @@ pub fn transform_constructor(
         })?;
         return Ok(Tree::Absent);
     }
-    let params = constructor_params(alloc, public_ranges, info, member, faults)?;
+    let params = constructor_params(alloc, public_ranges, bindings, member, faults)?;
     signed_constructor(alloc, member, params)
 }

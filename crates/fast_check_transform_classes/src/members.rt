@@ -1,15 +1,16 @@
 //! What stays of the members of a class, in order.
-ghost use Rattle.std.specs.Prelude.{◌≡◌, ◌++◌, IfOk, Some, List, map, flat_map};
+ghost use Rattle.std.specs.Prelude.{◌≡◌, ◌++◌, IfOk, List, map, flat_map};
 ghost use Rattle.std.specs.List.{list_any};
 ghost use Rattle.fast_check_tree_syntax.specs.Part.{seen};
 ghost use Rattle.fast_check_tree_syntax.specs.Shape.{◌is◌, kind_of, parts};
 ghost use Rattle.fast_check_tree_syntax.specs.declared.kind.Kind.TheVariants as kinds;
-ghost use Rattle.fast_check_meaning_signatures.specs.Answers.{Adds, answer_to, answer_of, made};
+ghost use Rattle.fast_check_meaning_signatures.specs.Answers.{answer_to, answer_of, made};
 ghost use Rattle.fast_check_meaning_signatures.specs.Classes.{declared_by_params, method_kind, method_function_seen, method_seen, member_seen, members_seen};
 ghost use Rattle.fast_check_meaning_signatures.specs.Members.{is_hash_named, hash_mark};
 ghost use Rattle.fast_check_tables_modules.specs.diagnostics.PublicRanges.{is_implementation};
 ghost use Rattle.fast_check_transform_classes.specs.Parts.{signed_method, declared_params, kept_answer};
-ghost use Rattle.fast_check_transform_expressions.specs.nodes.Bindings.{bindings_of};
+ghost use Rattle.fast_check_transform_expressions.specs.nodes.Bindings.{names_of};
+ghost use Rattle.fast_check_transform_expressions.specs.nodes.Gives.{Gives, GivesTree};
 
 use crate::class_nodes::{
     hash_private, is_hash_named, is_private, kept_members, param_property, private_method_head,
@@ -18,9 +19,8 @@ use crate::constructors::{is_param_property, pattern_among, transform_constructo
 use crate::copies::three_trees;
 use crate::properties::{transform_accessor, transform_property};
 use fast_check_meaning_signatures::{Fault, FunctionKind};
-use fast_check_tables_modules::EsModuleInfo;
 use fast_check_tables_modules::diagnostics::ModulePublicRanges;
-use fast_check_transform_expressions::nodes::unresolved_context;
+use fast_check_transform_expressions::nodes::Bindings;
 use fast_check_transform_expressions::{transform_fn, transform_implementation};
 use fast_check_tree_forms_classes::{ClassMethod, Constructor};
 use fast_check_tree_helpers::any_type_ann;
@@ -46,13 +46,12 @@ fn method_kind(kind: Part<'_>) -> FunctionKind
 fn method_function(
     alloc: Global,
     public_ranges: &ModulePublicRanges,
-    info: &EsModuleInfo,
+    bindings: Bindings<'_>,
     member: Part<'_>,
     faults: &mut Vec<Fault>,
 ) -> Result<Tree, AllocError>
-    ensures { IfOk result (λ tree.
-        Adds (answer_to (method_function_seen (bindings_of info.now) (is_implementation public_ranges.now) (seen member.entry))) (Some tree)
-        faults.old.items faults.new.items) }
+    ensures { GivesTree result (answer_to (method_function_seen (names_of bindings.entry) (is_implementation public_ranges.now) (seen member.entry)))
+        faults.old faults.new }
 {
     let ClassMethod {
         span,
@@ -65,7 +64,7 @@ fn method_function(
         return transform_implementation(alloc, function);
     }
     let kind = method_kind(kind);
-    transform_fn(alloc, info, kind, range_of_node(key), function, faults)
+    transform_fn(alloc, bindings, kind, range_of_node(key), function, faults)
 }
 
 /// A method of this function.
@@ -97,19 +96,18 @@ fn signed_method(alloc: Global, member: Part<'_>, function: Tree) -> Result<Tree
 fn transform_method(
     alloc: Global,
     public_ranges: &ModulePublicRanges,
-    info: &EsModuleInfo,
+    bindings: Bindings<'_>,
     member: Part<'_>,
     faults: &mut Vec<Fault>,
 ) -> Result<Tree, AllocError>
-    ensures { IfOk result (λ tree.
-        Adds (answer_to (method_seen (bindings_of info.now) (is_implementation public_ranges.now) (seen member.entry)))
-        (Some tree) faults.old.items faults.new.items) }
+    ensures { GivesTree result (answer_to (method_seen (names_of bindings.entry) (is_implementation public_ranges.now) (seen member.entry)))
+        faults.old faults.new }
 {
     if is_private(ClassMethod::of(member).accessibility) {
         let any = any_type_ann(alloc)?;
         return private_method_head(alloc, member)?.declared(alloc, any);
     }
-    let function = method_function(alloc, public_ranges, info, member, faults)?;
+    let function = method_function(alloc, public_ranges, bindings, member, faults)?;
     signed_method(alloc, member, function)
 }
 
@@ -117,19 +115,20 @@ fn transform_method(
 fn transform_member(
     alloc: Global,
     public_ranges: &ModulePublicRanges,
-    info: &EsModuleInfo,
+    bindings: Bindings<'_>,
     member: Part<'_>,
     faults: &mut Vec<Fault>,
 ) -> Result<Tree, AllocError>
-    ensures { IfOk result (λ tree.
-        Adds (answer_to (member_seen (bindings_of info.now) (is_implementation public_ranges.now) (seen member.entry)))
-        (Some tree) faults.old.items faults.new.items) }
+    ensures { GivesTree result (answer_to (member_seen (names_of bindings.entry) (is_implementation public_ranges.now) (seen member.entry)))
+        faults.old faults.new }
 {
     match member.kind() {
-        Kind::Constructor => { transform_constructor(alloc, public_ranges, info, member, faults) }
-        Kind::ClassMethod => transform_method(alloc, public_ranges, info, member, faults),
-        Kind::ClassProp => transform_property(alloc, info, member, faults),
-        Kind::AutoAccessor => transform_accessor(alloc, info, member, faults),
+        Kind::Constructor => {
+            transform_constructor(alloc, public_ranges, bindings, member, faults)
+        }
+        Kind::ClassMethod => transform_method(alloc, public_ranges, bindings, member, faults),
+        Kind::ClassProp => transform_property(alloc, bindings, member, faults),
+        Kind::AutoAccessor => transform_accessor(alloc, bindings, member, faults),
         _ => member.to_tree(alloc),
     }
 }
@@ -217,17 +216,16 @@ fn made_members(
 fn transform_kept(
     alloc: Global,
     public_ranges: &ModulePublicRanges,
-    info: &EsModuleInfo,
+    bindings: Bindings<'_>,
     kept: &[Part<'_>],
     mut items: Items<Tree>,
     faults: &mut Vec<Fault>,
 ) -> Result<Items<Tree>, AllocError>
-    ensures { IfOk result (λ all.
-        Adds (made (λ ts. items ++ ts) (kept_answer (bindings_of info.now) (is_implementation public_ranges.now) (map seen kept.now))) all
-        faults.old.items faults.new.items) }
+    ensures { Gives result (made (λ ts. items ++ ts) (kept_answer (names_of bindings.entry) (is_implementation public_ranges.now) (map seen kept.now)))
+        faults.old faults.new }
 {
     for member in kept {
-        items.push(transform_member(alloc, public_ranges, info, *member, faults)?)?;
+        items.push(transform_member(alloc, public_ranges, bindings, *member, faults)?)?;
     }
     Ok(items)
 }
@@ -236,16 +234,22 @@ fn transform_kept(
 pub fn transform_members(
     alloc: Global,
     public_ranges: &ModulePublicRanges,
-    info: &EsModuleInfo,
+    bindings: Bindings<'_>,
     body: Part<'_>,
     faults: &mut Vec<Fault>,
 ) -> Result<Items<Tree>, AllocError>
-    ensures { IfOk result (λ items.
-        Adds (answer_of (members_seen (bindings_of info.now) (is_implementation public_ranges.now) (parts (seen body.entry)))) items faults.old.items
-        faults.new.items) }
+    ensures { Gives result (answer_of (members_seen (names_of bindings.entry) (is_implementation public_ranges.now) (parts (seen body.entry))))
+        faults.old faults.new }
 {
     let members = body.parts();
     let kept = kept_members(alloc, members)?;
-    let items = made_members(alloc, unresolved_context(info), members, kept.as_slice())?;
-    transform_kept(alloc, public_ranges, info, kept.as_slice(), items, faults)
+    let items = made_members(alloc, bindings.unresolved, members, kept.as_slice())?;
+    transform_kept(
+        alloc,
+        public_ranges,
+        bindings,
+        kept.as_slice(),
+        items,
+        faults,
+    )
 }

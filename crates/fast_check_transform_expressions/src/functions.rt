@@ -2,20 +2,19 @@
 ghost use Rattle.std.specs.Prelude.{◌≡◌, IfOk, Some};
 ghost use Rattle.fast_check_tree_syntax.specs.Part.{seen};
 ghost use Rattle.fast_check_tree_syntax.specs.Shape.{parts};
-ghost use Rattle.fast_check_meaning_signatures.specs.Answers.{Adds, answer_to, answer_of, faultless};
+ghost use Rattle.fast_check_meaning_signatures.specs.Answers.{answer_to, answer_of, faultless};
 ghost use Rattle.fast_check_meaning_signatures.specs.Expressions.{expr_seen};
 ghost use Rattle.fast_check_meaning_signatures.specs.Functions.{class_seen, body_seen, return_type_seen, function_seen, arrow_seen, implementation_seen};
 ghost use Rattle.fast_check_meaning_signatures.specs.Functions.{any_params_from};
 ghost use Rattle.fast_check_transform_expressions.specs.Looked.{known_type, known_answer};
-ghost use Rattle.fast_check_transform_nodes.specs.Bindings.{bindings_of};
+ghost use Rattle.fast_check_transform_nodes.specs.Bindings.{names_of};
+ghost use Rattle.fast_check_transform_nodes.specs.Gives.{Gives, GivesTree};
 
 use crate::expressions::transform_value;
 use crate::parameters::{transform_params, transform_pats};
 use fast_check_meaning_signatures::{Fault, FaultKind, FunctionKind};
-use fast_check_tables_modules::EsModuleInfo;
 use fast_check_transform_nodes::{
-    any_param, kept_arrow, promised, signed_arrow, signed_function, unresolved_context,
-    void_or_promise_void,
+    Bindings, any_param, kept_arrow, promised, signed_arrow, signed_function, void_or_promise_void,
 };
 use fast_check_tree_forms_classes::{Function, Param};
 use fast_check_tree_forms_expressions::ArrowExpr;
@@ -23,7 +22,7 @@ use fast_check_tree_helpers::{
     DeclMutabilityKind, ReturnStatementAnalysis, analyze_return_stmts_in_function_body,
     any_type_ann, maybe_infer_type, named_return, type_ann,
 };
-use fast_check_tree_syntax::{Items, Kind, Part, SourceRange, Tree};
+use fast_check_tree_syntax::{Items, Kind, Part, SourceRange, SyntaxContext, Tree};
 use std::alloc::{AllocError, Global};
 
 /// The body of a function, a `BlockStmt`, with the marks of the function.
@@ -43,7 +42,7 @@ fn type_by_class(
     class: ReturnStatementAnalysis,
     faults: &mut Vec<Fault>,
 ) -> Result<Tree, AllocError>
-    ensures { IfOk result (λ tree. Adds (answer_to (class_seen kind is_async place class)) (Some tree) faults.old.items faults.new.items) }
+    ensures { GivesTree result (answer_to (class_seen kind is_async place class)) faults.old faults.new }
 {
     let is_definitely_void_or_never = match class {
         ReturnStatementAnalysis::Void => match kind {
@@ -74,16 +73,15 @@ fn type_by_class(
 /// is async, or else that of its class; where it shows none, a fault. The body of a generator names none.
 fn type_by_body(
     alloc: Global,
-    info: &EsModuleInfo,
+    unresolved: SyntaxContext,
     kind: FunctionKind,
     place: SourceRange,
     body: Body<'_>,
     faults: &mut Vec<Fault>,
 ) -> Result<Tree, AllocError>
-    ensures { IfOk result (λ tree. Adds (answer_to (body_seen (bindings_of info.now).unresolved kind body.entry.is_async body.entry.is_generator place
-        (seen body.entry.block))) (Some tree) faults.old.items faults.new.items) }
+    ensures { GivesTree result (answer_to (body_seen unresolved kind body.entry.is_async body.entry.is_generator place (seen body.entry.block)))
+        faults.old faults.new }
 {
-    let unresolved = unresolved_context(info);
     match named_return(alloc, unresolved, body.is_generator, body.block)? {
         Some(ty) => {
             let ty = promised(alloc, unresolved, body.is_async, ty)?;
@@ -100,14 +98,13 @@ fn type_by_body(
 /// and a setter has none.
 fn return_type(
     alloc: Global,
-    info: &EsModuleInfo,
+    unresolved: SyntaxContext,
     kind: FunctionKind,
     place: SourceRange,
     function: Part<'_>,
     faults: &mut Vec<Fault>,
 ) -> Result<Tree, AllocError>
-    ensures { IfOk result (λ tree. Adds (answer_to (return_type_seen (bindings_of info.now).unresolved kind place (seen function.entry))) (Some tree)
-        faults.old.items faults.new.items) }
+    ensures { GivesTree result (answer_to (return_type_seen unresolved kind place (seen function.entry))) faults.old faults.new }
 {
     let function = Function::of(function);
     if !function.return_type.is_absent() {
@@ -134,20 +131,19 @@ fn return_type(
         is_generator: function.is_generator,
         block: function.body,
     };
-    type_by_body(alloc, info, kind, place, body, faults)
+    type_by_body(alloc, unresolved, kind, place, body, faults)
 }
 
 /// The return type of an arrow where it is known, as `: type`: written, or shown by its body; none where its value is to
 /// give it. An empty option stands for a type that is missing.
 fn arrow_type(
     alloc: Global,
-    info: &EsModuleInfo,
+    unresolved: SyntaxContext,
     place: SourceRange,
     arrow: Part<'_>,
     faults: &mut Vec<Fault>,
 ) -> Result<Option<Tree>, AllocError>
-    ensures { IfOk result (λ ty. Adds (known_answer (known_type (bindings_of info.now).unresolved place (seen arrow.entry))) ty faults.old.items
-        faults.new.items) }
+    ensures { Gives result (known_answer (known_type unresolved place (seen arrow.entry))) faults.old faults.new }
 {
     let arrow = ArrowExpr::of(arrow);
     if !arrow.return_type.is_absent() {
@@ -160,9 +156,8 @@ fn arrow_type(
             is_generator: arrow.is_generator,
             block: arrow.body,
         };
-        return Ok(Some(type_by_body(alloc, info, kind, place, body, faults)?));
+        return Ok(Some(type_by_body(alloc, unresolved, kind, place, body, faults)?));
     }
-    let unresolved = unresolved_context(info);
     match maybe_infer_type(alloc, arrow.body, DeclMutabilityKind::Mutable, unresolved)? {
         Some(ty) => {
             let ty = promised(alloc, unresolved, arrow.is_async, ty)?;
@@ -194,45 +189,43 @@ pub fn any_params(alloc: Global, params: Part<'_>) -> Result<Items<Tree>, AllocE
 }
 
 /// A function, a `Function`: its return type is the written one, or that its body shows, and its body stands for that.
-/// A fault of the return type stands at `place`, and comes before those of the parameters. `info` is the module that it
-/// stands in.
+/// A fault of the return type stands at `place`, and comes before those of the parameters.
 #[cycle(transform)]
 pub fn transform_fn(
     alloc: Global,
-    info: &EsModuleInfo,
+    bindings: Bindings<'_>,
     kind: FunctionKind,
     place: SourceRange,
     function: Part<'_>,
     faults: &mut Vec<Fault>,
 ) -> Result<Tree, AllocError>
-    ensures { IfOk result (λ tree. Adds (answer_to (function_seen (bindings_of info.now) (expr_seen (bindings_of info.now)) kind place
-        (seen function.entry))) (Some tree)
-        faults.old.items faults.new.items) }
+    ensures { let names = names_of bindings.entry in
+        GivesTree result (answer_to (function_seen names (expr_seen names) kind place (seen function.entry))) faults.old faults.new }
 {
-    let return_type = return_type(alloc, info, kind, place, function, faults)?;
-    let params = transform_params(alloc, info, Function::of(function).params, faults)?;
+    let return_type = return_type(alloc, bindings.unresolved, kind, place, function, faults)?;
+    let params = transform_params(alloc, bindings, Function::of(function).params, faults)?;
     signed_function(alloc, function, return_type, params)
 }
 
 /// An arrow: its return type is the written one, or that its body shows; else its value gives it, if it may stay. A fault
 /// of the return type stands at `place`, that of the parent that names the arrow, or else at the arrow, and comes before
-/// those of the parameters. `info` is the module that it stands in.
+/// those of the parameters.
 #[cycle(transform)]
 pub fn transform_arrow(
     alloc: Global,
-    info: &EsModuleInfo,
+    bindings: Bindings<'_>,
     arrow: Part<'_>,
     place: Option<SourceRange>,
     faults: &mut Vec<Fault>,
 ) -> Result<Tree, AllocError>
-    ensures { IfOk result (λ tree. Adds (answer_to (arrow_seen (bindings_of info.now) (expr_seen (bindings_of info.now)) place (seen arrow.entry))) (Some tree)
-        faults.old.items faults.new.items) }
+    ensures { let names = names_of bindings.entry in
+        GivesTree result (answer_to (arrow_seen names (expr_seen names) place (seen arrow.entry))) faults.old faults.new }
 {
     let form = ArrowExpr::of(arrow);
     let place = place.unwrap_or(form.span);
-    match arrow_type(alloc, info, place, arrow, faults)? {
+    match arrow_type(alloc, bindings.unresolved, place, arrow, faults)? {
         Some(return_type) => {
-            let params = transform_pats(alloc, info, form.params, faults)?;
+            let params = transform_pats(alloc, bindings, form.params, faults)?;
             signed_arrow(alloc, arrow, return_type, params)
         }
         None => {
@@ -241,8 +234,8 @@ pub fn transform_arrow(
                 is_async: form.is_async,
             };
             let fault = Fault { kind, range: place };
-            let value = transform_value(alloc, info, form.body, None, fault, faults)?;
-            let params = transform_pats(alloc, info, form.params, faults)?;
+            let value = transform_value(alloc, bindings, form.body, None, fault, faults)?;
+            let params = transform_pats(alloc, bindings, form.params, faults)?;
             kept_arrow(alloc, arrow, value, params)
         }
     }

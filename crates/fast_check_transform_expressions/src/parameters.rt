@@ -1,22 +1,21 @@
 //! What stays of parameters and their patterns.
-ghost use Rattle.std.specs.Prelude.{◌≡◌, IfOk, Some};
 ghost use Rattle.fast_check_tree_syntax.specs.Part.{seen};
 ghost use Rattle.fast_check_tree_syntax.specs.Shape.{parts};
 ghost use Rattle.fast_check_tree_helpers.specs.OptionalParams.{IsOptionalStart};
-ghost use Rattle.fast_check_meaning_signatures.specs.Answers.{Adds, answer_to, answer_of};
+ghost use Rattle.fast_check_meaning_signatures.specs.Answers.{answer_to, answer_of};
 ghost use Rattle.fast_check_meaning_signatures.specs.Seen.{faulty};
 ghost use Rattle.fast_check_meaning_signatures.specs.declared.fault.FaultKind.TheVariants.{UnsupportedDestructuring};
 ghost use Rattle.fast_check_meaning_signatures.specs.Expressions.{expr_seen};
 ghost use Rattle.fast_check_meaning_signatures.specs.Parameters.{typed, rest_seen, assign_seen, pat_seen, pats_seen};
 ghost use Rattle.fast_check_transform_expressions.specs.Looked.{IsStartOfParams, params_looked};
-ghost use Rattle.fast_check_transform_nodes.specs.Bindings.{bindings_of};
+ghost use Rattle.fast_check_transform_nodes.specs.Bindings.{names_of};
+ghost use Rattle.fast_check_transform_nodes.specs.Gives.{Gives, GivesTree};
 
 use crate::expressions::transform_value;
 use fast_check_meaning_signatures::{Fault, FaultKind};
-use fast_check_tables_modules::EsModuleInfo;
 use fast_check_transform_nodes::{
-    default_type, emptied_array, emptied_object, never_array, rest_arg, unresolved_context,
-    with_default, with_pattern, without_default,
+    Bindings, default_type, emptied_array, emptied_object, never_array, rest_arg, with_default,
+    with_pattern, without_default,
 };
 use fast_check_tree_forms_classes::Param;
 use fast_check_tree_forms_expressions::{ArrayPat, AssignPat, ObjectPat, RestPat};
@@ -33,7 +32,7 @@ fn typed(
     pat: Tree,
     faults: &mut Vec<Fault>,
 ) -> Result<Tree, AllocError>
-    ensures { IfOk result (λ tree. Adds (answer_to (typed (seen ty.entry) place pat)) (Some tree) faults.old.items faults.new.items) }
+    ensures { GivesTree result (answer_to (typed (seen ty.entry) place pat)) faults.old faults.new }
 {
     if ty.is_absent() {
         faults.push(Fault {
@@ -47,7 +46,7 @@ fn typed(
 
 /// A pattern that can't stand: an empty option, and a fault at this place.
 fn unsupported(place: SourceRange, faults: &mut Vec<Fault>) -> Result<Tree, AllocError>
-    ensures { IfOk result (λ tree. Adds (answer_to (faulty UnsupportedDestructuring place)) (Some tree) faults.old.items faults.new.items) }
+    ensures { GivesTree result (answer_to (faulty UnsupportedDestructuring place)) faults.old faults.new }
 {
     faults.push(Fault {
         kind: FaultKind::UnsupportedDestructuring,
@@ -58,7 +57,7 @@ fn unsupported(place: SourceRange, faults: &mut Vec<Fault>) -> Result<Tree, Allo
 
 /// A rest.
 fn transform_rest(alloc: Global, pat: Part<'_>, faults: &mut Vec<Fault>) -> Result<Tree, AllocError>
-    ensures { IfOk result (λ tree. Adds (answer_to (rest_seen (seen pat.entry))) (Some tree) faults.old.items faults.new.items) }
+    ensures { GivesTree result (answer_to (rest_seen (seen pat.entry))) faults.old faults.new }
 {
     let rest = RestPat::of(pat);
     let emptied = RestPat {
@@ -88,19 +87,19 @@ fn start_of_params(params: &[Tree]) -> ParamsOptionalStartIndex
 #[cycle(transform)]
 pub fn transform_pats(
     alloc: Global,
-    info: &EsModuleInfo,
+    bindings: Bindings<'_>,
     params: Part<'_>,
     faults: &mut Vec<Fault>,
 ) -> Result<Items<Tree>, AllocError>
-    ensures { IfOk result (λ items. Adds (answer_of (pats_seen (bindings_of info.now) (expr_seen (bindings_of info.now)) (parts (seen params.entry)))) items
-        faults.old.items faults.new.items) }
+    ensures { let names = names_of bindings.entry in
+        Gives result (answer_of (pats_seen names (expr_seen names) (parts (seen params.entry)))) faults.old faults.new }
 {
     let pats = params.parts();
     let start = start_of_patterns(pats);
     let mut items = Items::new(alloc);
     for (index, pat) in pats.iter().enumerate() {
         let is_optional = start.is_optional_at_index(index);
-        items.push(transform_param_pat(alloc, info, is_optional, pat.read(), faults)?)?;
+        items.push(transform_param_pat(alloc, bindings, is_optional, pat.read(), faults)?)?;
     }
     Ok(items)
 }
@@ -109,12 +108,11 @@ pub fn transform_pats(
 #[cycle(transform)]
 pub fn transform_params(
     alloc: Global,
-    info: &EsModuleInfo,
+    bindings: Bindings<'_>,
     params: Part<'_>,
     faults: &mut Vec<Fault>,
 ) -> Result<Items<Tree>, AllocError>
-    ensures { IfOk result (λ items. Adds (answer_of (params_looked (bindings_of info.now) (parts (seen params.entry)))) items faults.old.items
-        faults.new.items) }
+    ensures { Gives result (answer_of (params_looked (names_of bindings.entry) (parts (seen params.entry)))) faults.old faults.new }
 {
     let params = params.parts();
     let start = start_of_params(params);
@@ -123,7 +121,7 @@ pub fn transform_params(
         let param = param.read();
         let is_optional = start.is_optional_at_index(index);
         let pat = Param::of(param).pat;
-        let pat = transform_param_pat(alloc, info, is_optional, pat, faults)?;
+        let pat = transform_param_pat(alloc, bindings, is_optional, pat, faults)?;
         items.push(with_pattern(alloc, param, pat)?)?;
     }
     Ok(items)
@@ -134,21 +132,20 @@ pub fn transform_params(
 #[cycle(transform)]
 pub fn transform_param_pat(
     alloc: Global,
-    info: &EsModuleInfo,
+    bindings: Bindings<'_>,
     is_optional: bool,
     pat: Part<'_>,
     faults: &mut Vec<Fault>,
 ) -> Result<Tree, AllocError>
-    ensures { IfOk result (λ tree. Adds (answer_to (pat_seen (bindings_of info.now) (expr_seen (bindings_of info.now)) is_optional (seen pat.entry)))
-        (Some tree)
-        faults.old.items faults.new.items) }
+    ensures { let names = names_of bindings.entry in
+        GivesTree result (answer_to (pat_seen names (expr_seen names) is_optional (seen pat.entry))) faults.old faults.new }
 {
     match pat.kind() {
         Kind::BindingIdent => {
             let BindingIdent { id, type_ann } = BindingIdent::of(pat);
             typed(type_ann, Ident::of(id).span, pat.to_tree(alloc)?, faults)
         }
-        Kind::AssignPat => transform_assign_pat(alloc, info, is_optional, pat, faults),
+        Kind::AssignPat => transform_assign_pat(alloc, bindings, is_optional, pat, faults),
         Kind::RestPat => transform_rest(alloc, pat, faults),
         Kind::ArrayPat => {
             let ArrayPat { span, type_ann, .. } = ArrayPat::of(pat);
@@ -167,19 +164,18 @@ pub fn transform_param_pat(
 #[cycle(transform)]
 fn transform_assign_pat(
     alloc: Global,
-    info: &EsModuleInfo,
+    bindings: Bindings<'_>,
     is_optional: bool,
     pat: Part<'_>,
     faults: &mut Vec<Fault>,
 ) -> Result<Tree, AllocError>
-    ensures { IfOk result (λ tree. Adds (answer_to (assign_seen (bindings_of info.now) (expr_seen (bindings_of info.now)) is_optional
-        (seen pat.entry))) (Some tree)
-        faults.old.items faults.new.items) }
+    ensures { let names = names_of bindings.entry in
+        GivesTree result (answer_to (assign_seen names (expr_seen names) is_optional (seen pat.entry))) faults.old faults.new }
 {
     let AssignPat { span, left, right } = AssignPat::of(pat);
     let (name, range, left) = match left.kind() {
         Kind::BindingIdent => {
-            if let Some(ty) = default_type(alloc, unresolved_context(info), pat)? {
+            if let Some(ty) = default_type(alloc, bindings.unresolved, pat)? {
                 return without_default(alloc, is_optional, left, ty);
             }
             let name = Ident::of(BindingIdent::of(left).id).span;
@@ -204,6 +200,6 @@ fn transform_assign_pat(
         _ => return unsupported(span, faults),
     };
     let kind = FaultKind::MissingExplicitType;
-    let right = transform_value(alloc, info, right, name, Fault { kind, range }, faults)?;
+    let right = transform_value(alloc, bindings, right, name, Fault { kind, range }, faults)?;
     with_default(alloc, pat, left, right)
 }

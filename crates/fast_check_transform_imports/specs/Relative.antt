@@ -9,3 +9,7 @@ use Rattle.fast_check_transform_imports.specs.declared.relative.RelativeSources.
 abbrev pub AreRelative : ModuleFacts → RelativeSources → Type 0
 AreRelative facts kept = (text : List ℕ) (other : Option (List ℕ)) → get_by_text kept.by_text text ≡ Some other →
     other ≡ facts.relative text
+
+-- this holds where the old ones stand for those of a module, and then the new ones do so too
+abbrev pub WhileRelative : ModuleFacts → RelativeSources → RelativeSources → Type 0 → Type 0
+WhileRelative facts old new P = AreRelative facts old → P × AreRelative facts new

@@ -6,8 +6,8 @@ ghost use Rattle.fast_check_meaning_skeleton.specs.ImportsExports.{answered_sour
 ghost use Rattle.fast_check_meaning_skeleton.specs.declared.rules.ImportExportRule.TheVariants as imports_exports;
 ghost use Rattle.fast_check_transform_imports.specs.module_facts.ModuleFacts.{facts_of};
 ghost use Rattle.fast_check_transform_imports.specs.module_facts.Kept.{as_list};
-ghost use Rattle.fast_check_transform_imports.specs.ImportsExports.{import_export_answer};
-ghost use Rattle.fast_check_transform_imports.specs.Relative.{AreRelative};
+ghost use Rattle.fast_check_transform_imports.specs.ImportsExports.{GivesByRule, import_export_answer};
+ghost use Rattle.fast_check_transform_imports.specs.Relative.{WhileRelative};
 
 use crate::module_facts::ModuleFacts;
 use crate::relative::RelativeSources;
@@ -25,9 +25,8 @@ fn answered_source(
     src: Part<'_>,
     sources: &mut RelativeSources,
 ) -> Result<Tree, AllocError>
-    ensures answer { IfOk result (λ tree. AreRelative (facts_of facts.entry) sources.old →
-        tree ≡ answered_source (facts_of facts.entry) (seen src.entry)) }
-    ensures sources { IfOk result (λ _. AreRelative (facts_of facts.entry) sources.old → AreRelative (facts_of facts.entry) sources.new) }
+    ensures { let asked = facts_of facts.entry in
+        IfOk result (λ tree. WhileRelative asked sources.old sources.new (tree ≡ answered_source asked (seen src.entry))) }
 {
     if src.is_absent() {
         return src.to_tree(alloc);
@@ -54,10 +53,9 @@ fn source_and_attributes(
     with: Part<'_>,
     sources: &mut RelativeSources,
 ) -> Result<(Tree, Tree), AllocError>
-    ensures source { IfOk result (λ made. AreRelative (facts_of facts.entry) sources.old →
-        made.0 ≡ answered_source (facts_of facts.entry) (seen src.entry)) }
+    ensures source { let asked = facts_of facts.entry in
+        IfOk result (λ made. WhileRelative asked sources.old sources.new (made.0 ≡ answered_source asked (seen src.entry))) }
     ensures attributes { IfOk result (λ made. made.1 ≡ seen with.entry) }
-    ensures sources { IfOk result (λ _. AreRelative (facts_of facts.entry) sources.old → AreRelative (facts_of facts.entry) sources.new) }
 {
     let src = answered_source(alloc, facts, src, sources)?;
     let with = with.to_tree(alloc)?;
@@ -90,9 +88,7 @@ fn transform_import(
     item: Part<'_>,
     sources: &mut RelativeSources,
 ) -> Result<Option<Tree>, AllocError>
-    ensures answer { IfOk result (λ tree. AreRelative (facts_of facts.entry) sources.old →
-        import_export_answer (facts_of facts.entry) (seen item.entry) imports_exports.Import ≡ faultless (as_list tree)) }
-    ensures sources { IfOk result (λ _. AreRelative (facts_of facts.entry) sources.old → AreRelative (facts_of facts.entry) sources.new) }
+    ensures { GivesByRule result (facts_of facts.entry) (seen item.entry) imports_exports.Import sources.old sources.new }
 {
     let ImportDecl {
         span,
@@ -126,9 +122,7 @@ fn transform_export_names(
     item: Part<'_>,
     sources: &mut RelativeSources,
 ) -> Result<Option<Tree>, AllocError>
-    ensures answer { IfOk result (λ tree. AreRelative (facts_of facts.entry) sources.old →
-        import_export_answer (facts_of facts.entry) (seen item.entry) imports_exports.Export ≡ faultless (as_list tree)) }
-    ensures sources { IfOk result (λ _. AreRelative (facts_of facts.entry) sources.old → AreRelative (facts_of facts.entry) sources.new) }
+    ensures { GivesByRule result (facts_of facts.entry) (seen item.entry) imports_exports.Export sources.old sources.new }
 {
     let NamedExport {
         span,
@@ -159,9 +153,7 @@ fn transform_export_all(
     item: Part<'_>,
     sources: &mut RelativeSources,
 ) -> Result<Option<Tree>, AllocError>
-    ensures answer { IfOk result (λ tree. AreRelative (facts_of facts.entry) sources.old →
-        import_export_answer (facts_of facts.entry) (seen item.entry) imports_exports.All ≡ faultless (as_list tree)) }
-    ensures sources { IfOk result (λ _. AreRelative (facts_of facts.entry) sources.old → AreRelative (facts_of facts.entry) sources.new) }
+    ensures { GivesByRule result (facts_of facts.entry) (seen item.entry) imports_exports.All sources.old sources.new }
 {
     let ExportAll {
         span,
@@ -207,9 +199,7 @@ pub fn transform_import_export(
     rule: ImportExportRule,
     sources: &mut RelativeSources,
 ) -> Result<Option<Tree>, AllocError>
-    ensures answer { IfOk result (λ tree. AreRelative (facts_of facts.entry) sources.old →
-        import_export_answer (facts_of facts.entry) (seen item.entry) rule ≡ faultless (as_list tree)) }
-    ensures sources { IfOk result (λ _. AreRelative (facts_of facts.entry) sources.old → AreRelative (facts_of facts.entry) sources.new) }
+    ensures { GivesByRule result (facts_of facts.entry) (seen item.entry) rule sources.old sources.new }
 {
     match rule {
         ImportExportRule::Import => transform_import(alloc, facts, item, sources),

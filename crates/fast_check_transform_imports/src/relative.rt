@@ -2,7 +2,7 @@
 ghost use Rattle.std.specs.Prelude.{◌≡◌, IfOk, OnOk};
 ghost use Rattle.fast_check_meaning_skeleton.specs.ModuleFacts.{ModuleFacts as Asked};
 ghost use Rattle.fast_check_transform_imports.specs.module_facts.ModuleFacts.{facts_of};
-ghost use Rattle.fast_check_transform_imports.specs.Relative.{AreRelative};
+ghost use Rattle.fast_check_transform_imports.specs.Relative.{AreRelative, WhileRelative};
 
 use crate::module_facts::{ModuleFacts, relative_source};
 use fast_check_tree_syntax::Atom;
@@ -70,8 +70,7 @@ impl RelativeSources {
         facts: ModuleFacts<'_>,
         text: &str,
     ) -> Result<Option<Atom>, AllocError>
-        ensures found { IfOk result (λ other. AreRelative (facts_of facts.entry) self.old → other ≡ (facts_of facts.entry).relative text.now) }
-        ensures kept { OnOk result (AreRelative (facts_of facts.entry) self.old → AreRelative (facts_of facts.entry) self.new) }
+        ensures { let asked = facts_of facts.entry in IfOk result (λ other. WhileRelative asked self.old self.new (other ≡ asked.relative text.now)) }
     {
         if facts.es_module_info.specifier().as_str().len() < LONG {
             return relative_text(alloc, facts, text);

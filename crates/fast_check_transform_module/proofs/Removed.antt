@@ -1,6 +1,5 @@
 -- The starts of the items that go, item by item.
-use Rattle.std.proofs.lemmas.Result.{IfOk-weaker}
-use Rattle.std.specs.Prelude.{Result, IfOk, ◌≡◌, ℕ, ◌+◌, ◌<◌, List, [], ◌∷◌, ◌++◌, length, take, refl}
+use Rattle.std.specs.Prelude.{◌≡◌, ℕ, ◌+◌, ◌<◌, List, [], ◌∷◌, ◌++◌, length, take, refl}
 use lib.ListN.{get_or}
 use Rattle.std.proofs.Common.{ap, ◌∙◌, sym, subst, append-nil}
 use Rattle.std.proofs.lemmas.List.{take_more}
@@ -17,13 +16,14 @@ use Rattle.fast_check_tree_helpers.specs.ranges.Ranges.{range_of_node}
 use Rattle.fast_check_transform_statements.specs.skeleton.Rules.{is_assigned, item_rule}
 use Rattle.std.specs.Prelude.{Bool, true, false, if◌then◌else◌}
 use Rattle.fast_check_tree_forms_expressions.specs.Operators.{AssignExpr-span}
+use Rattle.fast_check_tree_forms_programs.specs.ModuleDecls.{ExportDecl-span, ExportDecl-decl}
 use Rattle.fast_check_tree_forms_statements.specs.Statements.{ExprStmt-expr}
 use Rattle.fast_check_meaning_signatures.specs.Seen.{tested}
 use Rattle.fast_check_transform_statements.specs.expandos.Assignments.{right_seen, missing_place}
 use Rattle.fast_check_tree_syntax.specs.declared.source.SourceRange.{SourceRange}
 use Rattle.fast_check_transform_statements.specs.skeleton.declared.rules.DeclRule.{DeclRule}
 use Rattle.fast_check_transform_statements.specs.skeleton.declared.rules.ItemRule.{ItemRule}
-use Rattle.fast_check_transform_statements.specs.skeleton.declared.rules.ItemRule.TheVariants.{Assigned, Declared}
+use Rattle.fast_check_transform_statements.specs.skeleton.declared.rules.ItemRule.TheVariants.{Assigned, Declared, Exported}
 use Rattle.fast_check_transform_statements.specs.skeleton.Visible.{seen_by_rule}
 use Rattle.fast_check_transform_statements.specs.skeleton.Visible.{item_seen}
 use Rattle.fast_check_meaning_signatures.specs.declared.fault.Fault.{Fault}
@@ -90,15 +90,22 @@ module _ (facts : ModuleFacts) (item : Tree) where
       c ≡ without_all_leading below c
   below_nothing c e n = ap (λ ss. without_all_leading ss c) (sym n ∙ ap (starts_below start_look facts item) (sym e))
 
-  pub below_declared : {T E : Type 0} (made : Result T E) {rule : DeclRule} {place : SourceRange} (new c : Comments) →
-      item_rule item ≡ Declared rule → place ≡ range_of_node item →
-      IfOk made (λ _. new ≡ without_all_leading (starts_in_body start_look facts place item rule) c) →
-      IfOk made (λ _. new ≡ without_all_leading below c)
-  below_declared made {rule} {place} new c e at = IfOk-weaker made _ _ (λ _. go)
-    where
-      go : new ≡ without_all_leading (starts_in_body start_look facts place item rule) c → new ≡ without_all_leading below c
-      go h = h ∙ ap (λ ss. without_all_leading ss c)
-          (ap (λ p. starts_in_body start_look facts p item rule) at ∙ ap (starts_below start_look facts item) (sym e))
+  pub below_declared : {rule : DeclRule} {place : SourceRange} {new : Comments} (c : Comments) → item_rule item ≡ Declared rule →
+      place ≡ range_of_node item → new ≡ without_all_leading (starts_in_body start_look facts place item rule) c →
+      new ≡ without_all_leading below c
+  below_declared {rule} c e at h = h ∙ ap (λ ss. without_all_leading ss c)
+      (ap (λ p. starts_in_body start_look facts p item rule) at ∙ ap (starts_below start_look facts item) (sym e))
+
+  pub below_exported : {rule : DeclRule} {place : SourceRange} {decl : Tree} {new : Comments} (c : Comments) →
+      item_rule item ≡ Exported rule → place ≡ ExportDecl-span item → decl ≡ ExportDecl-decl item →
+      new ≡ without_all_leading (starts_in_body start_look facts place decl rule) c → new ≡ without_all_leading below c
+  below_exported {rule} c e at of h = h ∙ ap (λ ss. without_all_leading ss c)
+      ((λ i. starts_in_body start_look facts (at i) (of i) rule) ∙ ap (starts_below start_look facts item) (sym e))
+
+-- nothing goes inside of a declaration, by what is done with it
+pub none_in_body : (facts : ModuleFacts) (place : SourceRange) (decl : Tree) {rule done : DeclRule} (c : Comments) → rule ≡ done →
+    starts_in_body start_look facts place decl done ≡ [] → c ≡ without_all_leading (starts_in_body start_look facts place decl rule) c
+none_in_body facts place decl c e n = ap (λ ss. without_all_leading ss c) (sym n ∙ ap (starts_in_body start_look facts place decl) (sym e))
 
 -- an item is lower than its body
 pub item_lower : (body item : Tree) (items : List Tree) (i : ℕ) → i < length items → items ≡ parts body → item ≡ get_or items i item →

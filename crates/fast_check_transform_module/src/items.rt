@@ -2,14 +2,14 @@
 ghost use Rattle.std.specs.Prelude.{◌≡◌, false, IfOk};
 ghost use Rattle.fast_check_tree_syntax.specs.Part.{seen};
 ghost use Rattle.fast_check_tree_syntax.specs.Shape.{parts};
-ghost use Rattle.fast_check_meaning_signatures.specs.Answers.{Adds};
 ghost use Rattle.fast_check_transform_statements.specs.skeleton.KeptComments.{removed_from, start_look};
 ghost use Rattle.fast_check_transform_statements.specs.skeleton.KeptComments.{starts_in_body, starts_in_namespace};
-ghost use Rattle.fast_check_transform_statements.specs.skeleton.KeptComments.{starts_below, without_all_leading};
+ghost use Rattle.fast_check_transform_statements.specs.skeleton.KeptComments.{starts_below};
 ghost use Rattle.fast_check_transform_statements.specs.skeleton.Rules.{is_assigned, item_rule};
 ghost use Rattle.fast_check_transform_imports.specs.module_facts.ModuleFacts.{facts_of};
-ghost use Rattle.fast_check_transform_imports.specs.module_facts.Kept.{as_list};
+ghost use Rattle.fast_check_transform_imports.specs.module_facts.Kept.{GivesItem, as_list};
 ghost use Rattle.fast_check_transform_imports.specs.Relative.{AreRelative};
+ghost use Rattle.fast_check_transform_module.specs.Gathers.{Gathers};
 ghost use Rattle.fast_check_transform_module.specs.PartAnswers.{namespace_answer, decl_answer, refused_answer, item_answer};
 ghost use Rattle.fast_check_transform_module.specs.PartAnswers.{items_answer};
 
@@ -39,11 +39,8 @@ pub fn transform_items(
     context: &mut TransformContext,
 ) -> Result<Items<Tree>, AllocError>
     requires sources { AreRelative (facts_of facts) context.old.sources }
-    ensures answer { IfOk result (λ items.
-        Adds (items_answer (facts_of facts.entry) (parts (seen body.entry))) items context.old.faults.items context.new.faults.items) }
-    ensures comments { IfOk result (λ _.
-        context.new.comments ≡ without_all_leading (removed_from (facts_of facts.entry) (parts (seen body.entry))) context.old.comments) }
-    ensures sources { IfOk result (λ _. AreRelative (facts_of facts.entry) context.new.sources) }
+    ensures { let asked = facts_of facts.entry in let all = parts (seen body.entry) in
+        IfOk result (λ items. Gathers asked (items_answer asked all) (removed_from asked all) items context.old context.new) }
 {
     let mut items = Items::new(alloc);
     let mut properties = Vec::new(alloc);
@@ -83,11 +80,8 @@ fn transform_namespace(
     context: &mut TransformContext,
 ) -> Result<Option<Tree>, AllocError>
     requires sources { AreRelative (facts_of facts) context.old.sources }
-    ensures answer { IfOk result (λ tree.
-        Adds (namespace_answer (facts_of facts.entry) place (seen decl.entry)) (as_list tree) context.old.faults.items context.new.faults.items) }
-    ensures comments { IfOk result (λ _.
-        context.new.comments ≡ without_all_leading (starts_in_namespace start_look (facts_of facts.entry) place (seen decl.entry)) context.old.comments) }
-    ensures sources { IfOk result (λ _. AreRelative (facts_of facts.entry) context.new.sources) }
+    ensures { let asked = facts_of facts.entry in let starts = starts_in_namespace start_look asked place (seen decl.entry) in
+        IfOk result (λ tree. Gathers asked (namespace_answer asked place (seen decl.entry)) starts (as_list tree) context.old context.new) }
 {
     if let Some(fault) = module_fault(decl) {
         context.faults.push(fault)?;
@@ -111,11 +105,8 @@ fn transform_decl(
     context: &mut TransformContext,
 ) -> Result<Option<Tree>, AllocError>
     requires sources { AreRelative (facts_of facts) context.old.sources }
-    ensures answer { IfOk result (λ tree.
-        Adds (decl_answer (facts_of facts.entry) place (seen decl.entry) rule) (as_list tree) context.old.faults.items context.new.faults.items) }
-    ensures comments { IfOk result (λ _.
-        context.new.comments ≡ without_all_leading (starts_in_body start_look (facts_of facts.entry) place (seen decl.entry) rule) context.old.comments) }
-    ensures sources { IfOk result (λ _. AreRelative (facts_of facts.entry) context.new.sources) }
+    ensures { let asked = facts_of facts.entry in let starts = starts_in_body start_look asked place (seen decl.entry) rule in
+        IfOk result (λ tree. Gathers asked (decl_answer asked place (seen decl.entry) rule) starts (as_list tree) context.old context.new) }
 {
     let faults = &mut context.faults;
     match rule {
@@ -135,7 +126,7 @@ fn refuse(
     kind: FaultKind,
     faults: &mut Vec<Fault>,
 ) -> Result<Option<Tree>, AllocError>
-    ensures { IfOk result (λ tree. Adds (refused_answer (seen item.entry) kind) (as_list tree) faults.old.items faults.new.items) }
+    ensures { GivesItem result (refused_answer (seen item.entry) kind) faults.old faults.new }
 {
     let range = range_of_node(item);
     faults.push(Fault { kind, range })?;
@@ -160,12 +151,8 @@ fn transform_item(
 ) -> Result<Option<Tree>, AllocError>
     requires no_assignment { is_assigned (item_rule (seen item)) ≡ false }
     requires sources { AreRelative (facts_of facts) context.old.sources }
-    ensures answer { IfOk result (λ tree.
-        Adds (item_answer (facts_of facts.entry) (seen item.entry)) (as_list tree) context.old.faults.items context.new.faults.items) }
-    ensures comments { IfOk result (λ _.
-        context.new.comments ≡ without_all_leading
-        (starts_below start_look (facts_of facts.entry) (seen item.entry) (item_rule (seen item.entry))) context.old.comments) }
-    ensures sources { IfOk result (λ _. AreRelative (facts_of facts.entry) context.new.sources) }
+    ensures { let asked = facts_of facts.entry in let starts = starts_below start_look asked (seen item.entry) (item_rule (seen item.entry)) in
+        IfOk result (λ tree. Gathers asked (item_answer asked (seen item.entry)) starts (as_list tree) context.old context.new) }
 {
     match item_rule(item) {
         ItemRule::Declared(rule) => {

@@ -1,3 +1,4 @@
 pub mod Bindings
+pub mod Gives
 pub mod Rows
 pub mod Typed

@@ -1,4 +1,4 @@
-//! What a module knows of its names, which rows of expressions go by that, and new nodes: those that stand for what is taken out of a signature, with the patterns
+//! What is known of the names of a module, which rows of expressions go by that, and new nodes: those that stand for what is taken out of a signature, with the patterns
 //! and functions that stand with them.
 #![tactic(auto)]
 
@@ -9,7 +9,7 @@ mod rows;
 mod signed;
 mod typing;
 
-pub use names::{is_plain_class, unresolved_context};
+pub use names::Bindings;
 pub use nodes::{
     any_param, arrow_body, empty_object_pat, function_body, never_array, never_in_parens,
     or_undefined, promise_of, promised, void_or_promise_void,

@@ -3,12 +3,11 @@ ghost use Rattle.std.specs.Prelude.{◌≡◌, option_copied, IfOk};
 ghost use Rattle.fast_check_tree_syntax.specs.Part.{seen};
 ghost use Rattle.fast_check_tree_syntax.specs.Shape.{kind_of};
 ghost use Rattle.fast_check_meaning_signatures.specs.Expressions.{freezes, makes_plain, is_known};
-ghost use Rattle.fast_check_transform_nodes.specs.Bindings.{bindings_of};
+ghost use Rattle.fast_check_transform_nodes.specs.Bindings.{names_of};
 ghost use Rattle.fast_check_transform_nodes.specs.Rows as rows;
 
-use crate::names::{is_plain_class, unresolved_context};
+use crate::names::Bindings;
 use fast_check_meaning_signatures::Slot;
-use fast_check_tables_modules::EsModuleInfo;
 use fast_check_tree_forms_expressions::{CallExpr, NewExpr};
 use fast_check_tree_forms_programs::Ident;
 use fast_check_tree_helpers::object_freeze_call_arg;
@@ -34,15 +33,15 @@ const ARGUMENTS: [Slot; 5] = [
 ];
 
 /// Whether a call is `Object.freeze(x)`.
-fn freezes(info: &EsModuleInfo, expr: Part<'_>) -> bool
-    ensures { result ≡ freezes (bindings_of info.now) (seen expr.entry) }
+fn freezes(bindings: Bindings<'_>, expr: Part<'_>) -> bool
+    ensures { result ≡ freezes (names_of bindings.entry) (seen expr.entry) }
 {
-    object_freeze_call_arg(&CallExpr::of(expr), unresolved_context(info)).is_some()
+    object_freeze_call_arg(&CallExpr::of(expr), bindings.unresolved).is_some()
 }
 
 /// Whether `new` without type arguments makes an object of a class without type parameters.
-fn makes_plain(alloc: Global, info: &EsModuleInfo, expr: Part<'_>) -> Result<bool, AllocError>
-    ensures { IfOk result (λ made. made ≡ makes_plain (bindings_of info.now) (seen expr.entry)) }
+fn makes_plain(alloc: Global, bindings: Bindings<'_>, expr: Part<'_>) -> Result<bool, AllocError>
+    ensures { IfOk result (λ made. made ≡ makes_plain (names_of bindings.entry) (seen expr.entry)) }
 {
     let form = NewExpr::of(expr);
     if form.callee.kind() != Kind::Ident {
@@ -53,16 +52,16 @@ fn makes_plain(alloc: Global, info: &EsModuleInfo, expr: Part<'_>) -> Result<boo
     }
     let class = Ident::of(form.callee);
     let id = Id(Atom::from_str(alloc, class.sym)?, class.ctxt);
-    Ok(is_plain_class(info, &id))
+    Ok(bindings.is_plain_class(&id))
 }
 
 /// Whether an expression is one of these, by its kind.
-fn is_known(alloc: Global, info: &EsModuleInfo, expr: Part<'_>) -> Result<bool, AllocError>
-    ensures { IfOk result (λ known. known ≡ is_known (bindings_of info.now) (seen expr.entry)) }
+fn is_known(alloc: Global, bindings: Bindings<'_>, expr: Part<'_>) -> Result<bool, AllocError>
+    ensures { IfOk result (λ known. known ≡ is_known (names_of bindings.entry) (seen expr.entry)) }
 {
     match expr.kind() {
-        Kind::CallExpr => Ok(freezes(info, expr)),
-        Kind::NewExpr => makes_plain(alloc, info, expr),
+        Kind::CallExpr => Ok(freezes(bindings, expr)),
+        Kind::NewExpr => makes_plain(alloc, bindings, expr),
         _ => Ok(false),
     }
 }
@@ -84,11 +83,11 @@ fn row_of_kind(kind: Kind, known: bool) -> Option<&'static [Slot]>
 /// `new` only where it names a class without type parameters, and no type arguments.
 pub fn row_of(
     alloc: Global,
-    info: &EsModuleInfo,
+    bindings: Bindings<'_>,
     expr: Part<'_>,
 ) -> Result<Option<&'static [Slot]>, AllocError>
-    ensures { IfOk result (λ row. option_copied row ≡ rows.row_of (kind_of (seen expr.entry)) (is_known (bindings_of info.now) (seen expr.entry))) }
+    ensures { IfOk result (λ row. option_copied row ≡ rows.row_of (kind_of (seen expr.entry)) (is_known (names_of bindings.entry) (seen expr.entry))) }
 {
-    let known = is_known(alloc, info, expr)?;
+    let known = is_known(alloc, bindings, expr)?;
     Ok(row_of_kind(expr.kind(), known))
 }

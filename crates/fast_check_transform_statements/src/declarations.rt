@@ -1,16 +1,17 @@
 //! Variable statements and `using`, declarator by declarator.
-ghost use Rattle.std.specs.Prelude.{◌≡◌, IfOk, Some};
+ghost use Rattle.std.specs.Prelude.{◌≡◌, IfOk};
 ghost use Rattle.std.specs.List.{list_any};
 ghost use Rattle.fast_check_tree_syntax.specs.Part.{seen};
 ghost use Rattle.fast_check_tree_syntax.specs.Shape.{parts};
 ghost use Rattle.fast_check_tree_forms_statements.specs.Declarations.{VarDecl-decls};
 ghost use Rattle.fast_check_tree_helpers.specs.Builders.{never_value};
-ghost use Rattle.fast_check_meaning_signatures.specs.Answers.{Adds, faultless};
+ghost use Rattle.fast_check_meaning_signatures.specs.Answers.{faultless};
 ghost use Rattle.fast_check_meaning_signatures.specs.Typing.{type_of};
 ghost use Rattle.fast_check_transform_imports.specs.skeleton.Mutability.{mutability_of};
 ghost use Rattle.fast_check_transform_imports.specs.skeleton.Visible.{declarator_typing, is_ambient_statement, is_public_declarator, is_public_using, using_place};
 ghost use Rattle.fast_check_transform_imports.specs.module_facts.ModuleFacts.{facts_of};
-ghost use Rattle.fast_check_transform_imports.specs.module_facts.Kept.{as_list};
+ghost use Rattle.fast_check_transform_imports.specs.module_facts.Kept.{GivesItem, as_list};
+ghost use Rattle.fast_check_transform_imports.specs.nodes.Gives.{Gives, GivesTree};
 ghost use Rattle.fast_check_transform_statements.specs.PartAnswers.{retyped, value_answer, valued_answer, ident_answer};
 ghost use Rattle.fast_check_transform_statements.specs.PartAnswers.{declarator_answer, public_answer, declarators_answer, statement_answer, standing_answer};
 ghost use Rattle.fast_check_transform_statements.specs.PartAnswers.{using_answer};
@@ -19,7 +20,6 @@ use fast_check_meaning_signatures::{Fault, FaultKind};
 use fast_check_transform_expressions::nodes::Typing;
 use fast_check_transform_expressions::transform_expr;
 use fast_check_transform_imports::ModuleFacts;
-use fast_check_transform_imports::nodes::unresolved_context;
 use fast_check_tree_forms_programs::{BindingIdent, Ident};
 use fast_check_tree_forms_statements::{UsingDecl, VarDecl, VarDeclarator};
 use fast_check_tree_helpers::ranges::range_of_node;
@@ -79,12 +79,12 @@ pub fn transform_init(
     value: Part<'_>,
     faults: &mut Vec<Fault>,
 ) -> Result<Option<Tree>, AllocError>
-    ensures { IfOk result (λ tree. Adds (value_answer (facts_of facts.entry) place (seen value.entry)) tree faults.old.items faults.new.items) }
+    ensures { Gives result (value_answer (facts_of facts.entry) place (seen value.entry)) faults.old faults.new }
 {
     if value.is_absent() {
         return Ok(None);
     }
-    transform_expr(alloc, facts.es_module_info, value, Some(place), faults)
+    transform_expr(alloc, facts.bindings, value, Some(place), faults)
 }
 
 /// A declarator without type, with the value that gives it. Where there is none that may stay, that is a fault at the
@@ -95,7 +95,7 @@ fn valued_declarator(
     declarator: Part<'_>,
     faults: &mut Vec<Fault>,
 ) -> Result<Tree, AllocError>
-    ensures { IfOk result (λ tree. Adds (valued_answer (facts_of facts.entry) (seen declarator.entry)) (Some tree) faults.old.items faults.new.items) }
+    ensures { GivesTree result (valued_answer (facts_of facts.entry) (seen declarator.entry)) faults.old faults.new }
 {
     let VarDeclarator { name, init, .. } = VarDeclarator::of(declarator);
     let place = Ident::of(BindingIdent::of(name).id).span;
@@ -118,8 +118,7 @@ fn declarator_type(
     mutability: DeclMutabilityKind,
     declarator: Part<'_>,
 ) -> Result<Option<Tree>, AllocError>
-    ensures { IfOk result (λ ty.
-        ty ≡ type_of (facts_of facts.entry).bindings.unresolved (declarator_typing mutability (seen declarator.entry))) }
+    ensures { IfOk result (λ ty. ty ≡ type_of (facts_of facts.entry).bindings.unresolved (declarator_typing mutability (seen declarator.entry))) }
 {
     let VarDeclarator { name, init, .. } = VarDeclarator::of(declarator);
     Typing {
@@ -128,7 +127,7 @@ fn declarator_type(
         value: init,
         mutability,
     }
-    .type_of(alloc, unresolved_context(facts.es_module_info))
+    .type_of(alloc, facts.bindings.unresolved)
 }
 
 /// A declarator of an identifier, with its type, or else with a value that may stay.
@@ -139,8 +138,7 @@ fn ident_declarator(
     declarator: Part<'_>,
     faults: &mut Vec<Fault>,
 ) -> Result<Tree, AllocError>
-    ensures { IfOk result (λ tree.
-        Adds (ident_answer (facts_of facts.entry) mutability (seen declarator.entry)) (Some tree) faults.old.items faults.new.items) }
+    ensures { GivesTree result (ident_answer (facts_of facts.entry) mutability (seen declarator.entry)) faults.old faults.new }
 {
     match declarator_type(alloc, facts, mutability, declarator)? {
         Some(ty) => declared(alloc, declarator, ty),
@@ -157,8 +155,7 @@ fn typed_declarator(
     declarator: Part<'_>,
     faults: &mut Vec<Fault>,
 ) -> Result<Tree, AllocError>
-    ensures { IfOk result (λ tree.
-        Adds (declarator_answer (facts_of facts.entry) mutability (seen declarator.entry)) (Some tree) faults.old.items faults.new.items) }
+    ensures { GivesTree result (declarator_answer (facts_of facts.entry) mutability (seen declarator.entry)) faults.old faults.new }
 {
     let name = VarDeclarator::of(declarator).name;
     if name.kind() == Kind::BindingIdent {
@@ -179,8 +176,7 @@ fn transform_declarator(
     declarator: Part<'_>,
     faults: &mut Vec<Fault>,
 ) -> Result<Option<Tree>, AllocError>
-    ensures { IfOk result (λ tree.
-        Adds (public_answer (facts_of facts.entry) (seen statement.entry) (seen declarator.entry)) (as_list tree) faults.old.items faults.new.items) }
+    ensures { GivesItem result (public_answer (facts_of facts.entry) (seen statement.entry) (seen declarator.entry)) faults.old faults.new }
 {
     let span = VarDeclarator::of(declarator).span;
     if !facts.public_ranges.contains(&span) {
@@ -200,9 +196,8 @@ fn public_declarators(
     statement: Part<'_>,
     faults: &mut Vec<Fault>,
 ) -> Result<Items<Tree>, AllocError>
-    ensures { IfOk result (λ items.
-        Adds (declarators_answer (facts_of facts.entry) (seen statement.entry) (parts (VarDecl-decls (seen statement.entry))))
-        items faults.old.items faults.new.items) }
+    ensures { Gives result (declarators_answer (facts_of facts.entry) (seen statement.entry) (parts (VarDecl-decls (seen statement.entry))))
+        faults.old faults.new }
 {
     let mut items = Items::new(alloc);
     for declarator in VarDecl::of(statement).decls.parts() {
@@ -221,7 +216,7 @@ pub fn transform_statement(
     statement: Part<'_>,
     faults: &mut Vec<Fault>,
 ) -> Result<Option<Tree>, AllocError>
-    ensures { IfOk result (λ tree. Adds (statement_answer (facts_of facts.entry) (seen statement.entry)) (as_list tree) faults.old.items faults.new.items) }
+    ensures { GivesItem result (statement_answer (facts_of facts.entry) (seen statement.entry)) faults.old faults.new }
 {
     let decls = public_declarators(alloc, facts, statement, faults)?;
     if decls.is_empty() {
@@ -286,7 +281,7 @@ pub fn transform_using(
     decl: Part<'_>,
     faults: &mut Vec<Fault>,
 ) -> Result<Option<Tree>, AllocError>
-    ensures { IfOk result (λ tree. Adds (using_answer (facts_of facts.entry) place (seen decl.entry)) (as_list tree) faults.old.items faults.new.items) }
+    ensures { GivesItem result (using_answer (facts_of facts.entry) place (seen decl.entry)) faults.old faults.new }
 {
     if !is_public_using(facts, place, decl) {
         return Ok(None);

@@ -1,9 +1,7 @@
 //! Functions that are declared.
-ghost use Rattle.std.specs.Prelude.{IfOk};
 ghost use Rattle.fast_check_tree_syntax.specs.Part.{seen};
-ghost use Rattle.fast_check_meaning_signatures.specs.Answers.{Adds};
 ghost use Rattle.fast_check_transform_imports.specs.module_facts.ModuleFacts.{facts_of};
-ghost use Rattle.fast_check_transform_imports.specs.module_facts.Kept.{as_list};
+ghost use Rattle.fast_check_transform_imports.specs.module_facts.Kept.{GivesItem};
 ghost use Rattle.fast_check_transform_statements.specs.PartAnswers.{public_function_answer};
 
 use fast_check_meaning_signatures::{Fault, FunctionKind};
@@ -23,8 +21,7 @@ pub fn transform_public_function(
     decl: Part<'_>,
     faults: &mut Vec<Fault>,
 ) -> Result<Option<Tree>, AllocError>
-    ensures { IfOk result (λ tree.
-        Adds (public_function_answer (facts_of facts.entry) place (seen decl.entry)) (as_list tree) faults.old.items faults.new.items) }
+    ensures { GivesItem result (public_function_answer (facts_of facts.entry) place (seen decl.entry)) faults.old faults.new }
 {
     if !facts.public_ranges.contains(&place) {
         return Ok(None);
@@ -42,7 +39,7 @@ pub fn transform_public_function(
         transform_implementation(alloc, function)?
     } else {
         let kind = FunctionKind::DeclarationLike;
-        transform_fn(alloc, facts.es_module_info, kind, name, function, faults)?
+        transform_fn(alloc, facts.bindings, kind, name, function, faults)?
     };
     let made = FnDecl {
         ident: ident.to_tree(alloc)?,

@@ -1,9 +1,10 @@
 //! What stays of the superclass of a class.
-ghost use Rattle.std.specs.Prelude.{◌≡◌, IfOk, Some};
+ghost use Rattle.std.specs.Prelude.{◌≡◌};
 ghost use Rattle.fast_check_tree_syntax.specs.Part.{seen};
-ghost use Rattle.fast_check_meaning_signatures.specs.Answers.{Adds, answer_to};
+ghost use Rattle.fast_check_meaning_signatures.specs.Answers.{answer_to};
 ghost use Rattle.fast_check_tree_syntax.specs.Shape.{kind_of};
 ghost use Rattle.fast_check_meaning_signatures.specs.Classes.{is_reference, property_of_kind, superclass_seen};
+ghost use Rattle.fast_check_transform_expressions.specs.nodes.Gives.{GivesTree};
 
 use fast_check_meaning_signatures::{Fault, FaultKind};
 use fast_check_tree_forms_expressions::{ComputedPropName, MemberExpr};
@@ -45,7 +46,7 @@ pub fn transform_superclass(
     superclass: Part<'_>,
     faults: &mut Vec<Fault>,
 ) -> Result<Tree, AllocError>
-    ensures { IfOk result (λ tree. Adds (answer_to (superclass_seen (seen superclass.entry))) (Some tree) faults.old.items faults.new.items) }
+    ensures { GivesTree result (answer_to (superclass_seen (seen superclass.entry))) faults.old faults.new }
 {
     if superclass.is_absent() {
         return Ok(Tree::Absent);

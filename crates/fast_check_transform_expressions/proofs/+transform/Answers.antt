@@ -17,7 +17,7 @@ use Rattle.fast_check_tree_forms_expressions.specs.Expressions.{ArrowExpr-span}
 use Rattle.fast_check_tree_forms_expressions.specs.Patterns.{AssignPat-span, AssignPat-left, AssignPat-right}
 use Rattle.fast_check_tree_forms_expressions.specs.Patterns.{ArrayPat-span, ArrayPat-type_ann, ObjectPat-span, ObjectPat-type_ann}
 use Rattle.fast_check_meaning_signatures.specs.declared.rules.Slot.TheVariants as slots
-use Rattle.fast_check_transform_nodes.specs.Bindings.{bindings_of}
+use Rattle.fast_check_transform_nodes.specs.Bindings.{names_of}
 use Rattle.fast_check_meaning_signatures.specs.Seen.{faulty, seens}
 use Rattle.fast_check_meaning_signatures.specs.declared.fault.FaultKind.TheVariants.{UnsupportedDestructuring, MissingExplicitType}
 use Rattle.fast_check_meaning_signatures.specs.Answers.{fault_at, answer_to, answer_of, parts_answer, demanded, faultless, signed_function}
@@ -50,7 +50,7 @@ expressions::transform_expr-returns-then-is_compound t c =
     let compound : is_compound (kind_of (seen c.args.expr)) ≡ true = sym (c.is_compound.ensures ∙ ap is_compound c.kind-kind.ensures) ∙
     c.if-is_compound.true in
     IfOk-weaker c.transform_parts.result _ _ (λ tree h. adds_same
-    (ap answer_to (seen_parted (bindings_of c.args.info.now) (seen c.args.expr) c.args.place compound)) h)
+    (ap answer_to (seen_parted (names_of c.args.bindings) (seen c.args.expr) c.args.place compound)) h)
     c.transform_parts.ensures
 
 pub expressions::transform_expr-returns-then-is_plain : goal.expressions::transform_expr-returns-then-is_plain
@@ -60,7 +60,7 @@ expressions::transform_expr-returns-then-is_plain t c =
     c.if-is_compound.false in
     let plain : is_plain (kind_of (seen c.args.expr)) ≡ true = sym (c.is_plain.ensures ∙ ap is_plain k) ∙ c.if-is_plain.true in
     adds_same
-    (ap answer_to (seen_whole (bindings_of c.args.info.now) (seen c.args.expr) c.args.place compound plain) ∙
+    (ap answer_to (seen_whole (names_of c.args.bindings) (seen c.args.expr) c.args.place compound plain) ∙
     ap (λ (x : Tree). faultless (Some x))
     (sym c.in_ok-to_tree.ensures))
     (adds_nothing (Some c.in_ok-to_tree.field-0) c.args.faults.now.items)
@@ -76,7 +76,7 @@ expressions::transform_expr-returns-then-eq t c =
     let arrow : kind_of (seen c.args.expr) ≡ kinds.ArrowExpr = sym c.kind-kind.ensures ∙ is_kind c.kind-kind.result kinds.ArrowExpr
     (sym c.eq.ensures ∙ c.if-eq.true) in
     adds_same
-    (ap answer_to (seen_arrow (bindings_of c.args.info.now) (seen c.args.expr) c.args.place arrow)) c.in_ok-transform_arrow.ensures
+    (ap answer_to (seen_arrow (names_of c.args.bindings) (seen c.args.expr) c.args.place arrow)) c.in_ok-transform_arrow.ensures
 
 pub expressions::transform_expr-transform_slots-requires : goal.expressions::transform_expr-transform_slots-requires
 expressions::transform_expr-transform_slots-requires t c =
@@ -93,7 +93,7 @@ expressions::transform_expr-returns-in-Some t c =
     let row = sym c.in_ok-row.ensures ∙ ap option_copied c.in-Some.is in
     IfOk-weaker c.transform_slots.result _ _
     (λ tree h. adds_same
-    (ap answer_to (seen_slotted (bindings_of c.args.info.now) (seen c.args.expr) c.args.place c.in-Some.row.now compound plain row)) h)
+    (ap answer_to (seen_slotted (names_of c.args.bindings) (seen c.args.expr) c.args.place c.in-Some.row.now compound plain row)) h)
     c.transform_slots.ensures
 
 pub expressions::transform_expr-returns-in-None : goal.expressions::transform_expr-returns-in-None
@@ -105,7 +105,7 @@ expressions::transform_expr-returns-in-None t c =
     let row = sym c.in_ok-row.ensures ∙ ap option_copied c.in-None.is in
     let arrow = λ (e : kind_of (seen c.args.expr) ≡ kinds.ArrowExpr). not_arrow c.kind-kind.result (sym c.eq.ensures ∙ c.if-eq.false)
     (k ∙ e) in
-    adds_same (ap answer_to (seen_refused (bindings_of c.args.info.now) (seen c.args.expr) c.args.place compound plain row arrow))
+    adds_same (ap answer_to (seen_refused (names_of c.args.bindings) (seen c.args.expr) c.args.place compound plain row arrow))
     (adds_nothing None c.args.faults.now.items)
 
 pub expressions::transform_parts-transform_expr-requires : goal.expressions::transform_parts-transform_expr-requires
@@ -113,7 +113,7 @@ expressions::transform_parts-transform_expr-requires t c = grind (arith, height_
 
 pub expressions::transform_parts-returns-in-None : goal.expressions::transform_parts-returns-in-None
 expressions::transform_parts-returns-in-None t c =
-    let u = bindings_of c.args.info.now in
+    let u = names_of c.args.bindings in
     let items = c.parts-part-items.result.now in
     let d = c.part-item.result in
     let within : c.loop-part.part-index < length items = c.loop-part-test.true in
@@ -129,7 +129,7 @@ expressions::transform_slots-transform_slot-requires t c = grind (arith, height_
 
 pub expressions::transform_slots-loop-index-preserved : goal.expressions::transform_slots-loop-index-preserved
 expressions::transform_slots-loop-index-preserved t c =
-    let u = bindings_of c.args.info.now in
+    let u = names_of c.args.bindings in
     let e = seen c.args.expr in
     let row = c.args.row.now in
     let i = c.loop-index.index in
@@ -153,7 +153,7 @@ functions::transform_arrow-transform_pats-requires-in-None t c = grind (arith, h
 
 pub functions::transform_arrow-returns-in_ok-params-in-Some : goal.functions::transform_arrow-returns-in_ok-params-in-Some
 functions::transform_arrow-returns-in_ok-params-in-Some t c =
-    let u = bindings_of c.args.info.now in
+    let u = names_of c.args.bindings in
     let a = seen c.args.arrow in
     let at : c.unwrap_or-place.result ≡ or_own c.args.place (ArrowExpr-span a) = c.unwrap_or-place.ensures ∙
     own_place c.args.place c.of-form.ensures.span in
@@ -168,7 +168,7 @@ functions::transform_arrow-returns-in_ok-params-in-Some t c =
 
 pub functions::transform_arrow-returns-in_ok-params-in-None : goal.functions::transform_arrow-returns-in_ok-params-in-None
 functions::transform_arrow-returns-in_ok-params-in-None t c =
-    let u = bindings_of c.args.info.now in
+    let u = names_of c.args.bindings in
     let a = seen c.args.arrow in
     let f = c.of-form.ensures in
     let at : c.unwrap_or-place.result ≡ or_own c.args.place (ArrowExpr-span a) = c.unwrap_or-place.ensures ∙
@@ -195,7 +195,7 @@ parameters::transform_pats-transform_param_pat-requires t c = grind (arith, heig
 
 pub expressions::transform_parts-loop-part-preserved : goal.expressions::transform_parts-loop-part-preserved
 expressions::transform_parts-loop-part-preserved t c =
-    let u = bindings_of c.args.info.now in
+    let u = names_of c.args.bindings in
     let items = c.parts-part-items.result.now in
     let d = c.part-item.result in
     let within : c.loop-part.part-index < length items = c.loop-part-test.true in
@@ -209,7 +209,7 @@ parameters::transform_param_pat-returns-in-AssignPat t c =
     let kind = sym c.kind.ensures ∙ c.in-AssignPat.is in
     IfOk-weaker c.transform_assign_pat.result _ _
     (λ tree h. adds_same
-    (ap answer_to (seen_by_kind (bindings_of c.args.info.now) c.args.is_optional (seen c.args.pat) kinds.AssignPat kind)) h)
+    (ap answer_to (seen_by_kind (names_of c.args.bindings) c.args.is_optional (seen c.args.pat) kinds.AssignPat kind)) h)
     c.transform_assign_pat.ensures
 
 pub parameters::transform_param_pat-returns-in-RestPat : goal.parameters::transform_param_pat-returns-in-RestPat
@@ -217,14 +217,14 @@ parameters::transform_param_pat-returns-in-RestPat t c =
     let kind = sym c.kind.ensures ∙ c.in-RestPat.is in
     IfOk-weaker c.transform_rest.result _ _
     (λ tree h. adds_same
-    (ap answer_to (seen_by_kind (bindings_of c.args.info.now) c.args.is_optional (seen c.args.pat) kinds.RestPat kind)) h)
+    (ap answer_to (seen_by_kind (names_of c.args.bindings) c.args.is_optional (seen c.args.pat) kinds.RestPat kind)) h)
     c.transform_rest.ensures
 
 pub parameters::transform_param_pat-returns-in_default : goal.parameters::transform_param_pat-returns-in_default
 parameters::transform_param_pat-returns-in_default t c =
     let d = c.in_default in
     let k = c.kind.ensures in
-    let other = other_pat (bindings_of c.args.info.now) c.args.is_optional (seen c.args.pat) (kind_of (seen c.args.pat))
+    let other = other_pat (names_of c.args.bindings) c.args.is_optional (seen c.args.pat) (kind_of (seen c.args.pat))
     (λ e. d.not-BindingIdent (k ∙ e))
     (λ e. d.not-AssignPat (k ∙ e)) (λ e. d.not-RestPat (k ∙ e)) (λ e. d.not-ArrayPat (k ∙ e)) (λ e. d.not-ObjectPat (k ∙ e)) in
     IfOk-weaker c.unsupported.result _ _
@@ -234,7 +234,7 @@ parameters::transform_param_pat-returns-in_default t c =
 
 pub parameters::transform_pats-loop-index-preserved : goal.parameters::transform_pats-loop-index-preserved
 parameters::transform_pats-loop-index-preserved t c =
-    let u = bindings_of c.args.info.now in
+    let u = names_of c.args.bindings in
     let pats = c.parts-pats.result.now in
     let i = c.loop-index.index in
     let d = c.index-pats-index.result in
@@ -247,7 +247,7 @@ parameters::transform_pats-loop-index-preserved t c =
 
 pub parameters::transform_params-loop-index-preserved : goal.parameters::transform_params-loop-index-preserved
 parameters::transform_params-loop-index-preserved t c =
-    let u = bindings_of c.args.info.now in
+    let u = names_of c.args.bindings in
     let params = c.parts-params.result.now in
     let i = c.loop-index.index in
     let d = c.index-params-index.result in
@@ -264,7 +264,7 @@ parameters::transform_params-loop-index-preserved t c =
 
 pub expressions::transform_slots-returns-in-None : goal.expressions::transform_slots-returns-in-None
 expressions::transform_slots-returns-in-None t c =
-    let u = bindings_of c.args.info.now in
+    let u = names_of c.args.bindings in
     let e = seen c.args.expr in
     let row = c.args.row.now in
     let i = c.loop-index.index in
@@ -279,25 +279,25 @@ expressions::transform_slots-returns-in-None t c =
 
 pub expressions::transform_slot-returns-in-Span : goal.expressions::transform_slot-returns-in-Span
 expressions::transform_slot-returns-in-Span t c =
-    adds_same (slot_is (bindings_of c.args.info.now) c.args.slot slots.Span (seen c.args.part) c.args.place c.in-Span.is
+    adds_same (slot_is (names_of c.args.bindings) c.args.slot slots.Span (seen c.args.part) c.args.place c.in-Span.is
     ∙ ap (λ (r : SourceRange). faultless (Some (tree.Range r))) (sym c.range.ensures))
     (adds_nothing (Some (tree.Range c.range.result)) c.args.faults.now.items)
 
 pub expressions::transform_slot-returns-in-Scope : goal.expressions::transform_slot-returns-in-Scope
 expressions::transform_slot-returns-in-Scope t c =
-    adds_same (slot_is (bindings_of c.args.info.now) c.args.slot slots.Scope (seen c.args.part) c.args.place c.in-Scope.is
+    adds_same (slot_is (names_of c.args.bindings) c.args.slot slots.Scope (seen c.args.part) c.args.place c.in-Scope.is
     ∙ ap (λ (x : SyntaxContext). faultless (Some (tree.Context x))) (sym c.context.ensures))
     (adds_nothing (Some (tree.Context c.context.result)) c.args.faults.now.items)
 
 pub expressions::transform_slot-returns-in_ok-to_tree-in-Written : goal.expressions::transform_slot-returns-in_ok-to_tree-in-Written
 expressions::transform_slot-returns-in_ok-to_tree-in-Written t c =
-    adds_same (slot_is (bindings_of c.args.info.now) c.args.slot slots.Written (seen c.args.part) c.args.place c.in-Written.is
+    adds_same (slot_is (names_of c.args.bindings) c.args.slot slots.Written (seen c.args.part) c.args.place c.in-Written.is
     ∙ ap (λ (x : Tree). faultless (Some x)) (sym c.in_ok-to_tree-in-Written.ensures))
     (adds_nothing (Some c.in_ok-to_tree-in-Written.field-0) c.args.faults.now.items)
 
 pub expressions::transform_slot-returns-in_ok-never_in_parens-in-Never : goal.expressions::transform_slot-returns-in_ok-never_in_parens-in-Never
 expressions::transform_slot-returns-in_ok-never_in_parens-in-Never t c =
-    adds_same (slot_is (bindings_of c.args.info.now) c.args.slot slots.Never (seen c.args.part) c.args.place c.in-Never.is
+    adds_same (slot_is (names_of c.args.bindings) c.args.slot slots.Never (seen c.args.part) c.args.place c.in-Never.is
     ∙ ap (λ (x : Tree). faultless (Some x)) (sym c.in_ok-never_in_parens-in-Never.ensures))
     (adds_nothing (Some c.in_ok-never_in_parens-in-Never.field-0) c.args.faults.now.items)
 
@@ -305,12 +305,12 @@ pub expressions::transform_slot-returns-in-Value : goal.expressions::transform_s
 expressions::transform_slot-returns-in-Value t c =
     IfOk-weaker c.transform_expr.result _ _
     (λ tree h. adds_same
-    (slot_is (bindings_of c.args.info.now) c.args.slot slots.Value
+    (slot_is (names_of c.args.bindings) c.args.slot slots.Value
     (seen c.args.part) c.args.place c.in-Value.is) h) c.transform_expr.ensures
 
 pub expressions::transform_slot-returns-in_ok-transform_fn-in-Function : goal.expressions::transform_slot-returns-in_ok-transform_fn-in-Function
 expressions::transform_slot-returns-in_ok-transform_fn-in-Function t c =
-    let u = bindings_of c.args.info.now in
+    let u = names_of c.args.bindings in
     let f = seen c.args.part in
     let at : c.unwrap_or-place.result ≡ or_own c.args.place (Function-span f) = c.unwrap_or-place.ensures ∙
     own_place c.args.place c.of.ensures.span in
@@ -322,7 +322,7 @@ expressions::transform_slot-returns-in_ok-transform_fn-in-Function t c =
 
 pub functions::transform_fn-returns : goal.functions::transform_fn-returns
 functions::transform_fn-returns t c =
-    let u = bindings_of c.args.info.now in
+    let u = names_of c.args.bindings in
     let f = seen c.args.function in
     let params = adds_same (ap (λ (ps : Tree). answer_of (params_looked u (parts ps))) (sym c.of.ensures.params)) c.in_ok-params.ensures in
     IfOk-weaker c.signed_function.result _ _ (λ tree e. adds_given (ap Some (sym e))
@@ -338,7 +338,7 @@ parameters::transform_param_pat-returns-in_ok-to_tree-in-BindingIdent t c =
     let at = c.of-in-BindingIdent.ensures.span ∙ ap Ident-span c.of.ensures.id in
     IfOk-weaker c.typed.result _ _
     (λ tree h. adds_same
-    (ap answer_to (seen_by_kind (bindings_of c.args.info.now) c.args.is_optional (seen c.args.pat) kinds.BindingIdent kind) ∙
+    (ap answer_to (seen_by_kind (names_of c.args.bindings) c.args.is_optional (seen c.args.pat) kinds.BindingIdent kind) ∙
     sym (λ i. answer_to (typed (c.of.ensures.type_ann i) (at i) (c.in_ok-to_tree-in-BindingIdent.ensures i)))) h) c.typed.ensures
 
 pub parameters::transform_param_pat-returns-in_ok-emptied_array-in-ArrayPat :
@@ -348,7 +348,7 @@ parameters::transform_param_pat-returns-in_ok-emptied_array-in-ArrayPat t c =
     let of = c.of-in-ArrayPat.ensures in
     IfOk-weaker c.typed-in-ArrayPat.result _ _
     (λ tree h. adds_same
-    (ap answer_to (seen_by_kind (bindings_of c.args.info.now) c.args.is_optional (seen c.args.pat) kinds.ArrayPat kind) ∙
+    (ap answer_to (seen_by_kind (names_of c.args.bindings) c.args.is_optional (seen c.args.pat) kinds.ArrayPat kind) ∙
     sym (λ i. answer_to (typed (of.type_ann i) (of.span i) (c.in_ok-emptied_array-in-ArrayPat.ensures i)))) h) c.typed-in-ArrayPat.ensures
 
 pub parameters::transform_param_pat-returns-in_ok-emptied_object-in-ObjectPat :
@@ -358,19 +358,18 @@ parameters::transform_param_pat-returns-in_ok-emptied_object-in-ObjectPat t c =
     let of = c.of-in-ObjectPat.ensures in
     IfOk-weaker c.typed-in-ObjectPat.result _ _
     (λ tree h. adds_same
-    (ap answer_to (seen_by_kind (bindings_of c.args.info.now) c.args.is_optional (seen c.args.pat) kinds.ObjectPat kind) ∙
+    (ap answer_to (seen_by_kind (names_of c.args.bindings) c.args.is_optional (seen c.args.pat) kinds.ObjectPat kind) ∙
     sym (λ i. answer_to
     (typed (of.type_ann i) (of.span i) (c.in_ok-emptied_object-in-ObjectPat.ensures i)))) h) c.typed-in-ObjectPat.ensures
 
 pub parameters::transform_assign_pat-returns-in-Some : goal.parameters::transform_assign_pat-returns-in-Some
 parameters::transform_assign_pat-returns-in-Some t c =
-    let u = bindings_of c.args.info.now in
+    let u = names_of c.args.bindings in
     let b = c.args.is_optional in
     let pat = seen c.args.pat in
     let ident : kind_of (AssignPat-left pat) ≡ kinds.BindingIdent = sym (c.kind.ensures ∙ ap kind_of c.of.ensures.left) ∙
     c.in-BindingIdent.is in
-    let scope = ap (λ (x : SyntaxContext). type_of x (default_typing pat)) c.unresolved_context.ensures in
-    let known : type_of u.unresolved (default_typing pat) ≡ Some c.in-Some.ty = sym (c.in_ok-ty-in-BindingIdent.ensures ∙ scope) ∙ c.in-Some.is in
+    let known : type_of u.unresolved (default_typing pat) ≡ Some c.in-Some.ty = sym c.in_ok-ty-in-BindingIdent.ensures ∙ c.in-Some.is in
     IfOk-weaker c.without_default.result _ _
     (λ tree e. adds_same (ap answer_to (seen_known u b pat c.in-Some.ty ident known) ∙
     ap (λ (x : Tree). faultless (Some x))
@@ -383,7 +382,7 @@ parameters::transform_assign_pat-transform_value-requires t c =
 
 pub parameters::transform_assign_pat-returns : goal.parameters::transform_assign_pat-returns
 parameters::transform_assign_pat-returns t c =
-    let u = bindings_of c.args.info.now in
+    let u = names_of c.args.bindings in
     let b = c.args.is_optional in
     let pat = seen c.args.pat in
     let left = c.of.ensures.left in
@@ -394,9 +393,8 @@ parameters::transform_assign_pat-returns t c =
       | parameters::transform_assign_pat-in-BindingIdent+in_ok-ty-in-BindingIdent+in_default-2+in_ok-to_tree-in-BindingIdent w ↦
           let ident : kind_of (AssignPat-left pat) ≡ kinds.BindingIdent =
           sym (c.kind.ensures ∙ ap kind_of left) ∙ w.in-BindingIdent.is in
-          let scope = ap (λ (x : SyntaxContext). type_of x (default_typing pat)) w.unresolved_context.ensures in
           let unknown : type_of u.unresolved (default_typing pat) ≡ None = none_of (type_of u.unresolved (default_typing pat))
-          (λ type e. w.in_default-2.not-Some type (w.in_ok-ty-in-BindingIdent.ensures ∙ (scope ∙ e))) in
+          (λ type e. w.in_default-2.not-Some type (w.in_ok-ty-in-BindingIdent.ensures ∙ e)) in
           let at = w.of-in-BindingIdent-2.ensures.span ∙ ap Ident-span (w.of-in-BindingIdent.ensures.id ∙ ap BindingIdent-id left) in
           seen_left_out u b pat ident unknown
           ∙ sym (λ i. default_seen (AssignPat-span pat) (at i) ((w.in_ok-to_tree-in-BindingIdent.ensures ∙ left) i)
@@ -433,7 +431,7 @@ expressions::transform_value-returns-in-Some t c = adds_demanded c.args.fault (a
 
 pub parameters::transform_params-returns : goal.parameters::transform_params-returns
 parameters::transform_params-returns t c =
-    let u = bindings_of c.args.info.now in
+    let u = names_of c.args.bindings in
     let all = c.parts-params.ensures in
     adds_same (ap (λ (ps : List Tree). answer_of (params_looked u ps)) (sym all))
     (items_end c.loop-index.items

@@ -1,7 +1,7 @@
 use Rattle.std.proofs.Common.{◌+◌, ◌-◌, ◌*◌, None, drop, map, ◌++◌}
 use Rattle.fast_check_tree_syntax.specs.Part.{seen}
 use Rattle.fast_check_tree_syntax.specs.Height.{height}
-use Rattle.fast_check_transform_nodes.specs.Bindings.{bindings_of}
+use Rattle.fast_check_transform_nodes.specs.Bindings.{names_of}
 use Rattle.fast_check_meaning_signatures.specs.Seen.{seens}
 use Rattle.fast_check_meaning_signatures.specs.Answers.{answer_of, parts_answer}
 use Rattle.fast_check_meaning_signatures.specs.Expressions.{expr_seen, slots_seen}
@@ -46,26 +46,26 @@ decreases-parameters::transform_pats l = 16 * height (seen l.params) + 4
 -- what all parts give is what those give that are left, behind what was given so far
 abbrev pub invariant-expressions::transform_parts-loop-part : goal.invariant-expressions::transform_parts-loop-part
 invariant-expressions::transform_parts-loop-part l =
-    Behind (behind l.items) (parts_answer (seens (map (λ p. expr_seen (bindings_of l.info) p None) l.part-items)))
+    Behind (behind l.items) (parts_answer (seens (map (λ p. expr_seen (names_of l.bindings) p None) l.part-items)))
     (parts_answer
-    (seens (map (λ p. expr_seen (bindings_of l.info) p None) (drop l.part-index l.part-items)))) l.initial.faults.items l.faults.items
+    (seens (map (λ p. expr_seen (names_of l.bindings) p None) (drop l.part-index l.part-items)))) l.initial.faults.items l.faults.items
 
 abbrev pub invariant-expressions::transform_slots-loop-index : goal.invariant-expressions::transform_slots-loop-index
 invariant-expressions::transform_slots-loop-index l =
     Behind (behind l.stay)
-    (parts_answer (seens (slots_seen (bindings_of l.info) l.row 0 (seen l.expr) (expr_seen (bindings_of l.info)) l.place)))
+    (parts_answer (seens (slots_seen (names_of l.bindings) l.row 0 (seen l.expr) (expr_seen (names_of l.bindings)) l.place)))
     (parts_answer
-    (seens (slots_seen (bindings_of l.info) (drop l.index l.row) l.index (seen l.expr) (expr_seen (bindings_of l.info)) l.place)))
+    (seens (slots_seen (names_of l.bindings) (drop l.index l.row) l.index (seen l.expr) (expr_seen (names_of l.bindings)) l.place)))
     l.initial.faults.items
     l.faults.items
 
 abbrev pub invariant-parameters::transform_pats-loop-index : goal.invariant-parameters::transform_pats-loop-index
 invariant-parameters::transform_pats-loop-index l =
-    Behind (λ ts. l.items ++ ts) (answer_of (pats_seen (bindings_of l.info) (expr_seen (bindings_of l.info)) l.pats))
+    Behind (λ ts. l.items ++ ts) (answer_of (pats_seen (names_of l.bindings) (expr_seen (names_of l.bindings)) l.pats))
     (answer_of
-    (pats_seen (bindings_of l.info) (expr_seen (bindings_of l.info)) (drop l.index l.pats))) l.initial.faults.items l.faults.items
+    (pats_seen (names_of l.bindings) (expr_seen (names_of l.bindings)) (drop l.index l.pats))) l.initial.faults.items l.faults.items
 
 abbrev pub invariant-parameters::transform_params-loop-index : goal.invariant-parameters::transform_params-loop-index
 invariant-parameters::transform_params-loop-index l =
-    Behind (λ ts. l.items ++ ts) (answer_of (params_looked (bindings_of l.info) l.params))
-    (answer_of (params_looked (bindings_of l.info) (drop l.index l.params))) l.initial.faults.items l.faults.items
+    Behind (λ ts. l.items ++ ts) (answer_of (params_looked (names_of l.bindings) l.params))
+    (answer_of (params_looked (names_of l.bindings) (drop l.index l.params))) l.initial.faults.items l.faults.items

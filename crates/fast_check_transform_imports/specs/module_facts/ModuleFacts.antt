@@ -3,7 +3,7 @@ use Rattle.std.specs.Option.{option_copied}
 use Rattle.fast_check_tables_diagnostics.specs.parsed_source.MediaType.{is_declaration}
 use Rattle.fast_check_tables_modules.specs.diagnostics.PublicRanges.{PublicRanges, is_public, is_implementation}
 use Rattle.fast_check_tables_modules.specs.EsModule.{EsModule}
-use Rattle.fast_check_transform_nodes.specs.Bindings.{bindings_of}
+use Rattle.fast_check_transform_nodes.specs.Bindings.{bindings_of, names_of}
 use Rattle.fast_check_meaning_skeleton.specs.expandos.ModuleObjects.{objects_of}
 use Rattle.fast_check_transform_imports.specs.module_facts.Sources.{Resolutions, relative_source}
 use Rattle.fast_check_meaning_skeleton.specs.ModuleFacts.{ModuleFacts}
@@ -27,7 +27,7 @@ abbrev pub facts_of : Lent → ModuleFacts
 facts_of asked = record {
   is_public = is_public asked.public_ranges.now;
   is_implementation = is_implementation asked.public_ranges.now;
-  bindings = bindings_of asked.es_module_info.now;
+  bindings = names_of asked.bindings;
   is_ambient = asked.is_ambient;
   relative = relative_source (option_copied asked.resolutions) asked.es_module_info.now.specifier;
   objects = objects_of asked.es_module_info.now;

@@ -4,6 +4,7 @@ ghost use Rattle.std.specs.Option.{option_copied};
 
 use fast_check_tables_modules::EsModuleInfo;
 use fast_check_tables_modules::diagnostics::ModulePublicRanges;
+use fast_check_transform_nodes::Bindings;
 use fast_check_tree_forms_statements::TsModuleDecl;
 use fast_check_tree_syntax::Part;
 use std::collections::BTreeMap;
@@ -15,6 +16,7 @@ pub struct ModuleFacts<'a> {
     /// What the texts of its imports resolve to, where the graph has some.
     pub resolutions: Option<&'a BTreeMap<String, Url>>,
     pub es_module_info: &'a EsModuleInfo,
+    pub bindings: Bindings<'a>,
     pub public_ranges: &'a ModulePublicRanges,
     /// Whether all that stands here is ambient: in a declaration file, or inside of a namespace with `declare`.
     pub is_ambient: bool,
@@ -36,6 +38,7 @@ impl<'a> ModuleFacts<'a> {
         ModuleFacts {
             resolutions,
             es_module_info,
+            bindings: Bindings::of(es_module_info),
             public_ranges,
             is_ambient: es_module_info.source().media_type.is_declaration(),
         }
@@ -48,6 +51,7 @@ impl<'a> ModuleFacts<'a> {
         ModuleFacts {
             resolutions: self.resolutions,
             es_module_info: self.es_module_info,
+            bindings: self.bindings,
             public_ranges: self.public_ranges,
             is_ambient: self.is_ambient || TsModuleDecl::of(decl).declare,
         }

@@ -2,13 +2,12 @@
 ghost use Rattle.std.specs.Prelude.{◌≡◌, IfOk};
 ghost use Rattle.fast_check_tree_syntax.specs.Part.{seen};
 ghost use Rattle.fast_check_tree_syntax.specs.Shape.{parts};
-ghost use Rattle.fast_check_meaning_signatures.specs.Answers.{Adds};
 ghost use Rattle.fast_check_transform_imports.specs.skeleton.KeptComments.{starts_of_removed, starts_in_decl, starts_in_default, starts_inside};
 ghost use Rattle.fast_check_transform_imports.specs.skeleton.KeptComments.{without_all_leading};
 ghost use Rattle.fast_check_transform_imports.specs.skeleton.Rules.{item_rule};
 ghost use Rattle.fast_check_transform_imports.specs.skeleton.Visible.{is_ambient_class};
 ghost use Rattle.fast_check_transform_imports.specs.module_facts.ModuleFacts.{facts_of};
-ghost use Rattle.fast_check_transform_imports.specs.module_facts.Kept.{as_list};
+ghost use Rattle.fast_check_transform_imports.specs.module_facts.Kept.{GivesItem};
 ghost use Rattle.fast_check_transform_statements.specs.transform_declarations.ClassAnswers.{public_class_answer};
 
 use fast_check_meaning_signatures::Fault;
@@ -41,8 +40,7 @@ pub fn transform_public_class(
     decl: Part<'_>,
     faults: &mut Vec<Fault>,
 ) -> Result<Option<Tree>, AllocError>
-    ensures { IfOk result (λ tree.
-        Adds (public_class_answer (facts_of facts.entry) place (seen decl.entry)) (as_list tree) faults.old.items faults.new.items) }
+    ensures { GivesItem result (public_class_answer (facts_of facts.entry) place (seen decl.entry)) faults.old faults.new }
 {
     if !facts.public_ranges.contains(&place) {
         return Ok(None);
@@ -56,7 +54,7 @@ pub fn transform_public_class(
         ambient_class(alloc, class)?
     } else {
         let ranges = facts.public_ranges;
-        transform_class(alloc, ranges, facts.es_module_info, class, faults)?
+        transform_class(alloc, ranges, facts.bindings, class, faults)?
     };
     let made = ClassDecl {
         ident: ident.to_tree(alloc)?,
@@ -94,8 +92,7 @@ fn remove_in_decl(
     rule: DeclRule,
     comments: &mut CommentsMut,
 ) -> Result<(), AllocError>
-    ensures { IfOk result (λ _.
-        comments.new ≡ without_all_leading (starts_in_decl (facts_of facts.entry) place (seen decl.entry) rule) comments.old) }
+    ensures { IfOk result (λ _. comments.new ≡ without_all_leading (starts_in_decl (facts_of facts.entry) place (seen decl.entry) rule) comments.old) }
 {
     match rule {
         DeclRule::Class => {
@@ -121,8 +118,7 @@ fn remove_in_default(
     rule: DefaultRule,
     comments: &mut CommentsMut,
 ) -> Result<(), AllocError>
-    ensures { IfOk result (λ _.
-        comments.new ≡ without_all_leading (starts_in_default (facts_of facts.entry) (seen item.entry) rule) comments.old) }
+    ensures { IfOk result (λ _. comments.new ≡ without_all_leading (starts_in_default (facts_of facts.entry) (seen item.entry) rule) comments.old) }
 {
     match rule {
         DefaultRule::Class => {

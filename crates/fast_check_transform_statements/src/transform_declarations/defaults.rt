@@ -1,10 +1,10 @@
 //! Default exports: of a class, a function, an interface or a value.
-ghost use Rattle.std.specs.Prelude.{◌≡◌, IfOk, Some};
+ghost use Rattle.std.specs.Prelude.{◌≡◌};
 ghost use Rattle.fast_check_tree_syntax.specs.Part.{seen};
-ghost use Rattle.fast_check_meaning_signatures.specs.Answers.{Adds};
 ghost use Rattle.fast_check_transform_imports.specs.skeleton.Defaults.{default_place, is_public_value};
 ghost use Rattle.fast_check_transform_imports.specs.module_facts.ModuleFacts.{facts_of};
-ghost use Rattle.fast_check_transform_imports.specs.module_facts.Kept.{as_list};
+ghost use Rattle.fast_check_transform_imports.specs.module_facts.Kept.{GivesItem};
+ghost use Rattle.fast_check_transform_imports.specs.nodes.Gives.{GivesTree};
 ghost use Rattle.fast_check_transform_statements.specs.transform_declarations.ClassAnswers.{is_public_default, default_value_answer, default_class_answer};
 ghost use Rattle.fast_check_transform_statements.specs.transform_declarations.ClassAnswers.{default_function_answer, default_decl_answer, default_answer};
 
@@ -51,10 +51,10 @@ fn transform_default_value(
     item: Part<'_>,
     faults: &mut Vec<Fault>,
 ) -> Result<Tree, AllocError>
-    ensures { IfOk result (λ tree. Adds (default_value_answer (facts_of facts.entry) (seen item.entry)) (Some tree) faults.old.items faults.new.items) }
+    ensures { GivesTree result (default_value_answer (facts_of facts.entry) (seen item.entry)) faults.old faults.new }
 {
     let ExportDefaultExpr { span, expr } = ExportDefaultExpr::of(item);
-    match transform_expr(alloc, facts.es_module_info, expr, None, faults)? {
+    match transform_expr(alloc, facts.bindings, expr, None, faults)? {
         Some(expr) => ExportDefaultExpr { span, expr }.into_tree(alloc),
         None => {
             faults.push(Fault {
@@ -74,18 +74,12 @@ fn transform_class_decl(
     decl: Part<'_>,
     faults: &mut Vec<Fault>,
 ) -> Result<Tree, AllocError>
-    ensures { IfOk result (λ tree. Adds (default_class_answer (facts_of facts.entry) (seen decl.entry)) (Some tree) faults.old.items faults.new.items) }
+    ensures { GivesTree result (default_class_answer (facts_of facts.entry) (seen decl.entry)) faults.old faults.new }
 {
     let ClassExpr { ident, class } = ClassExpr::of(decl);
     let made = ClassExpr {
         ident: ident.to_tree(alloc)?,
-        class: transform_class(
-            alloc,
-            facts.public_ranges,
-            facts.es_module_info,
-            class,
-            faults,
-        )?,
+        class: transform_class(alloc, facts.public_ranges, facts.bindings, class, faults)?,
     };
     made.into_tree(alloc)
 }
@@ -111,8 +105,7 @@ fn transform_default_function(
     decl: Part<'_>,
     faults: &mut Vec<Fault>,
 ) -> Result<Tree, AllocError>
-    ensures { IfOk result (λ tree.
-        Adds (default_function_answer (facts_of facts.entry) place (seen decl.entry)) (Some tree) faults.old.items faults.new.items) }
+    ensures { GivesTree result (default_function_answer (facts_of facts.entry) place (seen decl.entry)) faults.old faults.new }
 {
     if facts.is_ambient {
         return decl.to_tree(alloc);
@@ -123,7 +116,7 @@ fn transform_default_function(
     } else {
         let kind = FunctionKind::DeclarationLike;
         let name = default_place(decl);
-        transform_fn(alloc, facts.es_module_info, kind, name, function, faults)?
+        transform_fn(alloc, facts.bindings, kind, name, function, faults)?
     };
     let made = FnExpr {
         ident: ident.to_tree(alloc)?,
@@ -140,8 +133,7 @@ fn transform_public_default(
     rule: DefaultRule,
     faults: &mut Vec<Fault>,
 ) -> Result<Tree, AllocError>
-    ensures { IfOk result (λ tree.
-        Adds (default_decl_answer (facts_of facts.entry) (seen item.entry) rule) (Some tree) faults.old.items faults.new.items) }
+    ensures { GivesTree result (default_decl_answer (facts_of facts.entry) (seen item.entry) rule) faults.old faults.new }
 {
     let ExportDefaultDecl { span, decl } = ExportDefaultDecl::of(item);
     match rule {
@@ -169,8 +161,7 @@ pub fn transform_default_export(
     rule: DefaultRule,
     faults: &mut Vec<Fault>,
 ) -> Result<Option<Tree>, AllocError>
-    ensures { IfOk result (λ tree.
-        Adds (default_answer (facts_of facts.entry) (seen item.entry) rule) (as_list tree) faults.old.items faults.new.items) }
+    ensures { GivesItem result (default_answer (facts_of facts.entry) (seen item.entry) rule) faults.old faults.new }
 {
     if !is_public_default(facts, item, rule) {
         return Ok(None);

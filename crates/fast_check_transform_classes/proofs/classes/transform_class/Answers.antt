@@ -1,5 +1,5 @@
 use Rattle.std.proofs.Common.{ap, ◌∙◌, sym, refl}
-use Rattle.fast_check_transform_expressions.specs.nodes.Bindings.{bindings_of}
+use Rattle.fast_check_transform_expressions.specs.nodes.Bindings.{names_of}
 use Rattle.fast_check_tree_syntax.specs.Part.{seen}
 use Rattle.fast_check_tables_modules.specs.diagnostics.PublicRanges.{is_implementation}
 use Rattle.fast_check_tree_syntax.specs.Shape.{parts}
@@ -12,7 +12,7 @@ use Rattle.fast_check_transform_classes.proofs.classes.transform_class.Goals as 
 
 pub returns : goal.returns
 returns c =
-    let u = bindings_of c.args.info.now in
+    let u = names_of c.args.bindings in
     let asked = is_implementation c.args.public_ranges.now in
     let superclass =
     adds_settled

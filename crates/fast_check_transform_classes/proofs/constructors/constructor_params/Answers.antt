@@ -1,5 +1,5 @@
 use Rattle.std.proofs.Common.{ap, ◌∙◌, sym, map}
-use Rattle.fast_check_transform_expressions.specs.nodes.Bindings.{bindings_of}
+use Rattle.fast_check_transform_expressions.specs.nodes.Bindings.{names_of}
 use Rattle.fast_check_tree_syntax.specs.Part.{seen}
 use Rattle.fast_check_tree_syntax.specs.Shape.{parts, list}
 use Rattle.fast_check_tables_modules.specs.diagnostics.PublicRanges.{is_implementation}
@@ -10,7 +10,7 @@ use Rattle.fast_check_transform_classes.proofs.constructors.constructor_params.G
 
 pub returns-then-is_private : goal.returns-then-is_private
 returns-then-is_private c =
-    private_params (bindings_of c.args.info.now) (is_implementation c.args.public_ranges.now) (seen c.args.member)
+    private_params (names_of c.args.bindings) (is_implementation c.args.public_ranges.now) (seen c.args.member)
     (ap is_private (sym c.of.ensures.accessibility) ∙
     (sym c.is_private.ensures ∙ c.if-is_private.true)) c.new.ensures c.args.faults.now.items
 
@@ -20,7 +20,7 @@ returns-then-is_impl_with_overloads c =
     let plain = c.in_ok-params.ensures ∙ ap (λ ps. list (map (λ p. plain_param p) (parts ps))) c.of.ensures.params in
     let asked = ap (is_implementation c.args.public_ranges.now) (sym c.of.ensures.span) ∙
     (sym c.is_impl_with_overloads.ensures ∙ c.if-is_impl_with_overloads.true) in
-    implementation_params (bindings_of c.args.info.now) (is_implementation c.args.public_ranges.now)
+    implementation_params (names_of c.args.bindings) (is_implementation c.args.public_ranges.now)
     (seen c.args.member) c.any_params.result private asked
     (c.read.ensures ∙ plain) c.args.faults.now.items c.any_params.ensures
 
@@ -30,6 +30,6 @@ returns c =
     let plain = c.in_ok-params.ensures ∙ ap (λ ps. list (map (λ p. plain_param p) (parts ps))) c.of.ensures.params in
     let asked = ap (is_implementation c.args.public_ranges.now) (sym c.of.ensures.span) ∙
     (sym c.is_impl_with_overloads.ensures ∙ c.if-is_impl_with_overloads.false) in
-    own_params (bindings_of c.args.info.now) (is_implementation c.args.public_ranges.now)
+    own_params (names_of c.args.bindings) (is_implementation c.args.public_ranges.now)
     (seen c.args.member) c.transform_params.result private asked
     (c.read-2.ensures ∙ plain) _ _ c.transform_params.ensures

@@ -8,7 +8,7 @@ use Rattle.fast_check_transform_classes.proofs.properties.accessor_type.Goals as
 pub returns : goal.returns
 returns c =
     let private = c.is_private.ensures ∙ ap is_private c.of-accessor.ensures.accessibility in
-    IfOk-weaker c.type_of.result _ _ (λ ty h. h ∙ (λ i. type_of (c.unresolved_context.ensures i) (record {
+    IfOk-weaker c.type_of.result _ _ (λ ty h. h ∙ (λ i. type_of c.args.unresolved (record {
       is_private = private i;
       type = c.of-accessor.ensures.type_ann i;
       value = c.of-accessor.ensures.value i;

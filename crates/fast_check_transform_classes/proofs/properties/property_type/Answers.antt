@@ -9,7 +9,7 @@ pub returns : goal.returns
 returns c =
     let private = c.is_private.ensures ∙ ap is_private c.of-prop.ensures.accessibility in
     let mutability = c.mutability_of_property.ensures ∙ ap mutability_of_property c.of-prop.ensures.readonly in
-    IfOk-weaker c.type_of.result _ _ (λ ty h. h ∙ (λ i. type_of (c.unresolved_context.ensures i) (record {
+    IfOk-weaker c.type_of.result _ _ (λ ty h. h ∙ (λ i. type_of c.args.unresolved (record {
       is_private = private i;
       type = c.of-prop.ensures.type_ann i;
       value = c.of-prop.ensures.value i;

@@ -2,7 +2,6 @@ use Rattle.std.proofs.Common.{ap, ◌∙◌, sym}
 use Rattle.fast_check_tree_syntax.specs.declared.kind.Kind.TheVariants as kinds
 use Rattle.fast_check_tree_syntax.specs.Part.{seen}
 use Rattle.fast_check_tree_syntax.specs.Shape.{◌is◌, kind_of, is_absent}
-use Rattle.fast_check_transform_nodes.specs.Bindings.{bindings_of}
 use Rattle.fast_check_tree_helpers.specs.declared.literal_type.DeclMutabilityKind.TheVariants.{Mutable}
 use Rattle.fast_check_tree_helpers.specs.Builders.{type_ann}
 use Rattle.fast_check_tree_helpers.specs.InferredType.{inferred_type}
@@ -17,14 +16,14 @@ use Rattle.fast_check_transform_expressions.proofs.functions.arrow_type.Goals as
 pub returns-then-not-is_absent : goal.returns-then-not-is_absent
 returns-then-not-is_absent c =
     let of = c.of-arrow.ensures in
-    type_written (bindings_of c.args.info.now).unresolved c.args.place (seen c.args.arrow)
+    type_written c.args.unresolved c.args.place (seen c.args.arrow)
     (ap is_absent (sym of.return_type) ∙ (sym c.is_absent.ensures ∙ c.if-not-is_absent.true)) (c.in_ok-to_tree.ensures ∙ of.return_type)
 
 pub returns-then-eq : goal.returns-then-eq
 returns-then-eq c =
     let of = c.of-arrow.ensures in
-    let u = (bindings_of c.args.info.now).unresolved in
-    type_of_block (bindings_of c.args.info.now).unresolved c.args.place (seen c.args.arrow)
+    let u = c.args.unresolved in
+    type_of_block u c.args.place (seen c.args.arrow)
     (ap is_absent (sym of.return_type) ∙ (sym c.is_absent.ensures ∙ c.if-not-is_absent.false))
     (ap (λ k. k is kinds.BlockStmt) (sym (c.kind.ensures ∙ ap kind_of of.body)) ∙ (sym c.eq.ensures ∙ c.if-eq.true))
     (adds_same (λ i. answer_to (body_seen u ExpressionLike (sym of.is_async i) (sym of.is_generator i) c.args.place (sym of.body i)))
@@ -33,18 +32,16 @@ returns-then-eq c =
 pub returns-in_ok-type_ann-in-Some : goal.returns-in_ok-type_ann-in-Some
 returns-in_ok-type_ann-in-Some c =
     let of = c.of-arrow.ensures in
-    let scope = c.unresolved_context-unresolved.ensures in
-    let shown = (λ i. inferred_type Mutable (sym scope i) (sym of.body i)) ∙ (sym c.in_ok-ty.ensures.inferred ∙ c.in-Some.is) in
-    type_shown (bindings_of c.args.info.now).unresolved c.args.place (seen c.args.arrow) c.in-Some.ty
+    let shown = (λ i. inferred_type Mutable c.args.unresolved (sym of.body i)) ∙ (sym c.in_ok-ty.ensures.inferred ∙ c.in-Some.is) in
+    type_shown c.args.unresolved c.args.place (seen c.args.arrow) c.in-Some.ty
     (ap is_absent (sym of.return_type) ∙ (sym c.is_absent.ensures ∙ c.if-not-is_absent.false))
     (ap (λ k. k is kinds.BlockStmt) (sym (c.kind.ensures ∙ ap kind_of of.body)) ∙ (sym c.eq.ensures ∙ c.if-eq.false)) shown
-    (c.in_ok-type_ann-in-Some.ensures ∙ ap type_ann (c.in_ok-ty-in-Some.ensures ∙ (λ i. promised (scope i) (of.is_async i) c.in-Some.ty)))
+    (c.in_ok-type_ann-in-Some.ensures ∙ ap type_ann (c.in_ok-ty-in-Some.ensures ∙ (λ i. promised c.args.unresolved (of.is_async i) c.in-Some.ty)))
 
 pub returns-in-None : goal.returns-in-None
 returns-in-None c =
     let of = c.of-arrow.ensures in
-    let scope = c.unresolved_context-unresolved.ensures in
-    let shown = (λ i. inferred_type Mutable (sym scope i) (sym of.body i)) ∙ (sym c.in_ok-ty.ensures.inferred ∙ c.in-None.is) in
-    type_unknown (bindings_of c.args.info.now).unresolved c.args.place (seen c.args.arrow)
+    let shown = (λ i. inferred_type Mutable c.args.unresolved (sym of.body i)) ∙ (sym c.in_ok-ty.ensures.inferred ∙ c.in-None.is) in
+    type_unknown c.args.unresolved c.args.place (seen c.args.arrow)
     (ap is_absent (sym of.return_type) ∙ (sym c.is_absent.ensures ∙ c.if-not-is_absent.false))
     (ap (λ k. k is kinds.BlockStmt) (sym (c.kind.ensures ∙ ap kind_of of.body)) ∙ (sym c.eq.ensures ∙ c.if-eq.false)) shown

@@ -20,7 +20,7 @@ use Rattle.fast_check_transform_statements.specs.skeleton.Rules.{is_assigned, it
 use Rattle.fast_check_transform_module.proofs.Namespaces.{inside_at_most, refused_module, private_namespace, public_namespace}
 use Rattle.fast_check_transform_statements.specs.skeleton.ModuleFacts.{ModuleFacts}
 use Rattle.fast_check_transform_module.proofs.Namespaces.{nothing_refused, nothing_private, all_inside}
-use Rattle.fast_check_transform_module.proofs.Removed.{item_lower, inside, below, below_nothing, below_declared}
+use Rattle.fast_check_transform_module.proofs.Removed.{item_lower, inside, below, none_in_body, below_nothing, below_declared, below_exported}
 use Rattle.fast_check_transform_module.proofs.Removed.{without_append, removed_if_none, removed_if_some, removed_if_assigned, one_more}
 use Rattle.fast_check_transform_module.proofs.items.+items.Goals as goal
 
@@ -115,23 +115,21 @@ transform_items-loop-item-preserved t c =
       sources = kept.sources;
     }
 
-pub transform_items-returns-clause-answer : goal.transform_items-returns-clause-answer
-transform_items-returns-clause-answer t c =
+pub transform_items-returns : goal.transform_items-returns
+transform_items-returns t c =
     let facts = facts_of c.args.facts in
     let i = c.loop-item.item-index in
     let last = c.loop-item-test.false in
     let items = c.parts-item-items.ensures in
-    with_namespaces facts (parts (seen c.args.body)) (all_items facts i last items c.loop-item.invariant.answer)
-    (all_properties facts i last items c.loop-item.invariant.properties) c.in_ok-keep_namespaces.ensures c.in_ok-append.ensures
-
-pub transform_items-returns-clause-comments : goal.transform_items-returns-clause-comments
-transform_items-returns-clause-comments t c =
-    let all = take_all c.loop-item.item-index c.parts-item-items.result.now c.loop-item-test.false ∙ c.parts-item-items.ensures in
-    c.loop-item.invariant.comments
-    ∙ ap (λ ts. without_all_leading (removed_from (facts_of c.args.facts) ts) c.args.context.now.comments) all
-
-pub transform_items-returns-clause-sources : goal.transform_items-returns-clause-sources
-transform_items-returns-clause-sources t c = c.loop-item.invariant.sources
+    record {
+      answer =
+          with_namespaces facts (parts (seen c.args.body)) (all_items facts i last items c.loop-item.invariant.answer)
+          (all_properties facts i last items c.loop-item.invariant.properties) c.in_ok-keep_namespaces.ensures c.in_ok-append.ensures;
+      comments = c.loop-item.invariant.comments
+          ∙ ap (λ ts. without_all_leading (removed_from facts ts) c.args.context.now.comments)
+          (take_all i c.parts-item-items.result.now last ∙ items);
+      sources = c.loop-item.invariant.sources;
+    }
 
 -- ---- namespaces
 
@@ -141,221 +139,218 @@ transform_namespace-transform_items-requires t c = (
   λ text other there. c.requires.sources text other there ∙ ap (λ (a : ModuleFacts). a.relative text) (sym c.inside.ensures),
 )
 
-pub transform_namespace-returns-in-Some-clause-answer : goal.transform_namespace-returns-in-Some-clause-answer
-transform_namespace-returns-in-Some-clause-answer t c =
-    refused_module (facts_of c.args.facts) c.args.place (seen c.args.decl)
-    (sym c.module_fault.ensures ∙ c.in-Some.is) c.in_ok-push.ensures.items
+pub transform_namespace-returns-in-Some : goal.transform_namespace-returns-in-Some
+transform_namespace-returns-in-Some t c =
+    let facts = facts_of c.args.facts in
+    let decl = seen c.args.decl in
+    let fault = sym c.module_fault.ensures ∙ c.in-Some.is in
+    record {
+      answer = refused_module facts c.args.place decl fault c.in_ok-push.ensures.items;
+      comments = ap (λ starts. without_all_leading starts c.args.context.now.comments)
+          (sym (nothing_refused facts c.args.place decl fault));
+      sources = c.requires.sources;
+    }
 
-pub transform_namespace-returns-in-Some-clause-comments : goal.transform_namespace-returns-in-Some-clause-comments
-transform_namespace-returns-in-Some-clause-comments t c =
-    ap (λ starts. without_all_leading starts c.args.context.now.comments)
-    (sym (nothing_refused (facts_of c.args.facts) c.args.place (seen c.args.decl) (sym c.module_fault.ensures ∙ c.in-Some.is)))
+pub transform_namespace-returns-then-not-contains : goal.transform_namespace-returns-then-not-contains
+transform_namespace-returns-then-not-contains t c =
+    let facts = facts_of c.args.facts in
+    let decl = seen c.args.decl in
+    let fault = sym c.module_fault.ensures ∙ none_of c.module_fault.result (λ f e. c.in_default.not-Some f e) in
+    let private = sym c.contains.ensures ∙ c.if-not-contains.true in
+    record {
+      answer = private_namespace facts c.args.place decl fault private c.args.context.now.faults.items;
+      comments = ap (λ starts. without_all_leading starts c.args.context.now.comments)
+          (sym (nothing_private facts c.args.place decl fault private));
+      sources = c.requires.sources;
+    }
 
-pub transform_namespace-returns-then-not-contains-clause-answer : goal.transform_namespace-returns-then-not-contains-clause-answer
-transform_namespace-returns-then-not-contains-clause-answer t c =
-    private_namespace (facts_of c.args.facts) c.args.place (seen c.args.decl)
-    (sym c.module_fault.ensures ∙ none_of c.module_fault.result
-    (λ f e. c.in_default.not-Some f e))
-    (sym c.contains.ensures ∙ c.if-not-contains.true) c.args.context.now.faults.items
-
-pub transform_namespace-returns-then-not-contains-clause-comments : goal.transform_namespace-returns-then-not-contains-clause-comments
-transform_namespace-returns-then-not-contains-clause-comments t c =
-    ap (λ starts. without_all_leading starts c.args.context.now.comments)
-    (sym (nothing_private (facts_of c.args.facts) c.args.place (seen c.args.decl)
-    (sym c.module_fault.ensures ∙ none_of c.module_fault.result
-    (λ f e. c.in_default.not-Some f e))
-    (sym c.contains.ensures ∙ c.if-not-contains.true)))
-
-pub transform_namespace-returns-clause-answer : goal.transform_namespace-returns-clause-answer
-transform_namespace-returns-clause-answer t c =
-    public_namespace (facts_of c.args.facts) c.args.place (seen c.args.decl) (sym c.module_fault.ensures ∙ none_of c.module_fault.result
-    (λ f e. c.in_default.not-Some f e))
-    (sym c.contains.ensures ∙
-    c.if-not-contains.false) c.in_ok-items.ensures.answer c.inside.ensures c.items_inside.ensures c.in_ok-namespace_with.ensures
-
-pub transform_namespace-returns-clause-comments : goal.transform_namespace-returns-clause-comments
-transform_namespace-returns-clause-comments t c =
-    c.in_ok-items.ensures.comments
-    ∙ ap (λ starts. without_all_leading starts c.args.context.now.comments)
-    (sym (all_inside (facts_of c.args.facts) c.args.place (seen c.args.decl) (sym c.module_fault.ensures ∙ none_of c.module_fault.result
-    (λ f e. c.in_default.not-Some f e))
-    (sym c.contains.ensures ∙ c.if-not-contains.false) c.inside.ensures c.items_inside.ensures))
-
-pub transform_namespace-returns-clause-sources : goal.transform_namespace-returns-clause-sources
-transform_namespace-returns-clause-sources t c = λ text other there.
-    c.in_ok-items.ensures.sources text other there ∙ ap (λ (a : ModuleFacts). a.relative text) c.inside.ensures
+pub transform_namespace-returns : goal.transform_namespace-returns
+transform_namespace-returns t c =
+    let facts = facts_of c.args.facts in
+    let decl = seen c.args.decl in
+    let fault = sym c.module_fault.ensures ∙ none_of c.module_fault.result (λ f e. c.in_default.not-Some f e) in
+    let public = sym c.contains.ensures ∙ c.if-not-contains.false in
+    let kept = c.in_ok-items.ensures in
+    record {
+      answer = public_namespace facts c.args.place decl fault public kept.answer c.inside.ensures c.items_inside.ensures
+          c.in_ok-namespace_with.ensures;
+      comments = kept.comments
+          ∙ ap (λ starts. without_all_leading starts c.args.context.now.comments)
+          (sym (all_inside facts c.args.place decl fault public c.inside.ensures c.items_inside.ensures));
+      sources = λ text other there. kept.sources text other there ∙ ap (λ (a : ModuleFacts). a.relative text) c.inside.ensures;
+    }
 
 -- ---- declarations
 
-pub transform_decl-returns-in-Variables-clause-answer : goal.transform_decl-returns-in-Variables-clause-answer
-transform_decl-returns-in-Variables-clause-answer t c =
+pub transform_decl-returns-in-Variables : goal.transform_decl-returns-in-Variables
+transform_decl-returns-in-Variables t c =
+    let facts = facts_of c.args.facts in
+    let decl = seen c.args.decl in
     IfOk-weaker c.transform_statement.result _ _
-    (λ tree h. variables (facts_of c.args.facts) c.args.place (seen c.args.decl) c.in-Variables.is h)
-    c.transform_statement.ensures
+    (λ tree h. record {
+      answer = variables facts c.args.place decl c.in-Variables.is h;
+      comments = none_in_body facts c.args.place decl c.args.context.now.comments c.in-Variables.is refl;
+      sources = c.requires.sources;
+    }) c.transform_statement.ensures
 
-pub transform_decl-returns-in-Function-clause-answer : goal.transform_decl-returns-in-Function-clause-answer
-transform_decl-returns-in-Function-clause-answer t c =
-    IfOk-weaker c.transform_public_function.result _ _ (λ tree h. functions (facts_of c.args.facts) c.args.place
-    (seen c.args.decl) c.in-Function.is h) c.transform_public_function.ensures
-
-pub transform_decl-returns-in-Class-clause-answer : goal.transform_decl-returns-in-Class-clause-answer
-transform_decl-returns-in-Class-clause-answer t c =
-    IfOk-weaker c.transform_public_class.result _ _
-    (λ tree h. classes (facts_of c.args.facts) c.args.place (seen c.args.decl) c.in-Class.is h)
-    c.transform_public_class.ensures
-
-pub transform_decl-returns-in-Using-clause-answer : goal.transform_decl-returns-in-Using-clause-answer
-transform_decl-returns-in-Using-clause-answer t c =
-    IfOk-weaker c.transform_using.result _ _
-    (λ tree h. using_stays (facts_of c.args.facts) c.args.place (seen c.args.decl) c.in-Using.is h)
-    c.transform_using.ensures
-
-pub transform_decl-returns-in-Standing-clause-answer : goal.transform_decl-returns-in-Standing-clause-answer
-transform_decl-returns-in-Standing-clause-answer t c =
-    IfOk-weaker c.transform_standing.result _ _
-    (λ tree h. standing (facts_of c.args.facts) c.args.place
-    (seen c.args.decl) c.in-Standing.is tree h c.args.context.now.faults.items) c.transform_standing.ensures
-
-pub transform_decl-returns-in-Namespace-clause-answer : goal.transform_decl-returns-in-Namespace-clause-answer
-transform_decl-returns-in-Namespace-clause-answer t c =
-    IfOk-weaker c.transform_namespace.result _ _
-    (λ tree h. namespaces (facts_of c.args.facts) c.args.place (seen c.args.decl) c.in-Namespace.is h)
-    c.transform_namespace.ensures.answer
-
-pub transform_decl-returns-in-NoDeclaration-clause-answer : goal.transform_decl-returns-in-NoDeclaration-clause-answer
-transform_decl-returns-in-NoDeclaration-clause-answer t c =
-    undeclared (facts_of c.args.facts) c.args.place (seen c.args.decl) c.in-NoDeclaration.is c.args.context.now.faults.items
-
-pub transform_decl-returns-in-Variables-clause-comments : goal.transform_decl-returns-in-Variables-clause-comments
-transform_decl-returns-in-Variables-clause-comments t c =
-    IfOk-weaker c.transform_statement.result _ _
-    (λ tree h. ap (λ r. without_all_leading (starts_in_body start_look (facts_of c.args.facts) c.args.place
-    (seen c.args.decl) r) c.args.context.now.comments) (sym c.in-Variables.is)) c.transform_statement.ensures
-
-pub transform_decl-returns-in-Function-clause-comments : goal.transform_decl-returns-in-Function-clause-comments
-transform_decl-returns-in-Function-clause-comments t c =
+pub transform_decl-returns-in-Function : goal.transform_decl-returns-in-Function
+transform_decl-returns-in-Function t c =
+    let facts = facts_of c.args.facts in
+    let decl = seen c.args.decl in
     IfOk-weaker c.transform_public_function.result _ _
-    (λ tree h. ap (λ r. without_all_leading (starts_in_body start_look (facts_of c.args.facts) c.args.place
-    (seen c.args.decl) r) c.args.context.now.comments) (sym c.in-Function.is)) c.transform_public_function.ensures
+    (λ tree h. record {
+      answer = functions facts c.args.place decl c.in-Function.is h;
+      comments = none_in_body facts c.args.place decl c.args.context.now.comments c.in-Function.is refl;
+      sources = c.requires.sources;
+    }) c.transform_public_function.ensures
 
-pub transform_decl-returns-in-Class-clause-comments : goal.transform_decl-returns-in-Class-clause-comments
-transform_decl-returns-in-Class-clause-comments t c =
+pub transform_decl-returns-in-Class : goal.transform_decl-returns-in-Class
+transform_decl-returns-in-Class t c =
+    let facts = facts_of c.args.facts in
+    let decl = seen c.args.decl in
     IfOk-weaker c.transform_public_class.result _ _
-    (λ tree h. ap (λ r. without_all_leading (starts_in_body start_look (facts_of c.args.facts) c.args.place
-    (seen c.args.decl) r) c.args.context.now.comments) (sym c.in-Class.is)) c.transform_public_class.ensures
+    (λ tree h. record {
+      answer = classes facts c.args.place decl c.in-Class.is h;
+      comments = none_in_body facts c.args.place decl c.args.context.now.comments c.in-Class.is refl;
+      sources = c.requires.sources;
+    }) c.transform_public_class.ensures
 
-pub transform_decl-returns-in-Standing-clause-comments : goal.transform_decl-returns-in-Standing-clause-comments
-transform_decl-returns-in-Standing-clause-comments t c =
-    IfOk-weaker c.transform_standing.result _ _
-    (λ tree h. ap (λ r. without_all_leading (starts_in_body start_look (facts_of c.args.facts) c.args.place
-    (seen c.args.decl) r) c.args.context.now.comments) (sym c.in-Standing.is)) c.transform_standing.ensures
-
-pub transform_decl-returns-in-Using-clause-comments : goal.transform_decl-returns-in-Using-clause-comments
-transform_decl-returns-in-Using-clause-comments t c =
+pub transform_decl-returns-in-Using : goal.transform_decl-returns-in-Using
+transform_decl-returns-in-Using t c =
+    let facts = facts_of c.args.facts in
+    let decl = seen c.args.decl in
     IfOk-weaker c.transform_using.result _ _
-    (λ tree h. ap (λ r. without_all_leading (starts_in_body start_look (facts_of c.args.facts) c.args.place
-    (seen c.args.decl) r) c.args.context.now.comments) (sym c.in-Using.is)) c.transform_using.ensures
+    (λ tree h. record {
+      answer = using_stays facts c.args.place decl c.in-Using.is h;
+      comments = none_in_body facts c.args.place decl c.args.context.now.comments c.in-Using.is refl;
+      sources = c.requires.sources;
+    }) c.transform_using.ensures
 
-pub transform_decl-returns-in-Namespace-clause-comments : goal.transform_decl-returns-in-Namespace-clause-comments
-transform_decl-returns-in-Namespace-clause-comments t c =
+pub transform_decl-returns-in-Standing : goal.transform_decl-returns-in-Standing
+transform_decl-returns-in-Standing t c =
+    let facts = facts_of c.args.facts in
+    let decl = seen c.args.decl in
+    IfOk-weaker c.transform_standing.result _ _
+    (λ tree h. record {
+      answer = standing facts c.args.place decl c.in-Standing.is tree h c.args.context.now.faults.items;
+      comments = none_in_body facts c.args.place decl c.args.context.now.comments c.in-Standing.is refl;
+      sources = c.requires.sources;
+    }) c.transform_standing.ensures
+
+pub transform_decl-returns-in-Namespace : goal.transform_decl-returns-in-Namespace
+transform_decl-returns-in-Namespace t c =
+    let facts = facts_of c.args.facts in
+    let decl = seen c.args.decl in
     IfOk-weaker c.transform_namespace.result _ _
-    (λ tree h. h ∙ ap (λ r. without_all_leading (starts_in_body start_look (facts_of c.args.facts) c.args.place
-    (seen c.args.decl) r) c.args.context.now.comments) (sym c.in-Namespace.is)) c.transform_namespace.ensures.comments
+    (λ tree h. record {
+      answer = namespaces facts c.args.place decl c.in-Namespace.is h.answer;
+      comments = h.comments ∙ ap (λ r. without_all_leading (starts_in_body start_look facts c.args.place decl r)
+          c.args.context.now.comments) (sym c.in-Namespace.is);
+      sources = h.sources;
+    }) c.transform_namespace.ensures
 
-pub transform_decl-returns-in-NoDeclaration-clause-comments : goal.transform_decl-returns-in-NoDeclaration-clause-comments
-transform_decl-returns-in-NoDeclaration-clause-comments t c =
-    ap (λ r. without_all_leading
-    (starts_in_body start_look (facts_of c.args.facts) c.args.place (seen c.args.decl) r) c.args.context.now.comments)
-    (sym c.in-NoDeclaration.is)
-
-pub transform_decl-returns-in-Namespace-clause-sources : goal.transform_decl-returns-in-Namespace-clause-sources
-transform_decl-returns-in-Namespace-clause-sources t c = c.transform_namespace.ensures.sources
+pub transform_decl-returns-in-NoDeclaration : goal.transform_decl-returns-in-NoDeclaration
+transform_decl-returns-in-NoDeclaration t c =
+    let facts = facts_of c.args.facts in
+    let decl = seen c.args.decl in
+    record {
+      answer = undeclared facts c.args.place decl c.in-NoDeclaration.is c.args.context.now.faults.items;
+      comments = none_in_body facts c.args.place decl c.args.context.now.comments c.in-NoDeclaration.is refl;
+      sources = c.requires.sources;
+    }
 
 -- ---- items
-
-pub transform_item-returns-in-Declared-clause-answer : goal.transform_item-returns-in-Declared-clause-answer
-transform_item-returns-in-Declared-clause-answer t c =
-    IfOk-weaker c.transform_decl.result _ _
-    (λ tree h. declared (facts_of c.args.facts) (seen c.args.item)
-    (sym c.item_rule.ensures ∙ c.in-Declared.is) h c.range_of_node.ensures)
-    c.transform_decl.ensures.answer
 
 pub transform_item-transform_decl-requires-in-Exported : goal.transform_item-transform_decl-requires-in-Exported
 transform_item-transform_decl-requires-in-Exported t c =
     (omega (arith, c.decreases, height_at_most (seen c.args.item) 1, ap height c.of.ensures.decl), c.requires.sources)
 
-pub transform_item-returns-in_ok-into_tree-in-Some-clause-answer : goal.transform_item-returns-in_ok-into_tree-in-Some-clause-answer
-transform_item-returns-in_ok-into_tree-in-Some-clause-answer t c =
-    made_export (facts_of c.args.facts) (seen c.args.item) (sym c.item_rule.ensures ∙ c.in-Exported.is)
-    c.in_ok-decl-in-Exported.ensures.answer c.of.ensures.span c.of.ensures.decl (ap as_list c.in-Some.is)
-    (c.in_ok-into_tree-in-Some.ensures ∙ ap (λ s. export_decl s c.in-Some.decl) c.of.ensures.span)
+pub transform_item-returns-in-Declared : goal.transform_item-returns-in-Declared
+transform_item-returns-in-Declared t c =
+    let facts = facts_of c.args.facts in
+    let item = seen c.args.item in
+    let rule = sym c.item_rule.ensures ∙ c.in-Declared.is in
+    IfOk-weaker c.transform_decl.result _ _
+    (λ tree h. record {
+      answer = declared facts item rule h.answer c.range_of_node.ensures;
+      comments = below_declared facts item c.args.context.now.comments rule c.range_of_node.ensures h.comments;
+      sources = h.sources;
+    }) c.transform_decl.ensures
 
-pub transform_item-returns-in-None-clause-answer : goal.transform_item-returns-in-None-clause-answer
-transform_item-returns-in-None-clause-answer t c =
-    no_export (facts_of c.args.facts) (seen c.args.item) (sym c.item_rule.ensures ∙ c.in-Exported.is)
-    c.in_ok-decl-in-Exported.ensures.answer c.of.ensures.span c.of.ensures.decl (ap as_list c.in-None.is)
+pub transform_item-returns-in_ok-into_tree-in-Some : goal.transform_item-returns-in_ok-into_tree-in-Some
+transform_item-returns-in_ok-into_tree-in-Some t c =
+    let facts = facts_of c.args.facts in
+    let item = seen c.args.item in
+    let rule = sym c.item_rule.ensures ∙ c.in-Exported.is in
+    let of = c.of.ensures in
+    let kept = c.in_ok-decl-in-Exported.ensures in
+    record {
+      answer = made_export facts item rule kept.answer of.span of.decl (ap as_list c.in-Some.is)
+          (c.in_ok-into_tree-in-Some.ensures ∙ ap (λ s. export_decl s c.in-Some.decl) of.span);
+      comments = below_exported facts item c.args.context.now.comments rule of.span of.decl kept.comments;
+      sources = kept.sources;
+    }
 
-pub transform_item-returns-in-ImportExport-clause-answer : goal.transform_item-returns-in-ImportExport-clause-answer
-transform_item-returns-in-ImportExport-clause-answer t c =
+pub transform_item-returns-in-None : goal.transform_item-returns-in-None
+transform_item-returns-in-None t c =
+    let facts = facts_of c.args.facts in
+    let item = seen c.args.item in
+    let rule = sym c.item_rule.ensures ∙ c.in-Exported.is in
+    let of = c.of.ensures in
+    let kept = c.in_ok-decl-in-Exported.ensures in
+    record {
+      answer = no_export facts item rule kept.answer of.span of.decl (ap as_list c.in-None.is);
+      comments = below_exported facts item c.args.context.now.comments rule of.span of.decl kept.comments;
+      sources = kept.sources;
+    }
+
+pub transform_item-returns-in-ImportExport : goal.transform_item-returns-in-ImportExport
+transform_item-returns-in-ImportExport t c =
+    let facts = facts_of c.args.facts in
+    let item = seen c.args.item in
+    let rule = sym c.item_rule.ensures ∙ c.in-ImportExport.is in
     IfOk-weaker c.transform_import_export.result _ _
-    (λ tree h. import_export (facts_of c.args.facts) (seen c.args.item)
-    (sym c.item_rule.ensures ∙ c.in-ImportExport.is) tree (h c.requires.sources) c.args.context.now.faults.items)
-    c.transform_import_export.ensures.answer
+    (λ tree h. record {
+      answer = import_export facts item rule tree (h c.requires.sources).0 c.args.context.now.faults.items;
+      comments = below_nothing facts item c.args.context.now.comments rule refl;
+      sources = (h c.requires.sources).1;
+    }) c.transform_import_export.ensures
 
-pub transform_item-returns-in-Default-clause-answer : goal.transform_item-returns-in-Default-clause-answer
-transform_item-returns-in-Default-clause-answer t c =
+pub transform_item-returns-in-Default : goal.transform_item-returns-in-Default
+transform_item-returns-in-Default t c =
+    let facts = facts_of c.args.facts in
+    let item = seen c.args.item in
+    let rule = sym c.item_rule.ensures ∙ c.in-Default.is in
     IfOk-weaker c.transform_default_export.result _ _
-    (λ tree h. default_export (facts_of c.args.facts) (seen c.args.item)
-    (sym c.item_rule.ensures ∙ c.in-Default.is) h) c.transform_default_export.ensures
+    (λ tree h. record {
+      answer = default_export facts item rule h;
+      comments = below_nothing facts item c.args.context.now.comments rule refl;
+      sources = c.requires.sources;
+    }) c.transform_default_export.ensures
 
-pub transform_item-returns-in-Refused-clause-answer : goal.transform_item-returns-in-Refused-clause-answer
-transform_item-returns-in-Refused-clause-answer t c =
+pub transform_item-returns-in-Refused : goal.transform_item-returns-in-Refused
+transform_item-returns-in-Refused t c =
+    let facts = facts_of c.args.facts in
+    let item = seen c.args.item in
+    let rule = sym c.item_rule.ensures ∙ c.in-Refused.is in
     IfOk-weaker c.refuse.result _ _
-    (λ tree h. refused (facts_of c.args.facts) (seen c.args.item) (sym c.item_rule.ensures ∙ c.in-Refused.is) h) c.refuse.ensures
+    (λ tree h. record {
+      answer = refused facts item rule h;
+      comments = below_nothing facts item c.args.context.now.comments rule refl;
+      sources = c.requires.sources;
+    }) c.refuse.ensures
 
-pub transform_item-returns-in-Silent-clause-answer : goal.transform_item-returns-in-Silent-clause-answer
-transform_item-returns-in-Silent-clause-answer t c =
-    silent (facts_of c.args.facts) (seen c.args.item) (sym c.item_rule.ensures ∙ c.in-Silent.is) c.args.context.now.faults.items
-
-pub transform_item-returns-in-Declared-clause-comments : goal.transform_item-returns-in-Declared-clause-comments
-transform_item-returns-in-Declared-clause-comments t c =
-    below_declared (facts_of c.args.facts) (seen c.args.item) c.transform_decl.result _ c.args.context.now.comments (sym c.item_rule.ensures ∙
-    c.in-Declared.is) c.range_of_node.ensures
-    c.transform_decl.ensures.comments
-
-pub transform_item-returns-in-ImportExport-clause-comments : goal.transform_item-returns-in-ImportExport-clause-comments
-transform_item-returns-in-ImportExport-clause-comments t c =
-    IfOk-weaker c.transform_import_export.result _ _
-    (λ tree h. below_nothing (facts_of c.args.facts) (seen c.args.item) c.args.context.now.comments
-    (sym c.item_rule.ensures ∙ c.in-ImportExport.is) refl)
-    c.transform_import_export.ensures.answer
-
-pub transform_item-returns-in-Default-clause-comments : goal.transform_item-returns-in-Default-clause-comments
-transform_item-returns-in-Default-clause-comments t c =
-    IfOk-weaker c.transform_default_export.result _ _
-    (λ tree h. below_nothing (facts_of c.args.facts) (seen c.args.item) c.args.context.now.comments
-    (sym c.item_rule.ensures ∙ c.in-Default.is) refl)
-    c.transform_default_export.ensures
-
-pub transform_item-returns-in-Refused-clause-comments : goal.transform_item-returns-in-Refused-clause-comments
-transform_item-returns-in-Refused-clause-comments t c =
-    IfOk-weaker c.refuse.result _ _
-    (λ tree h. below_nothing (facts_of c.args.facts) (seen c.args.item) c.args.context.now.comments
-    (sym c.item_rule.ensures ∙ c.in-Refused.is) refl)
-    c.refuse.ensures
-
-pub transform_item-returns-in-Silent-clause-comments : goal.transform_item-returns-in-Silent-clause-comments
-transform_item-returns-in-Silent-clause-comments t c =
-    below_nothing (facts_of c.args.facts) (seen c.args.item) c.args.context.now.comments (sym c.item_rule.ensures ∙ c.in-Silent.is) refl
-
-pub transform_item-returns-in-Assigned-clause-answer : goal.transform_item-returns-in-Assigned-clause-answer
-transform_item-returns-in-Assigned-clause-answer t c =
+pub transform_item-returns-in-Assigned : goal.transform_item-returns-in-Assigned
+transform_item-returns-in-Assigned t c =
     absurd (true≢false (sym (ap is_assigned (sym c.item_rule.ensures ∙ c.in-Assigned.is)) ∙ c.requires.no_assignment))
 
-pub transform_item-returns-in-Assigned-clause-comments : goal.transform_item-returns-in-Assigned-clause-comments
-transform_item-returns-in-Assigned-clause-comments t c =
-    below_nothing (facts_of c.args.facts) (seen c.args.item) c.args.context.now.comments (sym c.item_rule.ensures ∙ c.in-Assigned.is) refl
-
-pub transform_item-returns-in-ImportExport-clause-sources : goal.transform_item-returns-in-ImportExport-clause-sources
-transform_item-returns-in-ImportExport-clause-sources t c =
-    IfOk-weaker c.transform_import_export.result _ _ (λ tree h. h c.requires.sources) c.transform_import_export.ensures.sources
+pub transform_item-returns-in-Silent : goal.transform_item-returns-in-Silent
+transform_item-returns-in-Silent t c =
+    let facts = facts_of c.args.facts in
+    let item = seen c.args.item in
+    let rule = sym c.item_rule.ensures ∙ c.in-Silent.is in
+    record {
+      answer = silent facts item rule c.args.context.now.faults.items;
+      comments = below_nothing facts item c.args.context.now.comments rule refl;
+      sources = c.requires.sources;
+    }

@@ -8,7 +8,7 @@ use Rattle.fast_check_transform_statements.proofs.declarations.declarator_type.G
 pub returns : goal.returns
 returns c =
     let type = c.of-2.ensures.type_ann ∙ ap BindingIdent-type_ann c.of.ensures.name in
-    IfOk-weaker c.type_of.result _ _ (λ ty h. h ∙ (λ i. type_of (c.unresolved_context.ensures i) (record {
+    IfOk-weaker c.type_of.result _ _ (λ ty h. h ∙ (λ i. type_of c.args.facts.bindings.unresolved (record {
       is_private = false;
       type = type i;
       value = c.of.ensures.init i;

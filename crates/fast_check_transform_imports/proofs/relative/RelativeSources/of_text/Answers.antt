@@ -4,12 +4,12 @@ use Rattle.std.specs.Option.{option_copied}
 use Rattle.fast_check_transform_imports.specs.module_facts.ModuleFacts.{facts_of}
 use Rattle.fast_check_transform_imports.proofs.relative.RelativeSources.of_text.Goals as goal
 
-pub returns-in-Some-clause-found : goal.returns-in-Some-clause-found
-returns-in-Some-clause-found c =
+pub returns-in-Some : goal.returns-in-Some
+returns-in-Some c =
     IfOk-weaker c.shared.result _ _
-    (λ copy same kept. same ∙ kept c.args.text.now c.in-Some.other.now (sym c.get.ensures.value ∙ ap option_copied c.in-Some.is))
+    (λ copy same kept. (same ∙ kept c.args.text.now c.in-Some.other.now (sym c.get.ensures.value ∙ ap option_copied c.in-Some.is), kept))
     c.shared.ensures
 
-pub returns-clause-kept : goal.returns-clause-kept
-returns-clause-kept c = λ kept.
-    c.in_ok-keep.ensures (facts_of c.args.facts) (c.in_ok-copy.ensures ∙ c.in_ok-other.ensures) kept
+pub returns : goal.returns
+returns c = λ kept.
+    (c.in_ok-other.ensures, c.in_ok-keep.ensures (facts_of c.args.facts) (c.in_ok-copy.ensures ∙ c.in_ok-other.ensures) kept)
