@@ -126,7 +126,7 @@ class Converter {
   }
 
   start(/** @type {ts.Node} */ node) {
-    return node.getStart(this.file, false);
+    return ts.getTokenPosOfNode(node, this.file, false);
   }
 
   /** @returns {forms.Span} */

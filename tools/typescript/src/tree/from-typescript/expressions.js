@@ -66,7 +66,7 @@ function accessor(/** @type {Converter} */ c, /** @type {ts.AccessorDeclaration}
     if (ts.isGetAccessorDeclaration(node)) {
       return { Getter: form({ span: c.span(node), key, type_ann: types.annotation(c, node.type), body }) };
     }
-    const [param] = node.parameters.filter((it) => it.name.getText(c.file) !== 'this');
+    const [param] = node.parameters.filter((it) => c.written(it.name) !== 'this');
     if (!param || node.parameters.length > 1) {
       c.refuse(node, 'no form for a setter without its one parameter');
       return { Getter: form({ span: c.span(node), key }) };
