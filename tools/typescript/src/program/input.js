@@ -5,9 +5,9 @@ const { placeAt } = require('../tree/lines.js');
 const { readPackage } = require('../package/read.js');
 const { JsonText } = require('./request.js');
 const { ownTables, jsonTables, tablesOf, World } = require('../tables/symbols.js');
+const { withoutUnreached } = require('../tables/unreached.js');
 
 /** @typedef {import('../package/types').ReadOptions} ReadOptions */
-/** @typedef {import('../package/cache.js').Kept} Kept */
 /** @typedef {import('../package/types').Found} Found */
 /** @typedef {import('../package/types').Script} Script */
 /** @typedef {import('../package/types').Module} Module */
@@ -71,23 +71,25 @@ function readable(/** @type {Found} */ found) {
  * Makes what the program is handed of a module: its source as JSON, without the text, which no rule looks at, and its tables. One that the program does not read
  * is an error.
  */
-function complete(/** @type {Module} */ module, /** @type {Found} */ found, /** @type {Kept | null | undefined} */ kept) {
-  const { program, comments, unresolvedContext } = module.tree;
-  const tables = ownTables(module);
+function complete(/** @type {Module} */ module, /** @type {Found} */ found, /** @type {ReadOptions} */ { kept, short = true }) {
+  const { unresolvedContext } = module.tree;
+  const span = module.tree.program && tooDeep(module.tree.program);
+  const all = { ...module.tree, tables: ownTables(module) };
+  const { program, comments, tables } = short ? withoutUnreached(all, all.tables, module.isDeclaration) : all;
+  module.tree = { ...module.tree, program, comments };
   module.tables = tables;
   module.source = new JsonText(JSON.stringify({ media_type: module.mediaType, text: '', program, comments, unresolved_context: unresolvedContext }));
-  const span = program && tooDeep(program);
   if (span) found.errors.push(deepError(module, span));
   else if (kept && !module.tree.faults.length) kept.put(module);
 }
 
 /** The tables of all modules that have some. A module whose tables cannot be made, or that the program does not read, is an error. */
-function tablesOfAll(/** @type {Found} */ found, /** @type {Kept | null | undefined} */ kept) {
+function tablesOfAll(/** @type {Found} */ found, /** @type {ReadOptions} */ options) {
   const targets = new Map(found.resolutions.map(([from, text, to]) => [`${from}\n${text}`, to]));
   const world = new World((from, text) => targets.get(`${from}\n${text}`));
   for (const it of found.modules) {
     try {
-      if (!it.source) complete(it, found, kept);
+      if (!it.source) complete(it, found, options);
       if (it.tables) world.add(it.specifier, it.tables);
     } catch (error) {
       found.caught(it.path, error);
@@ -139,8 +141,8 @@ function requestOf(/** @type {Found} */ found, /** @type {World} */ world) {
 }
 
 /** The request of what can be read, or null where that is no package. Making the tables may find further errors. */
-function readableRequest(/** @type {Found} */ found, /** @type {Kept | null | undefined} */ kept) {
-  const world = tablesOfAll(readable(found), kept);
+function readableRequest(/** @type {Found} */ found, /** @type {ReadOptions} */ options) {
+  const world = tablesOfAll(readable(found), options);
   const now = readable(found);
   return now.packages.length ? requestOf(now, world) : null;
 }
@@ -156,7 +158,7 @@ function readableRequest(/** @type {Found} */ found, /** @type {Kept | null | un
 function inputOf(/** @type {string} */ dir, /** @type {ReadOptions} */ options = {}) {
   const found = readPackage(dir, options);
   const began = process.hrtime.bigint();
-  const request = readableRequest(found, options.kept);
+  const request = readableRequest(found, options);
   const { packages } = readable(found);
   const { modules, scripts, jsonModules, externals, missing, errors, faults, taken, times } = found;
   times.tables = elapsed(began);

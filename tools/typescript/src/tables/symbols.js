@@ -471,15 +471,12 @@ function finished(/** @type {Tables} */ t, /** @type {GrowingSymbol} */ symbol) 
   if (rest.members.length === 0) delete made.members;
   if (exports.size === 0) delete made.exports;
   if (made.qualified_name === undefined) delete made.qualified_name;
+  // What a symbol stands in, and by which name it is found there, is asked of members alone.
+  if (!symbol.decls.some(({ kind }) => kind.Definition && kind.Definition.is_member)) {
+    delete made.parent_id;
+    delete made.maybe_name;
+  }
   return made;
-}
-
-/** An alias of a name that nothing in the module binds leads nowhere. */
-function withoutTargets(/** @type {Tables} */ t, /** @type {GrowingSymbol} */ symbol) {
-  return symbol.decls.some((it) => {
-    const id = it.kind.Target || (it.kind.QualifiedTarget && it.kind.QualifiedTarget[0]);
-    return id && !symbolOfId(t, id);
-  });
 }
 
 /**
@@ -500,7 +497,6 @@ function ownTables(/** @type {Module} */ module, unresolved = 1) {
     symbols,
     swc_ids: [...t.byIdent].map(([key, it]) => [/** @type {Identifier} */ (t.idents.get(key)), it.id]),
     re_export_all_nodes: t.reExportsOfAll,
-    unbound: t.symbols.filter((it) => withoutTargets(t, it)).map((it) => it.maybe_name),
   };
 }
 
@@ -516,7 +512,7 @@ function jsonTables(/** @type {number} */ length) {
     module_symbol: 0,
     symbols: [
       { id: 0, exports: [['default', 1]] },
-      { id: 1, parent_id: 0, maybe_name: 'default', qualified_name: 'default', decls: [decl] },
+      { id: 1, qualified_name: 'default', decls: [decl] },
     ],
   };
 }
@@ -530,6 +526,8 @@ class World {
     this.tables = new Map();
     /** @type {Map<string, Set<string>>} */
     this.answered = new Map();
+    /** @type {Set<string> | null} */
+    this.exportedAgain = null;
   }
 
   add(/** @type {string} */ specifier, /** @type {OwnTables} */ tables) {
@@ -546,6 +544,12 @@ class World {
     const tables = this.tables.get(specifier);
     const sources = tables ? (tables.re_export_all_nodes || []).map(([, source]) => source) : [];
     return sources.flatMap((it) => this.resolve(specifier, it) || []);
+  }
+
+  /** Whether another module exports all of a module again, which asks for its names. */
+  isExportedAgain(/** @type {string} */ specifier) {
+    this.exportedAgain = this.exportedAgain || new Set([...this.tables.keys()].flatMap((it) => this.targets(it)));
+    return this.exportedAgain.has(specifier);
   }
 
   /** Whether re-exports of all lead from a module to another one. */
@@ -601,9 +605,10 @@ class World {
  * @returns {import('./types').ModuleTables}
  */
 function tablesOf(/** @type {Module} */ module, /** @type {World} */ world) {
-  const { unbound, ...tables } = /** @type {OwnTables} */ (world.tables.get(module.specifier));
-  const resolved = [...world.names(module.specifier)].map((name) => /** @type {[string, string]} */ ([name, module.specifier]));
-  return { ...tables, re_export_all_nodes: world.reExports(module.specifier), resolved_exports: resolved };
+  const { specifier } = module;
+  const tables = /** @type {OwnTables} */ (world.tables.get(specifier));
+  const names = world.isExportedAgain(specifier) ? [...world.names(specifier)] : [];
+  return { ...tables, re_export_all_nodes: world.reExports(specifier), resolved_exports: names.map((name) => [name, specifier]) };
 }
 
-module.exports = { Tables, World, jsonTables, ownTables, tablesOf };
+module.exports = { Tables, World, declaredBy, jsonTables, ownTables, tablesOf };

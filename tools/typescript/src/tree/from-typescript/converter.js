@@ -93,6 +93,11 @@ class Converter {
     return scope;
   }
 
+  /** The number of a scope for the form that it is of, which is asked for by no rule. */
+  numberOf(/** @type {Scope} */ { number }) {
+    return this.short ? undefined : number;
+  }
+
   /**
    * Calls back within a fresh scope.
    *

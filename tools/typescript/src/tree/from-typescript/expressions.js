@@ -226,7 +226,7 @@ function arrow(/** @type {Converter} */ c, /** @type {ts.ArrowFunction} */ node)
     const type_params = types.typeParams(c, node);
     const return_type = types.annotation(c, node.type);
     const body = ts.isBlock(node.body) ? { BlockStmt: parts.bodyOf(c, node) } : { Expr: arrowValue(c, node, node.body) };
-    return { Arrow: form({ span: c.span(node), ctxt: scope.number, params, body, is_async: isAsync(node), type_params, return_type }) };
+    return { Arrow: form({ span: c.span(node), ctxt: c.numberOf(scope), params, body, is_async: isAsync(node), type_params, return_type }) };
   });
 }
 
