@@ -59,7 +59,7 @@ async function singleReturnsOf(/** @type {World} */ world, /** @type {Options} *
   if (!request) return 0;
   const asked = (/** @type {Message[]} */ messages) => messages.filter(({ code }) => code === 'missing-explicit-return-type').map(({ file, start }) => `${file} ${start}`);
   const known = new Set(asked(world.messages));
-  const { messages } = part(await answersTo(request, options, context), world, context.cwd);
+  const { messages } = part(await answersTo(request, options, context, { ...world, name: 'named' }), world, context.cwd);
   return asked(messages).filter((each) => !known.has(each)).length;
 }
 

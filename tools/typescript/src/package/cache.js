@@ -7,6 +7,7 @@ const { candidateFiles, keepIn } = require('../compiler/find.js');
 const { makeFolder } = require('./files.js');
 const { Offsets } = require('../tree/offsets.js');
 const { JsonText } = require('../program/request.js');
+const { shapeOf } = require('../program/places.js');
 
 /** @typedef {import('./types').Module} Module */
 /** @typedef {import('./types').Parts} Parts */
@@ -185,17 +186,24 @@ class Kept {
   }
 
   /**
-   * The parts of a module, or null where none are kept.
+   * The parts of a key, or null where none are kept.
    *
    * @returns {Parts | null}
    */
-  find(/** @type {string} */ mediaType, /** @type {string} */ text) {
-    const key = this.keyOf(mediaType, text);
+  partsOf(/** @type {string} */ key) {
     const known = this.parts.get(key);
     const parts = known ? known.parts : this.folder && this.folder.get(key);
-    if (!parts) return null;
-    this.parts.set(key, { parts, round: this.round });
+    if (parts) this.parts.set(key, { parts, round: this.round });
     return parts;
+  }
+
+  /** A module of kept parts, or null where none are kept. */
+  find(/** @type {string} */ mediaType, /** @type {string} */ text) {
+    const key = this.keyOf(mediaType, text);
+    const parts = this.partsOf(key);
+    if (!parts) return null;
+    const { source, tables, hasEffects, shape } = parts;
+    return { tree: new KeptTree(text, parts), source: new JsonText(source), tables, hasEffects, shape, key };
   }
 
   /**
@@ -214,18 +222,24 @@ class Kept {
     if (this.folder) this.folder.put(this.keyOf('answers', root), answers);
   }
 
-  /** A module of kept parts. */
-  static module(/** @type {string} */ text, /** @type {Parts} */ parts) {
-    const tree = new KeptTree(text, parts);
-    return { tree, source: new JsonText(parts.source), tables: parts.tables, hasEffects: parts.hasEffects };
+  /** The last answer that is kept under a name, or null. */
+  lastOf(/** @type {string} */ name) {
+    return this.folder && this.folder.get(this.keyOf('last', name));
+  }
+
+  putLast(/** @type {string} */ name, /** @type {object} */ last) {
+    if (this.folder) this.folder.put(this.keyOf('last', name), last);
   }
 
   /** Keeps the parts of a module that was made and is right. */
-  put(/** @type {Module} */ { mediaType, text, tree, source, tables, hasEffects }) {
+  put(/** @type {Module} */ module) {
+    const { mediaType, text, tree, source, tables, hasEffects } = module;
     if (!source || !tables) return;
-    const parts = { source: source.text, sources: tree.sources, tables, hasEffects };
     const key = this.keyOf(mediaType, text);
     this.made += 1;
+    const shape = this.folder ? shapeOf({ source: source.text, tables }) : undefined;
+    const parts = { source: source.text, sources: tree.sources, tables, hasEffects, shape };
+    Object.assign(module, { key, shape });
     this.parts.set(key, { parts, round: this.round });
     if (this.folder) this.folder.put(key, parts);
   }

@@ -118,6 +118,9 @@ export interface Module extends Script {
   tables?: OwnTables;
   source?: JsonText;
   sourceFile?: ts.SourceFile;
+  /** Under what its parts are kept, and what they are but for places. */
+  key?: string;
+  shape?: string;
 }
 
 /** An import that leads out of the folder. */
@@ -221,4 +224,6 @@ export interface Parts {
   sources?: import('../tree/types').TreeSource[];
   tables: OwnTables;
   hasEffects: boolean;
+  /** What it is but for its places, where it is kept between runs. */
+  shape?: string;
 }

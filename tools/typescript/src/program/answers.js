@@ -14,12 +14,16 @@ const BEGINNING = /\["(?:[^"\\]|\\.)*",\{"(Ok|Err)":/g;
  */
 const texts = new WeakMap();
 
+/** @typedef {<T>(answer: T) => T} Mover puts places in the stead of others */
+/** @type {Mover} */
+const asItIs = (answer) => answer;
+
 /** @returns {Skeleton} */
-function skeletonOf(/** @type {string} */ text) {
+function skeletonOf(/** @type {string} */ text, /** @type {Mover} */ move) {
   /** @type {Skeleton | null} */
   let read = null;
   const whole = () => {
-    read = read || /** @type {Skeleton} */ (JSON.parse(text));
+    read = read || move(/** @type {Skeleton} */ (JSON.parse(text)));
     return read;
   };
   const skeleton = {
@@ -38,11 +42,14 @@ function skeletonOf(/** @type {string} */ text) {
 }
 
 /**
- * The answers of a line of the program.
+ * The answers of a line of the program, with other places of some modules.
  *
+ * @param {string} line
+ * @param {Map<string, Mover>} movers
  * @returns {Answer[]}
  */
-function answersOf(/** @type {string} */ line) {
+function answersOf(line, movers = new Map()) {
+  const moverOf = (/** @type {string} */ specifier) => movers.get(specifier) || asItIs;
   const all = line.trimEnd();
   const found = [...all.matchAll(BEGINNING)].map(({ index = 0, 0: head, 1: word }) => ({ index, start: index + head.length, word }));
   if (!found.length || found[0].index !== 1 || !all.endsWith('}]]')) return JSON.parse(all);
@@ -50,7 +57,9 @@ function answersOf(/** @type {string} */ line) {
     // Behind an answer stand the brackets of its pair, and a comma or the bracket of the list.
     const text = all.slice(start, (at + 1 < found.length ? found[at + 1].index : all.length) - '}],'.length);
     const specifier = JSON.parse(all.slice(index + 1, start - `,{"${word}":`.length));
-    return [specifier, word === 'Ok' ? { Ok: skeletonOf(text) } : { Err: JSON.parse(text) }];
+    if (word === 'Ok') return [specifier, { Ok: skeletonOf(text, moverOf(specifier)) }];
+    const list = /** @type {import('./types').Diagnostic[]} */ (JSON.parse(text));
+    return [specifier, { Err: list.map((it) => ({ ...it, range: moverOf(it.specifier)(it.range) })) }];
   });
 }
 

@@ -607,8 +607,13 @@ class World {
 function tablesOf(/** @type {Module} */ module, /** @type {World} */ world) {
   const { specifier } = module;
   const tables = /** @type {OwnTables} */ (world.tables.get(specifier));
+  const nodes = world.reExports(specifier);
   const names = world.isExportedAgain(specifier) ? [...world.names(specifier)] : [];
-  return { ...tables, re_export_all_nodes: world.reExports(specifier), resolved_exports: names.map((name) => [name, specifier]) };
+  return {
+    ...tables,
+    re_export_all_nodes: nodes.length ? nodes : undefined,
+    resolved_exports: names.length ? names.map((name) => [name, specifier]) : undefined,
+  };
 }
 
 module.exports = { Tables, World, declaredBy, jsonTables, ownTables, tablesOf };
