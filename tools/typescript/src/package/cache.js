@@ -6,7 +6,6 @@ const path = require('path');
 const { candidateFiles, keepIn } = require('../compiler/find.js');
 const { makeFolder } = require('./files.js');
 const { Offsets } = require('../tree/offsets.js');
-const { JsonText } = require('../program/request.js');
 const { shapeOf } = require('../program/places.js');
 
 /** @typedef {import('./types').Module} Module */
@@ -20,17 +19,59 @@ const SETTLED = 100;
 const DAY = 86400000;
 const LONGEST = 30 * DAY;
 
+// What ends a line of an entry.
+const NEWLINE = 10;
+
 // How many rounds what is not asked for stays in memory, as while a configuration is broken.
 const ROUNDS = 10;
 
 const hashOf = (/** @type {string | Buffer} */ data) => crypto.createHash('sha256').update(/** @type {string} */ (data)).digest('hex');
+// What only says whether an entry is damaged, in a third of the time.
+const checkOf = (/** @type {Buffer} */ data) => crypto.createHash('md5').update(/** @type {Uint8Array} */ (data)).digest('hex');
+
+/** The parts of a module in an entry: its source and its tables are read where they are asked for. */
+class KeptParts {
+  constructor(/** @type {Omit<Parts, 'source' | 'tables'> & { length: number }} */ head, /** @type {Buffer} */ rest) {
+    this.sources = head.sources;
+    this.hasEffects = head.hasEffects;
+    this.marks = head.marks;
+    this.shape = head.shape;
+    this.length = head.length;
+    this.rest = rest;
+    /** @type {import('../tables/types').OwnTables | null} */
+    this.read = null;
+  }
+
+  get source() {
+    return this.rest.toString('utf8', 0, this.length);
+  }
+
+  /** @returns {import('../tables/types').OwnTables} */
+  get tables() {
+    this.read = this.read || JSON.parse(this.rest.toString('utf8', this.length));
+    return /** @type {import('../tables/types').OwnTables} */ (this.read);
+  }
+}
+
+/** What is known of a module whose parts are kept. */
+class KeptModule {
+  constructor(/** @type {string} */ text, /** @type {Parts} */ parts, /** @type {string} */ key) {
+    this.parts = parts;
+    this.key = key;
+    this.tree = new KeptTree(text, parts);
+  }
+
+  get hasEffects() {
+    return this.parts.hasEffects;
+  }
+}
 
 /** The tree of a module whose parts are kept: read from them where it is asked for. */
 class KeptTree {
-  constructor(/** @type {string} */ text, /** @type {Parts} */ { source, sources }) {
+  constructor(/** @type {string} */ text, /** @type {Parts} */ parts) {
     this.text = text;
-    this.source = source;
-    this.sources = sources;
+    this.parts = parts;
+    this.sources = parts.sources;
     /** @type {import('../tree/types').TreeError[]} */
     this.errors = [];
     /** @type {import('../tree/types').TreeFault[]} */
@@ -41,7 +82,7 @@ class KeptTree {
 
   /** @returns {import('../program/types').Source} */
   get whole() {
-    this.read = this.read || JSON.parse(this.source);
+    this.read = this.read || JSON.parse(this.parts.source);
     return /** @type {import('../program/types').Source} */ (this.read);
   }
 
@@ -62,7 +103,7 @@ class KeptTree {
   }
 }
 
-/** A folder of entries by their keys. Each is a line with the hash of what follows. What is damaged is dropped. */
+/** A folder of entries by their keys. Each is a line with a checksum of what follows, a line of JSON, and maybe a text. What is damaged is dropped. */
 class Folder {
   constructor(/** @type {string} */ folder) {
     this.folder = folder;
@@ -73,15 +114,16 @@ class Folder {
     return path.join(this.folder, key.slice(0, 2), key.slice(2));
   }
 
-  get(/** @type {string} */ key) {
+  /** What an entry has as JSON, and what stands behind it; null where there is none. */
+  entry(/** @type {string} */ key) {
     const file = this.fileOf(key);
     try {
       const bytes = fs.readFileSync(file);
-      const at = bytes.indexOf('\n');
-      const kept = bytes.subarray(at + 1);
-      if (bytes.toString('latin1', 0, at) === hashOf(kept)) {
+      const at = bytes.indexOf(NEWLINE);
+      const end = bytes.indexOf(NEWLINE, at + 1);
+      if (end >= 0 && bytes.toString('latin1', 0, at) === checkOf(bytes.subarray(at + 1))) {
         if (Date.now() - fs.statSync(file).mtimeMs > DAY) fs.utimesSync(file, new Date(), new Date());
-        return JSON.parse(kept.toString());
+        return { head: JSON.parse(bytes.toString('utf8', at + 1, end)), rest: bytes.subarray(end + 1) };
       }
       this.remove(file);
     } catch {
@@ -90,15 +132,20 @@ class Folder {
     return null;
   }
 
+  get(/** @type {string} */ key) {
+    const found = this.entry(key);
+    return found && found.head;
+  }
+
   /** Writes an entry beside its place and moves it there, so that another run reads it whole or not at all. Where that fails, nothing more is written. */
-  put(/** @type {string} */ key, /** @type {object} */ parts) {
+  put(/** @type {string} */ key, /** @type {object} */ head, rest = '') {
     if (!this.isWritable) return;
     const file = this.fileOf(key);
     const beside = `${file}.${process.pid}`;
-    const text = JSON.stringify(parts);
+    const bytes = Buffer.from(`${JSON.stringify(head)}\n${rest}`);
     try {
       makeFolder(path.dirname(file));
-      fs.writeFileSync(beside, `${hashOf(text)}\n${text}`, { mode: 0o600 });
+      fs.writeFileSync(beside, /** @type {Uint8Array} */ (Buffer.concat(/** @type {Uint8Array[]} */ ([Buffer.from(`${checkOf(bytes)}\n`), bytes]))), { mode: 0o600 });
       fs.renameSync(beside, file);
     } catch {
       this.isWritable = false;
@@ -192,7 +239,8 @@ class Kept {
    */
   partsOf(/** @type {string} */ key) {
     const known = this.parts.get(key);
-    const parts = known ? known.parts : this.folder && this.folder.get(key);
+    const entry = known ? null : this.folder && this.folder.entry(key);
+    const parts = known ? known.parts : entry && new KeptParts(entry.head, entry.rest);
     if (parts) this.parts.set(key, { parts, round: this.round });
     return parts;
   }
@@ -201,9 +249,7 @@ class Kept {
   find(/** @type {string} */ mediaType, /** @type {string} */ text) {
     const key = this.keyOf(mediaType, text);
     const parts = this.partsOf(key);
-    if (!parts) return null;
-    const { source, tables, hasEffects, shape } = parts;
-    return { tree: new KeptTree(text, parts), source: new JsonText(source), tables, hasEffects, shape, key };
+    return parts && new KeptModule(text, parts, key);
   }
 
   /**
@@ -224,24 +270,25 @@ class Kept {
 
   /** The last answer that is kept under a name, or null. */
   lastOf(/** @type {string} */ name) {
-    return this.folder && this.folder.get(this.keyOf('last', name));
+    return this.folder && this.folder.entry(this.keyOf('last', name));
   }
 
-  putLast(/** @type {string} */ name, /** @type {object} */ last) {
-    if (this.folder) this.folder.put(this.keyOf('last', name), last);
+  putLast(/** @type {string} */ name, /** @type {object} */ head, /** @type {string} */ line) {
+    if (this.folder) this.folder.put(this.keyOf('last', name), head, line);
   }
 
   /** Keeps the parts of a module that was made and is right. */
   put(/** @type {Module} */ module) {
-    const { mediaType, text, tree, source, tables, hasEffects } = module;
-    if (!source || !tables) return;
+    const { mediaType, text, parts } = module;
+    if (!parts) return;
     const key = this.keyOf(mediaType, text);
     this.made += 1;
-    const shape = this.folder ? shapeOf({ source: source.text, tables }) : undefined;
-    const parts = { source: source.text, sources: tree.sources, tables, hasEffects, shape };
-    Object.assign(module, { key, shape });
+    module.key = key;
     this.parts.set(key, { parts, round: this.round });
-    if (this.folder) this.folder.put(key, parts);
+    if (!this.folder) return;
+    parts.shape = shapeOf(parts);
+    const { source, tables, ...head } = parts;
+    this.folder.put(key, { ...head, length: Buffer.byteLength(source) }, source + JSON.stringify(tables));
   }
 }
 

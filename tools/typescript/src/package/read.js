@@ -124,7 +124,7 @@ class Reader {
   readModule(/** @type {string} */ file, /** @type {MediaType} */ mediaType, /** @type {string} */ text) {
     const specifier = urlOf(this.root, file);
     const made = (this.options.kept && this.options.kept.find(mediaType, text)) || this.parsed(file, mediaType, text);
-    const module = { specifier, path: file, mediaType, text, isDeclaration: isDeclarationFile(mediaType), ...made };
+    const module = Object.assign(made, { specifier, path: file, mediaType, text, isDeclaration: isDeclarationFile(mediaType) });
     this.modules.set(specifier, module);
     for (const it of module.tree.sources || []) this.follow(module, it);
     if (this.options.onModule) this.options.onModule(path.relative(this.root, file), this.modules.size);

@@ -1,4 +1,3 @@
-import { JsonText } from '../program/request.js';
 import { OwnTables } from '../tables/types';
 import { Tree } from '../tree/types';
 import { Answers } from './answers.js';
@@ -115,12 +114,11 @@ export interface Module extends Script {
   isDeclaration: boolean;
   tree: Tree;
   hasEffects: boolean;
-  tables?: OwnTables;
-  source?: JsonText;
-  sourceFile?: ts.SourceFile;
-  /** Under what its parts are kept, and what they are but for places. */
+  /** What it is sent by, where it was made or is kept. */
+  parts?: Parts;
+  /** Under what its parts are kept. */
   key?: string;
-  shape?: string;
+  sourceFile?: ts.SourceFile;
 }
 
 /** An import that leads out of the folder. */
@@ -224,6 +222,8 @@ export interface Parts {
   sources?: import('../tree/types').TreeSource[];
   tables: OwnTables;
   hasEffects: boolean;
+  /** Whether a body may name its return type, and whether a name has a mark that is taken away again. */
+  marks: { namesReturns: boolean; isMarked: boolean };
   /** What it is but for its places, where it is kept between runs. */
   shape?: string;
 }

@@ -267,16 +267,17 @@ function withoutFaulty(/** @type {Pick<World, 'info' | 'files' | 'skeletons'>} *
  * @param {Request} request
  * @param {import('../cli/types').Options} options
  * @param {RunContext} context
- * @param {{ dir: string, info: Info, name: string } | null} of
+ * @param {{ dir: string, info: Info, name: string | null }} of
  */
-async function answersTo(request, { unproved, kept }, { progress, environment, isCommand, signal }, of = null) {
-  const last = of && LastAnswer.of({ dir: of.dir, request, modules: of.info.modules, name: of.name }, kept, environment);
+async function answersTo(request, { unproved, kept }, { progress, environment, isCommand, signal }, { dir, info, name }) {
+  if (signal && signal.aborted) throw signal.reason;
+  const last = name === null ? null : LastAnswer.of({ dir, info, name }, request, kept, environment);
   const known = last && last.answers();
-  if (known) return restored(known, request);
+  if (known) return restored(known, request, info.modules);
   const tell = (/** @type {string} */ line) => progress.line(line);
   const line = await progress.during('the program is at work', lineOf(request, { unproved, environment, tell, isCommand, signal }));
   if (last) last.keep(line);
-  return restored(answersOf(line), request);
+  return restored(answersOf(line), request, info.modules);
 }
 
 /** The specifiers of some files. */
@@ -298,8 +299,8 @@ async function analyse(dir, options, context) {
   const reading = context.reading || ((call) => call());
   const world = reading(() => read(dir, options, context));
   if (options.treesOf && world.request) world.request = withTreesOf(world.request, specifiersOf(world, options.treesOf));
-  const ask = (/** @type {Request} */ request) => answersTo(request, options, context);
-  const answers = await (options.treesOf ? ask(world.request) : answersTo(world.request, options, context, { ...world, name: 'all' }));
+  const ask = (/** @type {Request} */ request, /** @type {string | null} */ name = null) => answersTo(request, options, context, { ...world, name });
+  const answers = await ask(world.request, options.treesOf ? null : 'all');
   const { skeletons, messages } = part(answers, world, cwd);
   const told = skeletonMessages({ ...world, skeletons }, (/** @type {string} */ file) => shownName(file, cwd));
   const [warnings, errors] = [true, false].map((isWarning) => told.filter(({ level }) => (level === 'Warning') === isWarning));

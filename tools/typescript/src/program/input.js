@@ -3,7 +3,9 @@
 
 const { placeAt } = require('../tree/lines.js');
 const { readPackage } = require('../package/read.js');
-const { JsonText } = require('./request.js');
+const { JsonText, withModules } = require('./request.js');
+const { isMarked } = require('../skeleton/restored.js');
+const { namesReturns } = require('../tables/asserted-types.js');
 const { ownTables, jsonTables, tablesOf, World } = require('../tables/symbols.js');
 const { withoutUnreached } = require('../tables/unreached.js');
 
@@ -77,8 +79,9 @@ function complete(/** @type {Module} */ module, /** @type {Found} */ found, /** 
   const all = { ...module.tree, tables: ownTables(module) };
   const { program, comments, tables } = short ? withoutUnreached(all, all.tables, module.isDeclaration) : all;
   module.tree = { ...module.tree, program, comments };
-  module.tables = tables;
-  module.source = new JsonText(JSON.stringify({ media_type: module.mediaType, text: '', program, comments, unresolved_context: unresolvedContext }));
+  const source = JSON.stringify({ media_type: module.mediaType, text: '', program, comments, unresolved_context: unresolvedContext });
+  const { hasEffects, tree: { sources } } = module;
+  module.parts = { source, sources, tables, hasEffects, marks: { namesReturns: namesReturns(source), isMarked: isMarked(source) } };
   if (span) found.errors.push(deepError(module, span));
   else if (kept && !module.tree.faults.length) kept.put(module);
 }
@@ -89,24 +92,24 @@ function tablesOfAll(/** @type {Found} */ found, /** @type {ReadOptions} */ opti
   const world = new World((from, text) => targets.get(`${from}\n${text}`));
   for (const it of found.modules) {
     try {
-      if (!it.source) complete(it, found, options);
-      if (it.tables) world.add(it.specifier, it.tables);
+      if (!it.parts) complete(it, found, options);
+      if (it.parts) world.add(it.specifier, it.parts);
     } catch (error) {
       found.caught(it.path, error);
     }
   }
-  for (const it of found.jsonModules) world.add(it.specifier, jsonTables(Buffer.byteLength(it.text)));
+  for (const it of found.jsonModules) world.add(it.specifier, { tables: jsonTables(Buffer.byteLength(it.text)) });
   return world;
 }
 
 /** @returns {import('./types').RequestModule} */
 function moduleInput(/** @type {Module} */ module, /** @type {World} */ world) {
-  return [module.specifier, { Esm: { specifier: module.specifier, source: /** @type {JsonText} */ (module.source), ...tablesOf(module, world) } }];
+  return [module.specifier, { Esm: { specifier: module.specifier, source: new JsonText(/** @type {import('../package/types').Parts} */ (module.parts).source), ...tablesOf(module, world) } }];
 }
 
 /** @returns {import('./types').RequestModule} */
 function jsonInput(/** @type {string} */ specifier, /** @type {World} */ world) {
-  return [specifier, { Json: { specifier, .../** @type {import('../tables/types').OwnTables} */ (world.tables.get(specifier)) } }];
+  return [specifier, { Json: { specifier, .../** @type {import('../tables/types').OwnTables} */ (world.tablesOf(specifier)) } }];
 }
 
 function graphOf(/** @type {Found} */ found) {
@@ -126,18 +129,16 @@ function graphOf(/** @type {Found} */ found) {
 /** @returns {import('./types').Request} */
 function requestOf(/** @type {Found} */ found, /** @type {World} */ world) {
   const packages = [...found.packages].sort((a, b) => b.url.length - a.url.length);
-  return {
+  const modules = () => [...found.modules.map((it) => moduleInput(it, world)), ...found.jsonModules.map((it) => jsonInput(it.specifier, world))];
+  const others = {
     graph: graphOf(found),
-    modules: [
-      ...found.modules.map((it) => moduleInput(it, world)),
-      ...found.jsonModules.map((it) => jsonInput(it.specifier, world)),
-    ],
     aliases: [],
     workspace_members: packages.map((it) => ({ name: it.name, version: it.version, base: it.url, exports: it.exports })),
     provider: { packages: [], fallback: 'https://package.test/' },
     pending: found.packages.map((it) => `${it.name}@${it.version}`),
     first: false,
   };
+  return withModules(others, modules);
 }
 
 /** The request of what can be read, or null where that is no package. Making the tables may find further errors. */

@@ -91,7 +91,7 @@ async function lineOf(request, { unproved, environment, tell, isCommand, signal:
     fs.writeFileSync(file, textOf(request));
     const words = command({ unproved, environment });
     const { status, out, said, signal } = await run([...words, file], tell, ended);
-    if (status === 0 || status === 1) return /** @type {string} */ (out);
+    if (status === 0 || status === 1) return /** @type {string} */ (out.trimEnd());
     const why = said || (signal ? `it was stopped by ${signal}` : `it ended with status ${status}`);
     throw new ProgramError(`the program did not answer: ${why.replace(/^error: /, '')}`, status <= 5 ? status : 5);
   } finally {

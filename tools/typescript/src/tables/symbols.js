@@ -522,33 +522,39 @@ class World {
   /** `resolve` leads from a specifier and a source text to a specifier, or to nothing. */
   constructor(/** @type {(from: string, text: string) => string | null | undefined} */ resolve) {
     this.resolve = resolve;
-    /** @type {Map<string, OwnTables>} */
-    this.tables = new Map();
+    /** @type {Map<string, { tables: OwnTables }>} */
+    this.modules = new Map();
     /** @type {Map<string, Set<string>>} */
     this.answered = new Map();
     /** @type {Set<string> | null} */
     this.exportedAgain = null;
   }
 
-  add(/** @type {string} */ specifier, /** @type {OwnTables} */ tables) {
-    this.tables.set(specifier, tables);
+  /** Adds a module with its tables, which may be read where they are asked for. */
+  add(/** @type {string} */ specifier, /** @type {{ tables: OwnTables }} */ module) {
+    this.modules.set(specifier, module);
+  }
+
+  tablesOf(/** @type {string} */ specifier) {
+    const module = this.modules.get(specifier);
+    return module && module.tables;
   }
 
   /** The names that a module exports itself. */
   ownNames(/** @type {string} */ specifier) {
-    const tables = this.tables.get(specifier);
+    const tables = this.tablesOf(specifier);
     return tables ? (tables.symbols[0].exports || []).map(([name]) => name) : [];
   }
 
   targets(/** @type {string} */ specifier) {
-    const tables = this.tables.get(specifier);
+    const tables = this.tablesOf(specifier);
     const sources = tables ? (tables.re_export_all_nodes || []).map(([, source]) => source) : [];
     return sources.flatMap((it) => this.resolve(specifier, it) || []);
   }
 
   /** Whether another module exports all of a module again, which asks for its names. */
   isExportedAgain(/** @type {string} */ specifier) {
-    this.exportedAgain = this.exportedAgain || new Set([...this.tables.keys()].flatMap((it) => this.targets(it)));
+    this.exportedAgain = this.exportedAgain || new Set([...this.modules.keys()].flatMap((it) => this.targets(it)));
     return this.exportedAgain.has(specifier);
   }
 
@@ -570,7 +576,7 @@ class World {
    * come last: else a name that stands outside of a circle might be looked for round and round in it.
    */
   reExports(/** @type {string} */ specifier) {
-    const tables = this.tables.get(specifier);
+    const tables = this.tablesOf(specifier);
     const nodes = (tables && tables.re_export_all_nodes) || [];
     const back = (/** @type {[forms.Span, string]} */ it) => {
       const target = this.resolve(specifier, it[1]);
@@ -606,7 +612,7 @@ class World {
  */
 function tablesOf(/** @type {Module} */ module, /** @type {World} */ world) {
   const { specifier } = module;
-  const tables = /** @type {OwnTables} */ (world.tables.get(specifier));
+  const tables = /** @type {OwnTables} */ (world.tablesOf(specifier));
   const nodes = world.reExports(specifier);
   const names = world.isExportedAgain(specifier) ? [...world.names(specifier)] : [];
   return {
