@@ -5,6 +5,7 @@ const fs = require('fs');
 const path = require('path');
 const { candidateFiles, keepIn } = require('../compiler/find.js');
 const { makeFolder } = require('./files.js');
+const { folderFor } = require('../cli/kept-in.js');
 const { Offsets } = require('../tree/offsets.js');
 const { shapeOf } = require('../program/places.js');
 
@@ -292,20 +293,10 @@ class Kept {
   }
 }
 
-/**
- * The folder of entries between runs: $XDG_CACHE_HOME/fast-check-ts, else ~/.cache/fast-check-ts; null where neither is known.
- *
- * @param {Record<string, string | undefined>} environment
- */
-function folderFor({ XDG_CACHE_HOME: own, HOME: home }) {
-  if (own && path.isAbsolute(own)) return path.join(own, 'fast-check-ts');
-  return home && path.isAbsolute(home) ? path.join(home, '.cache', 'fast-check-ts') : null;
-}
-
 /** @type {string | null} */
 let toolHash = null;
 
-/** A hash of the sources of this tool, which change what is made though its version stays. Those that run were there when it is asked for first. */
+/** A hash of when the sources of this tool were written, which change what is made though its version stays. */
 function hashOfTool() {
   if (toolHash) return toolHash;
   /** @type {(folder: string) => string[]} */
@@ -313,10 +304,11 @@ function hashOfTool() {
     const name = path.join(folder, it.name);
     return it.isDirectory() ? below(name) : name.endsWith('.js') ? [name] : [];
   });
-  const names = below(path.resolve(__dirname, '..')).sort();
-  const hash = crypto.createHash('sha256');
-  for (const name of names) hash.update(`${name}\n`).update(/** @type {Uint8Array} */ (fs.readFileSync(name)));
-  toolHash = hash.digest('hex');
+  const stampOf = (/** @type {string} */ name) => {
+    const { mtimeMs, ctimeMs, size } = fs.statSync(name);
+    return `${name} ${mtimeMs} ${ctimeMs} ${size}`;
+  };
+  toolHash = hashOf(below(path.resolve(__dirname, '..')).sort().map(stampOf).join('\n'));
   return toolHash;
 }
 
