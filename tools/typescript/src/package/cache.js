@@ -241,7 +241,7 @@ class Kept {
   partsOf(/** @type {string} */ key) {
     const known = this.parts.get(key);
     const entry = known ? null : this.folder && this.folder.entry(key);
-    const parts = known ? known.parts : entry && new KeptParts(entry.head, entry.rest);
+    const parts = known ? known.parts : entry ? new KeptParts(entry.head, entry.rest) : null;
     if (parts) this.parts.set(key, { parts, round: this.round });
     return parts;
   }

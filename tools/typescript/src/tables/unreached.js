@@ -36,10 +36,9 @@ function reachedOf(/** @type {OwnTables} */ { module_symbol, symbols, swc_ids = 
 
 /** A member of a class that is not ambient; of a private one no more than its name and its words. */
 function bareMember(/** @type {forms.ClassMember} */ choice) {
-  const [variant, node] = variantOf(choice);
-  const isHidden = variant === 'PrivateMethod' || variant === 'PrivateProp' || ('key' in node && Boolean(node.key.Private));
+  const [[variant, node]] = Object.entries(choice);
+  const isHidden = variant === 'PrivateMethod' || variant === 'PrivateProp' || (variant === 'AutoAccessor' && Boolean(node.key.Private));
   if (variant === 'Constructor' || !(isHidden || node.accessibility === 'Private')) return choice;
-  /** @type {forms.Part} */
   const { value, type_ann, function: made, ...rest } = node;
   const bare = made ? { ...rest, function: { span: made.span, ...(made.body && { body: {} }) } } : rest;
   return /** @type {forms.ClassMember} */ ({ [variant]: bare });
@@ -63,9 +62,8 @@ function isUnreached(/** @type {forms.ModuleItem} */ { Stmt }, /** @type {Set<st
 
 /** The range of an item that declares something. */
 function rangeOf(/** @type {forms.ModuleItem} */ { Stmt }) {
-  /** @type {forms.Part} */
-  const node = variantOf(Stmt.Decl)[1];
-  return /** @type {forms.Span} */ (node.span || (node.class || node.function).span);
+  const node = /** @type {forms.Part} */ (variantOf(/** @type {forms.Decl} */ (Stmt && Stmt.Decl))[1]);
+  return /** @type {forms.Span} */ ((node.class || node.function || node).span);
 }
 
 /** Lists of comments without those in some ranges, which are in order. */
@@ -89,7 +87,7 @@ function withoutUnreached({ program, comments }, tables, isDeclaration) {
   const [body, gone] = [[false], [true]].map(([isGone]) => (own.body || []).filter((it) => isUnreached(it, unreached) === isGone));
   const ranges = gone.map(rangeOf);
   return {
-    program: { Module: { ...own, body: isDeclaration ? body : body.map(bareItem) } },
+    program: /** @type {forms.Program} */ ({ Module: { ...own, body: isDeclaration ? body : body.map(bareItem) } }),
     comments: { leading: commentsBeside(comments.leading, ranges), trailing: commentsBeside(comments.trailing, ranges) },
     tables: { ...tables, symbols: tables.symbols.filter(({ id }) => reached.has(id)), swc_ids: swc_ids.filter(([, number]) => reached.has(number)) },
   };
