@@ -26,7 +26,7 @@ const { roundTrip } = require('./roundtrip.js');
 const { writable } = require('../src/skeleton/reserved.js');
 const { printed } = require('../src/skeleton/write.js');
 const { parse, toTree } = require('../src/tree/index.js');
-const { ts } = require('../src/compiler/typescript.js');
+const { whole: ts } = require('../src/compiler/typescript.js');
 
 /** @typedef {import('../src/verify/types').SurfaceDifference} SurfaceDifference */
 /** @typedef {import('../src/program/types').RunContext} RunContext */

@@ -14,7 +14,7 @@ const { main } = require('../src/cli/main.js');
 const { inputOf } = require('../src/program/input.js');
 const { copied, entryOf, typed } = require('./judge.js');
 const { hasModifier } = require('../src/compiler/modifiers.js');
-const { ts } = require('../src/compiler/typescript.js');
+const { whole: ts } = require('../src/compiler/typescript.js');
 
 const MOST = 10;
 const { SyntaxKind: K } = ts;

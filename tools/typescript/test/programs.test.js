@@ -4,7 +4,7 @@ const childProcess = require('child_process');
 const fs = require('fs');
 const path = require('path');
 const { test } = require('node:test');
-const { ts } = require('../src/compiler/typescript.js');
+const { whole: ts } = require('../src/compiler/typescript.js');
 const { run, same, holds, withFolder, readOr, COMPILER, LAUNCHER, PACKAGES, DOCS, TOP } = require('./support/helpers.js');
 
 /** Programs in the place of fast check that fail in their ways. */

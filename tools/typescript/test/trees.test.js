@@ -90,7 +90,7 @@ function moduleOf(/** @type {string} */ specifier, text = '') {
 }
 
 function depsOf(/** @type {string} */ text, /** @type {string} */ name) {
-  const [symbol] = ownTables(moduleOf('file:///mod.ts', text)).symbols.filter((each) => each.maybe_name === name);
+  const [symbol] = ownTables(moduleOf('file:///mod.ts', text)).symbols.filter((each) => each.qualified_name === name);
   const nameOf = (/** @type {import('../src/tables/types').Dep} */ { Id, QualifiedId, ImportType }) => {
     if (Id) return Id[0];
     return QualifiedId ? [QualifiedId[0][0], ...QualifiedId[1]].join('.') : (ImportType || []).flat().join('.');
@@ -120,7 +120,7 @@ const DEPENDENCIES = [
 function circle() {
   const sources = { a: 'export * from "b"; export * from "c"; export default 1', b: 'export * from "a"', c: 'export const x = 1; export default 2' };
   const world = new World((_, text) => text);
-  for (const [specifier, text] of Object.entries(sources)) world.add(specifier, ownTables(moduleOf(specifier, text)));
+  for (const [specifier, text] of Object.entries(sources)) world.add(specifier, { tables: ownTables(moduleOf(specifier, text)) });
   const made = tablesOf(moduleOf('a'), world);
   check(JSON.stringify(made.resolved_exports) === '[["default","a"],["x","a"]]', JSON.stringify(made.resolved_exports));
   check((made.re_export_all_nodes || [])[0][1] === 'c', 'the one that leads back comes last');

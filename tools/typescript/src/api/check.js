@@ -55,11 +55,10 @@ function isAsked(/** @type {Set<string> | undefined} */ only, /** @type {{ cwd: 
  * @returns {Promise<number>}
  */
 async function singleReturnsOf(/** @type {World} */ world, /** @type {Options} */ options, /** @type {Context} */ context) {
-  const request = isCounted(options) ? withoutNamedReturns(world.request) : null;
-  if (!request) return 0;
+  if (!isCounted(options) || !world.info.modules.some(({ parts }) => parts && parts.marks.namesReturns)) return 0;
   const asked = (/** @type {Message[]} */ messages) => messages.filter(({ code }) => code === 'missing-explicit-return-type').map(({ file, start }) => `${file} ${start}`);
   const known = new Set(asked(world.messages));
-  const { messages } = part(await answersTo(request, options, context), world, context.cwd);
+  const { messages } = part(await answersTo(withoutNamedReturns(world.request), options, context, { ...world, name: 'named' }), world, context.cwd);
   return asked(messages).filter((each) => !known.has(each)).length;
 }
 

@@ -2,7 +2,10 @@
 // Which compiler is taken: that of the package, that of the variable TYPESCRIPT, or that of the system.
 const fs = require('fs');
 const path = require('path');
-const { requireCompiled } = require('./code-cache.js');
+const { compilerOf } = require('./code-cache.js');
+
+/** A compiler: `ts` has at least what reads files, and `whole()` is the same object with all else. */
+/** @typedef {{ ts: typeof ts, whole: () => typeof ts }} Compiler */
 
 const DEBIAN = '/usr/share/nodejs/typescript';
 // The folder whose own compiler comes first, and the one where compiled code is kept; null where none is.
@@ -43,10 +46,17 @@ function isThere(/** @type {string} */ name) {
   }
 }
 
+/** @type {Map<string, Compiler>} */
+const compilers = new Map();
+
+/** @returns {Compiler | null} */
 function loaded(/** @type {string} */ name) {
   try {
     const file = require.resolve(name);
-    return chosen.cache && fs.statSync(file).size > LARGE ? requireCompiled(file, chosen.cache) : require(file);
+    const small = fs.statSync(file).size > LARGE ? null : require(file);
+    const found = compilers.get(file) || (small ? { ts: small, whole: () => small } : compilerOf(file, chosen.cache));
+    compilers.set(file, found);
+    return found;
   } catch (error) {
     if (/** @type {NodeJS.ErrnoException} */ (error).code !== 'MODULE_NOT_FOUND') throw error;
     return null;
@@ -60,16 +70,20 @@ function refuseWrongVariable() {
   throw Object.assign(new Error(`there is no TypeScript in ${named}, which the variable TYPESCRIPT names`), { status: 2, code: NO_COMPILER });
 }
 
-/** The compiler, or an error that says how to get one. One of the package that does not serve is passed over. */
+/**
+ * The compiler, or an error that says how to get one. One of the package that does not serve is passed over.
+ *
+ * @returns {Compiler}
+ */
 function loadCompiler() {
   refuseWrongVariable();
   const own = chosen.own && loaded(chosen.own);
-  if (own && isUsable(own)) return own;
+  if (own && isUsable(own.ts)) return own;
   const found = [process.env.TYPESCRIPT || [], 'typescript', DEBIAN].flat().find(isThere);
-  const ts = found === undefined ? null : loaded(found);
-  const lacks = !ts ? 'TypeScript is missing' : !isUsable(ts) ? `TypeScript ${ts.version} does not serve: 4.8 or newer is needed` : null;
-  if (lacks) throw Object.assign(new Error(`${lacks}; on Debian: apt-get install -y node-typescript`), { status: 2, code: NO_COMPILER });
-  return ts;
+  const compiler = found === undefined ? null : loaded(found);
+  if (compiler && isUsable(compiler.ts)) return compiler;
+  const lacks = compiler ? `TypeScript ${compiler.ts.version} does not serve: 4.8 or newer is needed` : 'TypeScript is missing';
+  throw Object.assign(new Error(`${lacks}; on Debian: apt-get install -y node-typescript`), { status: 2, code: NO_COMPILER });
 }
 
 /** The files of the compilers that are there, in the order in which they are looked at. */

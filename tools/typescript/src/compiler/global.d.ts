@@ -20,6 +20,7 @@ declare module 'typescript' {
     resolveName?(name: string, location: Node, meaning: SymbolFlags, excludeGlobals: boolean): Symbol | undefined;
   }
   function skipTrivia(text: string, position: number): number;
+  function getTokenPosOfNode(node: Node, sourceFile?: SourceFileLike, includeJsDoc?: boolean): number;
   function matchFiles(
     path: string, extensions: readonly string[] | undefined, excludes: readonly string[] | undefined, includes: readonly string[] | undefined,
     useCaseSensitiveFileNames: boolean, currentDirectory: string, depth: number | undefined,

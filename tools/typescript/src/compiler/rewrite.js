@@ -1,7 +1,7 @@
 'use strict';
 // Nodes of the compiler that are made from others.
 
-const { ts } = require('./typescript.js');
+const { whole: ts } = require('./typescript.js');
 
 // The compiler keeps the names of functions that it visits, and fails at a getter in a return type, which it takes for one within another's parameters.
 const NO_NAMES = {

@@ -3,7 +3,7 @@
 // methods as properties, of which the compiler compares parameters strictly.
 const { rewritten } = require('../compiler/rewrite.js');
 const { hasModifier, modifiersOf } = require('../compiler/modifiers.js');
-const { ts } = require('../compiler/typescript.js');
+const { whole: ts } = require('../compiler/typescript.js');
 
 const { SyntaxKind: K, factory } = ts;
 const PRINTER = ts.createPrinter({ removeComments: true });

@@ -8,7 +8,7 @@ const { Externals, importsOf, mentionedIn } = require('./externals.js');
 const { declarationName, emitted, programOf, resolverOf } = require('../verify/surface.js');
 const { Narrowing, abstraction } = require('./narrowing.js');
 const { hasModifier } = require('../compiler/modifiers.js');
-const { ts } = require('../compiler/typescript.js');
+const { whole: ts } = require('../compiler/typescript.js');
 
 /** @typedef {import('./types').ComparedNames} ComparedNames */
 /** @typedef {import('../program/types').World} World */

@@ -2,7 +2,7 @@
 // What stands for the packages outside of two versions that are compared: a module for each, in which every name that the versions mention is a class that is like
 // no other. So a type of another package is the same as itself, and as nothing else.
 const { moduleName } = require('./module-name.js');
-const { ts } = require('../compiler/typescript.js');
+const { whole: ts } = require('../compiler/typescript.js');
 
 const { SyntaxKind: K } = ts;
 

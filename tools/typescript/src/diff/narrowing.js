@@ -2,7 +2,7 @@
 // What users may do with one version of a value or a type and no longer with another, which assignability passes over: give as many arguments, write a property,
 // leave a member out of a subclass.
 const { hasModifier } = require('../compiler/modifiers.js');
-const { ts } = require('../compiler/typescript.js');
+const { whole: ts } = require('../compiler/typescript.js');
 
 const { SyntaxKind: K } = ts;
 // How deep properties are looked into.

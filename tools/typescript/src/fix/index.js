@@ -10,7 +10,7 @@ const { Projects } = require('../package/tsconfig.js');
 const { NotFixed, TypeWriter, applied, editsFor, importEdits } = require('./type-writer.js');
 const { Naming } = require('./naming.js');
 const { Surroundings } = require('../package/surroundings.js');
-const { ts } = require('../compiler/typescript.js');
+const { whole: ts } = require('../compiler/typescript.js');
 const { resolver } = require('../skeleton/modules.js');
 
 /** @typedef {import('../messages/types').Message} Message */

@@ -4,7 +4,7 @@ const { builtinModules } = require('module');
 const path = require('path');
 const { isInside } = require('../package/files.js');
 const { RELATIVE } = require('../package/resolve.js');
-const { ts } = require('../compiler/typescript.js');
+const { whole: ts } = require('../compiler/typescript.js');
 
 /** @typedef {import('../program/types').World} World */
 

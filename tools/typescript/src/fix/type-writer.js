@@ -3,7 +3,7 @@
 
 const { rewritten } = require('../compiler/rewrite.js');
 const { modifiersOf } = require('../compiler/modifiers.js');
-const { ts } = require('../compiler/typescript.js');
+const { whole: ts } = require('../compiler/typescript.js');
 
 /** @typedef {import('./types').Edit} Edit */
 /** @typedef {import('./types').Imported} Imported */

@@ -5,8 +5,9 @@ const fs = require('fs');
 const path = require('path');
 const { candidateFiles, keepIn } = require('../compiler/find.js');
 const { makeFolder } = require('./files.js');
+const { folderFor } = require('../cli/kept-in.js');
 const { Offsets } = require('../tree/offsets.js');
-const { JsonText } = require('../program/request.js');
+const { shapeOf } = require('../program/places.js');
 
 /** @typedef {import('./types').Module} Module */
 /** @typedef {import('./types').Parts} Parts */
@@ -19,17 +20,59 @@ const SETTLED = 100;
 const DAY = 86400000;
 const LONGEST = 30 * DAY;
 
+// What ends a line of an entry.
+const NEWLINE = 10;
+
 // How many rounds what is not asked for stays in memory, as while a configuration is broken.
 const ROUNDS = 10;
 
 const hashOf = (/** @type {string | Buffer} */ data) => crypto.createHash('sha256').update(/** @type {string} */ (data)).digest('hex');
+// What only says whether an entry is damaged, in a third of the time.
+const checkOf = (/** @type {Buffer} */ data) => crypto.createHash('md5').update(/** @type {Uint8Array} */ (data)).digest('hex');
+
+/** The parts of a module in an entry: its source and its tables are read where they are asked for. */
+class KeptParts {
+  constructor(/** @type {Omit<Parts, 'source' | 'tables'> & { length: number }} */ head, /** @type {Buffer} */ rest) {
+    this.sources = head.sources;
+    this.hasEffects = head.hasEffects;
+    this.marks = head.marks;
+    this.shape = head.shape;
+    this.length = head.length;
+    this.rest = rest;
+    /** @type {import('../tables/types').OwnTables | null} */
+    this.read = null;
+  }
+
+  get source() {
+    return this.rest.toString('utf8', 0, this.length);
+  }
+
+  /** @returns {import('../tables/types').OwnTables} */
+  get tables() {
+    this.read = this.read || JSON.parse(this.rest.toString('utf8', this.length));
+    return /** @type {import('../tables/types').OwnTables} */ (this.read);
+  }
+}
+
+/** What is known of a module whose parts are kept. */
+class KeptModule {
+  constructor(/** @type {string} */ text, /** @type {Parts} */ parts, /** @type {string} */ key) {
+    this.parts = parts;
+    this.key = key;
+    this.tree = new KeptTree(text, parts);
+  }
+
+  get hasEffects() {
+    return this.parts.hasEffects;
+  }
+}
 
 /** The tree of a module whose parts are kept: read from them where it is asked for. */
 class KeptTree {
-  constructor(/** @type {string} */ text, /** @type {Parts} */ { source, sources }) {
+  constructor(/** @type {string} */ text, /** @type {Parts} */ parts) {
     this.text = text;
-    this.source = source;
-    this.sources = sources;
+    this.parts = parts;
+    this.sources = parts.sources;
     /** @type {import('../tree/types').TreeError[]} */
     this.errors = [];
     /** @type {import('../tree/types').TreeFault[]} */
@@ -40,7 +83,7 @@ class KeptTree {
 
   /** @returns {import('../program/types').Source} */
   get whole() {
-    this.read = this.read || JSON.parse(this.source);
+    this.read = this.read || JSON.parse(this.parts.source);
     return /** @type {import('../program/types').Source} */ (this.read);
   }
 
@@ -61,7 +104,7 @@ class KeptTree {
   }
 }
 
-/** A folder of entries by their keys. Each is a line with the hash of what follows. What is damaged is dropped. */
+/** A folder of entries by their keys. Each is a line with a checksum of what follows, a line of JSON, and maybe a text. What is damaged is dropped. */
 class Folder {
   constructor(/** @type {string} */ folder) {
     this.folder = folder;
@@ -72,15 +115,16 @@ class Folder {
     return path.join(this.folder, key.slice(0, 2), key.slice(2));
   }
 
-  get(/** @type {string} */ key) {
+  /** What an entry has as JSON, and what stands behind it; null where there is none. */
+  entry(/** @type {string} */ key) {
     const file = this.fileOf(key);
     try {
       const bytes = fs.readFileSync(file);
-      const at = bytes.indexOf('\n');
-      const kept = bytes.subarray(at + 1);
-      if (bytes.toString('latin1', 0, at) === hashOf(kept)) {
+      const at = bytes.indexOf(NEWLINE);
+      const end = bytes.indexOf(NEWLINE, at + 1);
+      if (end >= 0 && bytes.toString('latin1', 0, at) === checkOf(bytes.subarray(at + 1))) {
         if (Date.now() - fs.statSync(file).mtimeMs > DAY) fs.utimesSync(file, new Date(), new Date());
-        return JSON.parse(kept.toString());
+        return { head: JSON.parse(bytes.toString('utf8', at + 1, end)), rest: bytes.subarray(end + 1) };
       }
       this.remove(file);
     } catch {
@@ -89,15 +133,20 @@ class Folder {
     return null;
   }
 
+  get(/** @type {string} */ key) {
+    const found = this.entry(key);
+    return found && found.head;
+  }
+
   /** Writes an entry beside its place and moves it there, so that another run reads it whole or not at all. Where that fails, nothing more is written. */
-  put(/** @type {string} */ key, /** @type {object} */ parts) {
+  put(/** @type {string} */ key, /** @type {object} */ head, rest = '') {
     if (!this.isWritable) return;
     const file = this.fileOf(key);
     const beside = `${file}.${process.pid}`;
-    const text = JSON.stringify(parts);
+    const bytes = Buffer.from(`${JSON.stringify(head)}\n${rest}`);
     try {
       makeFolder(path.dirname(file));
-      fs.writeFileSync(beside, `${hashOf(text)}\n${text}`, { mode: 0o600 });
+      fs.writeFileSync(beside, /** @type {Uint8Array} */ (Buffer.concat(/** @type {Uint8Array[]} */ ([Buffer.from(`${checkOf(bytes)}\n`), bytes]))), { mode: 0o600 });
       fs.renameSync(beside, file);
     } catch {
       this.isWritable = false;
@@ -185,17 +234,23 @@ class Kept {
   }
 
   /**
-   * The parts of a module, or null where none are kept.
+   * The parts of a key, or null where none are kept.
    *
    * @returns {Parts | null}
    */
+  partsOf(/** @type {string} */ key) {
+    const known = this.parts.get(key);
+    const entry = known ? null : this.folder && this.folder.entry(key);
+    const parts = known ? known.parts : entry ? new KeptParts(entry.head, entry.rest) : null;
+    if (parts) this.parts.set(key, { parts, round: this.round });
+    return parts;
+  }
+
+  /** A module of kept parts, or null where none are kept. */
   find(/** @type {string} */ mediaType, /** @type {string} */ text) {
     const key = this.keyOf(mediaType, text);
-    const known = this.parts.get(key);
-    const parts = known ? known.parts : this.folder && this.folder.get(key);
-    if (!parts) return null;
-    this.parts.set(key, { parts, round: this.round });
-    return parts;
+    const parts = this.partsOf(key);
+    return parts && new KeptModule(text, parts, key);
   }
 
   /**
@@ -214,37 +269,34 @@ class Kept {
     if (this.folder) this.folder.put(this.keyOf('answers', root), answers);
   }
 
-  /** A module of kept parts. */
-  static module(/** @type {string} */ text, /** @type {Parts} */ parts) {
-    const tree = new KeptTree(text, parts);
-    return { tree, source: new JsonText(parts.source), tables: parts.tables, hasEffects: parts.hasEffects };
+  /** The last answer that is kept under a name, or null. */
+  lastOf(/** @type {string} */ name) {
+    return this.folder && this.folder.entry(this.keyOf('last', name));
+  }
+
+  putLast(/** @type {string} */ name, /** @type {object} */ head, /** @type {string} */ line) {
+    if (this.folder) this.folder.put(this.keyOf('last', name), head, line);
   }
 
   /** Keeps the parts of a module that was made and is right. */
-  put(/** @type {Module} */ { mediaType, text, tree, source, tables, hasEffects }) {
-    if (!source || !tables) return;
-    const parts = { source: source.text, sources: tree.sources, tables, hasEffects };
+  put(/** @type {Module} */ module) {
+    const { mediaType, text, parts } = module;
+    if (!parts) return;
     const key = this.keyOf(mediaType, text);
     this.made += 1;
+    module.key = key;
     this.parts.set(key, { parts, round: this.round });
-    if (this.folder) this.folder.put(key, parts);
+    if (!this.folder) return;
+    parts.shape = shapeOf(parts);
+    const { source, tables, ...head } = parts;
+    this.folder.put(key, { ...head, length: Buffer.byteLength(source) }, source + JSON.stringify(tables));
   }
-}
-
-/**
- * The folder of entries between runs: $XDG_CACHE_HOME/fast-check-ts, else ~/.cache/fast-check-ts; null where neither is known.
- *
- * @param {Record<string, string | undefined>} environment
- */
-function folderFor({ XDG_CACHE_HOME: own, HOME: home }) {
-  if (own && path.isAbsolute(own)) return path.join(own, 'fast-check-ts');
-  return home && path.isAbsolute(home) ? path.join(home, '.cache', 'fast-check-ts') : null;
 }
 
 /** @type {string | null} */
 let toolHash = null;
 
-/** A hash of the sources of this tool, which change what is made though its version stays. Those that run were there when it is asked for first. */
+/** A hash of when the sources of this tool were written, which change what is made though its version stays. */
 function hashOfTool() {
   if (toolHash) return toolHash;
   /** @type {(folder: string) => string[]} */
@@ -252,10 +304,11 @@ function hashOfTool() {
     const name = path.join(folder, it.name);
     return it.isDirectory() ? below(name) : name.endsWith('.js') ? [name] : [];
   });
-  const names = below(path.resolve(__dirname, '..')).sort();
-  const hash = crypto.createHash('sha256');
-  for (const name of names) hash.update(`${name}\n`).update(/** @type {Uint8Array} */ (fs.readFileSync(name)));
-  toolHash = hash.digest('hex');
+  const stampOf = (/** @type {string} */ name) => {
+    const { mtimeMs, ctimeMs, size } = fs.statSync(name);
+    return `${name} ${mtimeMs} ${ctimeMs} ${size}`;
+  };
+  toolHash = hashOf(below(path.resolve(__dirname, '..')).sort().map(stampOf).join('\n'));
   return toolHash;
 }
 

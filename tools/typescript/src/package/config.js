@@ -68,7 +68,7 @@ function readConfig(/** @type {string} */ file, /** @type {Files} */ files, /** 
   };
   if (wrong >= 0) return refuse(wrong, 'the file is no UTF-8 from here on');
   if (!config || typeof config !== 'object' || Array.isArray(config) || text.trimStart().startsWith('[')) return refuse(0, 'this is no object');
-  if (error) return refuse(error.start || 0, typescript.ts.flattenDiagnosticMessageText(error.messageText, ' '));
+  if (error) return refuse(error.start || 0, typescript.textOf(error.messageText));
   const unfit = WANTED.find(([name, , isRight]) => config[name] !== undefined && !isRight(config[name]));
   if (!unfit) return config;
   const [key, wanted] = unfit;
@@ -117,7 +117,7 @@ function placeOfPath(/** @type {string} */ file, /** @type {string} */ text, /**
   const members = root && ts.isObjectLiteralExpression(root) ? root.properties.flatMap((it) => (ts.isPropertyAssignment(it) ? it : [])) : [];
   const entries = members.filter(({ name }) => ts.isStringLiteral(name) && NAMING_ENTRIES.has(name.text));
   /** @type {(node: ts.Node) => number | undefined} */
-  const find = (node) => (ts.isStringLiteral(node) && node.text === wanted ? node.getStart(source) : ts.forEachChild(node, find));
+  const find = (node) => (ts.isStringLiteral(node) && node.text === wanted ? ts.getTokenPosOfNode(node, source) : ts.forEachChild(node, find));
   return entries.map((it) => find(it.initializer)).find((it) => it !== undefined);
 }
 

@@ -9,7 +9,6 @@ const { internalText, isKnown, isTooDeep } = require('../cli/exit.js');
 const { writeExports } = require('../tables/ambient.js');
 const { hasEffects } = require('../skeleton/effects.js');
 const { NO_COMPILER } = require('../compiler/find.js');
-const { Kept } = require('./cache.js');
 const { placeAt } = require('../tree/lines.js');
 const { Lookup, RELATIVE, Resolver, SCHEME, packageName } = require('./resolve.js');
 const { Projects } = require('./tsconfig.js');
@@ -124,9 +123,8 @@ class Reader {
 
   readModule(/** @type {string} */ file, /** @type {MediaType} */ mediaType, /** @type {string} */ text) {
     const specifier = urlOf(this.root, file);
-    const kept = this.options.kept && this.options.kept.find(mediaType, text);
-    const made = kept ? Kept.module(text, kept) : this.parsed(file, mediaType, text);
-    const module = { specifier, path: file, mediaType, text, isDeclaration: isDeclarationFile(mediaType), ...made };
+    const made = (this.options.kept && this.options.kept.find(mediaType, text)) || this.parsed(file, mediaType, text);
+    const module = Object.assign(made, { specifier, path: file, mediaType, text, isDeclaration: isDeclarationFile(mediaType) });
     this.modules.set(specifier, module);
     for (const it of module.tree.sources || []) this.follow(module, it);
     if (this.options.onModule) this.options.onModule(path.relative(this.root, file), this.modules.size);

@@ -9,7 +9,7 @@ const { Files, isInside, isJavaScript, mediaTypeOf } = require('./files.js');
 const { resolverOf } = require('./read.js');
 const { RELATIVE } = require('./resolve.js');
 const { resolvedModule } = require('../compiler/resolve.js');
-const { ts } = require('../compiler/typescript.js');
+const { whole: ts } = require('../compiler/typescript.js');
 
 // Where Debian's Node finds packages beside those of the variable NODE_PATH.
 const SYSTEM = ['/usr/share/nodejs', '/usr/lib/nodejs'];

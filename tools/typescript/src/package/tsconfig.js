@@ -183,7 +183,6 @@ class Projects {
    * @returns {[string, string][]}
    */
   written(/** @type {string} */ file) {
-    const { ts } = typescript;
     const folder = path.dirname(file);
     const { options: parsed, fileNames } = this.parsed(this.object(file) || {}, file, true);
     const options = withFolder(parsed, folder);
@@ -195,7 +194,7 @@ class Projects {
     const roots = options.rootDir ? [options.rootDir] : [commonFolder(sources), ...own];
     const written = (/** @type {string} */ source, /** @type {string | undefined} */ rootDir) => {
       const asked = { options: { ...options, rootDir, declaration: true, noEmit: false }, fileNames: [source], errors: [] };
-      return ts.getOutputFileNames(asked, source, false).map((each) => /** @type {[string, string]} */ ([path.resolve(each), source]));
+      return typescript.whole.getOutputFileNames(asked, source, false).map((each) => /** @type {[string, string]} */ ([path.resolve(each), source]));
     };
     return roots.flatMap((root) => sources.flatMap((source) => written(source, root))).filter(([each, source]) => each !== source && this.files.isBelow(each));
   }

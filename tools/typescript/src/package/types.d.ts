@@ -1,4 +1,3 @@
-import { JsonText } from '../program/request.js';
 import { OwnTables } from '../tables/types';
 import { Tree } from '../tree/types';
 import { Answers } from './answers.js';
@@ -115,8 +114,10 @@ export interface Module extends Script {
   isDeclaration: boolean;
   tree: Tree;
   hasEffects: boolean;
-  tables?: OwnTables;
-  source?: JsonText;
+  /** What it is sent by, where it was made or is kept. */
+  parts?: Parts;
+  /** Under what its parts are kept. */
+  key?: string;
   sourceFile?: ts.SourceFile;
 }
 
@@ -221,4 +222,8 @@ export interface Parts {
   sources?: import('../tree/types').TreeSource[];
   tables: OwnTables;
   hasEffects: boolean;
+  /** Whether a body may name its return type, and whether a name has a mark that is taken away again. */
+  marks: { namesReturns: boolean; isMarked: boolean };
+  /** What it is but for its places, where it is kept between runs. */
+  shape?: string;
 }

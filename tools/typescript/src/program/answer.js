@@ -2,12 +2,15 @@
 // From a folder to what the program answers of it: skeletons by module, or messages with their places.
 const fs = require('fs');
 const path = require('path');
-const { build } = require('./run.js');
+const { lineOf } = require('./run.js');
 const { INTERNAL } = require('../cli/exit.js');
 const { NEWEST } = require('../cli/installed.js');
 const { isInside, readText } = require('../package/files.js');
 const { hintOf } = require('../messages/hints.js');
+const { answersOf } = require('./answers.js');
 const { inputOf } = require('./input.js');
+const { LastAnswer } = require('./last-answer.js');
+const { restored } = require('../skeleton/restored.js');
 const { Lines } = require('../tree/lines.js');
 const { withTreesOf } = require('./request.js');
 const { variantOf } = require('../tree/walk.js');
@@ -259,15 +262,22 @@ function withoutFaulty(/** @type {Pick<World, 'info' | 'files' | 'skeletons'>} *
 }
 
 /**
- * What the program answers to a request.
+ * What the program answers to a request, or answered to one of the same shape, where the request is that of a folder, or made of it for a purpose that has a name.
  *
  * @param {Request} request
  * @param {import('../cli/types').Options} options
  * @param {RunContext} context
+ * @param {{ dir: string, info: Info, name: string | null }} of
  */
-function answersTo(request, { unproved }, { progress, environment, isCommand, signal }) {
+async function answersTo(request, { unproved, kept }, { progress, environment, isCommand, signal }, { dir, info, name }) {
+  if (signal && signal.aborted) throw signal.reason;
+  const last = name === null ? null : LastAnswer.of({ dir, info, name }, request, kept, environment);
+  const known = last && last.answers();
+  if (known) return restored(known, request, info.modules);
   const tell = (/** @type {string} */ line) => progress.line(line);
-  return progress.during('the program is at work', build(request, { unproved, environment, tell, isCommand, signal }));
+  const line = await progress.during('the program is at work', lineOf(request, { unproved, environment, tell, isCommand, signal }));
+  if (last) last.keep(line);
+  return restored(answersOf(line), request, info.modules);
 }
 
 /** The specifiers of some files. */
@@ -289,8 +299,8 @@ async function analyse(dir, options, context) {
   const reading = context.reading || ((call) => call());
   const world = reading(() => read(dir, options, context));
   if (options.treesOf && world.request) world.request = withTreesOf(world.request, specifiersOf(world, options.treesOf));
-  const ask = (/** @type {Request} */ request) => answersTo(request, options, context);
-  const answers = await ask(world.request);
+  const ask = (/** @type {Request} */ request, /** @type {string | null} */ name = null) => answersTo(request, options, context, { ...world, name });
+  const answers = await ask(world.request, options.treesOf ? null : 'all');
   const { skeletons, messages } = part(answers, world, cwd);
   const told = skeletonMessages({ ...world, skeletons }, (/** @type {string} */ file) => shownName(file, cwd));
   const [warnings, errors] = [true, false].map((isWarning) => told.filter(({ level }) => (level === 'Warning') === isWarning));

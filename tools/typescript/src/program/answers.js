@@ -3,26 +3,43 @@
 
 /** @typedef {import('./types').Answer} Answer */
 /** @typedef {import('./types').Skeleton} Skeleton */
+/** @typedef {import('./types').AnswerAt} AnswerAt */
+/** @typedef {import('./types').Traits} Traits */
+/** @typedef {<T>(answer: T) => T} Mover puts places in the stead of others */
 
 // How an answer begins: no list within a skeleton or a diagnostic has a text and an object behind each other, and no text has an unescaped quotation mark.
 const BEGINNING = /\["(?:[^"\\]|\\.)*",\{"(Ok|Err)":/g;
 
+// What a skeleton may have, by its JSON: a value that stays, of a variable, a member, a property or a parameter; a reference to a type that the program wrote; a value
+// that is the default export.
+const VALUE = /"(?:init|value|right)":[{[]/;
+const MADE = /"TsTypeRef":\{"span":\[0,/;
+const DEFAULT = /"ExportDefaultExpr":/;
+
+/** @returns {Traits} */
+function traitsIn(/** @type {string} */ text) {
+  return { mayKeepValue: VALUE.test(text), mayHaveMade: MADE.test(text), mayHaveDefault: DEFAULT.test(text) };
+}
+
 /**
- * The texts of skeletons that were answered.
+ * What skeletons that were answered may have.
  *
- * @type {WeakMap<Skeleton, string>}
+ * @type {WeakMap<Skeleton, Traits>}
  */
-const texts = new WeakMap();
+const traits = new WeakMap();
+
+/** @type {Mover} */
+const asItIs = (answer) => answer;
 
 /** @returns {Skeleton} */
-function skeletonOf(/** @type {string} */ text) {
+function skeletonOf(/** @type {() => string} */ textOf, /** @type {Mover} */ move) {
   /** @type {Skeleton | null} */
   let read = null;
   const whole = () => {
-    read = read || /** @type {Skeleton} */ (JSON.parse(text));
+    read = read || move(/** @type {Skeleton} */ (JSON.parse(textOf())));
     return read;
   };
-  const skeleton = {
+  return {
     get program() {
       return whole().program;
     },
@@ -33,8 +50,44 @@ function skeletonOf(/** @type {string} */ text) {
       return whole().module_info;
     },
   };
-  texts.set(skeleton, text);
-  return skeleton;
+}
+
+/**
+ * Where the answers of a line of the program stand in it; null where the line is not as it is written here.
+ *
+ * @returns {AnswerAt[] | null}
+ */
+function answersIn(/** @type {string} */ line) {
+  const found = [...line.matchAll(BEGINNING)].map(({ index = 0, 0: head, 1: word }) => ({ index, start: index + head.length, word }));
+  if (!found.length || found[0].index !== 1 || !line.endsWith('}]]')) return null;
+  return found.map(({ index, start, word }, at) => {
+    // Behind an answer stand the brackets of its pair, and a comma or the bracket of the list.
+    const end = (at + 1 < found.length ? found[at + 1].index : line.length) - '}],'.length;
+    const specifier = JSON.parse(line.slice(index + 1, start - `,{"${word}":`.length));
+    return { specifier, start, end, traits: word === 'Ok' ? traitsIn(line.slice(start, end)) : null };
+  });
+}
+
+/**
+ * The answers that stand in a line, with other places of some modules.
+ *
+ * @param {AnswerAt[]} all
+ * @param {() => string} lineOf
+ * @param {Map<string, Mover>} movers
+ * @returns {Answer[]}
+ */
+function answersAt(all, lineOf, movers = new Map()) {
+  const moverOf = (/** @type {string} */ specifier) => movers.get(specifier) || asItIs;
+  return all.map(({ specifier, start, end, traits: found }) => {
+    const textOf = () => lineOf().slice(start, end);
+    if (found) {
+      const skeleton = skeletonOf(textOf, moverOf(specifier));
+      traits.set(skeleton, found);
+      return [specifier, { Ok: skeleton }];
+    }
+    const list = /** @type {import('./types').Diagnostic[]} */ (JSON.parse(textOf()));
+    return [specifier, { Err: list.map((it) => ({ ...it, range: moverOf(it.specifier)(it.range) })) }];
+  });
 }
 
 /**
@@ -43,29 +96,13 @@ function skeletonOf(/** @type {string} */ text) {
  * @returns {Answer[]}
  */
 function answersOf(/** @type {string} */ line) {
-  const all = line.trimEnd();
-  const found = [...all.matchAll(BEGINNING)].map(({ index = 0, 0: head, 1: word }) => ({ index, start: index + head.length, word }));
-  if (!found.length || found[0].index !== 1 || !all.endsWith('}]]')) return JSON.parse(all);
-  return found.map(({ index, start, word }, at) => {
-    // Behind an answer stand the brackets of its pair, and a comma or the bracket of the list.
-    const text = all.slice(start, (at + 1 < found.length ? found[at + 1].index : all.length) - '}],'.length);
-    const specifier = JSON.parse(all.slice(index + 1, start - `,{"${word}":`.length));
-    return [specifier, word === 'Ok' ? { Ok: skeletonOf(text) } : { Err: JSON.parse(text) }];
-  });
+  const all = answersIn(line);
+  return all ? answersAt(all, () => line) : JSON.parse(line);
 }
 
-/** Whether a skeleton may have what a pattern finds in its JSON, where that is known. */
-function mayHave(/** @type {Skeleton} */ skeleton, /** @type {RegExp} */ pattern) {
-  const text = texts.get(skeleton);
-  return text === undefined || pattern.test(text);
+/** What a skeleton may have: of one that was not answered, all. */
+function traitsOf(/** @type {Skeleton} */ skeleton) {
+  return traits.get(skeleton) || { mayKeepValue: true, mayHaveMade: true, mayHaveDefault: true };
 }
 
-// A value that stays, in the JSON of a skeleton: of a variable, a member, a property or a parameter.
-const VALUE = /"(?:init|value|right)":[{[]/;
-
-/** Whether a skeleton may keep a value. */
-function mayKeepValue(/** @type {Skeleton} */ skeleton) {
-  return mayHave(skeleton, VALUE);
-}
-
-module.exports = { answersOf, mayHave, mayKeepValue };
+module.exports = { answersAt, answersIn, answersOf, traitsOf };

@@ -3,11 +3,13 @@
 
 const { placeAt } = require('../tree/lines.js');
 const { readPackage } = require('../package/read.js');
-const { JsonText } = require('./request.js');
+const { JsonText, withModules } = require('./request.js');
+const { isMarked } = require('../skeleton/restored.js');
+const { namesReturns } = require('../tables/asserted-types.js');
 const { ownTables, jsonTables, tablesOf, World } = require('../tables/symbols.js');
+const { withoutUnreached } = require('../tables/unreached.js');
 
 /** @typedef {import('../package/types').ReadOptions} ReadOptions */
-/** @typedef {import('../package/cache.js').Kept} Kept */
 /** @typedef {import('../package/types').Found} Found */
 /** @typedef {import('../package/types').Script} Script */
 /** @typedef {import('../package/types').Module} Module */
@@ -71,40 +73,43 @@ function readable(/** @type {Found} */ found) {
  * Makes what the program is handed of a module: its source as JSON, without the text, which no rule looks at, and its tables. One that the program does not read
  * is an error.
  */
-function complete(/** @type {Module} */ module, /** @type {Found} */ found, /** @type {Kept | null | undefined} */ kept) {
-  const { program, comments, unresolvedContext } = module.tree;
-  const tables = ownTables(module);
-  module.tables = tables;
-  module.source = new JsonText(JSON.stringify({ media_type: module.mediaType, text: '', program, comments, unresolved_context: unresolvedContext }));
-  const span = program && tooDeep(program);
+function complete(/** @type {Module} */ module, /** @type {Found} */ found, /** @type {ReadOptions} */ { kept, short = true }) {
+  const { unresolvedContext } = module.tree;
+  const span = module.tree.program && tooDeep(module.tree.program);
+  const all = { ...module.tree, tables: ownTables(module) };
+  const { program, comments, tables } = short ? withoutUnreached(all, all.tables, module.isDeclaration) : all;
+  module.tree = { ...module.tree, program, comments };
+  const source = JSON.stringify({ media_type: module.mediaType, text: '', program, comments, unresolved_context: unresolvedContext });
+  const { hasEffects, tree: { sources } } = module;
+  module.parts = { source, sources, tables, hasEffects, marks: { namesReturns: namesReturns(source), isMarked: isMarked(source) } };
   if (span) found.errors.push(deepError(module, span));
   else if (kept && !module.tree.faults.length) kept.put(module);
 }
 
 /** The tables of all modules that have some. A module whose tables cannot be made, or that the program does not read, is an error. */
-function tablesOfAll(/** @type {Found} */ found, /** @type {Kept | null | undefined} */ kept) {
+function tablesOfAll(/** @type {Found} */ found, /** @type {ReadOptions} */ options) {
   const targets = new Map(found.resolutions.map(([from, text, to]) => [`${from}\n${text}`, to]));
   const world = new World((from, text) => targets.get(`${from}\n${text}`));
   for (const it of found.modules) {
     try {
-      if (!it.source) complete(it, found, kept);
-      if (it.tables) world.add(it.specifier, it.tables);
+      if (!it.parts) complete(it, found, options);
+      if (it.parts) world.add(it.specifier, it.parts);
     } catch (error) {
       found.caught(it.path, error);
     }
   }
-  for (const it of found.jsonModules) world.add(it.specifier, jsonTables(Buffer.byteLength(it.text)));
+  for (const it of found.jsonModules) world.add(it.specifier, { tables: jsonTables(Buffer.byteLength(it.text)) });
   return world;
 }
 
 /** @returns {import('./types').RequestModule} */
 function moduleInput(/** @type {Module} */ module, /** @type {World} */ world) {
-  return [module.specifier, { Esm: { specifier: module.specifier, source: /** @type {JsonText} */ (module.source), ...tablesOf(module, world) } }];
+  return [module.specifier, { Esm: { specifier: module.specifier, source: new JsonText(/** @type {import('../package/types').Parts} */ (module.parts).source), ...tablesOf(module, world) } }];
 }
 
 /** @returns {import('./types').RequestModule} */
 function jsonInput(/** @type {string} */ specifier, /** @type {World} */ world) {
-  return [specifier, { Json: { specifier, .../** @type {import('../tables/types').OwnTables} */ (world.tables.get(specifier)) } }];
+  return [specifier, { Json: { specifier, .../** @type {import('../tables/types').OwnTables} */ (world.tablesOf(specifier)) } }];
 }
 
 function graphOf(/** @type {Found} */ found) {
@@ -124,23 +129,21 @@ function graphOf(/** @type {Found} */ found) {
 /** @returns {import('./types').Request} */
 function requestOf(/** @type {Found} */ found, /** @type {World} */ world) {
   const packages = [...found.packages].sort((a, b) => b.url.length - a.url.length);
-  return {
+  const modules = () => [...found.modules.map((it) => moduleInput(it, world)), ...found.jsonModules.map((it) => jsonInput(it.specifier, world))];
+  const others = {
     graph: graphOf(found),
-    modules: [
-      ...found.modules.map((it) => moduleInput(it, world)),
-      ...found.jsonModules.map((it) => jsonInput(it.specifier, world)),
-    ],
     aliases: [],
     workspace_members: packages.map((it) => ({ name: it.name, version: it.version, base: it.url, exports: it.exports })),
     provider: { packages: [], fallback: 'https://package.test/' },
     pending: found.packages.map((it) => `${it.name}@${it.version}`),
     first: false,
   };
+  return withModules(others, modules);
 }
 
 /** The request of what can be read, or null where that is no package. Making the tables may find further errors. */
-function readableRequest(/** @type {Found} */ found, /** @type {Kept | null | undefined} */ kept) {
-  const world = tablesOfAll(readable(found), kept);
+function readableRequest(/** @type {Found} */ found, /** @type {ReadOptions} */ options) {
+  const world = tablesOfAll(readable(found), options);
   const now = readable(found);
   return now.packages.length ? requestOf(now, world) : null;
 }
@@ -156,7 +159,7 @@ function readableRequest(/** @type {Found} */ found, /** @type {Kept | null | un
 function inputOf(/** @type {string} */ dir, /** @type {ReadOptions} */ options = {}) {
   const found = readPackage(dir, options);
   const began = process.hrtime.bigint();
-  const request = readableRequest(found, options.kept);
+  const request = readableRequest(found, options);
   const { packages } = readable(found);
   const { modules, scripts, jsonModules, externals, missing, errors, faults, taken, times } = found;
   times.tables = elapsed(began);

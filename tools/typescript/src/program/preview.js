@@ -42,11 +42,8 @@ function dependencyName(/** @type {Dep} */ dep) {
 
 /** The name of the declaration at the top of a module that a symbol belongs to. */
 function topName(/** @type {EsmModule} */ module, /** @type {Symbol} */ symbol) {
-  const byId = new Map(module.symbols.map((it) => [it.id, it]));
-  const above = (/** @type {Symbol} */ it) => (it.parent_id ? byId.get(it.parent_id) : undefined);
-  let at = symbol;
-  for (let next = above(at); next && next.parent_id !== undefined; next = above(at)) at = next;
-  return at.maybe_name || '';
+  const named = symbol.qualified_name === undefined ? module.symbols.find((it) => it.id === symbol.parent_id) : symbol;
+  return ((named && named.qualified_name) || '').split('.')[0];
 }
 
 /** A request whose parts are taken away. The request that it is made of stays as it is. */

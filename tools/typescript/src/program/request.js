@@ -26,6 +26,26 @@ function textOf(/** @type {unknown} */ value) {
   return value instanceof JsonText ? value.text : JSON.stringify(value);
 }
 
+/**
+ * A request with other modules, which are made where they are asked for.
+ *
+ * @param {Omit<Request, 'modules'>} request
+ * @param {() => RequestModule[]} make
+ * @returns {Request}
+ */
+function withModules({ graph, aliases, workspace_members, provider, pending, first }, make) {
+  /** @type {RequestModule[] | null} */
+  let made = null;
+  return {
+    graph,
+    get modules() {
+      made = made || make();
+      return made;
+    },
+    aliases, workspace_members, provider, pending, first,
+  };
+}
+
 /** An object as JSON, each member by a call. */
 function objectText(/** @type {object} */ object, /** @type {(value: unknown, name: string) => string} */ memberText) {
   const members = Object.entries(object).filter(([, value]) => value !== undefined);
@@ -64,11 +84,10 @@ function emptied(/** @type {Source | JsonText} */ source) {
  * @returns {Request}
  */
 function withTreesOf(request, specifiers) {
-  const modules = request.modules.map(/** @returns {RequestModule} */ ([specifier, module]) => {
+  return withModules(request, () => request.modules.map(([specifier, module]) => {
     if (!module.Esm || specifiers.has(specifier)) return [specifier, module];
     return [specifier, { Esm: { ...module.Esm, source: emptied(module.Esm.source) } }];
-  });
-  return { ...request, modules };
+  }));
 }
 
-module.exports = { withTreesOf, JsonText, requestText, sourceOf, textOf };
+module.exports = { withModules, withTreesOf, JsonText, requestText, sourceOf, textOf };

@@ -5,9 +5,7 @@ const fs = require('fs');
 const os = require('os');
 const path = require('path');
 const { PROGRAM, isNpm } = require('../cli/installed.js');
-const { answersOf } = require('./answers.js');
 const { requestText } = require('./request.js');
-const { restored } = require('../skeleton/restored.js');
 
 /** @typedef {import('./types').Request} Request */
 
@@ -78,13 +76,13 @@ function removedAtSignals(/** @type {() => void} */ remove) {
 }
 
 /**
- * The answers of the program to a request: a list of `[specifier, {Ok | Err}]`.
+ * The line that the program answers to a request.
  *
  * @param {any} request
  * @param {{ unproved?: boolean, environment: Record<string, string | undefined>, tell: (line: string) => void, isCommand?: boolean, signal?: AbortSignal }} options
  *   of a command a signal of the system removes what was written; `signal` ends the program early, and is thrown
  */
-async function build(request, { unproved, environment, tell, isCommand, signal: ended }) {
+async function lineOf(request, { unproved, environment, tell, isCommand, signal: ended }) {
   const folder = fs.mkdtempSync(path.join(os.tmpdir(), FOLDER));
   const remove = () => fs.rmSync(folder, { recursive: true, force: true });
   const free = isCommand ? removedAtSignals(remove) : () => {};
@@ -93,7 +91,7 @@ async function build(request, { unproved, environment, tell, isCommand, signal: 
     fs.writeFileSync(file, textOf(request));
     const words = command({ unproved, environment });
     const { status, out, said, signal } = await run([...words, file], tell, ended);
-    if (status === 0 || status === 1) return restored(answersOf(out), request);
+    if (status === 0 || status === 1) return /** @type {string} */ (out.trimEnd());
     const why = said || (signal ? `it was stopped by ${signal}` : `it ended with status ${status}`);
     throw new ProgramError(`the program did not answer: ${why.replace(/^error: /, '')}`, status <= 5 ? status : 5);
   } finally {
@@ -102,4 +100,4 @@ async function build(request, { unproved, environment, tell, isCommand, signal: 
   }
 }
 
-module.exports = { FOLDER, build };
+module.exports = { FOLDER, lineOf };

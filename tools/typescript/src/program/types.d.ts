@@ -61,6 +61,21 @@ export interface Skeleton {
   module_info?: { sources: { is_export: boolean; range: forms.Span; specifier: string; type_only: boolean }[] };
 }
 
+/** What a skeleton may have. */
+export interface Traits {
+  mayKeepValue: boolean;
+  mayHaveMade: boolean;
+  mayHaveDefault: boolean;
+}
+
+/** Where an answer stands in the program's line; `traits` are those of a skeleton. */
+export interface AnswerAt {
+  specifier: string;
+  start: number;
+  end: number;
+  traits: Traits | null;
+}
+
 export type Answer = [specifier: string, answer: { Ok?: Skeleton; Err?: Diagnostic[] }];
 
 /** What is known of a folder beside the request. */

@@ -1,12 +1,12 @@
 'use strict';
 // Whole answers that are kept between runs: what a check wrote, by all that it was asked and by all that it read.
 const crypto = require('crypto');
-const fs = require('fs');
 const path = require('path');
 const { chosen, candidateFiles } = require('../compiler/find.js');
 const { Trace, isSame } = require('../package/trace.js');
 const { seconds } = require('../cli/progress.js');
-const { PROGRAM, VERSION, isClone } = require('../cli/installed.js');
+const { VERSION } = require('../cli/installed.js');
+const { programStamp } = require('./program.js');
 
 /** @typedef {import('../cli/types').Context} Context */
 /** @typedef {import('../cli/types').Options} Options */
@@ -17,12 +17,6 @@ const { PROGRAM, VERSION, isClone } = require('../cli/installed.js');
 const TOOL = path.resolve(__dirname, '../..');
 // What stands for the seconds of a run in what is kept.
 const SECONDS = '\0seconds\0';
-
-/** A file by what changes where it is written: a program is too large to be read each time. */
-function stampOf(/** @type {string} */ file) {
-  const { mtimeMs, ctimeMs, size, ino } = fs.statSync(file);
-  return `${file} ${mtimeMs} ${ctimeMs} ${size} ${ino}`;
-}
 
 const isAround = (/** @type {string} */ one, /** @type {string} */ other) => one === other || other.startsWith(`${one}${path.sep}`);
 
@@ -43,19 +37,21 @@ class Whole {
    * @returns {Whole | null}
    */
   static of(/** @type {Target[]} */ targets, /** @type {Options} */ options, /** @type {Context} */ context) {
-    const { kept, environment: { FAST_CHECK: program = isClone ? '' : PROGRAM } } = context;
+    const { kept } = context;
     const isOpen = options.watch || options.verify || options.fix || options.baseline || options.format === 'sarif' || options.texts;
-    if (!kept || !kept.folder || !program || isOpen) return null;
+    if (!kept || !kept.folder || isOpen) return null;
     const without = [TOOL, kept.folder.folder, ...candidateFiles().map((file) => path.dirname(path.dirname(file)))];
     if (targets.some(({ dir }) => without.some((it) => isAround(it, dir) || isAround(dir, it)))) return null;
+    const stamp = programStamp(context.environment);
+    if (!stamp) return null;
     try {
       const asked = [
-        kept.maker(), VERSION, stampOf(program), process.version, context.cwd, targets.map((it) => ({ ...it, only: [...it.only || []] })), { ...options, kept: null }, chosen.own, context.paint('red', ''), context.out.columns,
+        kept.maker(), VERSION, stamp, process.version, context.cwd, targets.map((it) => ({ ...it, only: [...it.only || []] })), { ...options, kept: null }, chosen.own, context.paint('red', ''), context.out.columns,
         context.out.isTTY,
       ];
       return new Whole(kept, crypto.createHash('sha256').update(`whole ${JSON.stringify(asked)}`).digest('hex'), without, context);
     } catch {
-      // The program is not there, which the run itself says.
+      // There is no compiler, which the run itself says.
       return null;
     }
   }

@@ -1,7 +1,7 @@
 'use strict';
 // Whether the rules may part from TypeScript in a package without a message, so that `--verify` may tell more.
 
-const { mayKeepValue } = require('../program/answers.js');
+const { traitsOf } = require('../program/answers.js');
 
 /** @typedef {import('../program/types').World} World */
 
@@ -56,7 +56,7 @@ function hasEffects(/** @type {string} */ text, /** @type {forms.Program} */ { M
 
 /** Whether `--verify` may tell more of a folder than its messages do. */
 function mayTellMore(/** @type {World} */ world) {
-  return [...world.skeletons.values()].some((it) => mayKeepValue(it) && keepsName(it.program)) || world.info.modules.some((it) => it.hasEffects && world.skeletons.has(it.specifier));
+  return [...world.skeletons.values()].some((it) => traitsOf(it).mayKeepValue && keepsName(it.program)) || world.info.modules.some((it) => it.hasEffects && world.skeletons.has(it.specifier));
 }
 
 module.exports = { hasEffects, mayTellMore };

@@ -2,7 +2,7 @@
 // What is wrong with skeletons that the program does not know: names that it wrote and that stand for something else in the module, and literals that are wider in
 // the source.
 
-const { mayHave, mayKeepValue } = require('../program/answers.js');
+const { traitsOf } = require('../program/answers.js');
 const { partsOf, variantOf } = require('../tree/walk.js');
 const { scopesOf } = require('./value-scopes.js');
 const { madeLiteral, textOf } = require('./value-types.js');
@@ -270,10 +270,6 @@ function placedIn(/** @type {SourceFile} */ file, /** @type {string} */ shown) {
   return placed;
 }
 
-// In the JSON of a skeleton: a reference to a type that the program wrote, and a value that is the default export.
-const MADE = /"TsTypeRef":\{"span":\[0,/;
-const DEFAULT = /"ExportDefaultExpr":/;
-
 /**
  * What is wrong with the skeletons of a folder that was analysed, as messages. `shownName(path)` is how they name a file.
  *
@@ -286,8 +282,9 @@ function skeletonMessages(/** @type {SkeletonWorld} */ world, /** @type {(file: 
     const file = world.files.get(specifier);
     if (!file || /\.d\.[cm]?ts$/.test(specifier)) return [];
     const placed = placedIn(file, shownName(file.path));
-    const shadowing = mayHave(skeleton, MADE) ? shadowedMessages(skeleton.program.body || [], placed) : [];
-    if (!mayKeepValue(skeleton) && !mayHave(skeleton, DEFAULT)) return shadowing;
+    const { mayKeepValue, mayHaveMade, mayHaveDefault } = traitsOf(skeleton);
+    const shadowing = mayHaveMade ? shadowedMessages(skeleton.program.body || [], placed) : [];
+    if (!mayKeepValue && !mayHaveDefault) return shadowing;
     scopes = scopes || scopesOf(world);
     return [...shadowing, ...literalMessages(skeleton.program.body || [], scopes(specifier), placed)];
   });

@@ -1,7 +1,7 @@
 'use strict';
 // The type that the only return of a function asserts, in the program's tree. The compiler is not asked.
 const { variantOf } = require('../tree/walk.js');
-const { JsonText, textOf } = require('../program/request.js');
+const { JsonText, textOf, withModules } = require('../program/request.js');
 
 /** @typedef {import('../program/types').RequestModule} RequestModule */
 /** @typedef {import('../program/types').Request} Request */
@@ -60,26 +60,21 @@ function typeNamedBy(/** @type {forms.Part} */ node) {
 
 const NAMING_RETURN = /"Return":\{"span":\[\d+,\d+\],"arg":\{"(?!This")/;
 
-const mayNameReturns = (/** @type {RequestModule[1]} */ { Esm }) => Boolean(Esm && NAMING_RETURN.test(textOf(Esm.source)));
+const namesReturns = (/** @type {string} */ source) => NAMING_RETURN.test(source);
 
 /** A tree whose returned values name no type. */
 function withoutNames(/** @type {string} */ key, /** @type {forms.Part & { span: forms.Span }} */ value) {
   return key === 'Return' && value.arg ? { ...value, arg: { This: { span: value.span } } } : value;
 }
 
-/**
- * A request in which no body names its return type by its only return; null where none may.
- *
- * @returns {Request | null}
- */
+/** A request in which no body names its return type by its only return. */
 function withoutNamedReturns(/** @type {Request} */ request) {
-  if (!request.modules.some(([, module]) => mayNameReturns(module))) return null;
   /** @type {(module: RequestModule[1]) => RequestModule[1]} */
   const less = (module) => {
-    const { Esm: it } = module;
-    return it && mayNameReturns(module) ? { Esm: { ...it, source: new JsonText(JSON.stringify(JSON.parse(textOf(it.source), withoutNames))) } } : module;
+    const source = module.Esm && textOf(module.Esm.source);
+    return module.Esm && source && namesReturns(source) ? { Esm: { ...module.Esm, source: new JsonText(JSON.stringify(JSON.parse(source, withoutNames))) } } : module;
   };
-  return { ...request, modules: request.modules.map(([name, module]) => [name, less(module)]) };
+  return withModules(request, () => request.modules.map(([name, module]) => [name, less(module)]));
 }
 
-module.exports = { assertedType, typeNamedBy, withoutNamedReturns };
+module.exports = { assertedType, namesReturns, typeNamedBy, withoutNamedReturns };

@@ -98,8 +98,8 @@ function fillMember(/** @type {Tables} */ t, /** @type {GrowingSymbol} */ owner,
     followKey(d, key);
     follow(d);
   };
-  t.define(symbol, node.span, BOTH, { is_member: true }, both, marks);
-  // A private member of an ambient class stands as it is written, so its class refers to what it does.
+  t.define(symbol, node.span, BOTH, { is_member: true }, isPrivate && !isAmbient ? () => {} : both, marks);
+  // A private member leads to nothing. One of an ambient class stands as it is written, so its class refers to what it does.
   if (isPrivate && isAmbient) depsOf(classDecl).push(...depsOf(symbol.decls[symbol.decls.length - 1]));
 }
 

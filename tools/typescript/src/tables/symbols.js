@@ -471,15 +471,12 @@ function finished(/** @type {Tables} */ t, /** @type {GrowingSymbol} */ symbol) 
   if (rest.members.length === 0) delete made.members;
   if (exports.size === 0) delete made.exports;
   if (made.qualified_name === undefined) delete made.qualified_name;
+  // What a symbol stands in, and by which name it is found there, is asked of members alone.
+  if (!symbol.decls.some(({ kind }) => kind.Definition && kind.Definition.is_member)) {
+    delete made.parent_id;
+    delete made.maybe_name;
+  }
   return made;
-}
-
-/** An alias of a name that nothing in the module binds leads nowhere. */
-function withoutTargets(/** @type {Tables} */ t, /** @type {GrowingSymbol} */ symbol) {
-  return symbol.decls.some((it) => {
-    const id = it.kind.Target || (it.kind.QualifiedTarget && it.kind.QualifiedTarget[0]);
-    return id && !symbolOfId(t, id);
-  });
 }
 
 /**
@@ -500,7 +497,6 @@ function ownTables(/** @type {Module} */ module, unresolved = 1) {
     symbols,
     swc_ids: [...t.byIdent].map(([key, it]) => [/** @type {Identifier} */ (t.idents.get(key)), it.id]),
     re_export_all_nodes: t.reExportsOfAll,
-    unbound: t.symbols.filter((it) => withoutTargets(t, it)).map((it) => it.maybe_name),
   };
 }
 
@@ -516,7 +512,7 @@ function jsonTables(/** @type {number} */ length) {
     module_symbol: 0,
     symbols: [
       { id: 0, exports: [['default', 1]] },
-      { id: 1, parent_id: 0, maybe_name: 'default', qualified_name: 'default', decls: [decl] },
+      { id: 1, qualified_name: 'default', decls: [decl] },
     ],
   };
 }
@@ -526,26 +522,40 @@ class World {
   /** `resolve` leads from a specifier and a source text to a specifier, or to nothing. */
   constructor(/** @type {(from: string, text: string) => string | null | undefined} */ resolve) {
     this.resolve = resolve;
-    /** @type {Map<string, OwnTables>} */
-    this.tables = new Map();
+    /** @type {Map<string, { tables: OwnTables }>} */
+    this.modules = new Map();
     /** @type {Map<string, Set<string>>} */
     this.answered = new Map();
+    /** @type {Set<string> | null} */
+    this.exportedAgain = null;
   }
 
-  add(/** @type {string} */ specifier, /** @type {OwnTables} */ tables) {
-    this.tables.set(specifier, tables);
+  /** Adds a module with its tables, which may be read where they are asked for. */
+  add(/** @type {string} */ specifier, /** @type {{ tables: OwnTables }} */ module) {
+    this.modules.set(specifier, module);
+  }
+
+  tablesOf(/** @type {string} */ specifier) {
+    const module = this.modules.get(specifier);
+    return module && module.tables;
   }
 
   /** The names that a module exports itself. */
   ownNames(/** @type {string} */ specifier) {
-    const tables = this.tables.get(specifier);
+    const tables = this.tablesOf(specifier);
     return tables ? (tables.symbols[0].exports || []).map(([name]) => name) : [];
   }
 
   targets(/** @type {string} */ specifier) {
-    const tables = this.tables.get(specifier);
+    const tables = this.tablesOf(specifier);
     const sources = tables ? (tables.re_export_all_nodes || []).map(([, source]) => source) : [];
     return sources.flatMap((it) => this.resolve(specifier, it) || []);
+  }
+
+  /** Whether another module exports all of a module again, which asks for its names. */
+  isExportedAgain(/** @type {string} */ specifier) {
+    this.exportedAgain = this.exportedAgain || new Set([...this.modules.keys()].flatMap((it) => this.targets(it)));
+    return this.exportedAgain.has(specifier);
   }
 
   /** Whether re-exports of all lead from a module to another one. */
@@ -566,7 +576,7 @@ class World {
    * come last: else a name that stands outside of a circle might be looked for round and round in it.
    */
   reExports(/** @type {string} */ specifier) {
-    const tables = this.tables.get(specifier);
+    const tables = this.tablesOf(specifier);
     const nodes = (tables && tables.re_export_all_nodes) || [];
     const back = (/** @type {[forms.Span, string]} */ it) => {
       const target = this.resolve(specifier, it[1]);
@@ -601,9 +611,15 @@ class World {
  * @returns {import('./types').ModuleTables}
  */
 function tablesOf(/** @type {Module} */ module, /** @type {World} */ world) {
-  const { unbound, ...tables } = /** @type {OwnTables} */ (world.tables.get(module.specifier));
-  const resolved = [...world.names(module.specifier)].map((name) => /** @type {[string, string]} */ ([name, module.specifier]));
-  return { ...tables, re_export_all_nodes: world.reExports(module.specifier), resolved_exports: resolved };
+  const { specifier } = module;
+  const tables = /** @type {OwnTables} */ (world.tablesOf(specifier));
+  const nodes = world.reExports(specifier);
+  const names = world.isExportedAgain(specifier) ? [...world.names(specifier)] : [];
+  return {
+    ...tables,
+    re_export_all_nodes: nodes.length ? nodes : undefined,
+    resolved_exports: names.length ? names.map((name) => [name, specifier]) : undefined,
+  };
 }
 
-module.exports = { Tables, World, jsonTables, ownTables, tablesOf };
+module.exports = { Tables, World, declaredBy, jsonTables, ownTables, tablesOf };

@@ -93,10 +93,8 @@ export interface ModuleTables {
   resolved_exports?: [string, string][];
 }
 
-/** The tables that a module has by itself. `unbound` are the names of symbols that are aliases of names which nothing binds. */
-export interface OwnTables extends ModuleTables {
-  unbound?: (string | undefined)[];
-}
+/** The tables that a module has by itself. */
+export type OwnTables = ModuleTables;
 
 /** An identifier that binds a name. */
 export interface Bound {

@@ -1,7 +1,7 @@
 'use strict';
 // TypeScript's tree to the program's (docs/FORMATS.md): swc's forms, positions in bytes, and scope numbers.
 
-const { ts } = require('../compiler/typescript.js');
+const { textOf, ts } = require('../compiler/typescript.js');
 const { classIn, functionIn, functionOf } = require('./from-typescript/classes.js');
 const { commentsOf } = require('./from-typescript/comments.js');
 const { Converter, form, TOP, UNRESOLVED } = require('./from-typescript/converter.js');
@@ -41,7 +41,7 @@ function syntaxErrors(/** @type {ts.SourceFile} */ sourceFile, /** @type {Offset
   return (sourceFile.parseDiagnostics || []).map((it) => ({
     offset: it.start,
     position: offsets.of(it.start),
-    message: ts.flattenDiagnosticMessageText(it.messageText, ' '),
+    message: textOf(it.messageText),
   }));
 }
 

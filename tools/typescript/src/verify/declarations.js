@@ -4,7 +4,7 @@
 const { filesOf } = require('../program/answer.js');
 const { declarationFiles, declarationName } = require('../skeleton/declaration-files.js');
 const { compared, errorsIn, normalise, surfaceOf } = require('./surface.js');
-const { ts } = require('../compiler/typescript.js');
+const { whole: ts } = require('../compiler/typescript.js');
 
 /** @typedef {import('./types').DeclarationsView} DeclarationsView */
 /** @typedef {import('../program/types').World} World */

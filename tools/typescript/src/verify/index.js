@@ -7,7 +7,7 @@ const { programOf, resolverOf, declarationName, emitted, surfaceOf, compared, er
 const { Lines } = require('../tree/lines.js');
 const { printed } = require('../skeleton/write.js');
 const { hasModifier, modifiersOf } = require('../compiler/modifiers.js');
-const { ts } = require('../compiler/typescript.js');
+const { whole: ts } = require('../compiler/typescript.js');
 const { NEWER } = require('../tree/from-typescript/converter.js');
 const { viewOf } = require('./users-view.js');
 const { told: toldWay, ways } = require('../skeleton/reasons.js');

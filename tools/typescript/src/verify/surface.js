@@ -6,7 +6,7 @@ const path = require('path');
 const { hasModifier, modifiersOf } = require('../compiler/modifiers.js');
 const { resolvedModule } = require('../compiler/resolve.js');
 const { rewritten } = require('../compiler/rewrite.js');
-const { ts } = require('../compiler/typescript.js');
+const { whole: ts } = require('../compiler/typescript.js');
 const { resolver } = require('../skeleton/modules.js');
 
 const { SyntaxKind: K } = ts;

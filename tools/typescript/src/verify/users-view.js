@@ -4,7 +4,7 @@
 
 const { inOrder } = require('./declarations.js');
 const { normalise } = require('./surface.js');
-const { ts } = require('../compiler/typescript.js');
+const { whole: ts } = require('../compiler/typescript.js');
 
 const { SymbolFlags: S } = ts;
 const { AllowUniqueESSymbolType, InTypeAlias, NoTruncation, UseFullyQualifiedType } = ts.TypeFormatFlags;

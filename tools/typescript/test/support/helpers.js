@@ -6,7 +6,7 @@ const os = require('os');
 const path = require('path');
 const { test } = require('node:test');
 const { main } = require('../../src/cli/main.js');
-const { ts } = require('../../src/compiler/typescript.js');
+const { whole: ts } = require('../../src/compiler/typescript.js');
 
 /** @typedef {[name: string, body: () => void | Promise<void>]} Case */
 /** @typedef {string | Buffer | { linkTo: string } | { pipe: true } | null} Content a file, a link, a pipe, or none */

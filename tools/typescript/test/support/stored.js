@@ -3,7 +3,7 @@
 const fs = require('fs');
 const path = require('path');
 const { run, PACKAGES, TESTS, readOr } = require('./helpers.js');
-const { ts, isFrom } = require('../../src/compiler/typescript.js');
+const { whole: ts, isFrom } = require('../../src/compiler/typescript.js');
 
 const EXPECTED = path.join(TESTS, 'expected');
 const NAMES = fs.readdirSync(PACKAGES).sort();

@@ -52,7 +52,7 @@ function functionIn(/** @type {Converter} */ c, /** @type {ts.FunctionLikeDeclar
   return form({
     span,
     params: node.parameters.map((it) => param(c, it)),
-    ctxt: scope.number,
+    ctxt: c.numberOf(scope),
     body: functionBody(c, node),
     is_generator: Boolean(node.asteriskToken),
     is_async: isAsync(node),
@@ -122,7 +122,7 @@ function classIn(/** @type {Converter} */ c, /** @type {ts.ClassLikeDeclaration}
   const [superClass] = heritage(node, K.ExtendsKeyword);
   return form({
     span: c.range(start, node.end),
-    ctxt: scope.number,
+    ctxt: c.numberOf(scope),
     decorators: decorators(c, node),
     body: withStaticNames(c, c.each(node.members, (it) => member(c, it))),
     super_class: superClass && expression(c, superClass.expression),
@@ -253,7 +253,7 @@ function constructor(/** @type {Converter} */ c, /** @type {ts.ConstructorDeclar
     return {
       Constructor: form({
         span: c.span(node),
-        ctxt: scope.number,
+        ctxt: c.numberOf(scope),
         key: { Ident: { span: c.range(start, start + 'constructor'.length), sym: 'constructor' } },
         params: node.parameters.map((it) => constructorParam(c, it)),
         body: constructorBody(c, node),

@@ -23,7 +23,7 @@ function opaqueLeaves(/** @type {ts.SourceFile} */ sourceFile) {
   const visit = (/** @type {ts.Node} */ node) => {
     const { kind } = node;
     const isOpaque = kind === K.StringLiteral || kind === K.RegularExpressionLiteral || isTemplatePiece(kind) || JSX.has(kind);
-    if (isOpaque) leaves.set(node.getStart(sourceFile, false), node.end);
+    if (isOpaque) leaves.set(ts.getTokenPosOfNode(node, sourceFile, false), node.end);
     const isName = kind === K.Identifier || kind === K.PrivateIdentifier;
     if (isName || isOpaque || kind === K.NumericLiteral || kind === K.BigIntLiteral) ends.add(node.end);
     if (!JSX.has(kind)) ts.forEachChild(node, visit);

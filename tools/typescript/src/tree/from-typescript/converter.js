@@ -93,6 +93,11 @@ class Converter {
     return scope;
   }
 
+  /** The number of a scope for the form that it is of, which is asked for by no rule. */
+  numberOf(/** @type {Scope} */ { number }) {
+    return this.short ? undefined : number;
+  }
+
   /**
    * Calls back within a fresh scope.
    *
@@ -126,7 +131,7 @@ class Converter {
   }
 
   start(/** @type {ts.Node} */ node) {
-    return node.getStart(this.file, false);
+    return ts.getTokenPosOfNode(node, this.file, false);
   }
 
   /** @returns {forms.Span} */

@@ -66,7 +66,7 @@ function accessor(/** @type {Converter} */ c, /** @type {ts.AccessorDeclaration}
     if (ts.isGetAccessorDeclaration(node)) {
       return { Getter: form({ span: c.span(node), key, type_ann: types.annotation(c, node.type), body }) };
     }
-    const [param] = node.parameters.filter((it) => it.name.getText(c.file) !== 'this');
+    const [param] = node.parameters.filter((it) => c.written(it.name) !== 'this');
     if (!param || node.parameters.length > 1) {
       c.refuse(node, 'no form for a setter without its one parameter');
       return { Getter: form({ span: c.span(node), key }) };
@@ -226,7 +226,7 @@ function arrow(/** @type {Converter} */ c, /** @type {ts.ArrowFunction} */ node)
     const type_params = types.typeParams(c, node);
     const return_type = types.annotation(c, node.type);
     const body = ts.isBlock(node.body) ? { BlockStmt: parts.bodyOf(c, node) } : { Expr: arrowValue(c, node, node.body) };
-    return { Arrow: form({ span: c.span(node), ctxt: scope.number, params, body, is_async: isAsync(node), type_params, return_type }) };
+    return { Arrow: form({ span: c.span(node), ctxt: c.numberOf(scope), params, body, is_async: isAsync(node), type_params, return_type }) };
   });
 }
 

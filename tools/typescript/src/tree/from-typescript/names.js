@@ -44,7 +44,7 @@ function identName(/** @type {Converter} */ c, /** @type {ts.Identifier} */ node
 
 /** @returns {forms.PrivateName} */
 function privateName(/** @type {Converter} */ c, /** @type {ts.PrivateIdentifier} */ node) {
-  return { span: c.span(node), name: node.text.replace(/^#/, '') };
+  return { span: c.span(node), name: ts.idText(node).replace(/^#/, '') };
 }
 
 const LONE_SURROGATE = /[\ud800-\udbff](?![\udc00-\udfff])|(?<![\ud800-\udbff])[\udc00-\udfff]/;

@@ -103,10 +103,9 @@ function functionBody(/** @type {Converter} */ c, /** @type {Functional} */ node
  */
 function bodyOf(/** @type {Converter} */ c, /** @type {Functional} */ node) {
   const body = /** @type {ts.Block} */ (node.body);
-  const span = c.span(body);
-  if (c.short) return form({ span, ctxt: c.scope.number, stmts: shortBody(c, node, body) });
+  if (c.short) return /** @type {forms.BlockStmt} */ (form({ stmts: shortBody(c, node, body) }));
   bindBody(c.scope, body.statements);
-  return form({ span, ctxt: c.scope.number, stmts: statements(c, body.statements) });
+  return form({ span: c.span(body), ctxt: c.scope.number, stmts: statements(c, body.statements) });
 }
 
 /**
@@ -146,7 +145,7 @@ function shortSuper(/** @type {Converter} */ c, /** @type {SuperCall} */ stateme
 function constructorBody(/** @type {Converter} */ c, /** @type {ts.ConstructorDeclaration} */ node) {
   if (!c.short || !node.body) return functionBody(c, node);
   const stmts = node.body.statements.filter(isSuperCall).map((it) => shortSuper(c, it));
-  return form({ span: c.span(node.body), ctxt: c.scope.number, stmts });
+  return form({ span: c.span(node.body), stmts });
 }
 
 // ---- statements

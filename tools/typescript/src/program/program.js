@@ -1,0 +1,24 @@
+'use strict';
+// Which program is run.
+const fs = require('fs');
+const { PROGRAM, isClone } = require('../cli/installed.js');
+
+/** The file of the program; undefined in a clone, whose launcher proves and builds it first, unless the variable FAST_CHECK names one. */
+function programFile(/** @type {Record<string, string | undefined>} */ { FAST_CHECK: named }) {
+  return named || (isClone ? undefined : PROGRAM);
+}
+
+/** The program by what changes where it is written, since it is too large to be read each time; null where it is not known, or not there. */
+function programStamp(/** @type {Record<string, string | undefined>} */ environment) {
+  const file = programFile(environment);
+  if (!file) return null;
+  try {
+    const { mtimeMs, ctimeMs, size, ino } = fs.statSync(file);
+    return `${file} ${mtimeMs} ${ctimeMs} ${size} ${ino}`;
+  } catch {
+    // Which the run itself says.
+    return null;
+  }
+}
+
+module.exports = { programStamp };
