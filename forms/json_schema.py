@@ -47,7 +47,7 @@ def tree_schema(table, type):
 def form_schema(table, form):
     from typescript import may_be_left_out
     members = {field.name: COUNTS[field.count](tree_schema(table, field.type)) for field in form.fields}
-    left_out = {field.name for field in form.fields if may_be_left_out(field)}
+    left_out = {field.name for field in form.fields if field.name == "span" or may_be_left_out(field)}
     wanted = {name: schema for name, schema in members.items() if name not in left_out}
     return {"description": form.doc, **object_of(wanted, {name: members[name] for name in members if name in left_out})}
 

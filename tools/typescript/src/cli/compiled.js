@@ -10,6 +10,8 @@ const vm = require('vm');
 
 const OWN = path.resolve(__dirname, '..') + path.sep;
 const NEWLINE = 10;
+// From how many bytes on what a run does not need is dropped, as of earlier versions.
+const LARGE = 1 << 22;
 
 const hashOf = (/** @type {string} */ text) => crypto.createHash('md5').update(text).digest('base64');
 
@@ -22,12 +24,16 @@ class Compiled {
     this.known = new Map();
     /** @type {Map<string, vm.Script>} */
     this.made = new Map();
+    /** @type {Set<string>} */
+    this.used = new Set();
+    this.length = 0;
   }
 
   /** Reads what is kept: a line with the hashes and the lengths, and the code. */
   read() {
     try {
       const bytes = fs.readFileSync(this.file);
+      this.length = bytes.length;
       let at = bytes.indexOf(NEWLINE) + 1;
       for (const [hash, length] of JSON.parse(bytes.toString('utf8', 0, at))) {
         this.known.set(hash, bytes.subarray(at, at + length));
@@ -42,6 +48,7 @@ class Compiled {
   functionOf(/** @type {string} */ text, /** @type {string} */ file) {
     const hash = hashOf(`${file}\n${text}`);
     const cachedData = this.known.get(hash);
+    this.used.add(hash);
     const script = new vm.Script(Module.wrap(text), { filename: file, cachedData });
     if (script.cachedDataRejected) this.known.delete(hash);
     if (!cachedData || script.cachedDataRejected) this.made.set(hash, script);
@@ -53,7 +60,8 @@ class Compiled {
     if (!this.made.size) return;
     const beside = `${this.file}.${process.pid}`;
     try {
-      const all = [...this.known, ...[...this.made].map(([hash, script]) => /** @type {const} */ ([hash, script.createCachedData()]))];
+      const known = [...this.known].filter(([hash]) => this.length < LARGE || this.used.has(hash));
+      const all = [...known, ...[...this.made].map(([hash, script]) => /** @type {const} */ ([hash, script.createCachedData()]))];
       const head = Buffer.from(`${JSON.stringify(all.map(([hash, bytes]) => [hash, bytes.length]))}\n`);
       fs.mkdirSync(path.dirname(this.file), { recursive: true });
       fs.writeFileSync(beside, /** @type {Uint8Array} */ (Buffer.concat(/** @type {Uint8Array[]} */ ([head, ...all.map(([, bytes]) => bytes)]))), { mode: 0o600 });

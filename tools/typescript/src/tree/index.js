@@ -80,7 +80,7 @@ function toTree(/** @type {ts.SourceFile} */ sourceFile, /** @type {TreeOptions}
   }
   return {
     program,
-    comments: commentsOf(sourceFile, c.offsets),
+    comments: commentsOf(sourceFile, c.offsets, c.short),
     unresolvedContext: UNRESOLVED,
     topLevelContext: TOP,
     offsets: c.offsets,

@@ -86,8 +86,16 @@ function trails(/** @type {Scanned} */ comment, /** @type {{ end: number } | nul
   return ends.has(token.end) || '};{'.includes(text[token.end - 1]);
 }
 
-/** The comments of a file: lists of `[position, comments]`. */
-function commentsOf(/** @type {ts.SourceFile} */ sourceFile, /** @type {Offsets} */ offsets) {
+/** Whether skeletons keep a comment: those of documentation, and those that speak to the compiler. */
+const isKept = (/** @type {Comment} */ { kind, text }) => (kind === 'Block' ? text.startsWith('*') : /^[\s\x85]*@ts-/.test(text));
+
+/** Lists of comments with those that skeletons keep. */
+function keptOf(/** @type {[position: number, comments: Comment[]][]} */ lists) {
+  return lists.map(([position, all]) => /** @type {[number, Comment[]]} */ ([position, all.filter(isKept)])).filter(([, kept]) => kept.length);
+}
+
+/** The comments of a file: lists of `[position, comments]`; with `short` those that skeletons keep. */
+function commentsOf(/** @type {ts.SourceFile} */ sourceFile, /** @type {Offsets} */ offsets, short = false) {
   const { text } = sourceFile;
   if (!/\/[/*]/.test(text)) return { leading: [], trailing: [] };
   const { leaves, ends } = opaqueLeaves(sourceFile);
@@ -111,7 +119,8 @@ function commentsOf(/** @type {ts.SourceFile} */ sourceFile, /** @type {Offsets}
   scan(text, leaves, onComment, onToken);
   const end = /** @type {{ end: number } | null} */ (last);
   for (const it of waiting) add(trailing, offsets.of(end ? end.end : 0), it);
-  return { leading: [...leading], trailing: [...trailing] };
+  const [before, behind] = [[...leading], [...trailing]];
+  return short ? { leading: keptOf(before), trailing: keptOf(behind) } : { leading: before, trailing: behind };
 }
 
 module.exports = { commentsOf };
