@@ -1,6 +1,6 @@
 //! Files of a build, and the sources that stand for them.
 use crate::exports::Entry;
-use fast_check_source_configs::options::{options_of, sources_of};
+use fast_check_source_configs::options::{Options, options_of, sources_of};
 use fast_check_source_configs::paths::{behind, inside};
 use fast_check_source_configs::tsconfig::{Projects, references};
 use fast_check_source_files::files::{Files, Standing, folder_of, joined, media_type, name_of};
@@ -59,6 +59,16 @@ pub fn file_of(
     projects.find(files, wanted, wanted)
 }
 
+// Whether a path lies in a folder that builds write to, with the ending of one of their files.
+fn is_of_build(folder: &str, wanted: &str) -> bool {
+    match behind(wanted, folder).and_then(|it| it.split_once('/')) {
+        Some((first, _)) => {
+            BUILDS.iter().any(|it| *it == first) && without_ending(wanted).is_some()
+        }
+        None => false,
+    }
+}
+
 /// Whether a file is one of a build: it lies in a folder for builds, or is not there, and no source stands in its place.
 pub fn is_built(
     files: &Files<'_>,
@@ -66,25 +76,33 @@ pub fn is_built(
     folder: &str,
     wanted: &str,
 ) -> Result<bool, AllocError> {
-    let Some((first, _)) = behind(wanted, folder).and_then(|it| it.split_once('/')) else {
-        return Ok(false);
-    };
-    let is_of_build = BUILDS.iter().any(|it| *it == first);
-    if !is_of_build || without_ending(wanted).is_none() {
+    if !is_of_build(folder, wanted) {
         return Ok(false);
     }
-    Ok(match file_of(files, projects, wanted)? {
+    match file_of(files, projects, wanted)? {
         Some(found) => {
             let found = media_type(found.as_str());
-            found.is_declaration() || is_script(found)
+            Ok(found.is_declaration() || is_script(found))
         }
-        None => true,
-    })
+        None => Ok(true),
+    }
+}
+
+// The file in `src` with a path without its ending.
+fn in_src(files: &Files<'_>, folder: &str, stem: &str) -> Result<Option<String>, AllocError> {
+    let own = joined(files.alloc(), "src/", stem)?;
+    let path = inside(files.alloc(), folder, own.as_str())?;
+    for ending in WRITTEN {
+        let file = joined(files.alloc(), path.as_str(), ending)?;
+        if files.is_file(file.as_str())? {
+            return Ok(Some(file));
+        }
+    }
+    Ok(None)
 }
 
 // The source in `src` that a file of a build has the name of. A build may have folders of its own above, as `dist/esm`.
 fn namesake(files: &Files<'_>, folder: &str, wanted: &str) -> Result<Option<String>, AllocError> {
-    let alloc = files.alloc();
     let Some(mut rest) = behind(wanted, folder).and_then(without_ending) else {
         return Ok(None);
     };
@@ -93,13 +111,8 @@ fn namesake(files: &Files<'_>, folder: &str, wanted: &str) -> Result<Option<Stri
             break;
         };
         rest = below;
-        for ending in WRITTEN {
-            let mut name = joined(alloc, "src/", rest)?;
-            name.push_str(ending)?;
-            let path = inside(alloc, folder, name.as_str())?;
-            if files.is_file(path.as_str())? {
-                return Ok(Some(path));
-            }
+        if let Some(found) = in_src(files, folder, rest)? {
+            return Ok(Some(found));
         }
     }
     Ok(None)
@@ -116,6 +129,63 @@ fn whole_source(files: &Files<'_>, folder: &str) -> Result<Option<String>, Alloc
     Ok(None)
 }
 
+// Whether all entry points with the ending of a file of a build are such files.
+fn are_built(
+    files: &Files<'_>,
+    projects: &mut Projects,
+    folder: &str,
+    entries: &[Entry],
+) -> Result<bool, AllocError> {
+    for entry in entries {
+        let path = entry.path.as_str();
+        if without_ending(path).is_some() && !is_built(files, projects, folder, path)? {
+            return Ok(false);
+        }
+    }
+    Ok(true)
+}
+
+// Whether all entry points with the ending of a file of a build are one.
+fn are_one(entries: &[Entry]) -> bool {
+    let mut first: Option<&str> = None;
+    for entry in entries {
+        let path = entry.path.as_str();
+        if without_ending(path).is_some() {
+            if let Some(other) = first
+                && other != path
+            {
+                return false;
+            }
+            first = Some(path);
+        }
+    }
+    true
+}
+
+// Adds the source that stands for a file of a build. Says whether there is one, or needs none.
+fn add_source(
+    files: &Files<'_>,
+    folder: &str,
+    path: &str,
+    is_one: bool,
+    out: &mut BTreeMap<String, String>,
+) -> Result<bool, AllocError> {
+    if without_ending(path).is_none() {
+        return Ok(true);
+    }
+    let mut source = namesake(files, folder, path)?;
+    if source.is_none() && is_one {
+        source = whole_source(files, folder)?;
+    }
+    match source {
+        Some(source) => {
+            let _ = out.insert(String::from_str(files.alloc(), path)?, source)?;
+            Ok(true)
+        }
+        None => Ok(false),
+    }
+}
+
 /// The sources that stand for entry points of which all are files of a build, by their paths: those of the same names in `src`, and for a whole package in one file
 /// `src/index.ts`. There are none where some have no source.
 pub fn sources_of_build(
@@ -124,42 +194,13 @@ pub fn sources_of_build(
     folder: &str,
     entries: &[Entry],
 ) -> Result<BTreeMap<String, String>, AllocError> {
-    let alloc = files.alloc();
-    let mut found = BTreeMap::new(alloc);
-    let mut first: Option<&str> = None;
-    let mut is_one = true;
-    for entry in entries {
-        let path = entry.path.as_str();
-        if without_ending(path).is_some() {
-            is_one = is_one
-                && match first {
-                    Some(before) => before == path,
-                    None => true,
-                };
-            first = Some(path);
-            if !is_built(files, projects, folder, path)? {
-                return Ok(BTreeMap::new(alloc));
+    let mut found = BTreeMap::new(files.alloc());
+    if are_built(files, projects, folder, entries)? {
+        let is_one = are_one(entries);
+        for entry in entries {
+            if !add_source(files, folder, entry.path.as_str(), is_one, &mut found)? {
+                return Ok(BTreeMap::new(files.alloc()));
             }
-        }
-    }
-    for entry in entries {
-        let path = entry.path.as_str();
-        if without_ending(path).is_none() {
-            continue;
-        }
-        let source = match namesake(files, folder, path)? {
-            Some(source) => Some(source),
-            None => if is_one {
-                whole_source(files, folder)?
-            } else {
-                None
-            },
-        };
-        match source {
-            Some(source) => {
-                let _ = found.insert(String::from_str(alloc, path)?, source)?;
-            }
-            None => return Ok(BTreeMap::new(alloc)),
         }
     }
     Ok(found)
@@ -196,13 +237,28 @@ fn outputs(source: &str) -> Option<(&str, &'static str, &'static str)> {
     Some((source.strip_suffix(endings.0)?, endings.1, endings.2))
 }
 
+// Adds a file that the compiler writes into a folder, unless it is the source itself or known.
+fn push_output(
+    alloc: Global,
+    source: &str,
+    target: &str,
+    name: &str,
+    out: &mut BTreeMap<String, String>,
+) -> Result<(), AllocError> {
+    let path = inside(alloc, target, name)?;
+    if path.as_str() != source && !out.contains_key(path.as_str()) {
+        let source = String::from_str(alloc, source)?;
+        let _ = out.insert(path, source)?;
+    }
+    Ok(())
+}
+
 // Adds the files that the compiler writes for a source below a folder.
 fn push_outputs(
     alloc: Global,
     source: &str,
     root: &str,
-    scripts: Option<&str>,
-    declarations: Option<&str>,
+    targets: (Option<&str>, Option<&str>),
     out: &mut BTreeMap<String, String>,
 ) -> Result<(), AllocError> {
     let Some((stem, script, declaration)) = outputs(source) else {
@@ -211,31 +267,37 @@ fn push_outputs(
     let Some(stem) = behind(stem, root) else {
         return Ok(());
     };
-    for (target, ending) in [(scripts, script), (declarations, declaration)] {
-        if let Some(target) = target {
-            let name = joined(alloc, stem, ending)?;
-            let path = inside(alloc, target, name.as_str())?;
-            if path.as_str() != source && !out.contains_key(path.as_str()) {
-                let _ = out.insert(path, String::from_str(alloc, source)?)?;
-            }
-        }
+    if let Some(scripts) = targets.0 {
+        let name = joined(alloc, stem, script)?;
+        push_output(alloc, source, scripts, name.as_str(), out)?;
+    }
+    if let Some(declarations) = targets.1 {
+        let name = joined(alloc, stem, declaration)?;
+        push_output(alloc, source, declarations, name.as_str(), out)?;
     }
     Ok(())
 }
 
+// The innermost folder around another one that a file lies in.
+fn folder_around<'a>(folder: &'a str, file: &str) -> &'a str {
+    let mut common = folder;
+    for _turn in 0..folder.len() {
+        if behind(file, common).is_some() {
+            break;
+        }
+        common = folder_of(common);
+    }
+    common
+}
+
 // The innermost folder that some files lie in.
-fn common_folder<'a>(sources: &'a [String]) -> &'a str {
+fn common_folder(sources: &[String]) -> &str {
     let Some(first) = sources.first() else {
         return "";
     };
     let mut common = folder_of(first.as_str());
     for source in sources {
-        for _turn in 0..common.len() {
-            if behind(source.as_str(), common).is_some() {
-                break;
-            }
-            common = folder_of(common);
-        }
+        common = folder_around(common, source.as_str());
     }
     common
 }
@@ -260,23 +322,64 @@ fn push_projects(files: &Files<'_>, folder: &str, out: &mut Vec<String>) -> Resu
     Ok(())
 }
 
+// Adds the configurations that some others refer to.
+fn push_referred(
+    files: &Files<'_>,
+    projects: &[String],
+    out: &mut Vec<String>,
+) -> Result<(), AllocError> {
+    for path in projects {
+        let mut referred = references(files, path.as_str())?;
+        out.append(&mut referred)?;
+    }
+    Ok(())
+}
+
 // The configurations of the compiler by which a folder may be built: its own, those beside it, those of its `src`, and those that they refer to.
 fn projects_of(files: &Files<'_>, folder: &str) -> Result<Vec<String>, AllocError> {
-    let alloc = files.alloc();
-    let mut found = Vec::new(alloc);
-    let src = inside(alloc, folder, "src")?;
+    let src = inside(files.alloc(), folder, "src")?;
+    let mut found = Vec::new(files.alloc());
     push_projects(files, folder, &mut found)?;
     push_projects(files, src.as_str(), &mut found)?;
-    let mut referred = Vec::new(alloc);
-    for path in found.iter() {
-        for other in references(files, path.as_str())? {
-            referred.push(other)?;
-        }
-    }
-    for other in referred {
-        found.push(other)?;
-    }
+    let mut referred = Vec::new(files.alloc());
+    push_referred(files, found.as_slice(), &mut referred)?;
+    found.append(&mut referred)?;
     Ok(found)
+}
+
+// Adds the sources of a project below a folder by the files that the compiler writes for them.
+fn push_below(
+    alloc: Global,
+    project: &Options,
+    sources: &[String],
+    root: &str,
+    out: &mut BTreeMap<String, String>,
+) -> Result<(), AllocError> {
+    for source in sources {
+        push_outputs(alloc, source.as_str(), root, project.targets(), out)?;
+    }
+    Ok(())
+}
+
+// Adds the sources of a project by the files that the compiler writes for them.
+fn push_built(
+    files: &Files<'_>,
+    path: &str,
+    out: &mut BTreeMap<String, String>,
+) -> Result<(), AllocError> {
+    let alloc = files.alloc();
+    let project = options_of(files, path)?;
+    if project.scripts.is_none() && project.declarations.is_none() {
+        return Ok(());
+    }
+    let own = folder_of(path);
+    let sources = sources_of(files, own, &project)?;
+    if let Some(root) = &project.root {
+        return push_below(alloc, &project, sources.as_slice(), root.as_str(), out);
+    }
+    let common = common_folder(sources.as_slice());
+    push_below(alloc, &project, sources.as_slice(), common, out)?;
+    push_below(alloc, &project, sources.as_slice(), own, out)
 }
 
 /// The sources of a folder by the files that the compiler writes for them.
@@ -284,36 +387,9 @@ pub fn built_files(
     files: &Files<'_>,
     folder: &str,
 ) -> Result<BTreeMap<String, String>, AllocError> {
-    let alloc = files.alloc();
-    let mut found = BTreeMap::new(alloc);
+    let mut found = BTreeMap::new(files.alloc());
     for path in projects_of(files, folder)? {
-        let project = options_of(files, path.as_str())?;
-        let (scripts, declarations) = project.targets();
-        if scripts.is_none() && declarations.is_none() {
-            continue;
-        }
-        let own = folder_of(path.as_str());
-        let taken = sources_of(files, own, &project)?;
-        let mut roots = Vec::new(alloc);
-        match &project.root {
-            Some(root) => roots.push(root.clone()?)?,
-            None => {
-                roots.push(String::from_str(alloc, common_folder(taken.as_slice()))?)?;
-                roots.push(String::from_str(alloc, own)?)?;
-            }
-        }
-        for root in roots.iter() {
-            for source in taken.iter() {
-                push_outputs(
-                    alloc,
-                    source.as_str(),
-                    root.as_str(),
-                    scripts,
-                    declarations,
-                    &mut found,
-                )?;
-            }
-        }
+        push_built(files, path.as_str(), &mut found)?;
     }
     Ok(found)
 }

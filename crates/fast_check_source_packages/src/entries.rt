@@ -1,6 +1,6 @@
 //! The entry points of a package, by the paths of their files.
 use crate::builds::{built_files, file_of, is_unread, sources_of_build};
-use crate::exports::{Entry, expanded, written_exports};
+use crate::exports::{Entry, expanded, push_entry, written_exports};
 use fast_check_source_configs::config::{Config, path_in, quoted, text_of};
 use fast_check_source_configs::paths::{behind, inside};
 use fast_check_source_configs::tsconfig::Projects;
@@ -20,6 +20,8 @@ const USUAL: [&str; 7] = [
     "src/mod.ts",
 ];
 
+const NO_ENTRY_POINT: &str = "no-entry-point";
+
 /// The entry points of a package, and what is wrong with what is written.
 #[derive(Drop)]
 pub struct Entries {
@@ -32,6 +34,24 @@ pub struct Entries {
     pub errors: Vec<Message>,
 }
 
+impl Entries {
+    fn new(alloc: Global) -> Entries {
+        Entries {
+            found: Vec::new(alloc),
+            wrong: Vec::new(alloc),
+            passed: Vec::new(alloc),
+            errors: Vec::new(alloc),
+        }
+    }
+}
+
+// Where a text stands behind a key.
+fn place_behind(text: &str, key: &str, wanted: &str) -> Option<usize> {
+    let start = text.find(key)?;
+    let at = text.get(start..)?.find(wanted)?;
+    Some(start.saturating_add(at))
+}
+
 // Where a path is written in the configurations of a package.
 fn place_of<'a>(
     alloc: Global,
@@ -41,37 +61,63 @@ fn place_of<'a>(
     let wanted = quoted(alloc, path)?;
     for config in configs {
         for key in ["\"exports\"", "\"types\"", "\"typings\""] {
-            if let Some(start) = config.text.as_str().find(key)
-                && let Some(rest) = config.text.as_str().get(start..)
-                && let Some(at) = rest.find(wanted.as_str())
-            {
-                return Ok(Some((config, start.saturating_add(at))));
+            if let Some(at) = place_behind(config.text.as_str(), key, wanted.as_str()) {
+                return Ok(Some((config, at)));
             }
         }
     }
     Ok(None)
 }
 
-// An entry point, its path as it is written, and the source that stands for its file.
+// The paths of some entry points as they are written, and the entry points by the paths of their files.
 #[derive(Drop)]
-struct Candidate {
-    written: String,
-    entry: Entry,
-    source: Option<String>,
+struct Candidates {
+    written: Vec<String>,
+    entries: Vec<Entry>,
+}
+
+impl Candidates {
+    // Adds the entry points that one path stands for.
+    fn add(&mut self, path: &str, alloc: Global, some: Vec<Entry>) -> Result<(), AllocError> {
+        for entry in some {
+            self.written.push(String::from_str(alloc, path)?)?;
+            self.entries.push(entry)?;
+        }
+        Ok(())
+    }
 }
 
 // The source that stands for a file of a build.
-fn source_of(
+fn source_of<'a>(
     path: &str,
-    built: &BTreeMap<String, String>,
-    build: &BTreeMap<String, String>,
-) -> Result<Option<String>, AllocError> {
-    if let Some(found) = built.get(path) {
-        return Ok(Some(found.clone()?));
+    built: &'a BTreeMap<String, String>,
+    build: &'a BTreeMap<String, String>,
+) -> Option<&'a str> {
+    match built.get(path) {
+        Some(found) => Some(found.as_str()),
+        None => Some(build.get(path)?.as_str()),
     }
-    match build.get(path) {
-        Some(found) => Ok(Some(found.clone()?)),
-        None => Ok(None),
+}
+
+// An entry point, its path as it is written, and the source that stands for its file.
+#[derive(Clone, Copy)]
+struct Candidate<'a> {
+    written: &'a str,
+    entry: &'a Entry,
+    source: Option<&'a str>,
+}
+
+impl<'a> Candidate<'a> {
+    // The file that is read.
+    fn file(
+        self,
+        files: &Files<'_>,
+        projects: &mut Projects,
+    ) -> Result<Option<String>, AllocError> {
+        match self.source {
+            Some(source) => Ok(Some(String::from_str(files.alloc(), source)?)),
+            None => file_of(files, projects, self.entry.path.as_str()),
+        }
     }
 }
 
@@ -89,122 +135,162 @@ impl<'a> Written<'a> {
         alloc: Global,
         path: &str,
         code: &'static str,
-        why: &str,
+        text: &str,
     ) -> Result<Message, AllocError> {
-        let mut text = joined(alloc, "the entry point ", path)?;
-        text.push_str(why)?;
         match place_of(alloc, self.configs, path)? {
-            Some((config, at)) => Message::at(
-                alloc,
-                config.path.as_str(),
-                config.text.as_str(),
-                at,
-                code,
-                text.as_str(),
-            ),
-            None => Message::of_file(alloc, self.folder, code, text.as_str()),
+            Some((config, at)) => {
+                let source = config.text.as_str();
+                Message::at(alloc, config.path.as_str(), source, at, code, text)
+            }
+            None => Message::of_file(alloc, self.folder, code, text),
         }
     }
 
+    // Says what is wrong with an entry point.
+    fn say(
+        self,
+        alloc: Global,
+        path: &str,
+        code: &'static str,
+        why: &str,
+        out: &mut Vec<Message>,
+    ) -> Result<(), AllocError> {
+        let mut text = joined(alloc, "the entry point ", path)?;
+        text.push_str(why)?;
+        out.push(self.message(alloc, path, code, text.as_str())?)?;
+        Ok(())
+    }
+
     // An entry point that is a module goes to those that are found.
+    fn take_file(
+        self,
+        alloc: Global,
+        candidate: Candidate<'_>,
+        file: &str,
+        out: &mut Entries,
+    ) -> Result<(), AllocError> {
+        if media_type(file) != MediaType::Unknown {
+            return push_entry(alloc, candidate.entry.key.as_str(), file, &mut out.found);
+        }
+        if file.ends_with(".json") {
+            return Ok(());
+        }
+        let why = " is no module, and is passed over";
+        self.say(alloc, candidate.written, NO_ENTRY_POINT, why, &mut out.passed)
+    }
+
+    // Warns of a file of a build that is read in place of its source.
+    fn warn_of_build(
+        self,
+        files: &Files<'_>,
+        projects: &mut Projects,
+        candidate: Candidate<'_>,
+        out: &mut Entries,
+    ) -> Result<(), AllocError> {
+        let wanted = candidate.entry.path.as_str();
+        if candidate.source.is_some() || !is_unread(files, projects, self.folder, wanted)? {
+            return Ok(());
+        }
+        let why = " is a built file, and nothing of src/ is read";
+        let code = "built-entry-point";
+        self.say(files.alloc(), candidate.written, code, why, &mut out.passed)
+    }
+
+    // An entry point goes to those that are found, or else what is wrong with it is said.
     fn take(
         self,
         files: &Files<'_>,
         projects: &mut Projects,
-        candidate: Candidate,
+        candidate: Candidate<'_>,
         out: &mut Entries,
     ) -> Result<(), AllocError> {
         let alloc = files.alloc();
-        let code = "no-entry-point";
-        let Candidate {
-            written,
-            entry,
-            source,
-        } = candidate;
-        let (text, wanted) = (written.as_str(), entry.path.as_str());
-        if text.starts_with("/") || behind(wanted, self.folder).is_none() {
+        let text = candidate.written;
+        if text.starts_with("/") || behind(candidate.entry.path.as_str(), self.folder).is_none() {
             let why = " lies outside of the package";
-            out.errors.push(self.message(alloc, text, code, why)?)?;
-            return Ok(());
+            return self.say(alloc, text, NO_ENTRY_POINT, why, &mut out.errors);
         }
-        let is_source = source.is_some();
-        let file = match source {
-            Some(source) => Some(source),
-            None => file_of(files, projects, wanted)?,
+        match candidate.file(files, projects)? {
+            Some(file) => {
+                self.warn_of_build(files, projects, candidate, out)?;
+                self.take_file(alloc, candidate, file.as_str(), out)
+            }
+            None => self.say(alloc, text, NO_ENTRY_POINT, " is not there", &mut out.wrong),
+        }
+    }
+
+    // The entry points that may be meant by those that are written.
+    fn candidates(
+        self,
+        files: &Files<'_>,
+        written: &[Entry],
+        built: &BTreeMap<String, String>,
+        passed: &mut Vec<Message>,
+    ) -> Result<Candidates, AllocError> {
+        let alloc = files.alloc();
+        let mut all = Candidates {
+            written: Vec::new(alloc),
+            entries: Vec::new(alloc),
         };
-        let Some(file) = file else {
-            out.wrong
-                .push(self.message(alloc, text, code, " is not there")?)?;
-            return Ok(());
-        };
-        if !is_source && is_unread(files, projects, self.folder, wanted)? {
-            let why = " is a built file, and nothing of src/ is read";
-            out.passed
-                .push(self.message(alloc, text, "built-entry-point", why)?)?;
+        for each in written {
+            let path = each.path.as_str();
+            let some = expanded(files, self.folder, each, built)?;
+            if some.is_empty() {
+                self.say(alloc, path, NO_ENTRY_POINT, " fits no file", passed)?;
+            }
+            all.add(path, alloc, some)?;
         }
-        if file.as_str().ends_with(".json") {
-            return Ok(());
+        Ok(all)
+    }
+
+    // Looks for the entry points that are written.
+    fn take_all(
+        self,
+        files: &Files<'_>,
+        projects: &mut Projects,
+        written: &[Entry],
+        out: &mut Entries,
+    ) -> Result<(), AllocError> {
+        let built = built_files(files, self.folder)?;
+        let all = self.candidates(files, written, &built, &mut out.passed)?;
+        let build = sources_of_build(files, projects, self.folder, all.entries.as_slice())?;
+        for (path, entry) in all.written.iter().zip(all.entries.iter()) {
+            let candidate = Candidate {
+                written: path.as_str(),
+                entry,
+                source: source_of(entry.path.as_str(), &built, &build),
+            };
+            self.take(files, projects, candidate, out)?;
         }
-        if media_type(file.as_str()) == MediaType::Unknown {
-            let why = " is no module, and is passed over";
-            out.passed.push(self.message(alloc, text, code, why)?)?;
-            return Ok(());
-        }
-        let found = Entry {
-            key: entry.key.clone()?,
-            path: file,
-        };
-        out.found.push(found)?;
         Ok(())
     }
 
     // The entry points that are written.
     fn entries(self, files: &Files<'_>, projects: &mut Projects) -> Result<Entries, AllocError> {
         let alloc = files.alloc();
-        let mut out = Entries {
-            found: Vec::new(alloc),
-            wrong: Vec::new(alloc),
-            passed: Vec::new(alloc),
-            errors: Vec::new(alloc),
-        };
+        let mut out = Entries::new(alloc);
         let written = written_exports(alloc, self.configs)?;
-        if written.is_empty() {
-            return Ok(out);
-        }
-        let built = built_files(files, self.folder)?;
-        let mut paths = Vec::new(alloc);
-        let mut all = Vec::new(alloc);
-        for each in written {
-            let some = expanded(files, self.folder, &each, &built)?;
-            if some.is_empty() {
-                let message = self.message(
-                    alloc,
-                    each.path.as_str(),
-                    "no-entry-point",
-                    " fits no file",
-                )?;
-                out.passed.push(message)?;
-            }
-            for entry in some {
-                paths.push(each.path.clone()?)?;
-                all.push(entry)?;
-            }
-        }
-        let build = sources_of_build(files, projects, self.folder, all.as_slice())?;
-        for (place, entry) in all.into_iter().enumerate() {
-            let written = match paths.get(place) {
-                Some(path) => path.clone()?,
-                None => continue,
-            };
-            let source = source_of(entry.path.as_str(), &built, &build)?;
-            let candidate = Candidate {
-                written,
-                entry,
-                source,
-            };
-            self.take(files, projects, candidate, &mut out)?;
+        if !written.is_empty() {
+            self.take_all(files, projects, written.as_slice(), &mut out)?;
         }
         Ok(out)
+    }
+
+    // The file of an entry point that is named in another way.
+    fn main(
+        self,
+        files: &Files<'_>,
+        projects: &mut Projects,
+    ) -> Result<Option<String>, AllocError> {
+        for key in ["module", "main"] {
+            if let Some(text) = text_of(self.configs, key) {
+                let path = path_in(files.alloc(), self.folder, text)?;
+                if let Some(found) = file_of(files, projects, path.as_str())? {
+                    return Ok(Some(found));
+                }
+            }
+        }
+        Ok(None)
     }
 
     // The file of the entry point of a package in whose configuration none is there.
@@ -213,22 +299,13 @@ impl<'a> Written<'a> {
         files: &Files<'_>,
         projects: &mut Projects,
     ) -> Result<Option<String>, AllocError> {
-        let alloc = files.alloc();
         for name in USUAL {
-            let path = inside(alloc, self.folder, name)?;
+            let path = inside(files.alloc(), self.folder, name)?;
             if files.is_file(path.as_str())? {
                 return file_of(files, projects, path.as_str());
             }
         }
-        for key in ["module", "main"] {
-            if let Some(text) = text_of(self.configs, key) {
-                let path = path_in(alloc, self.folder, text)?;
-                if let Some(found) = file_of(files, projects, path.as_str())? {
-                    return Ok(Some(found));
-                }
-            }
-        }
-        Ok(None)
+        self.main(files, projects)
     }
 }
 
@@ -239,19 +316,14 @@ pub fn entry_points(
     folder: &str,
     configs: &[Config],
 ) -> Result<Entries, AllocError> {
-    let alloc = files.alloc();
     let written = Written { folder, configs };
     let mut entries = written.entries(files, projects)?;
-    if !entries.found.is_empty() {
-        return Ok(entries);
-    }
-    if let Some(path) = written.usual(files, projects)? {
-        entries.wrong = Vec::new(alloc);
-        entries.passed = Vec::new(alloc);
-        entries.found.push(Entry {
-            key: String::from_str(alloc, ".")?,
-            path,
-        })?;
+    if entries.found.is_empty()
+        && let Some(path) = written.usual(files, projects)?
+    {
+        entries.wrong.clear();
+        entries.passed.clear();
+        push_entry(files.alloc(), ".", path.as_str(), &mut entries.found)?;
     }
     Ok(entries)
 }

@@ -1,6 +1,7 @@
 //! The entry points that a configuration writes.
 use fast_check_source_configs::config::{Config, member, path_in, path_of, text_of};
-use fast_check_source_files::files::{Files, Standing, joined, media_type};
+use fast_check_source_configs::paths::with_rest;
+use fast_check_source_files::files::{Files, Standing, media_type};
 use fast_check_tables_diagnostics::parsed_source::MediaType;
 use serde_json::Value;
 use std::alloc::{AllocError, Global};
@@ -13,12 +14,16 @@ pub struct Entry {
     pub path: String,
 }
 
-fn push(alloc: Global, out: &mut Vec<Entry>, key: &str, path: &str) -> Result<(), AllocError> {
-    let entry = Entry {
-        key: String::from_str(alloc, key)?,
-        path: String::from_str(alloc, path)?,
-    };
-    out.push(entry)?;
+/// Adds an entry point.
+pub fn push_entry(
+    alloc: Global,
+    key: &str,
+    path: &str,
+    out: &mut Vec<Entry>,
+) -> Result<(), AllocError> {
+    let key = String::from_str(alloc, key)?;
+    let path = String::from_str(alloc, path)?;
+    out.push(Entry { key, path })?;
     Ok(())
 }
 
@@ -39,42 +44,42 @@ fn exports_of(configs: &[Config]) -> Option<&Value> {
     member(configs, "exports")
 }
 
+// Adds the entry points of a member `exports`.
+fn push_exports(
+    alloc: Global,
+    exports: &Value,
+    out: &mut Vec<Entry>,
+) -> Result<(), AllocError> {
+    if let Some(map) = exports.as_object()
+        && is_keyed(exports)
+    {
+        for (key, entry) in map.iter() {
+            if let Some(path) = path_of(alloc, entry)? {
+                push_entry(alloc, key.as_str(), path, out)?;
+            }
+        }
+        return Ok(());
+    }
+    match path_of(alloc, exports)? {
+        Some(path) => push_entry(alloc, ".", path, out),
+        None => Ok(()),
+    }
+}
+
 /// The entry points as they are written.
 pub fn written_exports(alloc: Global, configs: &[Config]) -> Result<Vec<Entry>, AllocError> {
     let mut out = Vec::new(alloc);
     if let Some(exports) = exports_of(configs) {
-        if let Some(map) = exports.as_object()
-            && is_keyed(exports)
-        {
-            for (key, entry) in map.iter() {
-                if let Some(path) = path_of(alloc, entry)? {
-                    push(alloc, &mut out, key.as_str(), path)?;
-                }
-            }
-        } else if let Some(path) = path_of(alloc, exports)? {
-            push(alloc, &mut out, ".", path)?;
-        }
+        push_exports(alloc, exports, &mut out)?;
     }
     for key in ["types", "typings"] {
         if out.is_empty()
             && let Some(path) = text_of(configs, key)
         {
-            push(alloc, &mut out, ".", path)?;
+            push_entry(alloc, ".", path, &mut out)?;
         }
     }
     Ok(out)
-}
-
-// A key in which a text stands for the `*`.
-fn with_star(alloc: Global, key: &str, text: &str) -> Result<String, AllocError> {
-    match key.split_once('*') {
-        Some((before, behind)) => {
-            let mut made = joined(alloc, before, text)?;
-            made.push_str(behind)?;
-            Ok(made)
-        }
-        None => String::from_str(alloc, key),
-    }
 }
 
 // What stands for the `*` between two texts, if that is something.
@@ -85,10 +90,10 @@ fn star_of<'a>(path: &'a str, before: &str, behind: &str) -> Option<&'a str> {
     path.strip_prefix(before)?.strip_suffix(behind)
 }
 
-// Adds an entry for a file that fits the path of an entry with a `*`.
+// Adds an entry point for a file that fits the path of one with a `*`.
 fn push_fitting(
     alloc: Global,
-    entry: &Entry,
+    key: &str,
     pattern: &str,
     file: &str,
     out: &mut Vec<Entry>,
@@ -97,10 +102,31 @@ fn push_fitting(
         && media_type(file) != MediaType::Unknown
         && let Some(star) = star_of(file, before, behind)
     {
-        let key = with_star(alloc, entry.key.as_str(), star)?;
-        push(alloc, out, key.as_str(), file)?;
+        let key = with_rest(alloc, key, star)?;
+        push_entry(alloc, key.as_str(), file, out)?;
     }
     Ok(())
+}
+
+// The entry points for the files of a folder that fit the path of one with a `*`, or else for those that the compiler would write.
+fn fitting(
+    files: &Files<'_>,
+    folder: &str,
+    key: &str,
+    pattern: &str,
+    built: &BTreeMap<String, String>,
+) -> Result<Vec<Entry>, AllocError> {
+    let alloc = files.alloc();
+    let mut found = Vec::new(alloc);
+    for file in files.all_below(folder, Standing::File)? {
+        push_fitting(alloc, key, pattern, file.as_str(), &mut found)?;
+    }
+    if found.is_empty() {
+        for (file, _) in built.iter() {
+            push_fitting(alloc, key, pattern, file.as_str(), &mut found)?;
+        }
+    }
+    Ok(found)
 }
 
 /// An entry by the path of its file from the folder that was named. One with a `*` in its path stands for each file that fits, and where there is none, for each that
@@ -112,19 +138,11 @@ pub fn expanded(
     built: &BTreeMap<String, String>,
 ) -> Result<Vec<Entry>, AllocError> {
     let alloc = files.alloc();
-    let mut found = Vec::new(alloc);
     let pattern = path_in(alloc, folder, entry.path.as_str())?;
-    if !pattern.as_str().contains("*") {
-        push(alloc, &mut found, entry.key.as_str(), pattern.as_str())?;
-        return Ok(found);
+    if pattern.as_str().contains("*") {
+        return fitting(files, folder, entry.key.as_str(), pattern.as_str(), built);
     }
-    for file in files.all_below(folder, Standing::File)? {
-        push_fitting(alloc, entry, pattern.as_str(), file.as_str(), &mut found)?;
-    }
-    if found.is_empty() {
-        for (file, _) in built.iter() {
-            push_fitting(alloc, entry, pattern.as_str(), file.as_str(), &mut found)?;
-        }
-    }
+    let mut found = Vec::new(alloc);
+    push_entry(alloc, entry.key.as_str(), pattern.as_str(), &mut found)?;
     Ok(found)
 }

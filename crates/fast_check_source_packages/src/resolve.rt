@@ -2,7 +2,7 @@
 use crate::builds::{file_of, is_script};
 use crate::exports::Entry;
 use fast_check_source_configs::comments::self_types;
-use fast_check_source_configs::paths::{rest_of, with_rest};
+use fast_check_source_configs::paths::{behind, rest_of, with_rest};
 use fast_check_source_configs::tsconfig::Projects;
 use fast_check_source_files::files::{Files, below, folder_of, joined, media_type};
 use std::alloc::{AllocError, Global};
@@ -19,6 +19,7 @@ pub struct Package {
     pub imports: BTreeMap<String, Option<String>>,
 }
 
+/// Whether a text is a path from the folder of the module that has it.
 pub fn is_relative(text: &str) -> bool {
     text.starts_with("./") || text.starts_with("../") || text == "." || text == ".."
 }
@@ -28,16 +29,11 @@ pub fn package_at<'a>(packages: &'a [Package], path: &str) -> Option<&'a Package
     let mut best: Option<&Package> = None;
     for package in packages {
         let folder = package.folder.as_str();
-        let is_inside = folder.is_empty()
-            || match path.strip_prefix(folder) {
-                Some(rest) => rest.starts_with("/"),
-                None => false,
-            };
         let is_longer = match best {
             Some(other) => folder.len() > other.folder.len(),
             None => true,
         };
-        if is_inside && is_longer {
+        if is_longer && behind(path, folder).is_some() {
             best = Some(package);
         }
     }
@@ -52,49 +48,64 @@ enum Mapped {
     Path(String),
 }
 
-fn target_of(
-    alloc: Global,
-    target: &Option<String>,
-    rest: &str,
-    is_folder: bool,
-) -> Result<Mapped, AllocError> {
-    match target {
-        None => Ok(Mapped::Elsewhere),
-        Some(target) if is_folder => Ok(Mapped::Path(joined(alloc, target.as_str(), rest)?)),
-        Some(target) => Ok(Mapped::Path(with_rest(alloc, target.as_str(), rest)?)),
+type Imports = BTreeMap<String, Option<String>>;
+
+// How well a key fits a text that it fits: one without a `*` fits best, else the one with the longest text before it.
+fn rank(key: &str) -> usize {
+    match key.find("*") {
+        Some(at) => at.saturating_add(1),
+        None => usize::MAX,
     }
 }
 
-fn by_imports(alloc: Global, package: &Package, text: &str) -> Result<Mapped, AllocError> {
+// The target of the key that fits a text best, and what stands for its `*`.
+fn by_pattern<'a>(imports: &'a Imports, text: &'a str) -> Option<(&'a Option<String>, &'a str)> {
     let mut length: usize = 0;
-    let mut found = Mapped::Unknown;
-    for (key, target) in package.imports.iter() {
+    let mut best = None;
+    for (key, target) in imports.iter() {
         let key = key.as_str();
-        let own = match key.find("*") {
-            Some(at) => at.saturating_add(1),
-            None => usize::MAX,
-        };
+        let own = rank(key);
         if own > length
             && let Some(rest) = rest_of(key, text)
         {
             length = own;
-            found = target_of(alloc, target, rest, false)?;
+            best = Some((target, rest));
         }
     }
-    if length > 0 {
-        return Ok(found);
-    }
-    for (key, target) in package.imports.iter() {
+    best
+}
+
+// The target of the longest key for a folder that a text lies in, and what stands behind it.
+fn by_folder<'a>(imports: &'a Imports, text: &'a str) -> Option<(&'a Option<String>, &'a str)> {
+    let mut length: usize = 0;
+    let mut best = None;
+    for (key, target) in imports.iter() {
         let key = key.as_str();
         if key.ends_with("/")
             && key.len() > length
             && let Some(rest) = text.strip_prefix(key)
         {
             length = key.len();
-            found = target_of(alloc, target, rest, true)?;
+            best = Some((target, rest));
         }
     }
-    Ok(found)
+    best
+}
+
+fn by_imports(alloc: Global, package: &Package, text: &str) -> Result<Mapped, AllocError> {
+    if let Some((target, rest)) = by_pattern(&package.imports, text) {
+        return match target {
+            Some(target) => Ok(Mapped::Path(with_rest(alloc, target.as_str(), rest)?)),
+            None => Ok(Mapped::Elsewhere),
+        };
+    }
+    if let Some((target, rest)) = by_folder(&package.imports, text) {
+        return match target {
+            Some(target) => Ok(Mapped::Path(joined(alloc, target.as_str(), rest)?)),
+            None => Ok(Mapped::Elsewhere),
+        };
+    }
+    Ok(Mapped::Unknown)
 }
 
 // A text without the scheme of a registry.
@@ -107,6 +118,31 @@ fn without_scheme(text: &str) -> &str {
     text
 }
 
+// What stands in a text behind the name of a package and its version: nothing, or a path that begins with `/`.
+fn behind_name<'a>(text: &'a str, name: &str) -> Option<&'a str> {
+    let rest = text.strip_prefix(name)?;
+    if let Some(version) = rest.strip_prefix("@") {
+        return match version.find("/") {
+            Some(at) => version.get(at..),
+            None => Some(""),
+        };
+    }
+    if rest.is_empty() || rest.starts_with("/") {
+        Some(rest)
+    } else {
+        None
+    }
+}
+
+fn entry_at<'a>(package: &'a Package, key: &str) -> Option<&'a str> {
+    for entry in package.exports.iter() {
+        if entry.key.as_str() == key {
+            return Some(entry.path.as_str());
+        }
+    }
+    None
+}
+
 // The entry point of one of the packages that a text names.
 fn of_package<'a>(
     alloc: Global,
@@ -115,26 +151,10 @@ fn of_package<'a>(
 ) -> Result<Option<&'a str>, AllocError> {
     let plain = without_scheme(text);
     for package in packages {
-        let Some(rest) = plain.strip_prefix(package.name.as_str()) else {
-            continue;
-        };
-        let path = if let Some(version) = rest.strip_prefix("@") {
-            match version.find("/") {
-                Some(at) => match version.get(at..) {
-                    Some(path) => path,
-                    None => "",
-                },
-                None => "",
-            }
-        } else if rest.is_empty() || rest.starts_with("/") {
-            rest
-        } else {
-            continue;
-        };
-        let key = joined(alloc, ".", path)?;
-        for entry in package.exports.iter() {
-            if entry.key.as_str() == key.as_str() {
-                return Ok(Some(entry.path.as_str()));
+        if let Some(path) = behind_name(plain, package.name.as_str()) {
+            let key = joined(alloc, ".", path)?;
+            if let Some(found) = entry_at(package, key.as_str()) {
+                return Ok(Some(found));
             }
         }
     }
@@ -153,6 +173,21 @@ fn has_scheme(text: &str) -> bool {
     }
 }
 
+// The first of some paths for which there is a file.
+fn first_of(
+    files: &Files<'_>,
+    projects: &mut Projects,
+    from: &str,
+    paths: &[String],
+) -> Result<Option<String>, AllocError> {
+    for path in paths {
+        if let Some(found) = projects.find(files, from, path.as_str())? {
+            return Ok(Some(found));
+        }
+    }
+    Ok(None)
+}
+
 // The file of a relative path in a module.
 fn relative(
     files: &Files<'_>,
@@ -163,12 +198,22 @@ fn relative(
     let Some(path) = below(files.alloc(), folder_of(from), text)? else {
         return Ok(None);
     };
-    for path in projects.beside(files, from, path)? {
-        if let Some(found) = projects.find(files, from, path.as_str())? {
-            return Ok(Some(found));
-        }
+    let paths = projects.beside(files, from, path)?;
+    first_of(files, projects, from, paths.as_slice())
+}
+
+// The file of a text by the paths of the compiler's configuration.
+fn of_project(
+    files: &Files<'_>,
+    projects: &mut Projects,
+    from: &str,
+    text: &str,
+) -> Result<Option<String>, AllocError> {
+    if has_scheme(text) {
+        return Ok(None);
     }
-    Ok(None)
+    let paths = projects.paths(files, from, text)?;
+    first_of(files, projects, from, paths.as_slice())
 }
 
 // The file of a text that is no relative path, and that no map of imports has.
@@ -179,12 +224,8 @@ fn of_name(
     from: &str,
     text: &str,
 ) -> Result<Option<String>, AllocError> {
-    if !has_scheme(text) {
-        for path in projects.paths(files, from, text)? {
-            if let Some(found) = projects.find(files, from, path.as_str())? {
-                return Ok(Some(found));
-            }
-        }
+    if let Some(found) = of_project(files, projects, from, text)? {
+        return Ok(Some(found));
     }
     match of_package(files.alloc(), packages, text)? {
         Some(path) => Ok(Some(String::from_str(files.alloc(), path)?)),
@@ -214,26 +255,40 @@ fn first_found(
     }
 }
 
-/// The declaration file of JavaScript, or the file itself.
-pub fn typed(
+// The declaration file beside JavaScript, or the file itself.
+fn declared(
     files: &Files<'_>,
     projects: &mut Projects,
-    file: String,
+    file: &str,
 ) -> Result<String, AllocError> {
-    if !is_script(media_type(file.as_str())) {
-        return Ok(file);
-    }
-    let found = match file_of(files, projects, file.as_str())? {
-        Some(found) => found,
-        None => file,
-    };
-    if !is_script(media_type(found.as_str())) {
+    if is_script(media_type(file))
+        && let Some(found) = file_of(files, projects, file)?
+    {
         return Ok(found);
     }
-    if let Some(text) = files.read(found.as_str())?
-        && let Some(named) = self_types(text.as_str())
-        && is_relative(named)
-        && let Some(types) = relative(files, projects, found.as_str(), named)?
+    String::from_str(files.alloc(), file)
+}
+
+// The declaration file that JavaScript names for itself.
+fn named_by_itself(
+    files: &Files<'_>,
+    projects: &mut Projects,
+    file: &str,
+) -> Result<Option<String>, AllocError> {
+    let Some(text) = files.read(file)? else {
+        return Ok(None);
+    };
+    match self_types(text.as_str()) {
+        Some(named) if is_relative(named) => relative(files, projects, file, named),
+        _ => Ok(None),
+    }
+}
+
+/// The declaration file of JavaScript, or the file itself.
+pub fn typed(files: &Files<'_>, projects: &mut Projects, file: &str) -> Result<String, AllocError> {
+    let found = declared(files, projects, file)?;
+    if is_script(media_type(found.as_str()))
+        && let Some(types) = named_by_itself(files, projects, found.as_str())?
     {
         return Ok(types);
     }
@@ -241,10 +296,10 @@ pub fn typed(
 }
 
 /// A file behind links, where these do not lead out of the folder.
-pub fn behind_links(files: &Files<'_>, file: String) -> Result<String, AllocError> {
-    match files.behind_links(file.as_str())? {
+pub fn behind_links(files: &Files<'_>, file: &str) -> Result<String, AllocError> {
+    match files.behind_links(file)? {
         Some(real) => Ok(real),
-        None => Ok(file),
+        None => String::from_str(files.alloc(), file),
     }
 }
 
@@ -265,8 +320,8 @@ pub fn resolve(
     }
     match first_found(files, projects, packages, from, text)? {
         Some(file) => {
-            let real = behind_links(files, file)?;
-            Ok(Some(typed(files, projects, real)?))
+            let real = behind_links(files, file.as_str())?;
+            Ok(Some(typed(files, projects, real.as_str())?))
         }
         None => Ok(None),
     }
