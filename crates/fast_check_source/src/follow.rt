@@ -1,5 +1,6 @@
 //! The modules that entry points lead to.
 use crate::sources::{SourceText, sources_of};
+use crate::urls::{external, url_of};
 use anyhow::Result;
 use fast_check_source_comments::comments_of;
 use fast_check_source_configs::comments::named_types;
@@ -38,59 +39,6 @@ pub struct Found {
     pub own_names: BTreeMap<Url, String>,
 }
 
-const HEX: &str = "0123456789ABCDEF";
-
-fn is_plain(each: char) -> bool {
-    matches!(
-        each,
-        'a'..='z' | 'A'..='Z' | '0'..='9' | '-' | '_' | '.' | '!' | '~' | '*' | '\'' | '(' | ')' | '@' | '/'
-    )
-}
-
-fn push_digit(out: &mut String, digit: u8) -> Result<(), AllocError> {
-    let at = digit as usize;
-    match HEX.get(at..at.saturating_add(1)) {
-        Some(text) => out.push_str(text),
-        None => Ok(()),
-    }
-}
-
-/// A path as a URL writes it.
-pub fn encoded(alloc: Global, path: &str) -> Result<String, AllocError> {
-    let mut made = String::new(alloc);
-    for (at, each) in path.char_indices() {
-        let Some(text) = path.get(at..at.saturating_add(each.len_utf8())) else {
-            continue;
-        };
-        if is_plain(each) {
-            made.push_str(text)?;
-            continue;
-        }
-        for byte in text.as_bytes() {
-            made.push_str("%")?;
-            push_digit(&mut made, *byte / 16)?;
-            push_digit(&mut made, *byte % 16)?;
-        }
-    }
-    Ok(made)
-}
-
-/// The URL of a file by its path from the folder.
-pub fn url_of(alloc: Global, path: &str) -> Result<Url> {
-    let mut text = String::from_str(alloc, "file:///")?;
-    text.push_str(encoded(alloc, path)?.as_str())?;
-    Ok(Url::parse(alloc, text.as_str())?)
-}
-
-fn external(alloc: Global, text: &str) -> Result<Url> {
-    if let Ok(url) = Url::parse(alloc, text) {
-        return Ok(url);
-    }
-    let mut made = String::from_str(alloc, "npm:")?;
-    made.push_str(text)?;
-    Ok(Url::parse(alloc, made.as_str())?)
-}
-
 fn js(media_type: MediaType) -> Module {
     Module::Js {
         media_type,
@@ -122,22 +70,46 @@ fn refused(
     Message::at(alloc, path, text, offset, code, why)
 }
 
-fn read_module(alloc: Global, tree: &Tree, text: &str, media_type: MediaType) -> Result<Parsed> {
-    let is_declaration = media_type.is_declaration();
-    let comments = comments_of(alloc, text, tree)?;
+// The program of a module: its bodies cut, its names numbered, and its exports written in.
+fn program_of(
+    alloc: Global,
+    tree: &Tree,
+    text: &str,
+    is_declaration: bool,
+) -> Result<Tree, AllocError> {
     let short = short_tree(alloc, text, tree)?;
     let scoped = with_scopes(alloc, &short, is_declaration)?;
     let whole = mended(alloc, scoped)?;
-    let program = with_exports(alloc, &whole, is_declaration)?;
+    with_exports(alloc, &whole, is_declaration)
+}
+
+fn read_module(
+    alloc: Global,
+    tree: &Tree,
+    text: &str,
+    media_type: MediaType,
+) -> Result<Parsed, AllocError> {
+    let is_declaration = media_type.is_declaration();
+    let own = RcStr::from_str(alloc, text)?;
+    let comments = comments_of(alloc, text, tree)?;
+    let program = program_of(alloc, tree, text, is_declaration)?;
     let tables = tables_of(alloc, &program, is_declaration)?;
     let source = ParsedSource {
         media_type,
-        text: RcStr::from_str(alloc, text)?,
+        text: own,
         program,
         comments,
         unresolved_context: SyntaxContext(1),
     };
     Ok(Parsed { source, tables })
+}
+
+// A module that is read: the path of its file, its URL and its text.
+#[derive(Clone, Copy)]
+struct Place<'a> {
+    path: &'a str,
+    url: &'a Url,
+    text: &'a str,
 }
 
 /// A folder while its modules are read.
@@ -154,6 +126,40 @@ struct Reading {
 }
 
 impl Reading {
+    fn new(alloc: Global, projects: Projects, messages: Messages) -> Reading {
+        Reading {
+            found: Found {
+                modules: BTreeMap::new(alloc),
+                graph: BTreeMap::new(alloc),
+                resolutions: BTreeMap::new(alloc),
+                own_names: BTreeMap::new(alloc),
+            },
+            messages,
+            entries: BTreeSet::new(alloc),
+            seen: BTreeSet::new(alloc),
+            waiting: Vec::new(alloc),
+            projects,
+        }
+    }
+
+    // The entry points of packages are read first, in order.
+    fn start(&mut self, packages: &[Package]) -> Result<(), AllocError> {
+        for package in packages.iter().rev() {
+            for entry in package.exports.iter().rev() {
+                self.waiting.push(entry.path.clone()?)?;
+                let _ = self.entries.insert(entry.path.clone()?)?;
+            }
+        }
+        Ok(())
+    }
+
+    // A package outside of the folder.
+    fn outside(&mut self, alloc: Global, text: &str) -> Result<Url> {
+        let target = external(alloc, text)?;
+        let _ = self.found.graph.insert(target.clone()?, Module::External)?;
+        Ok(target)
+    }
+
     // Where a text of a module leads: a module to be read, a package outside, or nowhere.
     fn lead(
         &mut self,
@@ -163,37 +169,113 @@ impl Reading {
         text: &str,
         named: Option<&str>,
     ) -> Result<Option<Url>> {
-        let alloc = files.alloc();
-        let next = resolve(files, &mut self.projects, packages, path, text, named)?;
-        if let Some(next) = next {
-            let target = url_of(alloc, next.as_str())?;
+        if let Some(next) = resolve(files, &mut self.projects, packages, path, text, named)? {
+            let target = url_of(files.alloc(), next.as_str())?;
             self.waiting.push(next)?;
             return Ok(Some(target));
         }
         if is_relative(text) {
             return Ok(None);
         }
-        let target = external(alloc, text)?;
-        let _ = self.found.graph.insert(target.clone()?, Module::External)?;
-        Ok(Some(target))
+        Ok(Some(self.outside(files.alloc(), text)?))
     }
 
     // A module that is not there: an entry point that exports names of it says what nobody could import.
     fn missing(
         &mut self,
-        files: &Files<'_>,
-        path: &str,
-        text: &str,
+        alloc: Global,
+        place: Place<'_>,
         source: SourceText<'_>,
-    ) -> Result<()> {
+    ) -> Result<(), AllocError> {
         let offset = (source.start as usize).saturating_sub(1);
-        let why = "there is no such module";
-        let message = Message::at(files.alloc(), path, text, offset, "missing-module", why)?;
-        if source.is_exported && self.entries.contains(path) {
+        let (code, why) = ("missing-module", "there is no such module");
+        let message = Message::at(alloc, place.path, place.text, offset, code, why)?;
+        if source.is_exported && self.entries.contains(place.path) {
             self.messages.faults.push(message)?;
         } else {
             self.messages.warnings.push(message)?;
         }
+        Ok(())
+    }
+
+    // Notes where a text of a module leads.
+    fn note(
+        &mut self,
+        alloc: Global,
+        place: Place<'_>,
+        text: &str,
+        target: Url,
+        resolved: &mut BTreeMap<String, Url>,
+    ) -> Result<(), AllocError> {
+        if target == *place.url {
+            let own = String::from_str(alloc, name_of(place.path))?;
+            let _ = self.found.own_names.insert(place.url.clone()?, own)?;
+        }
+        let _ = resolved.insert(String::from_str(alloc, text)?, target)?;
+        Ok(())
+    }
+
+    // Where the texts of a module lead by which it names others.
+    fn leads(
+        &mut self,
+        files: &Files<'_>,
+        packages: &[Package],
+        place: Place<'_>,
+        program: &Tree,
+    ) -> Result<BTreeMap<String, Url>> {
+        let alloc = files.alloc();
+        let sources = sources_of(alloc, program.read())?;
+        let mut resolved: BTreeMap<String, Url> = BTreeMap::new(alloc);
+        for source in sources.iter() {
+            let named = named_types(place.text, (source.around as usize).saturating_sub(1));
+            match self.lead(files, packages, place.path, source.text, named)? {
+                Some(target) => self.note(alloc, place, source.text, target, &mut resolved)?,
+                None => self.missing(alloc, place, *source)?,
+            }
+        }
+        Ok(resolved)
+    }
+
+    // The text of a file, if it is one.
+    fn text(&mut self, files: &Files<'_>, path: &str) -> Result<Option<String>, AllocError> {
+        let text = files.read(path)?;
+        if text.is_none() {
+            let why = "the file is no UTF-8";
+            let message = Message::of_file(files.alloc(), path, "syntax-error", why)?;
+            self.messages.errors.push(message)?;
+        }
+        Ok(text)
+    }
+
+    // The tree of a text, if the parser reads it.
+    fn tree(
+        &mut self,
+        alloc: Global,
+        path: &str,
+        text: &str,
+        is_jsx: bool,
+    ) -> Result<Option<Tree>, AllocError> {
+        match parse_program(alloc, text, is_jsx) {
+            Ok(tree) => Ok(Some(tree)),
+            Err(error) => {
+                let message = refused(alloc, path, text, error)?;
+                self.messages.errors.push(message)?;
+                Ok(None)
+            }
+        }
+    }
+
+    // Keeps a module under its URL.
+    fn keep(
+        &mut self,
+        url: &Url,
+        media_type: MediaType,
+        resolved: BTreeMap<String, Url>,
+        module: Parsed,
+    ) -> Result<(), AllocError> {
+        let _ = self.found.modules.insert(url.clone()?, module)?;
+        let _ = self.found.resolutions.insert(url.clone()?, resolved)?;
+        let _ = self.found.graph.insert(url.clone()?, js(media_type))?;
         Ok(())
     }
 
@@ -202,43 +284,37 @@ impl Reading {
         files: &Files<'_>,
         packages: &[Package],
         path: &str,
-        url: Url,
+        url: &Url,
         media_type: MediaType,
     ) -> Result<()> {
         let alloc = files.alloc();
-        let Some(text) = files.read(path)? else {
-            let why = Message::of_file(alloc, path, "syntax-error", "the file is no UTF-8")?;
-            self.messages.errors.push(why)?;
+        let Some(text) = self.text(files, path)? else {
             return Ok(());
         };
         let text = text.as_str();
-        let tree = match parse_program(alloc, text, media_type == MediaType::Tsx) {
-            Ok(tree) => tree,
-            Err(error) => {
-                self.messages
-                    .errors
-                    .push(refused(alloc, path, text, error)?)?;
-                return Ok(());
-            }
+        let Some(tree) = self.tree(alloc, path, text, media_type == MediaType::Tsx)? else {
+            return Ok(());
         };
+        let place = Place { path, url, text };
         let module = read_module(alloc, &tree, text, media_type)?;
-        let mut resolved: BTreeMap<String, Url> = BTreeMap::new(alloc);
-        for source in sources_of(alloc, module.source.program.read())? {
-            let named = named_types(text, (source.around as usize).saturating_sub(1));
-            match self.lead(files, packages, path, source.text, named)? {
-                Some(target) => {
-                    if target == url {
-                        let own = String::from_str(alloc, name_of(path))?;
-                        let _ = self.found.own_names.insert(url.clone()?, own)?;
-                    }
-                    let _ = resolved.insert(String::from_str(alloc, source.text)?, target)?;
-                }
-                None => self.missing(files, path, text, source)?,
-            }
+        let resolved = self.leads(files, packages, place, &module.source.program)?;
+        self.keep(url, media_type, resolved, module)?;
+        Ok(())
+    }
+
+    // A file that is no TypeScript and no declarations.
+    fn other(
+        &mut self,
+        path: &str,
+        url: &Url,
+        media_type: MediaType,
+    ) -> Result<(), AllocError> {
+        if path.ends_with(".json") {
+            let module = Module::Json { source_hash: None };
+            let _ = self.found.graph.insert(url.clone()?, module)?;
+        } else if media_type != MediaType::Unknown {
+            let _ = self.found.graph.insert(url.clone()?, js(media_type))?;
         }
-        let _ = self.found.graph.insert(url.clone()?, js(media_type))?;
-        let _ = self.found.resolutions.insert(url.clone()?, resolved)?;
-        let _ = self.found.modules.insert(url, module)?;
         Ok(())
     }
 
@@ -248,52 +324,37 @@ impl Reading {
             return Ok(());
         }
         if let Some(why) = files.refusal(path)? {
-            self.messages
-                .errors
-                .push(Message::of_file(alloc, path, "refused-file", why)?)?;
+            let message = Message::of_file(alloc, path, "refused-file", why)?;
+            self.messages.errors.push(message)?;
             return Ok(());
         }
         let url = url_of(alloc, path)?;
         let media_type = media_type(path);
         if media_type.is_typed() {
-            return self.module(files, packages, path, url, media_type);
+            return self.module(files, packages, path, &url, media_type);
         }
-        if path.ends_with(".json") {
-            let _ = self
-                .found
-                .graph
-                .insert(url, Module::Json { source_hash: None })?;
-        } else if media_type != MediaType::Unknown {
-            let _ = self.found.graph.insert(url, js(media_type))?;
+        self.other(path, &url, media_type)?;
+        Ok(())
+    }
+
+    // Reads what waits, until nothing does.
+    fn run(&mut self, files: &Files<'_>, packages: &[Package]) -> Result<()> {
+        for _turn in 0..u64::MAX {
+            let Some(path) = self.waiting.pop() else {
+                break;
+            };
+            self.file(files, packages, path.as_str())?;
         }
         Ok(())
     }
 }
 
 // Leaves out what leads to a module that cannot be read.
-fn readable(alloc: Global, found: Found) -> Result<Found> {
-    let Found {
-        modules,
-        graph,
-        resolutions,
-        own_names,
-    } = found;
-    let mut kept = BTreeMap::new(alloc);
-    for (url, resolved) in resolutions {
-        let mut own = BTreeMap::new(alloc);
-        for (text, target) in resolved {
-            if graph.contains_key(&target) {
-                let _ = own.insert(text, target)?;
-            }
-        }
-        let _ = kept.insert(url, own)?;
+fn keep_readable(found: &mut Found) {
+    let graph = &found.graph;
+    for resolved in found.resolutions.values_mut() {
+        resolved.retain(|_, target| graph.contains_key(&*target));
     }
-    Ok(Found {
-        modules,
-        graph,
-        resolutions: kept,
-        own_names,
-    })
 }
 
 /// Reads the modules that the entry points of packages lead to inside of a folder.
@@ -303,38 +364,14 @@ pub fn modules_of(
     projects: Projects,
     messages: Messages,
 ) -> Result<(Found, Messages)> {
-    let alloc = files.alloc();
-    let mut entries = BTreeSet::new(alloc);
-    let mut waiting = Vec::new(alloc);
-    for package in packages.iter().rev() {
-        for entry in package.exports.iter().rev() {
-            waiting.push(entry.path.clone()?)?;
-            let _ = entries.insert(entry.path.clone()?)?;
-        }
-    }
-    let mut reading = Reading {
-        found: Found {
-            modules: BTreeMap::new(alloc),
-            graph: BTreeMap::new(alloc),
-            resolutions: BTreeMap::new(alloc),
-            own_names: BTreeMap::new(alloc),
-        },
-        messages,
-        entries,
-        seen: BTreeSet::new(alloc),
-        waiting,
-        projects,
-    };
-    for _turn in 0..u64::MAX {
-        let Some(path) = reading.waiting.pop() else {
-            break;
-        };
-        reading.file(files, packages, path.as_str())?;
-    }
+    let mut reading = Reading::new(files.alloc(), projects, messages);
+    reading.start(packages)?;
+    reading.run(files, packages)?;
     let Reading {
-        found,
+        mut found,
         messages,
         ..
     } = reading;
-    Ok((readable(alloc, found)?, messages))
+    keep_readable(&mut found);
+    Ok((found, messages))
 }
