@@ -1,4 +1,7 @@
 //! Files of a build, and the sources that stand for them.
+ghost use Rattle.std.specs.Prelude.{◌↔◌, IsTrue};
+ghost use Rattle.fast_check_source_packages.specs.Scripts.{IsScript};
+
 use crate::exports::Entry;
 use fast_check_source_configs::options::{Options, options_of, sources_of};
 use fast_check_source_configs::paths::{behind, inside};
@@ -40,7 +43,9 @@ fn is_written(media_type: MediaType) -> bool {
 }
 
 /// Whether a file is JavaScript.
-pub fn is_script(media_type: MediaType) -> bool {
+pub fn is_script(media_type: MediaType) -> bool
+    ensures { IsTrue result ↔ IsScript media_type }
+{
     matches!(
         media_type,
         MediaType::JavaScript | MediaType::Jsx | MediaType::Mjs | MediaType::Cjs

@@ -1,4 +1,6 @@
 //! The entry points that a configuration writes.
+ghost use Rattle.std.specs.Prelude.{◌≡◌, ◌+◌, OnOk, vec_len};
+
 use fast_check_source_configs::config::{Config, member, path_in, path_of, text_of};
 use fast_check_source_configs::paths::with_rest;
 use fast_check_source_files::files::{Files, Standing, media_type};
@@ -20,7 +22,9 @@ pub fn push_entry(
     key: &str,
     path: &str,
     out: &mut Vec<Entry>,
-) -> Result<(), AllocError> {
+) -> Result<(), AllocError>
+    ensures { OnOk result (vec_len out.new ≡ vec_len out.old + 1) }
+{
     let key = String::from_str(alloc, key)?;
     let path = String::from_str(alloc, path)?;
     out.push(Entry { key, path })?;

@@ -1,4 +1,7 @@
 //! Where the text by which a module names another one leads.
+ghost use Rattle.std.specs.Prelude.{IfSome, string_bytes};
+ghost use Rattle.fast_check_source_packages.specs.Folders.{LiesIn};
+
 use crate::builds::{file_of, is_script};
 use crate::exports::Entry;
 use fast_check_source_configs::comments::self_types;
@@ -25,7 +28,9 @@ pub fn is_relative(text: &str) -> bool {
 }
 
 /// The innermost package that a file lies in.
-pub fn package_at<'a>(packages: &'a [Package], path: &str) -> Option<&'a Package> {
+pub fn package_at<'a>(packages: &'a [Package], path: &str) -> Option<&'a Package>
+    ensures { IfSome result (λ package. LiesIn (string_bytes package.now.folder) path.now) }
+{
     let mut best: Option<&Package> = None;
     for package in packages {
         let folder = package.folder.as_str();
