@@ -1,11 +1,12 @@
 -- Files of JavaScript.
-use Rattle.fast_check_tables_diagnostics.specs.declared.parsed_source.MediaType.{MediaType}
-use Rattle.fast_check_tables_diagnostics.specs.declared.parsed_source.MediaType.TheVariants.{JavaScript, Jsx, Mjs, Cjs}
+use Rattle.std.specs.Prelude.{Bool, true, false}
+use Rattle.fast_check_tables_diagnostics.specs.declared.parsed_source.tables.media_type.MediaType.{MediaType}
+use Rattle.fast_check_tables_diagnostics.specs.declared.parsed_source.tables.media_type.MediaType.TheVariants.{JavaScript, Jsx, Mjs, Cjs}
 
--- a file is JavaScript, of whatever kind of modules
-abbrev pub IsScript : MediaType → Type 0
-IsScript JavaScript = Unit {0}
-IsScript Jsx = Unit {0}
-IsScript Mjs = Unit {0}
-IsScript Cjs = Unit {0}
-IsScript _ = ⊥
+-- such a file is JavaScript, of whatever kind of modules
+abbrev pub is_javascript : MediaType → Bool
+is_javascript JavaScript = true
+is_javascript Jsx = true
+is_javascript Mjs = true
+is_javascript Cjs = true
+is_javascript _ = false

@@ -1,6 +1,6 @@
 //! Files of a build, and the sources that stand for them.
-ghost use Rattle.std.specs.Prelude.{◌↔◌, IsTrue};
-ghost use Rattle.fast_check_source_packages.specs.Scripts.{IsScript};
+ghost use Rattle.std.specs.Prelude.{◌≡◌};
+ghost use Rattle.fast_check_source_packages.specs.Scripts.{is_javascript};
 
 use crate::exports::Entry;
 use fast_check_source_configs::options::{Options, options_of, sources_of};
@@ -44,7 +44,7 @@ fn is_written(media_type: MediaType) -> bool {
 
 /// Whether a file is JavaScript.
 pub fn is_script(media_type: MediaType) -> bool
-    ensures { IsTrue result ↔ IsScript media_type }
+    ensures { result ≡ is_javascript media_type }
 {
     matches!(
         media_type,
