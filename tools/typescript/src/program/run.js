@@ -102,4 +102,4 @@ async function build(request, { unproved, environment, tell, isCommand, signal: 
   }
 }
 
-module.exports = { FOLDER, build };
+module.exports = { FOLDER, ProgramError, build, run };

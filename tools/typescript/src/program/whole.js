@@ -44,7 +44,7 @@ class Whole {
    */
   static of(/** @type {Target[]} */ targets, /** @type {Options} */ options, /** @type {Context} */ context) {
     const { kept, environment: { FAST_CHECK: program = isClone ? '' : PROGRAM } } = context;
-    const isOpen = options.watch || options.verify || options.fix || options.baseline || options.format === 'sarif' || options.texts;
+    const isOpen = options.watch || options.verify || options.fix || options.reader === 'source' || options.baseline || options.format === 'sarif' || options.texts;
     if (!kept || !kept.folder || !program || isOpen) return null;
     const without = [TOOL, kept.folder.folder, ...candidateFiles().map((file) => path.dirname(path.dirname(file)))];
     if (targets.some(({ dir }) => without.some((it) => isAround(it, dir) || isAround(dir, it)))) return null;
