@@ -70,7 +70,8 @@ fn members_of(alloc: Global, packages: &[&Package]) -> Result<Vec<WorkspaceMembe
     let mut by_length = BTreeMap::new(alloc);
     for (place, package) in packages.iter().enumerate() {
         let length = usize::MAX.saturating_sub(package.folder.len());
-        let _ = by_length.insert((length, place), member_of(alloc, package)?)?;
+        let member = member_of(alloc, *package)?;
+        let _ = by_length.insert((length, place), member)?;
     }
     let mut members = Vec::new(alloc);
     for (_, member) in by_length {

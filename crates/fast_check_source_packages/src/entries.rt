@@ -78,7 +78,7 @@ struct Candidates {
 
 impl Candidates {
     // Adds the entry points that one path stands for.
-    fn add(&mut self, path: &str, alloc: Global, some: Vec<Entry>) -> Result<(), AllocError> {
+    fn add(&mut self, alloc: Global, path: &str, some: Vec<Entry>) -> Result<(), AllocError> {
         for entry in some {
             self.written.push(String::from_str(alloc, path)?)?;
             self.entries.push(entry)?;
@@ -238,7 +238,7 @@ impl<'a> Written<'a> {
             if some.is_empty() {
                 self.say(alloc, path, NO_ENTRY_POINT, " fits no file", passed)?;
             }
-            all.add(path, alloc, some)?;
+            all.add(alloc, path, some)?;
         }
         Ok(all)
     }
@@ -276,8 +276,8 @@ impl<'a> Written<'a> {
         Ok(out)
     }
 
-    // The file of an entry point that is named in another way.
-    fn main(
+    // The file that a configuration names for those who run the package.
+    fn named_to_run(
         self,
         files: &Files<'_>,
         projects: &mut Projects,
@@ -305,7 +305,7 @@ impl<'a> Written<'a> {
                 return file_of(files, projects, path.as_str());
             }
         }
-        self.main(files, projects)
+        self.named_to_run(files, projects)
     }
 }
 
