@@ -303,12 +303,7 @@ impl Reading {
     }
 
     // A file that is no TypeScript and no declarations.
-    fn other(
-        &mut self,
-        path: &str,
-        url: &Url,
-        media_type: MediaType,
-    ) -> Result<(), AllocError> {
+    fn other(&mut self, path: &str, url: &Url, media_type: MediaType) -> Result<(), AllocError> {
         if path.ends_with(".json") {
             let module = Module::Json { source_hash: None };
             let _ = self.found.graph.insert(url.clone()?, module)?;

@@ -2,6 +2,7 @@
 //! of their public modules, with what is wrong with their files, as a line of JSON. The status is 2 where a package cannot be read, and else 1 where a module
 //! has diagnostics.
 #![tactic(auto)]
+
 ghost use Rattle.std.specs.Prelude.{◌≡◌, ◌≢◌, IsTrue, vec_len};
 
 mod answers;

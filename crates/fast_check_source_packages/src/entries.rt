@@ -176,7 +176,13 @@ impl<'a> Written<'a> {
             return Ok(());
         }
         let why = " is no module, and is passed over";
-        self.say(alloc, candidate.written, NO_ENTRY_POINT, why, &mut out.passed)
+        self.say(
+            alloc,
+            candidate.written,
+            NO_ENTRY_POINT,
+            why,
+            &mut out.passed,
+        )
     }
 
     // Warns of a file of a build that is read in place of its source.

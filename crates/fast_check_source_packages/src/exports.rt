@@ -49,11 +49,7 @@ fn exports_of(configs: &[Config]) -> Option<&Value> {
 }
 
 // Adds the entry points of a member `exports`.
-fn push_exports(
-    alloc: Global,
-    exports: &Value,
-    out: &mut Vec<Entry>,
-) -> Result<(), AllocError> {
+fn push_exports(alloc: Global, exports: &Value, out: &mut Vec<Entry>) -> Result<(), AllocError> {
     if let Some(map) = exports.as_object()
         && is_keyed(exports)
     {

@@ -104,7 +104,12 @@ impl<'a> Place<'a> {
         for entry in found {
             let own = self.own_file(files, entry.path.as_str())?;
             let path = typed(files, projects, own.as_str())?;
-            push_entry(files.alloc(), entry.key.as_str(), path.as_str(), &mut exports)?;
+            push_entry(
+                files.alloc(),
+                entry.key.as_str(),
+                path.as_str(),
+                &mut exports,
+            )?;
         }
         Ok(exports)
     }
