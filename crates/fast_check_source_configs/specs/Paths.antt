@@ -1,5 +1,5 @@
 -- Paths below folders, and texts with one `*`, as bytes.
-use Rattle.std.specs.Prelude.{◌≡◌, ℕ, ◌==◌, Bool, List, [], ◌∷◌, ◌++◌, length, if◌then◌else◌}
+use Rattle.std.specs.Prelude.{ℕ, ◌==◌, Bool, List, ◌∷◌, ◌++◌, length, if◌then◌else◌}
 use Rattle.std.specs.List.{position_or_len, before_first, after_first}
 
 -- a path below a folder: below none it is the path itself

@@ -99,25 +99,16 @@ fn source_of<'a>(
     }
 }
 
-// An entry point, its path as it is written, and the source that stands for its file.
-#[derive(Clone, Copy)]
-struct Candidate<'a> {
-    written: &'a str,
-    entry: &'a Entry,
-    source: Option<&'a str>,
-}
-
-impl<'a> Candidate<'a> {
-    // The file that is read.
-    fn file(
-        self,
-        files: &Files<'_>,
-        projects: &mut Projects,
-    ) -> Result<Option<String>, AllocError> {
-        match self.source {
-            Some(source) => Ok(Some(String::from_str(files.alloc(), source)?)),
-            None => file_of(files, projects, self.entry.path.as_str()),
-        }
+// The file of an entry point: the source that stands for it, or else the one that its path stands for.
+fn file_or_source(
+    files: &Files<'_>,
+    projects: &mut Projects,
+    wanted: &str,
+    source: Option<&str>,
+) -> Result<Option<String>, AllocError> {
+    match source {
+        Some(source) => Ok(Some(String::from_str(files.alloc(), source)?)),
+        None => file_of(files, projects, wanted),
     }
 }
 
@@ -165,24 +156,19 @@ impl<'a> Written<'a> {
     fn take_file(
         self,
         alloc: Global,
-        candidate: Candidate<'_>,
+        text: &str,
+        key: &str,
         file: &str,
         out: &mut Entries,
     ) -> Result<(), AllocError> {
         if media_type(file) != MediaType::Unknown {
-            return push_entry(alloc, candidate.entry.key.as_str(), file, &mut out.found);
+            return push_entry(alloc, key, file, &mut out.found);
         }
         if file.ends_with(".json") {
             return Ok(());
         }
         let why = " is no module, and is passed over";
-        self.say(
-            alloc,
-            candidate.written,
-            NO_ENTRY_POINT,
-            why,
-            &mut out.passed,
-        )
+        self.say(alloc, text, NO_ENTRY_POINT, why, &mut out.passed)
     }
 
     // Warns of a file of a build that is read in place of its source.
@@ -190,39 +176,46 @@ impl<'a> Written<'a> {
         self,
         files: &Files<'_>,
         projects: &mut Projects,
-        candidate: Candidate<'_>,
+        text: &str,
+        wanted: &str,
         out: &mut Entries,
     ) -> Result<(), AllocError> {
-        let wanted = candidate.entry.path.as_str();
-        if candidate.source.is_some() || !is_unread(files, projects, self.folder, wanted)? {
+        if !is_unread(files, projects, self.folder, wanted)? {
             return Ok(());
         }
         let why = " is a built file, and nothing of src/ is read";
-        let code = "built-entry-point";
-        self.say(files.alloc(), candidate.written, code, why, &mut out.passed)
+        self.say(
+            files.alloc(),
+            text,
+            "built-entry-point",
+            why,
+            &mut out.passed,
+        )
     }
 
-    // An entry point goes to those that are found, or else what is wrong with it is said.
+    // An entry point goes to those that are found, or else what is wrong with it is said. A source may stand for its file.
     fn take(
         self,
         files: &Files<'_>,
         projects: &mut Projects,
-        candidate: Candidate<'_>,
+        text: &str,
+        entry: &Entry,
+        source: Option<&str>,
         out: &mut Entries,
     ) -> Result<(), AllocError> {
         let alloc = files.alloc();
-        let text = candidate.written;
-        if text.starts_with("/") || behind(candidate.entry.path.as_str(), self.folder).is_none() {
+        let wanted = entry.path.as_str();
+        if text.starts_with("/") || behind(wanted, self.folder).is_none() {
             let why = " lies outside of the package";
             return self.say(alloc, text, NO_ENTRY_POINT, why, &mut out.errors);
         }
-        match candidate.file(files, projects)? {
-            Some(file) => {
-                self.warn_of_build(files, projects, candidate, out)?;
-                self.take_file(alloc, candidate, file.as_str(), out)
-            }
-            None => self.say(alloc, text, NO_ENTRY_POINT, " is not there", &mut out.wrong),
+        let Some(file) = file_or_source(files, projects, wanted, source)? else {
+            return self.say(alloc, text, NO_ENTRY_POINT, " is not there", &mut out.wrong);
+        };
+        if source.is_none() {
+            self.warn_of_build(files, projects, text, wanted, out)?;
         }
+        self.take_file(alloc, text, entry.key.as_str(), file.as_str(), out)
     }
 
     // The entry points that may be meant by those that are written.
@@ -261,12 +254,8 @@ impl<'a> Written<'a> {
         let all = self.candidates(files, written, &built, &mut out.passed)?;
         let build = sources_of_build(files, projects, self.folder, all.entries.as_slice())?;
         for (path, entry) in all.written.iter().zip(all.entries.iter()) {
-            let candidate = Candidate {
-                written: path.as_str(),
-                entry,
-                source: source_of(entry.path.as_str(), &built, &build),
-            };
-            self.take(files, projects, candidate, out)?;
+            let source = source_of(entry.path.as_str(), &built, &build);
+            self.take(files, projects, path.as_str(), entry, source, out)?;
         }
         Ok(())
     }

@@ -29,7 +29,7 @@ pub fn is_relative(text: &str) -> bool {
 
 /// The innermost package that a file lies in.
 pub fn package_at<'a>(packages: &'a [Package], path: &str) -> Option<&'a Package>
-    ensures { IfSome result (λ package. LiesIn (string_bytes package.now.folder) path.now) }
+    ensures { IfSome result (λ found. LiesIn (string_bytes found.now.folder) path.now) }
 {
     let mut best: Option<&Package> = None;
     for package in packages {
