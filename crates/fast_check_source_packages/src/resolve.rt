@@ -261,11 +261,7 @@ fn first_found(
 }
 
 // The declaration file beside JavaScript, or the file itself.
-fn declared(
-    files: &Files<'_>,
-    projects: &mut Projects,
-    file: &str,
-) -> Result<String, AllocError> {
+fn declared(files: &Files<'_>, projects: &mut Projects, file: &str) -> Result<String, AllocError> {
     if is_script(media_type(file))
         && let Some(found) = file_of(files, projects, file)?
     {
