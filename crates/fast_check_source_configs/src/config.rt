@@ -1,4 +1,6 @@
 //! The configuration files of a folder.
+ghost use Rattle.std.specs.Prelude.{◌≡◌, ◌∷◌, ◌++◌, [], IfOk, string_bytes};
+
 use crate::checks::unfit;
 use fast_check_source_files::files::{Files, below, joined};
 use fast_check_source_files::jsonc::value_of;
@@ -57,7 +59,9 @@ pub fn path_in(alloc: Global, folder: &str, path: &str) -> Result<String, AllocE
 }
 
 /// A text in quotes.
-pub fn quoted(alloc: Global, text: &str) -> Result<String, AllocError> {
+pub fn quoted(alloc: Global, text: &str) -> Result<String, AllocError>
+    ensures { IfOk result (λ made. string_bytes made ≡ 34 ∷ text.now ++ 34 ∷ []) }
+{
     let mut made = joined(alloc, "\"", text)?;
     made.push_str("\"")?;
     Ok(made)

@@ -1,4 +1,6 @@
 //! Files below a folder, by their paths from it.
+ghost use Rattle.std.specs.Prelude.{◌≡◌, ◌++◌, IfOk, string_bytes};
+
 use fast_check_tables_diagnostics::parsed_source::MediaType;
 use std::alloc::{AllocError, Global};
 use std::fs;
@@ -65,7 +67,9 @@ pub enum Standing {
 }
 
 /// One text behind another.
-pub fn joined(alloc: Global, first: &str, second: &str) -> Result<String, AllocError> {
+pub fn joined(alloc: Global, first: &str, second: &str) -> Result<String, AllocError>
+    ensures { IfOk result (λ made. string_bytes made ≡ first.now ++ second.now) }
+{
     let mut made = String::from_str(alloc, first)?;
     made.push_str(second)?;
     Ok(made)

@@ -1,4 +1,9 @@
 //! What stands in place of parts of a tree.
+ghost use Rattle.std.specs.Prelude.{◌≡◌, ◌↔◌, IfOk, IsTrue};
+ghost use Rattle.std.specs.BTreeMap.{btree_map_len};
+ghost use Rattle.fast_check_tree_syntax.specs.Shape.{kind_of};
+ghost use Rattle.fast_check_tree_syntax.specs.declared.kind.Kind.TheVariants as kinds;
+
 use fast_check_tree_forms_expressions::{CallExpr, ThisExpr};
 use fast_check_tree_syntax::{Items, Kind, Part, SourceRange, SyntaxContext, Tree};
 use std::alloc::{AllocError, Global};
@@ -17,7 +22,9 @@ pub fn range_of(part: Part<'_>) -> SourceRange {
 }
 
 /// A value of which no skeleton is made.
-pub fn hidden(alloc: Global, span: SourceRange) -> Result<Tree, AllocError> {
+pub fn hidden(alloc: Global, span: SourceRange) -> Result<Tree, AllocError>
+    ensures { IfOk result (λ made. kind_of made ≡ kinds.CallExpr) }
+{
     CallExpr {
         span,
         ctxt: SyntaxContext(0),
@@ -29,14 +36,18 @@ pub fn hidden(alloc: Global, span: SourceRange) -> Result<Tree, AllocError> {
 }
 
 impl Edits {
-    pub fn new(alloc: Global) -> Edits {
+    pub fn new(alloc: Global) -> Edits
+        ensures { btree_map_len result.found ≡ 0 }
+    {
         Edits {
             alloc,
             found: BTreeMap::new(alloc),
         }
     }
 
-    pub fn is_empty(&self) -> bool {
+    pub fn is_empty(&self) -> bool
+        ensures { IsTrue result ↔ (btree_map_len self.now.found ≡ 0) }
+    {
         self.found.is_empty()
     }
 
@@ -92,7 +103,9 @@ fn all_with_edits(alloc: Global, trees: &[Tree], edits: &Edits) -> Result<Items<
 }
 
 /// A tree with the edits.
-pub fn edited(alloc: Global, tree: Tree, edits: &Edits) -> Result<Tree, AllocError> {
+pub fn edited(alloc: Global, tree: Tree, edits: &Edits) -> Result<Tree, AllocError>
+    ensures { IfOk result (λ made. btree_map_len edits.now.found ≡ 0 → made ≡ tree) }
+{
     if edits.is_empty() {
         Ok(tree)
     } else {

@@ -1,4 +1,9 @@
 //! Names as trees have them.
+ghost use Rattle.std.specs.Prelude.{◌≡◌, ◌↔◌, IfOk, IsSome};
+ghost use Rattle.fast_check_tree_syntax.specs.Part.{seen};
+ghost use Rattle.fast_check_tree_syntax.specs.Shape.{kind_of};
+ghost use Rattle.fast_check_tree_syntax.specs.declared.kind.Kind.TheVariants as kinds;
+
 use fast_check_tree_forms_expressions::{ComputedPropName, MemberExpr};
 use fast_check_tree_forms_programs::{BigInt, Ident, IdentName, Number, Str};
 use fast_check_tree_forms_types::TsQualifiedName;
@@ -14,7 +19,9 @@ pub fn nothing(part: Part<'_>) -> Part<'_> {
 }
 
 /// A name with a scope, if it is one.
-pub fn id_of(alloc: Global, part: Part<'_>) -> Result<Option<Id>, AllocError> {
+pub fn id_of(alloc: Global, part: Part<'_>) -> Result<Option<Id>, AllocError>
+    ensures { IfOk result (λ found. IsSome found ↔ (kind_of (seen part.entry) ≡ kinds.Ident)) }
+{
     if part.kind() != Kind::Ident {
         return Ok(None);
     }
@@ -97,7 +104,9 @@ pub fn value_chain<'a>(alloc: Global, value: Part<'a>) -> Result<Option<Chain<'a
 }
 
 /// The value of a computed name of a property.
-pub fn computed_of(key: Part<'_>) -> Option<Part<'_>> {
+pub fn computed_of(key: Part<'_>) -> Option<Part<'_>>
+    ensures { IsSome result ↔ (kind_of (seen key.entry) ≡ kinds.ComputedPropName) }
+{
     if key.kind() == Kind::ComputedPropName {
         Some(ComputedPropName::of(key).expr)
     } else {

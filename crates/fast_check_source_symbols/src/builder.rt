@@ -1,4 +1,6 @@
 //! The symbols of a module while they are gathered.
+ghost use Rattle.std.specs.Prelude.{◌≡◌, ◌+◌, IfOk, OnOk, vec_len};
+
 use fast_check_source_references::dependencies::Dependencies;
 use fast_check_tables_symbols::{FileDepName, ReExportAllNode};
 use fast_check_tree_syntax::{Atom, Id, SourceRange};
@@ -160,7 +162,10 @@ impl Tables {
         parent: SymbolNo,
         name: Option<String>,
         qualified: Option<String>,
-    ) -> Result<SymbolNo, AllocError> {
+    ) -> Result<SymbolNo, AllocError>
+        ensures number { IfOk result (λ no. no.0 ≡ vec_len self.old.drafts) }
+        ensures one_more { OnOk result (vec_len self.new.drafts ≡ vec_len self.old.drafts + 1) }
+    {
         let no = SymbolNo(self.drafts.len());
         self.drafts
             .push(new_draft(self.alloc, Some(parent), name, qualified))?;

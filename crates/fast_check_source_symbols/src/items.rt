@@ -1,4 +1,9 @@
 //! The items of a module or of a namespace.
+ghost use Rattle.std.specs.Prelude.{◌≡◌, ◌↔◌, IsSome};
+ghost use Rattle.fast_check_tree_syntax.specs.Part.{seen};
+ghost use Rattle.fast_check_tree_syntax.specs.Shape.{kind_of};
+ghost use Rattle.fast_check_tree_syntax.specs.declared.kind.Kind.TheVariants as kinds;
+
 use crate::builder::{Binds, MODULE, PLAIN, SymbolNo, Tables};
 use crate::declarations::{Setting, declared_names};
 use fast_check_source_references::names::{id_of, text_of};
@@ -19,7 +24,9 @@ pub fn says_exports(items: Part<'_>) -> bool {
 }
 
 // The declaration that an item is, with the range of the export that it stands in.
-pub fn declaration_of(item: Part<'_>) -> (Part<'_>, Option<SourceRange>) {
+pub fn declaration_of(item: Part<'_>) -> (Part<'_>, Option<SourceRange>)
+    ensures { IsSome result.1 ↔ (kind_of (seen item.entry) ≡ kinds.ExportDecl) }
+{
     if item.kind() == Kind::ExportDecl {
         let ExportDecl { span, decl } = ExportDecl::of(item);
         (decl, Some(span))

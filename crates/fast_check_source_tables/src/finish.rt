@@ -1,4 +1,6 @@
 //! The finished tables.
+ghost use Rattle.std.specs.Prelude.{◌≡◌, ◌≤◌, IfOk, []};
+
 use fast_check_source_references::dependencies::{Dependencies, Dependency, Space};
 use fast_check_source_symbols::builder::{
     Binds, Declaration, Draft, Flags, MODULE, SymbolNo, Tables, Target,
@@ -12,7 +14,9 @@ use fast_check_tree_syntax::{Id, Kind, Tree};
 use std::alloc::{AllocError, Global};
 use std::collections::{BTreeMap, BTreeSet};
 
-fn number(symbol: SymbolNo) -> SymbolId {
+fn number(symbol: SymbolNo) -> SymbolId
+    ensures { symbol.0 ≤ 4294967295 → result.0 ≡ symbol.0 }
+{
     SymbolId(symbol.0.min(4294967295) as u32)
 }
 
@@ -301,7 +305,10 @@ pub fn tables_of(
     alloc: Global,
     tree: &Tree,
     is_declaration_file: bool,
-) -> Result<ModuleTables, AllocError> {
+) -> Result<ModuleTables, AllocError>
+    ensures module_is_first { IfOk result (λ tables. tables.module_symbol.0 ≡ 0) }
+    ensures names_of_others_are_left { IfOk result (λ tables. tables.resolved_exports.items ≡ []) }
+{
     let mut tables = Tables::new(alloc)?;
     let program = tree.read();
     if program.kind() == Kind::Module {

@@ -63,8 +63,8 @@ async function singleReturnsOf(/** @type {World} */ world, /** @type {Options} *
 }
 
 /** Whether the last line of a check says how many return types single returns name. */
-function isCounted(/** @type {Options} */ { rules, format, quiet }) {
-  return rules !== 'deno' && (format === undefined || format === 'text') && !quiet;
+function isCounted(/** @type {Options} */ { rules, format, quiet, reader }) {
+  return reader !== 'source' && rules !== 'deno' && (format === undefined || format === 'text') && !quiet;
 }
 
 /**

@@ -9,6 +9,9 @@ const { COMMANDS, OPTIONS } = require('./options.js');
 const BY_WORD = new Map(OPTIONS.flatMap((it) => [it.word, ...(it.also || [])].map((word) => /** @type {const} */ ([word, it]))));
 const FORMATS = ['text', 'json', 'github', 'sarif', 'junit', 'badge'];
 const RULES = ['deno'];
+const READERS = ['typescript', 'source'];
+// Options that need what this tool reads by itself.
+const BY_TYPESCRIPT = ['name', 'version', 'exports', 'rules', 'only', 'fix', 'verify', 'externals', 'dts', 'withDts'];
 // Those that are one document, which a run that goes on has no end of.
 const DOCUMENTS = ['sarif', 'junit', 'badge'];
 
@@ -63,9 +66,14 @@ function allowed(/** @type {string} */ code) {
   return code;
 }
 
+function readerOf(/** @type {string} */ name) {
+  if (!READERS.includes(name)) throw new UsageError(`there is no reader ${name}: ${READERS.join(', ')}${meant(name, READERS)}`);
+  return name;
+}
+
 // How the values of options are read, those of a list each.
 /** @type {Record<string, (text: string) => unknown>} */
-const READ = { exports: exportsOf, maxWarnings: countOf, format: formatOf, rules: rulesOf, allow: allowed };
+const READ = { exports: exportsOf, maxWarnings: countOf, format: formatOf, rules: rulesOf, reader: readerOf, allow: allowed };
 
 /**
  * Puts the value of an option among the others.
@@ -111,6 +119,8 @@ function fit(command, options) {
   for (const { word, key, commands } of OPTIONS) {
     if (options[key] !== undefined && !commands.includes(command)) throw new UsageError(`${word} is not for ${command}`);
   }
+  const other = options.reader === 'source' && OPTIONS.find(({ key }) => BY_TYPESCRIPT.includes(key) && options[key] !== undefined);
+  if (other) throw new UsageError(`--reader source does not go with ${other.word}`);
   const isOther = options.format !== undefined && options.format !== 'json';
   if (options.json && isOther) throw new UsageError(`--json is --format json, and --format ${options.format} is asked for too`);
   if (options.only && options.exports !== undefined) throw new UsageError('--only goes by the entry points of the package, and --exports names others');

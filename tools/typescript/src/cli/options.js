@@ -84,6 +84,10 @@ const OPTIONS = [
     text: 'check: leave out what is in FILE, which an earlier `check --json` has written',
   },
   { word: '--rules', value: 'RULES', key: 'rules', commands: ['check'], text: 'check: deno reports what deno_graph 0.111.1 does, for which a single return names no return type' },
+  {
+    word: '--reader', value: 'READER', key: 'reader', commands: ['check', 'skeleton'],
+    text: "check and skeleton: source reads TypeScript by a program that is proved, and typescript, which is usual, by TypeScript's compiler",
+  },
   { word: '--only', key: 'only', commands: ['check'], text: 'check: take the words for files, and report the messages of these alone, by the entry points of their packages' },
   { word: '--fix', key: 'fix', commands: ['check'], text: "check: write the types that TypeScript's compiler infers first, as the command fix does" },
   { word: '--watch', key: 'watch', commands: ['check'], text: 'check: check again whenever a file changes' },

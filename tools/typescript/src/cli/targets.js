@@ -61,6 +61,7 @@ function targetsOf(/** @type {string[]} */ words, /** @type {Options} */ options
   const places = words.map((word) => placeOf(word, cwd));
   if (options.only) return packagesOfFiles(places);
   if (options.exports !== undefined && places.some(({ file }) => file)) throw new UsageError('--exports goes with a folder, and a file is named');
+  if (options.reader === 'source' && places.some(({ file }) => file)) throw new UsageError('--reader source goes with folders, and a file is named');
   const folders = new Map();
   for (const { dir, file } of places) {
     const before = folders.get(dir);

@@ -23,6 +23,7 @@ export interface Options {
   noIgnore?: boolean;
   baseline?: string;
   rules?: string;
+  reader?: string;
   only?: boolean;
   fix?: boolean;
   watch?: boolean;

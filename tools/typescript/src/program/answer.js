@@ -2,6 +2,7 @@
 // From a folder to what the program answers of it: skeletons by module, or messages with their places.
 const fs = require('fs');
 const path = require('path');
+const { readBySource } = require('./by-source.js');
 const { lineOf } = require('./run.js');
 const { INTERNAL } = require('../cli/exit.js');
 const { NEWEST } = require('../cli/installed.js');
@@ -295,6 +296,7 @@ function specifiersOf(/** @type {Pick<ReadFolder, 'files'>} */ { files }, /** @t
  * @returns {Promise<World>}
  */
 async function analyse(dir, options, context) {
+  if (options.reader === 'source') return analyseBySource(dir, context);
   const { cwd } = context;
   const reading = context.reading || ((call) => call());
   const world = reading(() => read(dir, options, context));
@@ -308,6 +310,25 @@ async function analyse(dir, options, context) {
   const left = withoutFaulty({ ...world, skeletons }, faulty);
   const made = { ...world, answers, skeletons: left, warnings: [...world.warnings, ...warnings], messages: [...world.faults, ...world.lost, ...messages, ...errors] };
   return options.preview ? { ...made, preview: await previewFor(made, ask) } : made;
+}
+
+/** A request of a folder that the program reads itself. */
+const NO_REQUEST = { graph: { modules: [], resolutions: [], packages: [] }, modules: [], aliases: [], workspace_members: [], provider: { packages: [], fallback: '' }, pending: [], first: false };
+
+/**
+ * The same by the program that reads the folder itself. Where something is wrong with a package that no module shows, there are no skeletons.
+ *
+ * @returns {Promise<World>}
+ */
+async function analyseBySource(/** @type {string} */ dir, /** @type {RunContext} */ context) {
+  const { cwd } = context;
+  const { answers, files, info, told } = await readBySource(dir, context);
+  const sources = new Map([...files.values()].map((file) => [file.path, file]));
+  const [broken, faults, warnings] = [info.errors, info.faults, told].map((all) => all.map((error) => readMessage(error, cwd, sources)));
+  if (!answers.length && broken.length) throw new ReadError(`${shownName(dir, cwd)} cannot be read`, [...broken, ...faults]);
+  const { skeletons, messages } = part(answers, { files, dir, info }, cwd);
+  const world = { dir, request: NO_REQUEST, info, files, warnings, broken, faults, lost: [], answers, skeletons: faults.length ? new Map() : skeletons, preview: null };
+  return { ...world, messages: [...faults, ...messages] };
 }
 
 /** The preview of the packages that have no skeletons, since they have messages; null where there are none, or nothing can be shown. */

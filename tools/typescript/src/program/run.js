@@ -100,4 +100,4 @@ async function lineOf(request, { unproved, environment, tell, isCommand, signal:
   }
 }
 
-module.exports = { FOLDER, lineOf };
+module.exports = { FOLDER, ProgramError, lineOf, run };

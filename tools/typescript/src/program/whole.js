@@ -38,7 +38,7 @@ class Whole {
    */
   static of(/** @type {Target[]} */ targets, /** @type {Options} */ options, /** @type {Context} */ context) {
     const { kept } = context;
-    const isOpen = options.watch || options.verify || options.fix || options.baseline || options.format === 'sarif' || options.texts;
+    const isOpen = options.watch || options.verify || options.fix || options.reader === 'source' || options.baseline || options.format === 'sarif' || options.texts;
     if (!kept || !kept.folder || isOpen) return null;
     const without = [TOOL, kept.folder.folder, ...candidateFiles().map((file) => path.dirname(path.dirname(file)))];
     if (targets.some(({ dir }) => without.some((it) => isAround(it, dir) || isAround(dir, it)))) return null;

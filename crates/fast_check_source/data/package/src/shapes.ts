@@ -1,0 +1,2 @@
+export interface Shape { area(): number }
+export const side: number = 2;

@@ -1,0 +1,120 @@
+//! `fast-check-source DIR ..`: reads the packages of each folder, and answers what `fast-check build` answers of them: a skeleton or the diagnostics of each
+//! of their public modules, with what is wrong with their files, as a line of JSON. The status is 2 where a package cannot be read, and else 1 where a module
+//! has diagnostics.
+#![tactic(auto)]
+
+ghost use Rattle.std.specs.Prelude.{◌≡◌, ◌≢◌, IsTrue, vec_len};
+
+mod answers;
+mod follow;
+mod lines;
+mod members;
+mod sources;
+mod urls;
+mod world;
+
+use crate::answers::build;
+use crate::follow::{Found, modules_of};
+use crate::lines::line_of;
+use anyhow::Result;
+use fast_check_build::answers::ModuleAnswer;
+use fast_check_source_configs::config::Messages;
+use fast_check_source_configs::tsconfig::Projects;
+use fast_check_source_files::files::Files;
+use fast_check_source_files::messages::Message;
+use fast_check_source_packages::packages::packages_of;
+use fast_check_source_packages::resolve::{Package, package_at};
+use std::alloc::{AllocError, Global};
+use std::collections::BTreeSet;
+use std::env;
+use std::process::ExitCode;
+
+// The folders of the packages in which errors lie, if each lies in one.
+fn broken_folders<'a>(
+    alloc: Global,
+    packages: &'a [Package],
+    errors: &[Message],
+) -> Result<Option<BTreeSet<&'a str>>, AllocError> {
+    let mut broken = BTreeSet::new(alloc);
+    for error in errors {
+        let Some(package) = package_at(packages, error.path.as_str()) else {
+            return Ok(None);
+        };
+        let _ = broken.insert(package.folder.as_str())?;
+    }
+    Ok(Some(broken))
+}
+
+// The packages that can be read: those in which no error lies. One that lies in none of them is an error of all.
+fn readable<'a>(
+    alloc: Global,
+    packages: &'a [Package],
+    errors: &[Message],
+) -> Result<Vec<&'a Package>, AllocError> {
+    let mut kept = Vec::new(alloc);
+    if let Some(broken) = broken_folders(alloc, packages, errors)? {
+        for package in packages {
+            if !broken.contains(&package.folder.as_str()) {
+                kept.push(package)?;
+            }
+        }
+    }
+    Ok(kept)
+}
+
+// The status of a run: 2 where something cannot be read, else 1 where there is something to report.
+fn status_of(messages: &Messages, has_diagnostics: bool) -> u8
+    ensures unread { vec_len messages.now.errors ≢ 0 → result ≡ 2 }
+    ensures faulty { vec_len messages.now.errors ≡ 0 → vec_len messages.now.faults ≢ 0 → result ≡ 1 }
+    ensures diagnosed { vec_len messages.now.errors ≡ 0 → IsTrue has_diagnostics → result ≡ 1 }
+    ensures clean { vec_len messages.now.errors ≡ 0 → vec_len messages.now.faults ≡ 0 → ¬ (IsTrue has_diagnostics) → result ≡ 0 }
+{
+    if !messages.errors.is_empty() {
+        2
+    } else if has_diagnostics || !messages.faults.is_empty() {
+        1
+    } else {
+        0
+    }
+}
+
+// What is answered of the packages of a folder that can be read.
+fn answers_of_readable(
+    alloc: Global,
+    packages: &[Package],
+    found: Found,
+    errors: &[Message],
+) -> Result<Vec<ModuleAnswer>> {
+    let packages = readable(alloc, packages, errors)?;
+    if packages.is_empty() {
+        return Ok(Vec::new(alloc));
+    }
+    build(alloc, packages.as_slice(), found)
+}
+
+// What is answered of a folder: a line, and the status.
+fn answer(rt: &HostRuntime, folder: &str) -> Result<(String, u8)> {
+    let alloc = rt.alloc();
+    let files = Files::new(rt, folder)?;
+    let mut messages = Messages::new(alloc);
+    let mut projects = Projects::new(alloc);
+    let packages = packages_of(&files, &mut projects, &mut messages)?;
+    let (found, messages) = modules_of(&files, packages.as_slice(), projects, messages)?;
+    let errors = messages.errors.as_slice();
+    let answers = answers_of_readable(alloc, packages.as_slice(), found, errors)?;
+    let has_diagnostics = answers.iter().any(|answer| answer.1.is_err());
+    let status = status_of(&messages, has_diagnostics);
+    Ok((line_of(alloc, answers, &messages)?, status))
+}
+
+fn main(rt: HostRuntime) -> Result<ExitCode> {
+    let mut words = env::args(&rt)?;
+    let _ = words.next();
+    let mut status = 0;
+    for folder in words {
+        let (line, own) = answer(&rt, folder.as_str())?;
+        println!(rt; "{line}")?;
+        status = own.max(status);
+    }
+    Ok(ExitCode::from(status))
+}

@@ -1,0 +1,124 @@
+//! The texts by which a module names others.
+use fast_check_tree_forms_programs::{
+    ExportAll, ExportNamedSpecifier, Ident, ImportDecl, ImportDefaultSpecifier,
+    ImportNamedSpecifier, ImportStarAsSpecifier, NamedExport, Str, TsExternalModuleRef,
+};
+use fast_check_tree_forms_types::TsImportType;
+use fast_check_tree_syntax::{Kind, Part};
+use std::alloc::{AllocError, Global};
+use std::collections::BTreeSet;
+
+/// A text that names a module, and where it stands.
+#[derive(Clone, Copy)]
+pub struct SourceText<'a> {
+    pub text: &'a str,
+    pub start: u32,
+    /// Where the statement begins that it stands in.
+    pub around: u32,
+    /// Whether names of the module are exported again.
+    pub is_exported: bool,
+}
+
+// The sources of a module while they are gathered.
+#[derive(Drop)]
+struct Sources<'a> {
+    // The names that lists of the module export.
+    exported: BTreeSet<&'a str>,
+    found: Vec<SourceText<'a>>,
+}
+
+// The name by which a module calls what an import brings.
+fn local_name(specifier: Part<'_>) -> &str {
+    let local = match specifier.kind() {
+        Kind::ImportNamedSpecifier => ImportNamedSpecifier::of(specifier).local,
+        Kind::ImportDefaultSpecifier => ImportDefaultSpecifier::of(specifier).local,
+        _ => ImportStarAsSpecifier::of(specifier).local,
+    };
+    Ident::of(local).sym
+}
+
+impl<'a> Sources<'a> {
+    fn export(&mut self, specifiers: Part<'a>) -> Result<(), AllocError> {
+        for specifier in specifiers.parts() {
+            let specifier = specifier.read();
+            if specifier.kind() == Kind::ExportNamedSpecifier {
+                let name = ExportNamedSpecifier::of(specifier).orig;
+                if name.kind() == Kind::Ident {
+                    let _ = self.exported.insert(Ident::of(name).sym)?;
+                }
+            }
+        }
+        Ok(())
+    }
+
+    fn push(
+        &mut self,
+        around: Part<'a>,
+        source: Part<'a>,
+        is_exported: bool,
+    ) -> Result<(), AllocError> {
+        if source.kind() == Kind::Str {
+            let Str { span, value, .. } = Str::of(source);
+            self.found.push(SourceText {
+                text: value,
+                start: span.start.0,
+                around: around.part(0).range().start.0,
+                is_exported,
+            })?;
+        }
+        Ok(())
+    }
+
+    fn import(&mut self, part: Part<'a>) -> Result<(), AllocError> {
+        let ImportDecl {
+            specifiers,
+            src,
+            ..
+        } = ImportDecl::of(part);
+        let mut is_exported = false;
+        for specifier in specifiers.parts() {
+            let name = local_name(specifier.read());
+            is_exported = is_exported || self.exported.contains(&name);
+        }
+        self.push(part, src, is_exported)
+    }
+
+    fn part(&mut self, part: Part<'a>) -> Result<(), AllocError> {
+        match part.kind() {
+            Kind::ImportDecl => self.import(part),
+            Kind::NamedExport => self.push(part, NamedExport::of(part).src, true),
+            Kind::ExportAll => self.push(part, ExportAll::of(part).src, true),
+            Kind::TsExternalModuleRef => self.push(part, TsExternalModuleRef::of(part).expr, false),
+            Kind::TsImportType => self.push(part, TsImportType::of(part).arg, false),
+            _ => Ok(()),
+        }
+    }
+}
+
+/// The texts of a tree, in order.
+pub fn sources_of<'a>(alloc: Global, program: Part<'a>) -> Result<Vec<SourceText<'a>>, AllocError> {
+    let mut sources = Sources {
+        exported: BTreeSet::new(alloc),
+        found: Vec::new(alloc),
+    };
+    for list in program.parts() {
+        for item in list.read().parts() {
+            if item.read().kind() == Kind::NamedExport {
+                sources.export(NamedExport::of(item.read()).specifiers)?;
+            }
+        }
+    }
+    let mut waiting = Vec::new(alloc);
+    waiting.push(program)?;
+    for _turn in 0..u64::MAX {
+        let Some(part) = waiting.pop() else {
+            break;
+        };
+        sources.part(part)?;
+        for inner in part.parts().iter().rev() {
+            waiting.push(inner.read())?;
+        }
+    }
+    let Sources { found, .. } = sources;
+    Ok(found)
+}

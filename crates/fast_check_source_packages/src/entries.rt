@@ -1,0 +1,324 @@
+//! The entry points of a package, by the paths of their files.
+use crate::builds::{built_files, file_of, is_unread, sources_of_build};
+use crate::exports::{Entry, expanded, push_entry, written_exports};
+use fast_check_source_configs::config::{Config, path_in, quoted, text_of};
+use fast_check_source_configs::paths::{behind, inside};
+use fast_check_source_configs::tsconfig::Projects;
+use fast_check_source_files::files::{Files, joined, media_type};
+use fast_check_source_files::messages::Message;
+use fast_check_tables_diagnostics::parsed_source::MediaType;
+use std::alloc::{AllocError, Global};
+use std::collections::BTreeMap;
+
+const USUAL: [&str; 7] = [
+    "mod.ts",
+    "index.ts",
+    "src/index.ts",
+    "index.d.ts",
+    "mod.tsx",
+    "index.tsx",
+    "src/mod.ts",
+];
+
+const NO_ENTRY_POINT: &str = "no-entry-point";
+
+/// The entry points of a package, and what is wrong with what is written.
+#[derive(Drop)]
+pub struct Entries {
+    pub found: Vec<Entry>,
+    /// What keeps an entry point from being read.
+    pub wrong: Vec<Message>,
+    /// What is passed over.
+    pub passed: Vec<Message>,
+    /// What may not be written.
+    pub errors: Vec<Message>,
+}
+
+impl Entries {
+    fn new(alloc: Global) -> Entries {
+        Entries {
+            found: Vec::new(alloc),
+            wrong: Vec::new(alloc),
+            passed: Vec::new(alloc),
+            errors: Vec::new(alloc),
+        }
+    }
+}
+
+// Where a text stands behind a key.
+fn place_behind(text: &str, key: &str, wanted: &str) -> Option<usize> {
+    let start = text.find(key)?;
+    let at = text.get(start..)?.find(wanted)?;
+    Some(start.saturating_add(at))
+}
+
+// Where a path is written in the configurations of a package.
+fn place_of<'a>(
+    alloc: Global,
+    configs: &'a [Config],
+    path: &str,
+) -> Result<Option<(&'a Config, usize)>, AllocError> {
+    let wanted = quoted(alloc, path)?;
+    for config in configs {
+        for key in ["\"exports\"", "\"types\"", "\"typings\""] {
+            if let Some(at) = place_behind(config.text.as_str(), key, wanted.as_str()) {
+                return Ok(Some((config, at)));
+            }
+        }
+    }
+    Ok(None)
+}
+
+// The paths of some entry points as they are written, and the entry points by the paths of their files.
+#[derive(Drop)]
+struct Candidates {
+    written: Vec<String>,
+    entries: Vec<Entry>,
+}
+
+impl Candidates {
+    // Adds the entry points that one path stands for.
+    fn add(&mut self, alloc: Global, path: &str, some: Vec<Entry>) -> Result<(), AllocError> {
+        for entry in some {
+            self.written.push(String::from_str(alloc, path)?)?;
+            self.entries.push(entry)?;
+        }
+        Ok(())
+    }
+}
+
+// The source that stands for a file of a build.
+fn source_of<'a>(
+    path: &str,
+    built: &'a BTreeMap<String, String>,
+    build: &'a BTreeMap<String, String>,
+) -> Option<&'a str> {
+    match built.get(path) {
+        Some(found) => Some(found.as_str()),
+        None => Some(build.get(path)?.as_str()),
+    }
+}
+
+// The file of an entry point: the source that stands for it, or else the one that its path stands for.
+fn file_or_source(
+    files: &Files<'_>,
+    projects: &mut Projects,
+    wanted: &str,
+    source: Option<&str>,
+) -> Result<Option<String>, AllocError> {
+    match source {
+        Some(source) => Ok(Some(String::from_str(files.alloc(), source)?)),
+        None => file_of(files, projects, wanted),
+    }
+}
+
+// A package while its entry points are looked for.
+#[derive(Clone, Copy)]
+struct Written<'a> {
+    folder: &'a str,
+    configs: &'a [Config],
+}
+
+impl<'a> Written<'a> {
+    // What is wrong with an entry point, where its path is written.
+    fn message(
+        self,
+        alloc: Global,
+        path: &str,
+        code: &'static str,
+        text: &str,
+    ) -> Result<Message, AllocError> {
+        match place_of(alloc, self.configs, path)? {
+            Some((config, at)) => {
+                let source = config.text.as_str();
+                Message::at(alloc, config.path.as_str(), source, at, code, text)
+            }
+            None => Message::of_file(alloc, self.folder, code, text),
+        }
+    }
+
+    // Says what is wrong with an entry point.
+    fn say(
+        self,
+        alloc: Global,
+        path: &str,
+        code: &'static str,
+        why: &str,
+        out: &mut Vec<Message>,
+    ) -> Result<(), AllocError> {
+        let mut text = joined(alloc, "the entry point ", path)?;
+        text.push_str(why)?;
+        out.push(self.message(alloc, path, code, text.as_str())?)?;
+        Ok(())
+    }
+
+    // An entry point that is a module goes to those that are found.
+    fn take_file(
+        self,
+        alloc: Global,
+        text: &str,
+        key: &str,
+        file: &str,
+        out: &mut Entries,
+    ) -> Result<(), AllocError> {
+        if media_type(file) != MediaType::Unknown {
+            return push_entry(alloc, key, file, &mut out.found);
+        }
+        if file.ends_with(".json") {
+            return Ok(());
+        }
+        let why = " is no module, and is passed over";
+        self.say(alloc, text, NO_ENTRY_POINT, why, &mut out.passed)
+    }
+
+    // Warns of a file of a build that is read in place of its source.
+    fn warn_of_build(
+        self,
+        files: &Files<'_>,
+        projects: &mut Projects,
+        text: &str,
+        wanted: &str,
+        out: &mut Entries,
+    ) -> Result<(), AllocError> {
+        if !is_unread(files, projects, self.folder, wanted)? {
+            return Ok(());
+        }
+        let why = " is a built file, and nothing of src/ is read";
+        self.say(
+            files.alloc(),
+            text,
+            "built-entry-point",
+            why,
+            &mut out.passed,
+        )
+    }
+
+    // An entry point goes to those that are found, or else what is wrong with it is said. A source may stand for its file.
+    fn take(
+        self,
+        files: &Files<'_>,
+        projects: &mut Projects,
+        text: &str,
+        entry: &Entry,
+        source: Option<&str>,
+        out: &mut Entries,
+    ) -> Result<(), AllocError> {
+        let alloc = files.alloc();
+        let wanted = entry.path.as_str();
+        if text.starts_with("/") || behind(wanted, self.folder).is_none() {
+            let why = " lies outside of the package";
+            return self.say(alloc, text, NO_ENTRY_POINT, why, &mut out.errors);
+        }
+        let Some(file) = file_or_source(files, projects, wanted, source)? else {
+            return self.say(alloc, text, NO_ENTRY_POINT, " is not there", &mut out.wrong);
+        };
+        if source.is_none() {
+            self.warn_of_build(files, projects, text, wanted, out)?;
+        }
+        self.take_file(alloc, text, entry.key.as_str(), file.as_str(), out)
+    }
+
+    // The entry points that may be meant by those that are written.
+    fn candidates(
+        self,
+        files: &Files<'_>,
+        written: &[Entry],
+        built: &BTreeMap<String, String>,
+        passed: &mut Vec<Message>,
+    ) -> Result<Candidates, AllocError> {
+        let alloc = files.alloc();
+        let mut all = Candidates {
+            written: Vec::new(alloc),
+            entries: Vec::new(alloc),
+        };
+        for each in written {
+            let path = each.path.as_str();
+            let some = expanded(files, self.folder, each, built)?;
+            if some.is_empty() {
+                self.say(alloc, path, NO_ENTRY_POINT, " fits no file", passed)?;
+            }
+            all.add(alloc, path, some)?;
+        }
+        Ok(all)
+    }
+
+    // Looks for the entry points that are written.
+    fn take_all(
+        self,
+        files: &Files<'_>,
+        projects: &mut Projects,
+        written: &[Entry],
+        out: &mut Entries,
+    ) -> Result<(), AllocError> {
+        let built = built_files(files, self.folder)?;
+        let all = self.candidates(files, written, &built, &mut out.passed)?;
+        let build = sources_of_build(files, projects, self.folder, all.entries.as_slice())?;
+        for (path, entry) in all.written.iter().zip(all.entries.iter()) {
+            let source = source_of(entry.path.as_str(), &built, &build);
+            self.take(files, projects, path.as_str(), entry, source, out)?;
+        }
+        Ok(())
+    }
+
+    // The entry points that are written.
+    fn entries(self, files: &Files<'_>, projects: &mut Projects) -> Result<Entries, AllocError> {
+        let alloc = files.alloc();
+        let mut out = Entries::new(alloc);
+        let written = written_exports(alloc, self.configs)?;
+        if !written.is_empty() {
+            self.take_all(files, projects, written.as_slice(), &mut out)?;
+        }
+        Ok(out)
+    }
+
+    // The file that a configuration names for those who run the package.
+    fn named_to_run(
+        self,
+        files: &Files<'_>,
+        projects: &mut Projects,
+    ) -> Result<Option<String>, AllocError> {
+        for key in ["module", "main"] {
+            if let Some(text) = text_of(self.configs, key) {
+                let path = path_in(files.alloc(), self.folder, text)?;
+                if let Some(found) = file_of(files, projects, path.as_str())? {
+                    return Ok(Some(found));
+                }
+            }
+        }
+        Ok(None)
+    }
+
+    // The file of the entry point of a package in whose configuration none is there.
+    fn usual(
+        self,
+        files: &Files<'_>,
+        projects: &mut Projects,
+    ) -> Result<Option<String>, AllocError> {
+        for name in USUAL {
+            let path = inside(files.alloc(), self.folder, name)?;
+            if files.is_file(path.as_str())? {
+                return file_of(files, projects, path.as_str());
+            }
+        }
+        self.named_to_run(files, projects)
+    }
+}
+
+/// The entry points of a package in a folder.
+pub fn entry_points(
+    files: &Files<'_>,
+    projects: &mut Projects,
+    folder: &str,
+    configs: &[Config],
+) -> Result<Entries, AllocError> {
+    let written = Written { folder, configs };
+    let mut entries = written.entries(files, projects)?;
+    if entries.found.is_empty()
+        && let Some(path) = written.usual(files, projects)?
+    {
+        entries.wrong.clear();
+        entries.passed.clear();
+        push_entry(files.alloc(), ".", path.as_str(), &mut entries.found)?;
+    }
+    Ok(entries)
+}

@@ -1,0 +1,88 @@
+#!/usr/bin/env node
+'use strict';
+// Compares what `fast-check-source` answers of packages with what `fast-check build` answers of the input that tools/typescript makes of them. Scopes may have
+// other numbers.
+//
+//     tools/repo/compare_packages.js PROGRAM FAST_CHECK FOLDER..
+//
+// Each folder is a package, or a workspace. One that TypeScript's compiler does not read is not compared. The status is 1 where any answer differs.
+
+const fs = require('fs');
+const os = require('os');
+const path = require('path');
+const { spawnSync } = require('child_process');
+
+const { restored } = require('../typescript/src/skeleton/restored.js');
+
+const TOOL = path.join(__dirname, '../typescript/bin/fast-check-ts.js');
+
+/** A value without the members that have their defaults. Scopes are numbered in the order of the members, but for 1 and 2. */
+function plain(value, numbers = new Map([[1, 1], [2, 2]])) {
+  if (Array.isArray(value)) return value.map((it) => plain(it, numbers));
+  if (value === null || typeof value !== 'object') return value;
+  const made = {};
+  for (const name of Object.keys(value).sort()) {
+    const each = value[name];
+    if (each === null || each === undefined || each === false || each === 0 || (Array.isArray(each) && each.length === 0)) continue;
+    if (name !== 'ctxt') made[name] = plain(each, numbers);
+    else made[name] = numbers.get(each) || numbers.set(each, numbers.size + 1).get(each);
+  }
+  return made;
+}
+
+/** The first place where two values differ, as the names that lead to it, or null. */
+function difference(mine, wanted, at = '') {
+  if (mine === wanted) return null;
+  const isObject = (it) => it !== null && typeof it === 'object';
+  if (!isObject(mine) || !isObject(wanted) || Array.isArray(mine) !== Array.isArray(wanted)) return { at, mine, wanted };
+  for (const name of new Set([...Object.keys(wanted), ...Object.keys(mine)])) {
+    const found = difference(mine[name], wanted[name], `${at}.${name}`);
+    if (found) return found;
+  }
+  return null;
+}
+
+const show = (value) => (JSON.stringify(value) || 'nothing').slice(0, 160);
+
+/** The answers by their specifiers, each with its own numbers of scopes. */
+function bySpecifier(answers) {
+  return Object.fromEntries(answers.map(([specifier, answer]) => [specifier, plain(answer)]));
+}
+
+function answersOf(program, input) {
+  const file = path.join(fs.mkdtempSync(path.join(os.tmpdir(), 'packages-')), 'input.json');
+  fs.writeFileSync(file, input);
+  const ran = spawnSync(program, ['build', file], { maxBuffer: 1 << 30, encoding: 'utf8' });
+  fs.rmSync(path.dirname(file), { recursive: true });
+  return ran.stdout.trim() ? restored(JSON.parse(ran.stdout), JSON.parse(input)) : null;
+}
+
+function compare(program, fastCheck, folder) {
+  const mine = spawnSync(program, [folder], { maxBuffer: 1 << 30, encoding: 'utf8' });
+  const made = spawnSync(process.execPath, [TOOL, 'input', folder], { maxBuffer: 1 << 30, encoding: 'utf8', env: { ...process.env, FAST_CHECK: fastCheck } });
+  if (!made.stdout.trim()) {
+    const errors = mine.stdout.trim() ? JSON.parse(mine.stdout).errors : [];
+    return errors.length || mine.status === 2 ? 'both refuse' : `mine alone reads: ${made.stderr.split('\n')[0]}`;
+  }
+  if (!mine.stdout.trim()) return `no answer: ${mine.status} ${mine.signal} ${mine.stderr.slice(0, 200)}`;
+  const { answers, errors } = JSON.parse(mine.stdout);
+  if (errors.length && made.status === 0) return `mine alone refuses: ${show(errors)}`;
+  const wanted = answersOf(fastCheck, made.stdout);
+  if (wanted === null) return 'the program answers nothing';
+  const found = difference(bySpecifier(answers), bySpecifier(wanted));
+  return found ? `differs at ${found.at}: mine ${show(found.mine)} wanted ${show(found.wanted)}` : 'equal';
+}
+
+function main([program, fastCheck, ...folders]) {
+  const counts = {};
+  for (const folder of folders) {
+    const said = compare(program, fastCheck, folder);
+    const [kind] = said.split(/ at |: /);
+    counts[kind] = (counts[kind] || 0) + 1;
+    if (!['equal', 'both refuse'].includes(said)) console.log(`${folder}: ${said}`);
+  }
+  console.log(JSON.stringify(counts));
+  return Object.keys(counts).every((it) => ['equal', 'both refuse', 'mine alone reads'].includes(it)) ? 0 : 1;
+}
+
+process.exitCode = main(process.argv.slice(2));
