@@ -7,7 +7,6 @@ const { JsonText, withModules } = require('./request.js');
 const { isMarked } = require('../skeleton/restored.js');
 const { namesReturns } = require('../tables/asserted-types.js');
 const { ownTables, jsonTables, tablesOf, World } = require('../tables/symbols.js');
-const { withoutUnreached } = require('../tables/unreached.js');
 
 /** @typedef {import('../package/types').ReadOptions} ReadOptions */
 /** @typedef {import('../package/types').Found} Found */
@@ -73,12 +72,10 @@ function readable(/** @type {Found} */ found) {
  * Makes what the program is handed of a module: its source as JSON, without the text, which no rule looks at, and its tables. One that the program does not read
  * is an error.
  */
-function complete(/** @type {Module} */ module, /** @type {Found} */ found, /** @type {ReadOptions} */ { kept, short = true }) {
-  const { unresolvedContext } = module.tree;
-  const span = module.tree.program && tooDeep(module.tree.program);
-  const all = { ...module.tree, tables: ownTables(module) };
-  const { program, comments, tables } = short ? withoutUnreached(all, all.tables, module.isDeclaration) : all;
-  module.tree = { ...module.tree, program, comments };
+function complete(/** @type {Module} */ module, /** @type {Found} */ found, /** @type {ReadOptions} */ { kept }) {
+  const { program, comments, unresolvedContext } = module.tree;
+  const span = program && tooDeep(program);
+  const tables = ownTables(module);
   const source = JSON.stringify({ media_type: module.mediaType, text: '', program, comments, unresolved_context: unresolvedContext });
   const { hasEffects, tree: { sources } } = module;
   module.parts = { source, sources, tables, hasEffects, marks: { namesReturns: namesReturns(source), isMarked: isMarked(source) } };

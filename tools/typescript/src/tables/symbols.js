@@ -622,4 +622,4 @@ function tablesOf(/** @type {Module} */ module, /** @type {World} */ world) {
   };
 }
 
-module.exports = { Tables, World, declaredBy, jsonTables, ownTables, tablesOf };
+module.exports = { Tables, World, jsonTables, ownTables, tablesOf };

@@ -6,7 +6,7 @@ const os = require('os');
 const path = require('path');
 const { test } = require('node:test');
 const { main } = require('../../src/cli/main.js');
-const { whole: ts } = require('../../src/compiler/typescript.js');
+const { candidateFiles } = require('../../src/compiler/find.js');
 
 /** @typedef {[name: string, body: () => void | Promise<void>]} Case */
 /** @typedef {string | Buffer | { linkTo: string } | { pipe: true } | null} Content a file, a link, a pipe, or none */
@@ -23,7 +23,7 @@ const PACKAGES = path.join(TESTS, 'packages');
 const LAUNCHER = path.join(TOP, 'fast-check-ts');
 const DOCS = path.join(TOP, 'docs');
 // Where the compiler of these tests lies.
-const COMPILER = Object.keys(require.cache).find((name) => (require.cache[name] || { exports: null }).exports === ts);
+const [COMPILER] = candidateFiles();
 
 /** A stream that keeps what is written. */
 function keeper(isTTY = false) {
