@@ -12,11 +12,11 @@ const os = require('os');
 const path = require('path');
 const { spawnSync } = require('child_process');
 
-const { restored } = require('../typescript/src/skeleton/restored.js');
+const { isMarked, restored } = require('../typescript/src/skeleton/restored.js');
 
 const TOOL = path.join(__dirname, '../typescript/bin/fast-check-ts.js');
 
-/** A value without the members that have their defaults. Scopes are numbered in the order of the members, but for 1 and 2. */
+/** A value without the members that have their defaults, and without scopes of forms, for which no rule asks. Scopes of names are numbered in the order of the members, but for 1 and 2. */
 function plain(value, numbers = new Map([[1, 1], [2, 2]])) {
   if (Array.isArray(value)) return value.map((it) => plain(it, numbers));
   if (value === null || typeof value !== 'object') return value;
@@ -25,7 +25,7 @@ function plain(value, numbers = new Map([[1, 1], [2, 2]])) {
     const each = value[name];
     if (each === null || each === undefined || each === false || each === 0 || (Array.isArray(each) && each.length === 0)) continue;
     if (name !== 'ctxt') made[name] = plain(each, numbers);
-    else made[name] = numbers.get(each) || numbers.set(each, numbers.size + 1).get(each);
+    else if (typeof value.sym === 'string') made[name] = numbers.get(each) || numbers.set(each, numbers.size + 1).get(each);
   }
   return made;
 }
@@ -49,12 +49,18 @@ function bySpecifier(answers) {
   return Object.fromEntries(answers.map(([specifier, answer]) => [specifier, plain(answer)]));
 }
 
+/** The modules of a request, as far as their answers need. */
+function modulesOf({ modules }) {
+  return modules.map(([specifier, { Esm: it }]) => ({ specifier, parts: it && { marks: { isMarked: isMarked(JSON.stringify(it.source)) } } }));
+}
+
 function answersOf(program, input) {
   const file = path.join(fs.mkdtempSync(path.join(os.tmpdir(), 'packages-')), 'input.json');
   fs.writeFileSync(file, input);
   const ran = spawnSync(program, ['build', file], { maxBuffer: 1 << 30, encoding: 'utf8' });
   fs.rmSync(path.dirname(file), { recursive: true });
-  return ran.stdout.trim() ? restored(JSON.parse(ran.stdout), JSON.parse(input)) : null;
+  const request = JSON.parse(input);
+  return ran.stdout.trim() ? restored(JSON.parse(ran.stdout), request, modulesOf(request)) : null;
 }
 
 function compare(program, fastCheck, folder) {
