@@ -1,11 +1,16 @@
 'use strict';
 // Which program is run.
 const fs = require('fs');
-const { PROGRAM, isClone } = require('../cli/installed.js');
+const { PROGRAM, isClone, isNpm } = require('../cli/installed.js');
 
-/** The file of the program; undefined in a clone, whose launcher proves and builds it first, unless the variable FAST_CHECK names one. */
+const PLATFORM = `${process.platform} ${process.arch}`;
+
+/** Whether the program is there for this machine: that of the npm package is for one kind alone. */
+const isForHere = () => !isNpm || PLATFORM === 'linux x64';
+
+/** The file of the program; undefined in a clone, whose launcher proves and builds it first, and on a machine that it is not for, unless the variable FAST_CHECK names one. */
 function programFile(/** @type {Record<string, string | undefined>} */ { FAST_CHECK: named }) {
-  return named || (isClone ? undefined : PROGRAM);
+  return named || (isClone || !isForHere() ? undefined : PROGRAM);
 }
 
 /** The program by what changes where it is written, since it is too large to be read each time; null where it is not known, or not there. */
@@ -21,4 +26,4 @@ function programStamp(/** @type {Record<string, string | undefined>} */ environm
   }
 }
 
-module.exports = { programStamp };
+module.exports = { PLATFORM, isForHere, programStamp };

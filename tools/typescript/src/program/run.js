@@ -4,7 +4,8 @@ const childProcess = require('child_process');
 const fs = require('fs');
 const os = require('os');
 const path = require('path');
-const { PROGRAM, isNpm } = require('../cli/installed.js');
+const { PROGRAM } = require('../cli/installed.js');
+const { PLATFORM, isForHere } = require('./program.js');
 const { requestText } = require('./request.js');
 
 /** @typedef {import('./types').Request} Request */
@@ -23,8 +24,7 @@ class ProgramError extends Error {
 /** The words that run `build`: the program of the variable FAST_CHECK, or the launcher, which proves and builds it first. */
 function command(/** @type {{ unproved?: boolean, environment: Record<string, string | undefined> }} */ { unproved, environment }) {
   if (environment.FAST_CHECK) return [environment.FAST_CHECK, 'build'];
-  const platform = `${process.platform} ${process.arch}`;
-  if (isNpm && platform !== 'linux x64') throw new ProgramError(`the program of this package runs on Linux x86-64, and this is ${platform}`, 5);
+  if (!isForHere()) throw new ProgramError(`the program of this package runs on Linux x86-64, and this is ${PLATFORM}`, 5);
   return [PROGRAM, ...(unproved ? ['--unproved'] : []), 'build'];
 }
 
