@@ -90,7 +90,8 @@ function moduleOf(/** @type {string} */ specifier, text = '') {
 }
 
 function depsOf(/** @type {string} */ text, /** @type {string} */ name) {
-  const [symbol] = ownTables(moduleOf('file:///mod.ts', text)).symbols.filter((each) => each.qualified_name === name);
+  const { symbols, swc_ids: ids = [] } = ownTables(moduleOf('file:///mod.ts', text));
+  const [symbol] = symbols.filter(({ id }) => ids.some(([[sym], of]) => sym === name && of === id));
   const nameOf = (/** @type {import('../src/tables/types').Dep} */ { Id, QualifiedId, ImportType }) => {
     if (Id) return Id[0];
     return QualifiedId ? [QualifiedId[0][0], ...QualifiedId[1]].join('.') : (ImportType || []).flat().join('.');

@@ -42,8 +42,9 @@ function dependencyName(/** @type {Dep} */ dep) {
 
 /** The name of the declaration at the top of a module that a symbol belongs to. */
 function topName(/** @type {EsmModule} */ module, /** @type {Symbol} */ symbol) {
-  const named = symbol.qualified_name === undefined ? module.symbols.find((it) => it.id === symbol.parent_id) : symbol;
-  return ((named && named.qualified_name) || '').split('.')[0];
+  if (symbol.qualified_name !== undefined) return symbol.qualified_name.split('.')[0];
+  const [own, parent] = [symbol.id, symbol.parent_id].map((id) => (module.swc_ids || []).find((it) => it[1] === id));
+  return own ? own[0][0] : parent ? parent[0][0] : '';
 }
 
 /** A request whose parts are taken away. The request that it is made of stays as it is. */

@@ -417,9 +417,25 @@ function expando(/** @type {Tables} */ t, /** @type {forms.Expr} */ choice) {
 
 // ---- the finished tables
 
-function markOverloads(/** @type {GrowingSymbol} */ symbol) {
+/** The implementation of overloads has two marks, for neither of which alone a rule asks. */
+function markImplementation(/** @type {GrowingSymbol} */ symbol) {
   const functions = symbol.decls.filter((it) => it.has_body !== undefined);
-  if (functions.length > 1) for (const it of functions) it.has_overloads = true;
+  for (const it of functions) {
+    if (functions.length > 1 && it.has_body) it.has_overloads = true;
+    else delete it.has_body;
+  }
+}
+
+/** Whether an alias leads to a name within another, as `import a = b.c` does. */
+function hasPathAlias(/** @type {Tables} */ t) {
+  return t.symbols.some((symbol) => symbol.decls.some(({ kind }) => kind.QualifiedTarget));
+}
+
+/** Whether a message may name a symbol: a private member, a class or namespace in which a name is sought, or what may refer to a name within another. */
+function mayBeNamed(/** @type {GrowingSymbol} */ symbol, /** @type {boolean} */ byAlias) {
+  const refers = (/** @type {Dependency} */ [dep]) => byAlias || !dep.Id;
+  const isSaid = (/** @type {import('./types').Definition} */ it) => it.is_class || it.is_default_class_expr || it.is_ts_namespace || (it.deps || []).some(refers);
+  return symbol.is_private_member || symbol.decls.some(({ kind }) => kind.Definition && isSaid(kind.Definition));
 }
 
 /** The symbol of an id, or undefined. */
@@ -456,21 +472,23 @@ function depsOfEnum(/** @type {GrowingSymbol} */ symbol) {
 }
 
 /** @returns {import('./types').Symbol} */
-function finished(/** @type {Tables} */ t, /** @type {GrowingSymbol} */ symbol) {
-  markOverloads(symbol);
+function finished(/** @type {Tables} */ t, /** @type {GrowingSymbol} */ symbol, /** @type {boolean} */ byAlias) {
+  markImplementation(symbol);
   for (const it of symbol.decls) {
     const node = it.kind.Definition;
     if (!node) continue;
     const deps = pruned(t, symbol.enum ? depsOfEnum(symbol.enum) : node.deps || []);
     if (deps.length) node.deps = deps;
     else delete node.deps;
+    // A function is asked for properties that are assigned to it.
+    if (!symbol.exports.size) delete node.is_function;
   }
   const { ident, exports, enum: around, ...rest } = symbol;
   /** @type {import('./types').Symbol} */
   const made = { ...rest, exports: [...exports] };
   if (rest.members.length === 0) delete made.members;
   if (exports.size === 0) delete made.exports;
-  if (made.qualified_name === undefined) delete made.qualified_name;
+  if (made.qualified_name === undefined || !mayBeNamed(symbol, byAlias)) delete made.qualified_name;
   // What a symbol stands in, and by which name it is found there, is asked of members alone.
   if (!symbol.decls.some(({ kind }) => kind.Definition && kind.Definition.is_member)) {
     delete made.parent_id;
@@ -491,7 +509,8 @@ function ownTables(/** @type {Module} */ module, unresolved = 1) {
   const { Module, Script } = /** @type {forms.Program} */ (module.tree.program);
   const body = Script ? (Script.body || []).map((Stmt) => ({ Stmt })) : Module.body || [];
   items(t, body, t.symbols[0], Boolean(Module) && module.isDeclaration);
-  const symbols = t.symbols.map((it) => finished(t, it));
+  const byAlias = hasPathAlias(t);
+  const symbols = t.symbols.map((it) => finished(t, it, byAlias));
   return {
     module_symbol: 0,
     symbols,

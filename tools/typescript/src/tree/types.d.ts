@@ -24,7 +24,7 @@ export interface TreeSource {
 
 export interface Comment {
   kind: 'Line' | 'Block';
-  span: forms.Span;
+  span?: forms.Span;
   text: string;
 }
 

@@ -89,9 +89,10 @@ function trails(/** @type {Scanned} */ comment, /** @type {{ end: number } | nul
 /** Whether skeletons keep a comment: those of documentation, and those that speak to the compiler. */
 const isKept = (/** @type {Comment} */ { kind, text }) => (kind === 'Block' ? text.startsWith('*') : /^[\s\x85]*@ts-/.test(text));
 
-/** Lists of comments with those that skeletons keep. */
+/** Lists of comments with those that skeletons keep, whose places nothing asks for. */
 function keptOf(/** @type {[position: number, comments: Comment[]][]} */ lists) {
-  return lists.map(([position, all]) => /** @type {[number, Comment[]]} */ ([position, all.filter(isKept)])).filter(([, kept]) => kept.length);
+  const kept = (/** @type {Comment[]} */ all) => all.filter(isKept).map(({ kind, text }) => ({ kind, text }));
+  return lists.map(([position, all]) => /** @type {[number, Comment[]]} */ ([position, kept(all)])).filter(([, all]) => all.length);
 }
 
 /** The comments of a file: lists of `[position, comments]`; with `short` those that skeletons keep. */
