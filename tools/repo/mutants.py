@@ -2,8 +2,7 @@
 """Tries edits that the prover has to refuse: those of mutants/CRATE.edits, each of which turns the meaning of a function, a definition or a rule.
 
 usage: mutants.py [CRATE..]            without a name: each crate that has a file in mutants/
-       mutants.py --changed [COMMIT]   of each of these that changed since the commit, all edits, and of each other those that changed; without
-                                       a commit: since the one that mutants/TRIED has for it, and each that it has none for
+       mutants.py --changed [CRATE..]  of these the crates that mutants/TRIED does not have as they are
   --edit NAME       only the edit of this name (may be given several times); then nothing is noted
   --gate            the edits of crates/CRATE/must-fail too
   --jobs N          so many checks at once (1)
@@ -17,37 +16,29 @@ fields of records, where the clause uses no tactic that looks for facts by itsel
 alone, and judged as the kit's gate judges it; what is not refused then either is tried once more from nothing.
 Where work was kept from check to check, the crate itself has to be proved over it at last.
 
-A crate is the same as at a commit if its source, definitions and proofs differ in comments, layout, the grouping of `use` lines and names alone,
-on none of which a verdict rests. Names have to be renamed one to one in the whole crate, and paths with them, where some crate of the repository
-declares the new name in place of the old one; what is local to a file may be renamed in this file alone, one to one too. An edit is the same if
-one of the commit, in mutants/CRATE.edits or in the crate's must-fail/, says the same of the same file under this renaming.
-
 Prints a line for each edit that is not plainly refused (`STANDING`: the crate is still proved; `BY NAME ALONE`: only a proof that names what the
 edit took away fails; `BAD`: it does not apply or cannot be read), and one for each crate. The status is 0 where all were refused. Then
-mutants/TRIED has the present commit for the crate, if it is the same as at that commit.
+mutants/TRIED has a hash of the crate and its edits as they are.
 """
 import argparse
-import functools
+import hashlib
 import importlib.machinery
 import importlib.util
-import io
 import os
 import queue
 import re
 import shutil
 import subprocess
 import sys
-import tarfile
 import tempfile
 import threading
 import time
-from collections import defaultdict
 from concurrent.futures import ThreadPoolExecutor
 from dataclasses import dataclass, field
 from pathlib import Path
 
 sys.dont_write_bytecode = True
-from edit_blocks import crates_with_edits, read_blocks, unpack
+from edit_blocks import crates_with_edits, unpack
 
 TOP = Path(__file__).resolve().parents[2]
 TRIED = TOP / "mutants" / "TRIED"
@@ -56,8 +47,6 @@ SCRATCH = tempfile.TemporaryDirectory(prefix="mutants-")
 REFUSED, BY_NAME, STANDING, BAD = "refused", "BY NAME ALONE", "STANDING", "BAD"
 # Comments, strings, characters and lifetimes, words, and any other mark, as the kit reads a source file.
 TOKEN = re.compile(r"//[^\n]*|/\*.*?\*/|b?\"(?:[^\"\\]|\\.)*\"|'(?:\\.[^']*|[^'\\])'|'\w+|\w+|\s+|.", re.S)
-# The same of a file of definitions or proofs.
-ANTT_TOKEN = re.compile(r"--[^\n]*|\{-.*?-\}|\"(?:[^\"\\]|\\.)*\"|[^\s(){}\[\],;\"]+|\s+|.", re.S)
 CLAUSE = re.compile(r"(?:^| )(?:requires|ensures)(?: \*)?(?: \w+)?$|(?:^| )ghost \w+ :$")
 # The head of a declaration of specs/, one of its rules, and a name with what leads to it.
 HEAD = re.compile(r"(\s*)(?:pub )?(data|record|abbrev|module|mutual|unfoldable)\b\s*([^\s:({]*)")
@@ -511,355 +500,23 @@ class Crate:
         return all(it == REFUSED for it in self.found.values())
 
 
-def git(*words):
-    return subprocess.run(["git", *words], cwd=TOP, stdout=subprocess.PIPE, text=True)
-
-
-def by_edit(texts):
-    """The texts of files, with each edit of a file of mutants/ as if it had a file of its own."""
-    found = {name: text for name, text in texts.items() if not name.endswith(".edits")}
-    for name in texts.keys() - found.keys():
-        found |= {f"{name.removesuffix('.edits')}/{edit}.edit": text for edit, text in read_blocks(texts[name]).items()}
-    return found
-
-
-@functools.lru_cache(maxsize=None)
-def texts_at(commit):
-    """The files of all crates and their edits at a commit, by their paths; None if there is no such commit."""
-    packed = subprocess.run(["git", "archive", commit, "crates", "mutants"], cwd=TOP, stdout=subprocess.PIPE)
-    if packed.returncode:
-        return None
-    with tarfile.open(fileobj=io.BytesIO(packed.stdout)) as files:
-        return by_edit({it.name: files.extractfile(it).read().decode(errors="replace") for it in files if it.isfile() and OF_CRATE.match(it.name)})
-
-
-def texts_now(crate="*"):
-    """The files of a crate and its edits as they stand, by their paths; without a name those of all crates."""
-    files = [*TOP.glob(f"crates/{crate}/*/**/*"), *TOP.glob(f"mutants/{crate}.edits")]
-    found = {str(it.relative_to(TOP)): it for it in files if it.is_file()}
-    return by_edit({name: it.read_text(errors="replace") for name, it in found.items() if OF_CRATE.match(name)})
-
-
-def of_crate(texts, crate):
-    """The files of one crate, by their paths in it, and its edits, by their paths."""
-    inside = f"crates/{crate}/"
-    files = {name[len(inside) :]: text for name, text in texts.items() if name.startswith(inside) and not name.endswith(".edit")}
-    edits = {name: text for name, text in texts.items() if name.startswith((inside, f"mutants/{crate}/")) and name.endswith(".edit")}
-    return files, edits
-
-
-def without_comments(file, text):
-    """The text of a source file, or of one of definitions or proofs, without comments; every other as it is."""
-    token, comment = {".rt": (TOKEN, ("//", "/*")), ".antt": (ANTT_TOKEN, ("--", "{-"))}.get(Path(file).suffix, (None, None))
-    return "".join(it for it in token.findall(text) if not it.startswith(comment)) if token else text
-
-
-def without_last_commas(marks):
-    """Marks without commas before a closing bracket. One value and a comma in parentheses that no name stands before are a tuple, and keep it."""
-    left, groups = [], []
-    for mark in marks:
-        if mark in "([{":
-            is_call = bool(left) and (bool(NAMED.fullmatch(left[-1])) or left[-1] in ">!)]")
-            groups.append([mark == "(" and not is_call, 0])
-        elif mark == "," and groups:
-            groups[-1][1] += 1
-        elif mark in ")]}" and groups:
-            may_be_tuple, commas = groups.pop()
-            if left[-1] == "," and not (may_be_tuple and commas == 1):
-                left.pop()
-        left.append(mark)
-    return left
-
-
-@functools.lru_cache(maxsize=None)
-def marks_of(kind, text):
-    """The marks of a text of code without comments, of a kind of file: names, texts in quotes, and every other sign by itself. White space counts
-    only between the words of definitions, where a hyphen joins names and a minus stands alone."""
-    if kind == ".antt":
-        words = (it for it in ANTT_TOKEN.findall(text) if not it.isspace())
-        found = [part for it in words for part in ([it] if it[0] == '"' or it in "(){}[],;" else [*PART.findall(it), " "])]
-    else:
-        found = [it for it in PART.findall(text) if not it.isspace()]
-    return tuple(without_last_commas(found))
-
-
-def single_items(words):
-    """The single items that the words of a `use` line name: `a::{b, c}` names `a::b` and `a::c`."""
-    begin = words.find("{")
-    if begin < 0 or not words.rstrip().endswith("}"):
-        return [words]
-    inside, items, depth = words[begin + 1 : words.rindex("}")], [""], 0
-    for sign in inside:
-        depth += {"{": 1, "}": -1}.get(sign, 0)
-        if sign == "," and depth == 0:
-            items.append("")
-        else:
-            items[-1] += sign
-    return [it for item in items if item.strip() for it in single_items(words[:begin] + item.strip())]
-
-
-@functools.lru_cache(maxsize=None)
-def read_code(file, text):
-    """The marks of a file of code without its `use` lines, and the marks of each single item that these name."""
-    kind, text, items = Path(file).suffix, without_comments(file, text), set()
-    for words in USE[kind].findall(text):
-        items |= {marks_of(kind, it) for it in single_items(words.removesuffix(";"))}
-    return marks_of(kind, USE[kind].sub("", text)), frozenset(items)
-
-
-def names_in(marks):
-    return {it for it in marks if NAMED.fullmatch(it)}
-
-
-def declared_in(file, text):
-    """The names of the items, fields and rules that a file declares, and those under which it passes on modules."""
-    text = without_comments(file, text)
-    if file.endswith(".antt"):
-        found = [*map("".join, DECLARED_ANTT.findall(text)), *PASSED_ON.findall(text)]
-    else:
-        found = DECLARED.findall(text)
-        for it in re.finditer(r"\b(?:struct|enum)\b[^;{()]*\{", text):
-            found += map("".join, IN_DECLARATION.findall(text[it.end() - 1 : after_brace(text, it.end() - 1)]))
-    return {name for it in [*found, Path(file).stem] for name in NAMED.findall(it)}
-
-
-def declared_by(texts):
-    """The names that the files of each crate declare, by the crate, and the names of the crates themselves."""
-    found = defaultdict(set)
-    for path, text in texts.items():
-        found[""].add(path.split("/")[1])
-        if path.endswith((".rt", ".antt")):
-            found[path.split("/")[1]] |= declared_in(path, text)
-    return found
-
-
-@functools.lru_cache(maxsize=None)
-def declared_at(commit):
-    return declared_by(texts_at(commit))
-
-
-@functools.lru_cache(maxsize=None)
-def declared_now():
-    return declared_by(texts_now())
-
-
-def variables_and_members(marks):
-    """The names of a source file that stand as variables, and those that stand as members of something or are called."""
-    variables, members = set(), set()
-    at = lambda place: marks[place] if 0 <= place < len(marks) else ""
-    for place, mark in enumerate(marks):
-        if NAMED.fullmatch(mark):
-            behind_dot = at(place - 1) == "." and at(place - 2) != "."
-            in_path = at(place - 1) == ":" == at(place - 2) or at(place + 1) == ":" == at(place + 2)
-            if behind_dot or in_path or at(place + 1) in ("(", "!", "{") or not mark[0].islower() or mark in FIXED:
-                members.add(mark)
-            else:
-                variables.add(mark)
-    return variables, members
-
-
-def brought_by(item):
-    """The names that an item of a `use` line brings in, without those of the path to it."""
-    ends = [place for place, mark in enumerate(item) if mark in (".", ":", "as")]
-    return names_in(item[ends[-1] + 1 :] if ends else item)
-
-
-def local_names(files):
-    """The names that are local to each file of a crate: they stand there as variables, or in the proof of a function; and no item of the crate has
-    such a name, no `use` line of the file brings it in, and it is no member of something but in the proof of a function."""
-    declared = set().union(FIXED, *(declared_in(it, text) for it, text in files.items() if Path(it).suffix in USE and not OF_FUNCTION.search(it)))
-    local = {}
-    for file, text in files.items():
-        if Path(file).suffix in USE:
-            marks, items = read_code(file, text)
-            variables, members = variables_and_members(marks) if file.endswith(".rt") else (names_in(marks), set())
-            if file.endswith(".antt") and not OF_FUNCTION.search(file):
-                members = {it for before, it in zip(marks, marks[1:]) if before == "."}
-            local[file] = variables - members - declared.union(*map(brought_by, items))
-    return local
-
-
-@dataclass
-class Renaming:
-    """A renaming of names that is one-to-one, as far as it was seen."""
-
-    new: dict = field(default_factory=dict)
-    old: dict = field(default_factory=dict)
-
-    def conflict(self, pairs):
-        """What speaks against pairs of names, an old and a new one each; none is taken then. Empty if nothing does, and all are taken."""
-        new, old = {}, {}
-        for before, now in pairs:
-            if self.new.get(before, new.setdefault(before, now)) != now or new[before] != now:
-                return f"`{before}` is both `{now}` and `{self.new.get(before, new[before])}`"
-            if self.old.get(now, old.setdefault(now, before)) != before or old[now] != before:
-                return f"`{now}` was both `{before}` and `{self.old.get(now, old[now])}`"
-        self.new.update(new)
-        self.old.update(old)
-        return ""
-
-    def fits(self, before, now):
-        """Whether marks may stand for others."""
-        return len(before) == len(now) and all(
-            self.new.get(a, b) == b and self.old.get(b, a) == a if NAMED.fullmatch(a) and NAMED.fullmatch(b) else a == b for a, b in zip(before, now)
-        )
-
-    def copy(self):
-        return Renaming(dict(self.new), dict(self.old))
-
-
-def pairs_of(before, now):
-    """The pairs of names of marks that may be the same but for names, members with the dot that they stand behind, and why they may not."""
-    for place, (a, b) in enumerate(zip(before, now)):
-        if a != b and not (NAMED.fullmatch(a) and NAMED.fullmatch(b)):
-            return set(), f"`{' '.join(before[max(0, place - 4) : place + 5])}` is `{' '.join(now[max(0, place - 4) : place + 5])}`"
-    if len(before) != len(now):
-        return set(), "one goes on behind the other"
-    dots = ["", *("." if it == "." else "" for it in now)]
-    return {(dot + a, dot + b) for dot, a, b in zip(dots, before, now) if NAMED.fullmatch(a)}, ""
-
-
-class Comparison:
-    """What differs between a crate at a commit and as it stands, but for comments, layout, the grouping of `use` lines and names."""
-
-    def __init__(self, crate, commit, before, now):
-        self.crate, self.commit = crate, commit
-        (self.before, self.old_edits), (self.now, self.edits) = of_crate(before, crate), of_crate(now, crate)
-        self.old_local, self.local = local_names(self.before), local_names(self.now)
-        self.whole, self.inside = Renaming(), defaultdict(Renaming)
-        self.items = []
-
-    def why_differs(self):
-        """Why the code of the crate is not the same; empty if it is."""
-        old, new = set(self.before) - set(self.now), set(self.now) - set(self.before)
-        pairs = [(it, it) for it in sorted(set(self.before) & set(self.now))]
-        while pairs:
-            why = next(filter(None, (self.why_file(*it) for it in pairs)), "") or self.why_items()
-            if why:
-                return why
-            pairs = [(it, self.renamed(it)) for it in sorted(old) if self.renamed(it) in new]
-            old, new = old - {it for it, _ in pairs}, new - {it for _, it in pairs}
-        if old or new:
-            return f"{', '.join(sorted(old)) or 'nothing'} is {', '.join(sorted(new)) or 'nothing'}"
-        left = [f"{file}: other items of `use` lines" for file, before, now in self.items if before or now]
-        return left[0] if left else self.why_names(self.whole.new.items())
-
-    def renamed(self, path):
-        """A path of before, under the renaming."""
-        return "".join(self.whole.new.get(it, it) for it in PART.findall(path))
-
-    def why_file(self, before, now):
-        """Why a file is not the same as one of before. The items of its `use` lines that differ are kept, to be matched."""
-        if Path(now).suffix not in USE:
-            return "" if self.before[before] == self.now[now] else f"{now}: another text"
-        (old, old_items), (new, items) = read_code(before, self.before[before]), read_code(now, self.now[now])
-        pairs, why = pairs_of(old, new)
-        as_they_are = {(it, it) for item in old_items & items for it in names_in(item)}
-        of_path = set(zip(PART.findall(before), PART.findall(now)))
-        why = why or self.inside[now].conflict(pairs) or self.whole.conflict(self.outer(before, now, pairs) | as_they_are | of_path)
-        self.items.append([now, old_items - items, items - old_items])
-        return why and f"{now}: {why}"
-
-    def outer(self, before, now, pairs):
-        """The pairs of names in a file that are not local to it."""
-        bare = {(a.lstrip("."), b.lstrip(".")) for a, b in pairs}
-        return {(a, b) for a, b in bare if a not in self.old_local[before] or b not in self.local[now]}
-
-    def why_items(self):
-        """Matches items of `use` lines that differ, each with the only one that it may be; why one cannot be matched."""
-        goes_on = True
-        while goes_on:
-            goes_on = False
-            for kept in self.items:
-                for item in kept[1]:
-                    may_be = [it for it in kept[2] if self.whole.fits(item, it)]
-                    if len(may_be) == 1:
-                        why = self.whole.conflict(set(zip(item, may_be[0])))
-                        if why:
-                            return f"{kept[0]}: {why}"
-                        kept[1], kept[2], goes_on = kept[1] - {item}, kept[2] - {may_be[0]}, True
-        return ""
-
-    def why_names(self, pairs):
-        """Why names that are not local may not be renamed: no crate declared the one, and declares the other instead."""
-        for before, now in pairs:
-            if before != now:
-                old, new = declared_at(self.commit), declared_now()
-                if not any(before in old[it] - new[it] and now in new[it] - old[it] for it in {*old, *new}):
-                    return f"`{before}` is `{now}`, though no crate declares it so instead"
-        return ""
-
-    def other_edits(self):
-        """The edits that were not there at the commit."""
-        texts = set(self.old_edits.values())
-        return [it for it, text in sorted(self.edits.items()) if self.differs_edit(it, text, texts)]
-
-    def differs_edit(self, path, text, texts):
-        """Whether an edit is none of those of before."""
-        return not any(self.is_edit(it, text) for it in sorted(texts, key=lambda it: it != self.old_edits.get(path)))
-
-    def is_edit(self, before, now):
-        """Whether an edit of before is the same as one now: it changes the same, but for layout and names."""
-        old, new = parts_of_edit(before), parts_of_edit(now)
-        if [it[0] for it in old] != [it[0] for it in new]:
-            return False
-        whole, inside = self.whole.copy(), {it[1]: self.inside[it[1]].copy() for it in new}
-        for (_, old_file, old_text), (_, file, text) in zip(old, new):
-            if self.renamed(old_file) != file or old_file not in self.old_local or file not in self.local:
-                return False
-            pairs, why = pairs_of(marks_of(Path(file).suffix, old_text), marks_of(Path(file).suffix, text))
-            outer = self.outer(old_file, file, pairs)
-            if why or inside[file].conflict(pairs) or whole.conflict(outer) or self.why_names(outer - self.whole.new.items()):
-                return False
-        return True
-
-
-def parts_of_edit(text):
-    """The texts of an edit: whether it is an old or a new one, its file, and what it says."""
-    file, found = "", []
-    for line in text.split("\n"):
-        word, _, rest = line.partition(":")
-        if word == "file":
-            file = rest.strip()
-        elif word in ("old", "new"):
-            found.append((word, file, without_comments(file, rest.removeprefix(" "))))
-    return found
-
-
-def difference(crate, commit):
-    """Why a crate's code differs from a commit, empty if it does not, and which of its edits were not there."""
-    known = git("rev-parse", "--verify", "--quiet", f"{commit}^{{commit}}").stdout.strip()
-    before = texts_at(known) if known else None
-    if before is None:
-        return f"there is no commit {commit}", []
-    now = texts_now(crate)
-    if of_crate(before, crate) == of_crate(now, crate):
-        return "", []
-    compared = Comparison(crate, known, before, now)
-    why = compared.why_differs()
-    return why, [] if why else compared.other_edits()
-
-
-def differs(crate, commit):
-    """Whether a crate or one of its edits is not the same as at a commit."""
-    why, edits = difference(crate, commit)
-    return bool(why or edits)
+def hash_of(crate):
+    """A hash of a crate's code, definitions and proofs, and of its edits in mutants/."""
+    found = hashlib.sha256()
+    for file in [TOP / "mutants" / f"{crate}.edits", *sorted(it for part in ("src", "specs", "proofs") for it in (TOP / "crates" / crate / part).rglob("*") if it.is_file())]:
+        found.update(f"{file.relative_to(TOP)}\n".encode() + file.read_bytes())
+    return found.hexdigest()
 
 
 def tried():
-    """The commit at which all edits of a crate were refused, by the crate."""
+    """What the hash of a crate was when all of its edits were refused, by the crate."""
     return dict(it.split() for it in TRIED.read_text().splitlines()) if TRIED.is_file() else {}
 
 
-NOTING = threading.Lock()
-
-
 def note_tried(crate):
-    """Notes that all edits of a crate were refused, if nothing of it differs from the present commit."""
-    with NOTING:
-        if not differs(crate, "HEAD"):
-            noted = {**tried(), crate: git("rev-parse", "HEAD").stdout.strip()}
-            TRIED.write_text("".join(f"{name} {commit}\n" for name, commit in sorted(noted.items())))
+    """Notes that all edits of a crate were refused."""
+    noted = {**tried(), crate: hash_of(crate)}
+    TRIED.write_text("".join(f"{name} {it}\n" for name, it in sorted(noted.items())))
 
 
 def label(path):
@@ -887,7 +544,7 @@ def over_libraries(crates, folder):
 def read_words(argv):
     words = argparse.ArgumentParser(description=__doc__, formatter_class=argparse.RawDescriptionHelpFormatter)
     words.add_argument("crates", nargs="*", metavar="CRATE")
-    words.add_argument("--changed", nargs="?", const="", metavar="COMMIT")
+    words.add_argument("--changed", action="store_true")
     words.add_argument("--edit", action="append", metavar="NAME")
     words.add_argument("--gate", action="store_true")
     words.add_argument("--jobs", type=int, default=1, metavar="N")
@@ -895,26 +552,10 @@ def read_words(argv):
     return words.parse_args(argv)
 
 
-def chosen(words):
-    """The edits that are asked for, by their crates: with --changed, all of a crate whose code changed, and of another those that were not there."""
-    names = words.crates or crates_with_edits()
-    asked = {it: edits_of(it, words) for it in names}
-    if words.changed is None:
-        return asked
-    commits = tried()
-    for name in names:
-        since = words.changed or commits.get(name)
-        why, edits = difference(name, since) if since else ("it was not tried", [])
-        if not why:
-            asked[name] = [it for it in asked[name] if label(it) in edits]
-    return {name: paths for name, paths in asked.items() if paths}
-
-
-def main(argv, prepare=None, is_proved=lambda crate: not crate.is_program and crate.is_built()):
-    """Tries the edits that the words ask for. `prepare`, if given, readies the libraries below a crate, and answers whether it could;
-    `is_proved` says whether a crate was proved as it stands."""
+def main(argv):
+    """Tries the edits that the words ask for."""
     words = read_words(argv)
-    words.crates = words.crates or crates_with_edits()
+    noted = tried() if words.changed else {}
     os.chdir(TOP)
     # (the kit sets its signals, which the main thread alone may)
     RT.rtlib.guarded()
@@ -923,24 +564,26 @@ def main(argv, prepare=None, is_proved=lambda crate: not crate.is_program and cr
         over_libraries(known.values(), words.libraries)
     status = 0
     with ThreadPoolExecutor(words.jobs) as pool:
-        for name, paths in chosen(words).items():
+        for name in words.crates or crates_with_edits():
             begun = time.monotonic()
-            if name not in known or not paths:
+            if name not in known or not (paths := edits_of(name, words)):
                 print(f"{name}: no such edits", flush=True)
                 continue
-            ready = prepare or (lambda it: bool(words.libraries) or not any(dep.build_rlib(["--jobs", "1"], anew=False) for dep in it.below()))
-            if not ready(known[name]):
+            state = hash_of(name)
+            if noted.get(name) == state:
+                continue
+            if not words.libraries and any(dep.build_rlib(["--jobs", "1"], anew=False) for dep in known[name].below()):
                 print(f"{name}: a library below it is not proved", flush=True)
                 status = 1
                 continue
-            crate = Crate(known[name], words.jobs, is_proved(known[name]), lambda line: print(line, flush=True))
+            is_proved = not known[name].is_program and known[name].is_built()
+            crate = Crate(known[name], words.jobs, is_proved, lambda line: print(line, flush=True))
             well = crate.try_all(paths, pool)
             count = lambda verdict: sum(it == verdict for it in crate.found.values())
             told = ", ".join(f"{count(it)} {it.lower()}" for it in (BY_NAME, STANDING, BAD) if count(it))
             print(f"{name}: {count(REFUSED)} of {len(paths)} refused{', ' + told if told else ''}, {time.monotonic() - begun:.0f} s", flush=True)
-            # (since a commit that was named, edits that were there may never have been refused)
-            if well and not words.edit and (not words.changed or len(paths) == len(edits_of(name, words))):
-                note_tried(name)
+            if well and not words.edit:
+                note_tried(name, state)
             status |= not well
     return int(status)
 
