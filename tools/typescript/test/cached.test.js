@@ -6,8 +6,8 @@ const { test } = require('node:test');
 const { run, same, withFolder, PACKAGES } = require('./support/helpers.js');
 const { NAMES } = require('./support/stored.js');
 
-/** Each third package, since each takes five runs. */
-const SOME = NAMES.filter((_, at) => at % 3 === 0);
+/** Each fifth package, since each takes five runs. */
+const SOME = NAMES.filter((_, at) => at % 5 === 0);
 
 /** A module with a comment before it, and a statement in the first body that a list of parameters leads to. */
 const edited = (/** @type {string} */ text) => `// moved\n${text.replace(/\) \{(?=\s)/, ') { void 0;')}`;
