@@ -4,11 +4,12 @@ A folder of cases has a file `cases`, with titles and below each the names of it
 for each fault as `case` says it. Lines before that begin with `//`, and say what is not usual:
 
     // private: 0 2.1           items that are not public, by their places: the first one, and the second one of the namespace that is the third
-    // hidden: 0.1              specifiers that are not: the second one of the first item
+    // hidden: 0.1              specifiers and declarators that are not: the second one of the first item
+    // media-type: Unknown      one that no ending of a file has
     // by: 0 value              the range by which an item is public, as `ranges_of_item` says
     // implementations: 1 0.2   items, and members of classes, that are implementations behind overloads
-    // own-ranges, first, script
-                                public by their own ranges; the first fault alone is asked for; the file is a script
+    // own-ranges, first, script, unscoped
+                                public by their own ranges; the first fault alone is asked for; the file is a script; names of variables have no scope
     // specifier: URL, resolved: TEXT URL, graph: JSON
     // object: NAME EXPORT.., exported object: NAME EXPORT.., tables: NAME
                                 what the tables know of an object, and tables of `TABLES`
@@ -182,7 +183,9 @@ HEADS = {
     "hidden": lambda value, case: case.more.update(hidden=by_item(value)),
     "by": by_range,
     "own-ranges": lambda value, case: setattr(case, "own_ranges", True),
+    "media-type": lambda value, case: case.more.update(media_type=value),
     "first": lambda value, case: case.more.update(first=True),
+    "unscoped": lambda value, case: case.more.update(is_unscoped=True),
     "script": lambda value, case: case.more.update(is_script=True),
     "specifier": lambda value, case: case.more.update(specifier=value),
     "resolved": resolved,
@@ -220,6 +223,15 @@ def with_changes(items, changes):
     return items
 
 
+def without_scopes(items):
+    """Items in which names of variables have no scope."""
+    for item in items:
+        decl = item["ModuleDecl"]["ExportDecl"]["decl"] if "ModuleDecl" in item else item["Stmt"]["Decl"]
+        for declarator in decl["Var"]["decls"]:
+            declarator["name"]["Ident"]["id"]["ctxt"] = 0
+    return items
+
+
 class Folder:
     """The cases of a folder, in order below their titles. Those that are no files are given by their names."""
 
@@ -251,6 +263,7 @@ class Folder:
         is_script = case.more.get("is_script")
         case.program = (program if is_script else as_module(program))["Script" if is_script else "Module"]
         items = [{"Stmt": stmt} for stmt in case.program["body"]] if is_script else case.program["body"]
+        items = without_scopes(items) if case.more.get("is_unscoped") else items
         case.items, case.text = with_changes(items, case.more.pop("tree", ())), text
         if media_type(file) != "TypeScript":
             case.more["media_type"] = media_type(file)

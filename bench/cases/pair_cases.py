@@ -47,7 +47,7 @@ def options():
     title("the option is one for both modules; ranges that are left out are none")
     whole, faulty = first_module(), first_module()
     for each in "ab":
-        faulty.statement("let", (each, None, None, True))
+        faulty.variable("let", each)
     first, second = request_of(faulty.request(first=True), whole.request()), request_of(whole.request(first=True), faulty.request())
     answered("pair_the_first_fault_of_the_first", first, faulty.answer(first=True), whole.answer())
     answered("pair_the_first_fault_of_the_second", second, whole.answer(), faulty.answer(first=True))

@@ -1,59 +1,6 @@
-"""Runs of `transform` whose trees are written out: variables, values, types and comments."""
-from bench.cases.runs import Module, NEVER, answered, first_module, ident, keyword, missing_type, module_answer, program, request, title, transforms
+"""Runs of `transform` whose trees are written out, with ranges of no text: values, types and comments."""
+from bench.cases.runs import NEVER, answered, ident, keyword, missing_type, module_answer, program, request, title
 from bench.oracle.trees import DUMMY
-
-
-def variables():
-    title("public variables get the types that their values show")
-    transforms("both_public", first_module())
-    only = first_module()
-    only.ranges = only.ranges[1:]
-    only.skeleton = only.skeleton[1:]
-    transforms("one_public", only)
-    none = first_module()
-    none.ranges, none.skeleton = [], []
-    transforms("none_public", none)
-    transforms("empty_module", Module())
-    title("a constant shows the type of its value itself, what may change that of the keyword")
-    values = ['"a"', "true", "null", "1.5", "10n", "/a+/g"]
-    transforms("const_values", Module().statement("const", *[(f"c{i}", None, v, True) for i, v in enumerate(values)]))
-    transforms("let_values", Module().statement("let", *[(f"l{i}", None, v, True) for i, v in enumerate(values)]))
-    transforms("var_values", Module().statement("var", *[(f"v{i}", None, v, True) for i, v in enumerate(values)]))
-    title("a written type stays, and the value behind it goes")
-    transforms("written_types", Module().statement("const", ("a", "string", '"x"', True)).statement("let", ("b", "number", None, True),
-        ("c!", "any", None, True)))
-    title("what is not public goes, declarator by declarator")
-    transforms("mixed", Module().statement("const", ("a", None, "1", False), ("b", None, '"b"', True), ("c", None, None, False),
-        ("d", "unknown", "null", True)))
-    transforms("not_exported", Module().statement("const", ("a", None, "true", True), export=False).statement("let", ("b", None, "1", False), export=False))
-    title("a public variable without type and value is a fault at its name")
-    transforms("no_type", Module().statement("let", ("z", None, None, True)))
-    three = Module().statement("let", ("a", None, None, True), ("b", None, "1", True), ("c", None, None, True)).statement("var", ("d", None, None, False),
-        ("e", None, None, True))
-    transforms("all_faults", three)
-    transforms("first_fault", three, first=True)
-    transforms("first_of_no_faults", first_module(), first=True)
-    title("ambient variables stand as they are written")
-    transforms("declared", Module().statement("const", ("a", None, "1", True), ("b", None, None, True), ("c", "string", None, False), declare=True))
-    for media_type in ("Dts", "Dmts", "Dcts"):
-        transforms(f"declarations_{media_type}", Module(media_type).statement("let", ("a", None, None, True)).statement("const", ("b", None, '"b"', True)))
-    title("text beyond ASCII: positions are bytes")
-    transforms("bytes", Module().statement("const", ("é", None, '"ü"', True)).statement("let", ("z", None, "1", True)))
-    title("other media types are transformed alike")
-    for media_type in ("Mts", "Tsx", "JavaScript", "Unknown"):
-        transforms(f"media_{media_type}", Module(media_type).statement("let", ("a", None, "1", True)))
-    title("a script is taken as a module")
-    script = first_module()
-    request = script.request()
-    body = Module().statement("let", ("a", None, "1", True), export=False)
-    request = body.request()
-    text = body.source.text
-    request["module"]["source"]["program"] = {"Script": {"span": [1, len(text) + 1], "body": [item["Stmt"] for item in body.body], "shebang": None}}
-    answered("script", request, body.answer())
-    empty = Module()
-    request = empty.request()
-    request["module"]["source"]["program"] = {"Script": program([], "")}
-    answered("empty_script", request, empty.answer())
 
 
 # ---- values and types beyond literals: each node as it is written, with what stands for it

@@ -11,7 +11,7 @@ from bench.oracle.trees import DUMMY
 
 def defaults():
     title("what may be left out: options, flags, lists, spans and scope numbers; other members are passed over")
-    module = Module().statement("let", ("a", None, "1", True))
+    module = Module().variable("let", "a", "1")
     request = {"more": {"deep": [1, -2, "x"]}, "graph": {}, "module": {"specifier": SPECIFIER, **NO_TABLES, "more": None,
                "source": {"media_type": "TypeScript", "text": "", "more": [], "comments": {},
                "program": {"Module": {"body": [{"Stmt": {"Decl": {"Var": {"kind": "Let",

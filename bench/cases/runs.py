@@ -1,4 +1,4 @@
-"""What the stored runs share: modules of variables, requests and answers, and where a run is written."""
+"""What the stored runs share: a module of variables, requests and answers, and where a run is written."""
 import json
 import os
 import sys
@@ -22,113 +22,52 @@ def ident(span, name, ctxt=0):
     return {"span": span, "ctxt": ctxt, "sym": name, "optional": False}
 
 
-# a value by its TypeScript: its kind and the variant of the literal
-def literal(source, text):
-    span = source.write(text)
-    if text.startswith('"'):
-        return "Str", {"span": span, "value": json.loads(text), "raw": text}
-    if text in ("true", "false"):
-        return "Bool", {"span": span, "value": text == "true"}
-    if text == "null":
-        return "Null", {"span": span}
-    if text.startswith("/"):
-        exp, flags = text[1:].rsplit("/", 1)
-        return "Regex", {"span": span, "exp": exp, "flags": flags}
-    if text.endswith("n"):
-        return "BigInt", {"span": span, "raw": text}
-    return "Num", {"span": span, "raw": text}
-
-
-KEYWORDS = {"string": "TsStringKeyword", "number": "TsNumberKeyword", "boolean": "TsBooleanKeyword", "any": "TsAnyKeyword", "unknown": "TsUnknownKeyword"}
-
-
 def keyword(word, span=DUMMY):
     return {"TsKeywordType": {"span": span, "kind": word}}
 
 
 NEVER = {"TsAs": {"span": DUMMY, "expr": {"Object": {"span": DUMMY, "props": []}}, "type_ann": keyword("TsNeverKeyword")}}
-MUTABLE = {"Str": "TsStringKeyword", "Bool": "TsBooleanKeyword", "Num": "TsNumberKeyword", "BigInt": "TsBigIntKeyword", "Null": "TsNullKeyword"}
 
 
-# the type that a literal shows
-def shown(is_const, kind, node):
-    if kind == "Regex":
-        name = {"Ident": ident(DUMMY, "RegExp")}
-        return {"TsTypeRef": {"span": DUMMY, "type_name": name, "type_params": None}}
-    if kind == "Null" or not is_const:
-        return keyword(MUTABLE[kind])
-    return {"TsLitType": {"span": DUMMY, "lit": {"Number" if kind == "Num" else kind: node}}}
+def valued(kind, span, value):
+    """A text or a number as a value, and the type that it shows."""
+    is_text = value.startswith('"')
+    literal = {"span": span, "value": json.loads(value), "raw": value} if is_text else {"span": span, "raw": value}
+    type_ = {"TsLitType": {"span": DUMMY, "lit": {"Str" if is_text else "Number": literal}}}
+    return {"Lit": {"Str" if is_text else "Num": literal}}, type_ if kind == "const" else keyword("TsStringKeyword" if is_text else "TsNumberKeyword")
 
 
 class Module:
-    """A module of variable statements, its skeleton, its faults and its public ranges."""
+    """A module of exported variables, which have a text or a number as their value, its skeleton and its public ranges."""
 
-    def __init__(self, media_type="TypeScript"):
+    def __init__(self):
         self.source = Source()
-        self.media_type = media_type
         self.body, self.skeleton, self.faults, self.ranges = [], [], [], []
 
-    def statement(self, kind, *declarators, export=True, declare=False):
-        """Each declarator is (name, type, value, is_public), with None where there is no type or no value; a public one
-        may end with `!` for a definite one."""
+    def variable(self, kind, name, value=None):
+        """Adds a variable. One without a value has no type."""
         source = self.source
         if self.body:
             source.write(" ")
-        start = source.here()
-        if export:
-            source.write("export ")
-        statement_start = source.here()
-        if declare:
-            source.write("declare ")
-        source.write(kind + " ")
-        decls, kept = [], []
-        for place, (name, type_, value, is_public) in enumerate(declarators):
-            if place:
-                source.write(", ")
-            declarator_start = source.here()
-            is_definite = name.endswith("!")
-            name = ident(source.write(name.rstrip("!")), name.rstrip("!"))
-            if is_definite:
-                source.write("!")
-            ann = None
-            if type_ is not None:
-                ann_start = source.here()
-                source.write(": ")
-                ann = {"type_ann": keyword(KEYWORDS[type_], source.write(type_))}
-                ann["span"] = [ann_start, source.here()]
-            init = lit = None
-            if value is not None:
-                source.write(" = ")
-                lit = literal(source, value)
-                init = {"Lit": {lit[0]: lit[1]}}
-            span = [declarator_start, source.here()]
-            written = {"span": span, "name": {"Ident": {"id": name, "type_ann": ann}}, "init": init, "definite": is_definite}
-            decls.append(written)
-            if not is_public:
-                continue
-            self.ranges.append(span)
-            if declare or self.media_type in ("Dts", "Dmts", "Dcts"):
-                kept.append(written)
-                continue
-            if ann is None and lit is not None:
-                ann = {"span": DUMMY, "type_ann": shown(kind == "const", *lit)}
-            if ann is None:
-                self.faults.append(name["span"])
-            kept.append(dict(written, name={"Ident": {"id": name, "type_ann": ann}}, init=NEVER))
+        start, statement_start, declarator_start = source.here(), source.write("export ")[1], source.write(kind + " ")[1]
+        name, init, shown = ident(source.write(name), name), None, None
+        if value is None:
+            self.faults.append(name["span"])
+        else:
+            source.write(" = ")
+            init, shown = valued(kind, source.write(value), value)
+        declarator = {"span": [declarator_start, source.here()], "name": {"Ident": {"id": name, "type_ann": None}}, "init": init, "definite": False}
         source.write(";")
         end = source.here()
-
-        def item(decls):
-            var = {"Var": {"span": [statement_start, end], "ctxt": 0, "kind": kind.capitalize(), "declare": declare, "decls": decls}}
-            return {"ModuleDecl": {"ExportDecl": {"span": [start, end], "decl": var}}} if export else {"Stmt": {"Decl": var}}
-
-        self.body.append(item(decls))
-        if kept:
-            self.skeleton.append(item(kept))
+        typed = {"Ident": {"id": name, "type_ann": {"span": DUMMY, "type_ann": shown}}}
+        for made, decl in (self.body, declarator), (self.skeleton, dict(declarator, name=typed, init=NEVER)):
+            var = {"Var": {"span": [statement_start, end], "ctxt": 0, "kind": kind.capitalize(), "declare": False, "decls": [decl]}}
+            made.append({"ModuleDecl": {"ExportDecl": {"span": [start, end], "decl": var}}})
+        self.ranges.append(declarator["span"])
         return self
 
     def request(self, **more):
-        return request(self.source.text, self.body, self.ranges, self.media_type, **more)
+        return request(self.source.text, self.body, self.ranges, **more)
 
     def answer(self, first=False):
         if self.faults:
@@ -198,13 +137,6 @@ def put_example(name, stored, answers):
     put(f"{name}.answer.json", line(answers).encode(), EXAMPLES)
 
 
-def transforms(name, module, first=False, **more):
-    put(f"{name}.json", module.request(first=first, **more))
-    answer = module.answer(first)
-    RUNS[name] = module.answer(), module.source.text
-    case(f"transform {name}.json", 1 if "Err" in answer else 0, line(answer))
-
-
 def refused(name, content, word="bad-form"):
     put(f"{name}.json", content)
     case(f"transform {name}.json", 2, f"error: input refused: {word}\n")
@@ -218,7 +150,7 @@ def answered(name, content, answer):
 
 
 def first_module():
-    return Module().statement("const", ("x", None, '"a"', True)).statement("let", ("y", None, "1", True))
+    return Module().variable("const", "x", '"a"').variable("let", "y", "1")
 
 
 def changed(path, value, module=None):

@@ -100,7 +100,7 @@ def array_type(arrays):
 def deep():
     """Values in parentheses, which show the type of what stands in them, and written types, which stay."""
     sys.setrecursionlimit(10_000)
-    module = Module().statement("const", ("x", None, "1", True))
+    module = Module().variable("const", "x", "1")
     lines = []
     for parentheses, arrays in DEPTHS:
         made = copy.deepcopy(module.answer()["Ok"]["program"])

@@ -12,7 +12,7 @@ import sys
 
 from bench.cases import build_files, hostile_cases, odd_builds, odd_cases, pair_cases, single_calls
 from bench.cases.case_files import SOURCES, Folder
-from bench.cases.plain_runs import comments, types, values, variables
+from bench.cases.plain_runs import comments, types, values
 from bench.cases.refused_runs import defaults, refusals, tables, with_tables
 from bench.cases.runs import (
     CASES, CRATE, DATA, DOCS, FILES, NO_GRAPH, RUNS, SPECIFIER, STDOUT, answered, case, line, module_answer, program, put, put_example, request, title,
@@ -182,9 +182,9 @@ def streams():
 
 def make():
     """Makes all files."""
-    folders = {name: Folder(name, odd_cases.CASES) for name in ("functions", "new", "returns", "values", "classes", "modules", "namespaces", "expandos")}
+    folders = {name: Folder(name, odd_cases.CASES) for name in ("variables", "functions", "new", "returns", "values", "classes", "modules", "namespaces", "expandos")}
     pairs, files = Folder("pairs", {}), build_files.files()
-    variables()
+    transform_cases(folders.pop("variables"))
     values()
     types()
     comments()

@@ -6,29 +6,29 @@ from bench.oracle.nodes import variant
 
 def ranges_of_item(item, by=None, hidden=()):
     """The ranges by which an item is public. `by` names another one: `own` of an exported declaration, `value` of a default export, `statement`
-    of `using`, `export` of an exported `using`, `whole` of an import or an export of names, and a number that of a declarator. The specifiers at
-    the places `hidden` are left out."""
+    of `using`, `export` of an exported `using`, `whole` of an import or an export of names, and a number that of a declarator. The specifiers and
+    declarators at the places `hidden` are left out."""
     kind, node = variant(item)
     if kind == "ModuleDecl":
         kind, node = variant(node)
         if kind == "ExportDecl":
-            return ranges_of_decl(node["decl"], None if by == "own" else node["span"], by)
+            return ranges_of_decl(node["decl"], None if by == "own" else node["span"], by, hidden)
         if "specifiers" in node and by != "whole":
             return [range_of_specifier(each) for place, each in enumerate(node["specifiers"]) if place not in hidden]
         return [range_of(node["expr"]) if by == "value" else node["span"]]
     if "Assign" in node.get("Expr", {}).get("expr", {}):
         return [node["Expr"]["expr"]["Assign"]["span"]]
-    return ranges_of_decl(node["Decl"], None, by) if "Decl" in node else []
+    return ranges_of_decl(node["Decl"], None, by, hidden) if "Decl" in node else []
 
 
-def ranges_of_decl(decl, export, by):
+def ranges_of_decl(decl, export, by, hidden):
     kind, node = variant(decl)
     if kind == "Using" and by in ("statement", "export"):
         return [export if by == "export" else node["span"]]
     if isinstance(by, int):
         return [node["decls"][by]["span"]]
     if kind in ("Var", "Using"):
-        return [declarator["span"] for declarator in node["decls"]]
+        return [declarator["span"] for place, declarator in enumerate(node["decls"]) if place not in hidden]
     return [export or range_of_default(decl)]
 
 

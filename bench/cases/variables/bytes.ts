@@ -1,0 +1,1 @@
+export const é = "ü"; export let z = 1;

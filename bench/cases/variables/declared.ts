@@ -1,0 +1,1 @@
+export declare const a = 1, b, c: string;

@@ -1,0 +1,1 @@
+export let a, b = 1, c; export var d, e;

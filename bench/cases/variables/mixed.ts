@@ -1,0 +1,1 @@
+export const a = 1, b = "b", c, d: unknown = null;

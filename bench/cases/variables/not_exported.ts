@@ -1,0 +1,1 @@
+const a = true; let b = 1;

@@ -1,0 +1,1 @@
+export const x = "a"; export let y = 1;

@@ -1,0 +1,1 @@
+export const a: string = "x"; export let b: number, c!: any;
