@@ -3,15 +3,17 @@
 // Compares what `fast-check-source` answers of packages with what `fast-check build` answers of the input that tools/typescript makes of them. Scopes may have
 // other numbers.
 //
-//     tools/repo/compare_packages.js PROGRAM FAST_CHECK FOLDER..
+//     tools/repo/compare_packages.js PROGRAM FAST_CHECK [--below] FOLDER..
 //
-// Each folder is a package, or a workspace. One that TypeScript's compiler does not read is not compared. The status is 1 where any answer differs.
+// Each folder is a package, or a workspace; with `--below` each package below the folders, as `sweep.js` finds them. One that TypeScript's compiler does not
+// read is not compared. The last line counts the folders and the modules whose answers are equal. The status is 1 where any answer differs.
 
 const fs = require('fs');
 const os = require('os');
 const path = require('path');
 const { spawnSync } = require('child_process');
 
+const { packagesBelow } = require('../typescript/dev/sweep.js');
 const { isMarked, restored } = require('../typescript/src/skeleton/restored.js');
 
 const TOOL = path.join(__dirname, '../typescript/bin/fast-check-ts.js');
@@ -63,31 +65,44 @@ function answersOf(program, input) {
   return ran.stdout.trim() ? restored(JSON.parse(ran.stdout), request, modulesOf(request)) : null;
 }
 
+/** The modules whose answers differ, each with the first place. */
+function differences(answers, wanted) {
+  const [mine, other] = [bySpecifier(answers), bySpecifier(wanted)];
+  return Object.keys({ ...mine, ...other }).flatMap((name) => {
+    const found = difference(mine[name], other[name]);
+    return found ? [`${name}${found.at}: mine ${show(found.mine)} wanted ${show(found.wanted)}`] : [];
+  });
+}
+
+/** How the answers of a folder compare: a word, what there is to say of it, and how many modules are equal and how many differ. */
 function compare(program, fastCheck, folder) {
   const mine = spawnSync(program, [folder], { maxBuffer: 1 << 30, encoding: 'utf8' });
   const made = spawnSync(process.execPath, [TOOL, 'input', folder], { maxBuffer: 1 << 30, encoding: 'utf8', env: { ...process.env, FAST_CHECK: fastCheck } });
+  const said = (kind, ...lines) => ({ kind, lines, equal: 0, differ: 0 });
   if (!made.stdout.trim()) {
     const errors = mine.stdout.trim() ? JSON.parse(mine.stdout).errors : [];
-    return errors.length || mine.status === 2 ? 'both refuse' : `mine alone reads: ${made.stderr.split('\n')[0]}`;
+    return errors.length || mine.status === 2 ? said('both refuse') : said('mine alone reads', made.stderr.split('\n')[0]);
   }
-  if (!mine.stdout.trim()) return `no answer: ${mine.status} ${mine.signal} ${mine.stderr.slice(0, 200)}`;
+  if (!mine.stdout.trim()) return said('no answer', `${mine.status} ${mine.signal} ${mine.stderr.slice(0, 200)}`);
   const { answers, errors } = JSON.parse(mine.stdout);
-  if (errors.length && made.status === 0) return `mine alone refuses: ${show(errors)}`;
+  if (errors.length && made.status === 0) return said('mine alone refuses', show(errors));
   const wanted = answersOf(fastCheck, made.stdout);
-  if (wanted === null) return 'the program answers nothing';
-  const found = difference(bySpecifier(answers), bySpecifier(wanted));
-  return found ? `differs at ${found.at}: mine ${show(found.mine)} wanted ${show(found.wanted)}` : 'equal';
+  if (wanted === null) return said('the program answers nothing');
+  const lines = differences(answers, wanted);
+  return { ...said(lines.length ? 'differs' : 'equal', ...lines), equal: wanted.length - lines.length, differ: lines.length };
 }
 
-function main([program, fastCheck, ...folders]) {
-  const counts = {};
+function main([program, fastCheck, ...words]) {
+  const folders = words[0] === '--below' ? words.slice(1).flatMap((it) => packagesBelow(path.resolve(it))) : words;
+  const [counts, modules] = [{}, { equal: 0, differ: 0 }];
   for (const folder of folders) {
-    const said = compare(program, fastCheck, folder);
-    const [kind] = said.split(/ at |: /);
+    const { kind, lines, equal, differ } = compare(program, fastCheck, folder);
     counts[kind] = (counts[kind] || 0) + 1;
-    if (!['equal', 'both refuse'].includes(said)) console.log(`${folder}: ${said}`);
+    modules.equal += equal;
+    modules.differ += differ;
+    for (const line of lines) console.log(`${folder}: ${kind}: ${line}`);
   }
-  console.log(JSON.stringify(counts));
+  console.log(JSON.stringify({ folders: counts, modules }));
   return Object.keys(counts).every((it) => ['equal', 'both refuse', 'mine alone reads'].includes(it)) ? 0 : 1;
 }
 

@@ -4,6 +4,7 @@
 //
 //   FAST_CHECK=PROGRAM node fuzz.js COUNT [SEED [FOLDER ..]]
 //   FAST_CHECK=PROGRAM node fuzz.js --types COUNT SEED FOLDER ..
+//   node fuzz.js --write INTO COUNT SEED [FOLDER ..]
 //
 // Of each seed a package of up to four modules is made: of modules of `fuzz_modules.js`, or of real modules of the FOLDERs with edits (empty bodies, types
 // dropped, members and items moved, twice there or gone). A module that the compiler's parser refuses is left out. Each command has to end with status 0 or 1,
@@ -12,6 +13,8 @@
 //
 // With `--types` each seed takes one of the packages below the FOLDERs, drops up to four written types in its texts (no file changes), and lets `fix` write types:
 // the compiler may find no error that it has not found without them, and has to declare what it has declared; and a second run has to change nothing.
+//
+// With `--write` the packages are written into a folder each of INTO, for `compare_packages.js`.
 const fs = require('fs');
 const os = require('os');
 const path = require('path');
@@ -190,6 +193,23 @@ async function wrongSkeleton(/** @type {string} */ folder) {
   return null;
 }
 
+/** Writes a package of modules, each of which is an entry point. */
+function write(/** @type {[string, string][]} */ modules, /** @type {string} */ folder) {
+  fs.mkdirSync(folder, { recursive: true });
+  for (const [name, text] of modules) fs.writeFileSync(path.join(folder, name), text);
+  const exported = Object.fromEntries(modules.map(([name], place) => [place ? `./${name}` : '.', `./${name}`]));
+  fs.writeFileSync(path.join(folder, 'deno.json'), JSON.stringify({ name: '@test/fuzz', version: '1.0.0', exports: exported }));
+}
+
+/** Writes the packages of so many seeds. */
+function writeAll(/** @type {string} */ into, /** @type {number} */ count, /** @type {number} */ first, /** @type {string[]} */ folders) {
+  const sources = folders.flatMap((it) => sourcesBelow(it)).sort();
+  for (let seed = first; seed < first + count; seed++) {
+    const modules = modulesOf(seed, sources);
+    if (modules.length) write(modules, path.join(into, String(seed)));
+  }
+}
+
 /**
  * What is wrong with the package of a seed, or null.
  *
@@ -200,10 +220,7 @@ async function wrong(/** @type {number} */ seed, /** @type {[string, string][]} 
     const found = roundTrip(name, text);
     if (found) return `${name}: ${found.join(': ')}`;
   }
-  fs.mkdirSync(folder, { recursive: true });
-  for (const [name, text] of modules) fs.writeFileSync(path.join(folder, name), text);
-  const exported = Object.fromEntries(modules.map(([name], place) => [place ? `./${name}` : '.', `./${name}`]));
-  fs.writeFileSync(path.join(folder, 'deno.json'), JSON.stringify({ name: '@test/fuzz', version: '1.0.0', exports: exported }));
+  write(modules, folder);
   for (const words of [...COMMANDS, ...(seed % VERIFIED ? [] : [['check', '--verify', '.']])]) {
     const { status, out, err } = await run(words, folder);
     if (status === 2 && (out + err).includes('[nested-too-deep]')) return null;
@@ -350,7 +367,10 @@ async function fuzz(/** @type {number} */ count, /** @type {number} */ first, /*
 }
 
 module.exports = { MODULES, fuzz, fuzzTypes };
-if (require.main === module) {
+if (require.main === module && process.argv[2] === '--write') {
+  const [into, count, seed, ...folders] = process.argv.slice(3);
+  writeAll(into, Number(count), Number(seed), folders);
+} else if (require.main === module) {
   const words = process.argv.slice(2);
   const isOfTypes = words[0] === '--types';
   const [count, seed, ...folders] = isOfTypes ? words.slice(1) : words;
