@@ -6,7 +6,8 @@
 //
 // A module longer than some thousand characters is cut at as many places, and loses as many tokens. Each text is the only module of a package. The program has to
 // end by itself with status 0 to 2, and to refuse a text where TypeScript's parser finds an error, and no other. Each kind of deviation is told with its shortest
-// text. The status is 1 where the program does not end by itself.
+// text. Then it gets texts of 100 KB that are one piece again and again, and the three that take longest are told. The status is 1 where the program does not end by
+// itself.
 
 const fs = require('fs');
 const os = require('os');
@@ -17,6 +18,13 @@ const { parse, toTree } = require('../src/tree/index.js');
 
 // How many texts of each kind are made of a module at most, and how many packages one run of the program gets.
 const [MOST, BATCH] = [4000, 500];
+// What may be nested, chained or listed without an end.
+const PIECES = ['(', '[', '{', '({', '([', '{a:', '({a:', '[{', 'a.', 'a?.', 'a!', 'a[', 'f(', 'a?', 'a?b:', '!', '-', '...', '()=>', 'a=>', '(a)=>', 'a=', 'a+', 'a**', 'a,', 'a;', 'a;\n',
+  '`${', '<', '<T>', '<a>', 'A<', 'a<b>', 'x:', 'new ', 'await ', 'typeof ', 'a as ', 'import(', '@a ', '@(', 'if(a)', 'else ', 'do ', 'for(;;)', 'while(a)', 'try{', 'switch(a){case 1:',
+  'function f(){', 'function f(a=', 'class A{', 'class A extends ', 'x=class{a=', 'static{', 'get a(){', 'namespace N{', 'interface A{a:', 'enum E{', 'type A=[', 'type A=(', 'type A={a:', 'type A=',
+  'let [', 'let {a:', 'let a=', 'let a:A<', 'let a:()=>', 'let a:B|', 'let a:B extends C?', 'let a:keyof ', 'let a:`${', 'export default ', 'declare ', 'import "a";', 'import "a";\n',
+  'export * from "a";\n', 'export {a};', 'export const a=1;', '/*', '/*x*/', '//\n', '"', '/', '#', '}', ')', ']'];
+const LENGTH = 100000;
 const REFUSED = new Set(['syntax-error', 'nested-too-deep']);
 
 /** @typedef {{ name: string, text: string }} Text */
@@ -127,6 +135,17 @@ function deviation(/** @type {Text} */ text, /** @type {Answer} */ answer) {
   return `refused: ${mine.message} at ${around(text, start + mine.column - 1)}`;
 }
 
+/** The seconds that texts take of one piece again and again. */
+function longest(/** @type {string} */ program, /** @type {string} */ top) {
+  const took = PIECES.map((piece) => {
+    const text = piece.repeat(LENGTH / piece.length);
+    const begun = process.hrtime.bigint();
+    const [answer] = answersOf(program, [{ name: 'mod.ts', text }], top);
+    return { piece, seconds: Number(process.hrtime.bigint() - begun) / 1e9, failed: 'failed' in answer ? answer.failed : undefined };
+  });
+  return took.sort((one, other) => other.seconds - one.seconds);
+}
+
 function main(/** @type {string} */ program, /** @type {string[]} */ folders) {
   const top = path.join(os.tmpdir(), `hostile-${process.pid}`);
   const texts = folders.flatMap((it) => sourcesBelow(it)).flatMap((file) => {
@@ -149,7 +168,11 @@ function main(/** @type {string} */ program, /** @type {string[]} */ folders) {
   }
   for (const [kind, { count, name, at, text }] of found) console.log(`${kind}: ${count}, shortest (${name} ${at}):\n${JSON.stringify(text)}`);
   console.log(JSON.stringify({ texts: texts.length, kinds: found.size, deviate: [...found.values()].reduce((all, it) => all + it.count, 0) }));
-  return [...found.keys()].some((it) => it.startsWith('FAILED')) ? 1 : 0;
+  const long = longest(program, top);
+  console.log(JSON.stringify({ long: long.length, longest: long.slice(0, 3) }));
+  const failed = long.filter((it) => it.failed);
+  for (const it of failed) console.log(`FAILED ${JSON.stringify(it)}`);
+  return failed.length || [...found.keys()].some((it) => it.startsWith('FAILED')) ? 1 : 0;
 }
 
 process.exitCode = main(process.argv[2], process.argv.slice(3));
