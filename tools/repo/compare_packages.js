@@ -18,7 +18,7 @@ const { isMarked, restored } = require('../typescript/src/skeleton/restored.js')
 
 const TOOL = path.join(__dirname, '../typescript/bin/fast-check-ts.js');
 
-/** A value without the members that have their defaults, and without scopes of forms, for which no rule asks. Scopes of names are numbered in the order of the members, but for 1 and 2. */
+/** A value without the members that have their defaults, and without what no rule asks for: scopes of forms, places of comments. Scopes of names are numbered in the order of the members, but for 1 and 2. */
 function plain(value, numbers = new Map([[1, 1], [2, 2]])) {
   if (Array.isArray(value)) return value.map((it) => plain(it, numbers));
   if (value === null || typeof value !== 'object') return value;
@@ -26,6 +26,7 @@ function plain(value, numbers = new Map([[1, 1], [2, 2]])) {
   for (const name of Object.keys(value).sort()) {
     const each = value[name];
     if (each === null || each === undefined || each === false || each === 0 || (Array.isArray(each) && each.length === 0)) continue;
+    if (name === 'span' && (value.kind === 'Line' || value.kind === 'Block')) continue;
     if (name !== 'ctxt') made[name] = plain(each, numbers);
     else if (typeof value.sym === 'string') made[name] = numbers.get(each) || numbers.set(each, numbers.size + 1).get(each);
   }
