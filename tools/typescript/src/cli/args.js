@@ -11,7 +11,7 @@ const FORMATS = ['text', 'json', 'github', 'sarif', 'junit', 'badge'];
 const RULES = ['deno'];
 const READERS = ['typescript', 'source'];
 // Options that need what this tool reads by itself.
-const BY_TYPESCRIPT = ['name', 'version', 'exports', 'rules', 'only', 'fix', 'verify', 'externals', 'dts', 'withDts'];
+const BY_TYPESCRIPT = ['name', 'version', 'exports', 'rules', 'verify', 'dts', 'withDts', 'watch'];
 // Those that are one document, which a run that goes on has no end of.
 const DOCUMENTS = ['sarif', 'junit', 'badge'];
 
