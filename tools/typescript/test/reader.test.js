@@ -63,6 +63,12 @@ test('a reader that is not there', async () => {
   holds(err.includes('there is no reader swc: typescript, source'), err);
 });
 
+test('a program of another version', async () => {
+  const { status, err } = await runThere(['check', '--reader', 'source', 'other'], `echo '{"answers":[],"errors":[],"faults":[],"warnings":[]}'`);
+  same(status, 5, 'the status');
+  holds(err.includes('it is of another version'), err);
+});
+
 // ---- beside the other reader
 
 /** What both readers say, by some words. */
@@ -138,36 +144,6 @@ test('what is wrong is said by the program where there is no compiler', { skip }
   const { status, err } = runWithout(['check'], folder);
   same(status, 2, 'the status');
   holds(err.includes('mod.ts:1:14') && err.includes('this cannot stand here'), err);
-}));
-
-// ---- whole answers that are kept
-
-test('a check by the program is kept, and told again without it', { skip }, () => withFolder(async (folder) => {
-  const [dir, counted] = [path.join(folder, 'it'), path.join(folder, 'runs')];
-  const program = path.join(folder, 'program');
-  fs.writeFileSync(program, `#!/bin/sh\necho >> ${counted}\nexec ${PROGRAM} "$@"\n`, { mode: 0o755 });
-  write(dir, { 'mod.ts': 'export * from "./sub/other";\n', 'sub/other.ts': 'export const one: number = 1;\n' });
-  const check = async () => {
-    await new Promise((resolve) => setTimeout(resolve, 60));
-    const { status, out } = await run(['check', '--reader', 'source', dir], { environment: { FAST_CHECK_SOURCE: program, XDG_CACHE_HOME: path.join(folder, 'cache') } });
-    return `${status} ${out.split(', ')[0]} ${fs.readFileSync(counted, 'utf8').length}`;
-  };
-  same(await check(), '0 2 files 1');
-  same(await check(), '0 2 files 1', 'what is kept');
-  fs.appendFileSync(path.join(dir, 'sub/other.ts'), 'export const two = f();\n');
-  same((await check()).split(' ')[0], '1', 'of another text');
-  fs.writeFileSync(path.join(dir, 'sub/other.ts'), 'export const one: number = 1;\n');
-  same((await check()).split(' ')[0], '0');
-  // What comes before the file that an import led to.
-  fs.mkdirSync(path.join(dir, 'sub/other'));
-  fs.writeFileSync(path.join(dir, 'sub/other.tsx'), 'export const two: number = 2;\n');
-  fs.rmSync(path.join(dir, 'sub/other.ts'));
-  same((await check()).slice(0, 9), '0 2 files');
-  // A configuration that was not there.
-  const runs = fs.readFileSync(counted, 'utf8').length;
-  fs.writeFileSync(path.join(dir, 'tsconfig.json'), '{}');
-  same((await check()).slice(0, 9), '0 2 files');
-  same(fs.readFileSync(counted, 'utf8').length, runs + 1, 'how often the program ran');
 }));
 
 // ---- without Node

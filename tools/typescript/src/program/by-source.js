@@ -31,8 +31,10 @@ const [HEAD, REST] = ['{"answers":', ',"errors":['];
 /** The line of the program in two parts: what it answers, and what it says besides. */
 function parted(/** @type {string} */ line) {
   const end = line.indexOf(REST);
-  if (!line.startsWith(HEAD) || end < 0) throw new ProgramError('the program did not answer: it wrote another line than it writes', 5);
-  return { answers: answersOf(line.slice(HEAD.length, end)), told: /** @type {Told} */ (JSON.parse(`{${line.slice(end + 1)}`)) };
+  /** @type {Told | null} */
+  const told = line.startsWith(HEAD) && end >= 0 ? JSON.parse(`{${line.slice(end + 1)}`) : null;
+  if (!told || !told.packages || !told.files) throw new ProgramError('the program did not answer: it is of another version, and writes other lines', 5);
+  return { answers: answersOf(line.slice(HEAD.length, end)), told };
 }
 
 /** The line that the program prints for a folder. */
