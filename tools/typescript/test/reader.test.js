@@ -123,7 +123,7 @@ function runWithout(/** @type {string[]} */ words, /** @type {string} */ cwd) {
   return { status, out: untimed(stdout), err: stderr };
 }
 
-for (const name of ['classes', 're-exports', 'workspace', 'unresolved-import', 'widened-literals']) {
+for (const name of ['classes', 're-exports', 'workspace', 'single-returns', 'widened-literals', 'missing-type']) {
   test(`${name} needs no compiler`, { skip }, async () => {
     const { status, out, err } = runWithout(['check'], path.join(PACKAGES, name));
     const other = await run(['check', '--no-cache', '--reader', 'typescript', '.'], { cwd: path.join(PACKAGES, name) });

@@ -119,9 +119,8 @@ export interface Module extends Script {
   /** Under what its parts are kept. */
   key?: string;
   sourceFile?: ts.SourceFile;
-  /** Of one that the program reads: whether a body names its return type by its only return, and the places of the sources whose names it exports again. */
+  /** Of one that the program reads: whether a body names its return type by its only return. */
   namesReturns?: boolean;
-  exportedAt?: number[];
 }
 
 /** An import that leads out of the folder. */

@@ -131,9 +131,7 @@ function part(/** @type {Answer[]} */ answers, /** @type {Pick<ReadFolder, 'file
 }
 
 /** The places of the sources whose names a module exports again: of `export .. from`, and of imports of names that it exports. */
-function reExported(/** @type {Module} */ module) {
-  if (module.exportedAt) return new Set(module.exportedAt);
-  const { program } = module.tree;
+function reExported(/** @type {Module} */ { tree: { program } }) {
   const all = ((program && program.Module && program.Module.body) || []).flatMap(({ ModuleDecl: it }) => it || []);
   const exported = all.flatMap((it) => it.ExportAll || it.ExportNamed || []);
   const lists = all.flatMap(({ ExportNamed: it }) => (it && !it.src && it.specifiers) || []);
@@ -240,14 +238,10 @@ function read(/** @type {string} */ dir, /** @type {AnalyseOptions} */ options, 
     const reader = broken.some((each) => each.code === 'syntax-error') ? ` by TypeScript ${typescript.version}` : '';
     throw new ReadError(`${shownName(dir, cwd)} cannot be read${reader}`, [...broken, ...faults]);
   }
-  return { dir, request, info, files, broken, faults, ...importMessages(info, files, cwd) };
-}
-
-/** What is reported of the imports of a folder: warnings, and those that are errors. */
-function importMessages(/** @type {Info} */ info, /** @type {Map<string, SourceFile>} */ files, /** @type {string} */ cwd) {
   const missing = missingMessages(info, files, cwd);
   const ofLevel = (/** @type {string} */ level) => missing.filter((it) => it.level === level);
-  return { warnings: [...ofLevel('Warning'), ...unresolvedMessages(info, files, cwd)], lost: ofLevel('Error') };
+  const warnings = [...ofLevel('Warning'), ...unresolvedMessages(info, files, cwd)];
+  return { dir, request, info, files, warnings, broken, faults, lost: ofLevel('Error') };
 }
 
 /** The package of a module, or of a file of the folder, by its folder: the innermost one. */
@@ -355,8 +349,8 @@ function sourceProgram(/** @type {AnalyseOptions} */ options, /** @type {RunCont
 }
 
 /**
- * The same by the program that reads the folder itself. What it cannot say by the compiler's words is asked of the compiler: what is wrong with configurations and
- * syntax, and a preview.
+ * The same by the program that reads the folder itself. What it cannot say by the compiler's words is asked of the compiler: what is wrong with configurations, imports
+ * and syntax, and a preview.
  *
  * @param {string} program
  * @param {string} dir
@@ -370,8 +364,8 @@ async function analyseBySource(program, dir, options, context) {
   /** @type {World | null} */
   let own = null;
   if (info) {
-    const files = filesOf(info, dir);
-    own = { ...withAnswers({ dir, request, info, files, broken: [], faults: [], ...importMessages(info, files, cwd) }, answers, context), isBySource: true };
+    const read = { dir, request, info, files: filesOf(info, dir), warnings: [], broken: [], faults: [], lost: [] };
+    own = { ...withAnswers(read, answers, context), isBySource: true };
     if (!options.preview || own.messages.every(({ level }) => level === 'Warning')) return own;
   }
   try {

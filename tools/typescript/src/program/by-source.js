@@ -17,14 +17,14 @@ const { Lines } = require('../tree/lines.js');
 /** @typedef {import('../package/types').Module} Module */
 /** @typedef {import('../package/types').Script} Script */
 /** @typedef {{ path: string, line: number, column: number, code: string, message: string }} Said what the program says of a file, by its path from the folder */
-/** @typedef {{ text: string, start: number, is_exported: boolean, is_effect: boolean, target: string | null }} Lead a text by which a module names another one */
+/** @typedef {{ text: string, start: number, is_effect: boolean, target: string | null }} Lead a text by which a module names another one */
 /** @typedef {{ path: string, leads: Lead[], names_return: boolean }} ReadFile */
 /** @typedef {{ folder: string, entries: { key: string, path: string }[], taken: { written: string, path: string }[] }} Entries */
 /** @typedef {{ errors: Said[], faults: Said[], warnings: Said[], packages: Entries[], files: ReadFile[] }} Told what the program says of a folder beside its answers */
 
-// What this tool says by other words than the program, from the texts that lead nowhere.
-const MISSING = 'missing-module';
 const FILE = 'file:///';
+// What the compiler reads as a fault and the program does not: a parameter with a question mark and a value.
+const FAULT = /[\w$]\?\s*(?::[^=;\n{},)]*)?=(?![=>])/;
 // What stands behind the answers in the program's line. No text has an unescaped quotation mark.
 const [HEAD, REST] = ['{"answers":', ',"errors":['];
 
@@ -50,7 +50,7 @@ async function lineOf(/** @type {string} */ program, /** @type {string} */ dir, 
 function moduleOf(/** @type {Script} */ plain, /** @type {ReadFile} */ { leads, names_return: namesReturns }) {
   const { path: file, text, mediaType } = plain;
   const hasEffects = leads.some((it) => it.is_effect) || refersTo(text);
-  const module = { ...plain, isDeclaration: isDeclarationFile(mediaType), hasEffects, namesReturns, exportedAt: leads.filter((it) => it.is_exported).map((it) => it.start) };
+  const module = { ...plain, isDeclaration: isDeclarationFile(mediaType), hasEffects, namesReturns };
   /** @type {import('../tree/types').Tree | null} */
   let tree = null;
   Object.defineProperty(module, 'tree', {
@@ -126,10 +126,12 @@ class Folder {
     }
   }
 
-  /** Whether the program says something of the folder that is said by the compiler's words. */
+  /** Whether something is to be said of the folder by the compiler's words, or may be: where it reads imports and entry points, it may find more. */
   get needsWords() {
     const { errors, faults, warnings, packages } = this.told;
-    return this.errors.length > 0 || !packages.length || errors.length > 0 || [...faults, ...warnings].some(({ code }) => code !== MISSING);
+    const { externals, missing, modules } = this.info;
+    const isOdd = missing.length > 0 || externals.some((it) => !it.isExplained) || modules.some(({ text }) => FAULT.test(text));
+    return isOdd || !packages.length || [...this.errors, ...errors, ...faults, ...warnings].length > 0;
   }
 }
 
@@ -148,8 +150,8 @@ function requestOf(/** @type {import('../package/types').Resolution[]} */ resolu
 }
 
 /**
- * What the program answers of a folder, and what is known of it besides. Where something is wrong with its configurations or its syntax, `info` is null: the compiler
- * says it by its own words, and `told` has what the program says.
+ * What the program answers of a folder, and what is known of it besides. Where something is wrong with its configurations, its imports or its syntax, `info` is null: the
+ * compiler says it by its own words, and `told` has what the program says.
  *
  * @param {string} program
  * @param {string} dir
