@@ -35,7 +35,6 @@ pub struct Lead {
     pub text: String,
     /// Where it stands, as a position of the tree.
     pub start: u32,
-    pub is_exported: bool,
     pub is_effect: bool,
     /// The module that it leads to, which may lie outside of the folder.
     pub target: Option<Url>,
@@ -68,14 +67,12 @@ impl Lead {
         let SourceText {
             text,
             start,
-            is_exported,
             is_effect,
             ..
         } = source;
         Ok(Lead {
             text: String::from_str(alloc, text)?,
             start,
-            is_exported,
             is_effect,
             target,
         })

@@ -79,8 +79,6 @@ fn print_lead(out: &mut Writer, lead: &Lead) -> Result<(), AllocError> {
     out.string(lead.text.as_str())?;
     out.key("start")?;
     out.u64(lead.start as u64)?;
-    out.key("is_exported")?;
-    out.boolean(lead.is_exported)?;
     out.key("is_effect")?;
     out.boolean(lead.is_effect)?;
     out.key("target")?;
