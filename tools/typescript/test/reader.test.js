@@ -131,6 +131,11 @@ for (const name of ['classes', 're-exports', 'workspace', 'single-returns', 'wid
     same(`${status} ${out}`, `${other.status} ${other.out}`);
   });
 }
+test('hints are those of the program where there is no compiler', { skip }, () => {
+  const { status, out, err } = runWithout(['check'], path.join(PACKAGES, 'async-hints'));
+  same(`${status} ${err}`, '1 ');
+  holds(out.includes("= hint: add an explicit return type of 'Promise<void>'") || out.includes("= hint: add an explicit return type of 'void'"), out);
+});
 test('a configuration with comments needs no compiler', { skip }, () => withFolder((folder) => {
   const config = '// a package\n{ "name": "@test/odd", "version": "1.0.0", /* where it begins */ "exports": { ".": "./mod.ts", }, }';
   write(folder, { 'deno.json': null, 'deno.jsonc': config, 'mod.ts': 'export const one: number = 1;\n' });

@@ -4,6 +4,7 @@ const path = require('path');
 const { analyse, answersTo, part, statusOf } = require('../program/answer.js');
 const { withoutAllowed, withoutSettledBaselines } = require('../messages/allow.js');
 const { refusalOf } = require('../cli/exit.js');
+const { NO_COMPILER } = require('../compiler/find.js');
 const { withoutNamedReturns } = require('../tables/asserted-types.js');
 
 /** @typedef {import('../program/types').RunContext} RunContext */
@@ -72,7 +73,12 @@ function namesReturns(/** @type {import('../package/types').Module} */ { parts, 
 async function singleReturnsBySource(/** @type {World} */ world, /** @type {Options} */ options, /** @type {Context} */ context) {
   const { namedReturnsIn } = require('../skeleton/named-returns.js');
   if (world.messages.every(({ level }) => level === 'Warning')) return namedReturnsIn(world);
-  return singleReturnsOf(await analyse(world.dir, { ...options, reader: 'typescript' }, context), options, context);
+  try {
+    return await singleReturnsOf(await analyse(world.dir, { ...options, reader: 'typescript' }, context), options, context);
+  } catch (error) {
+    if (/** @type {import('../cli/types').KnownError} */ (error).code === NO_COMPILER) return 0;
+    throw error;
+  }
 }
 
 /** Whether the last line of a check says how many return types single returns name. */

@@ -3,6 +3,7 @@
 const path = require('path');
 const { answersOf } = require('./answers.js');
 const { ProgramError, run } = require('./run.js');
+const { NO_COMPILER } = require('../compiler/find.js');
 const { configOf, described, settingsOf } = require('../package/config.js');
 const { isDeclarationFile, isJavaScript, mediaTypeOf, readText } = require('../package/files.js');
 const { urlOf, withUrls } = require('../package/read.js');
@@ -46,6 +47,17 @@ async function lineOf(/** @type {string} */ program, /** @type {string} */ dir, 
   throw new ProgramError(`the program did not answer: ${why.replace(/^error: /, '')}`, status > 2 && status <= 5 ? status : 5);
 }
 
+/** The compiler's tree of a file; an empty one where there is no compiler. */
+function treeOf(/** @type {string} */ file, /** @type {string} */ text) {
+  try {
+    const { parse, toTree } = require('../tree/index.js');
+    return toTree(parse(file, text), { short: true });
+  } catch (error) {
+    if (/** @type {import('../cli/types').KnownError} */ (error).code !== NO_COMPILER) throw error;
+    return /** @type {import('../tree/types').Tree} */ (/** @type {unknown} */ ({ program: null, errors: [], faults: [] }));
+  }
+}
+
 /** The module of a file that the program has read. The compiler reads it where its tree is asked for. */
 function moduleOf(/** @type {Script} */ plain, /** @type {ReadFile} */ { leads, names_return: namesReturns }) {
   const { path: file, text, mediaType } = plain;
@@ -55,8 +67,7 @@ function moduleOf(/** @type {Script} */ plain, /** @type {ReadFile} */ { leads, 
   let tree = null;
   Object.defineProperty(module, 'tree', {
     get() {
-      const { parse, toTree } = require('../tree/index.js');
-      tree = tree || toTree(parse(file, text), { short: true });
+      tree = tree || treeOf(file, text);
       return tree;
     },
   });
