@@ -69,6 +69,28 @@ test('a program of another version', async () => {
   holds(err.includes('it is of another version'), err);
 });
 
+// ---- which reader it is
+
+for (const words of [['check', 'other'], ['skeleton', 'other'], ['diff', 'other', 'other']]) {
+  test(`${words[0]} reads by the program where it is there and nothing is kept`, async () => {
+    const body = 'echo "error: out of memory" >&2; exit 3';
+    same((await runThere(words, body)).status, 3, 'the status');
+    holds((await runThere([...words, '--reader', 'typescript'], body)).status < 3, 'the compiler reads too');
+  });
+}
+test('check reads by the compiler where what it reads is kept', () => withFolder(async (folder) => {
+  const [program, environment] = [path.join(folder, 'program'), { XDG_CACHE_HOME: folder }];
+  fs.writeFileSync(program, '#!/bin/sh\nexit 3\n', { mode: 0o755 });
+  same((await run(['check', 'other'], { cwd: path.join(CRATE, 'data'), environment: { ...environment, FAST_CHECK_SOURCE: program } })).status, 1, 'the status');
+}));
+test('check reads by the compiler where the program is not there', () => withFolder(async (folder) => {
+  const program = path.join(folder, 'fast-check');
+  fs.symlinkSync(path.resolve(process.env.FAST_CHECK || ''), program);
+  const asked = { cwd: path.join(CRATE, 'data'), environment: { FAST_CHECK: program } };
+  same((await run(['check', 'other'], asked)).status, 1, 'the status');
+  same((await run(['check', '--reader', 'source', 'other'], asked)).status, 5, 'the status where the program is asked for');
+}));
+
 // ---- beside the other reader
 
 /** What both readers say, by some words. */

@@ -3,7 +3,7 @@
 const fs = require('fs');
 const path = require('path');
 const { readBySource } = require('./by-source.js');
-const { sourceProgramFile } = require('./program.js');
+const { EITHER, sourceProgramFile } = require('./program.js');
 const { ProgramError, lineOf } = require('./run.js');
 const { INTERNAL } = require('../cli/exit.js');
 const { NEWEST } = require('../cli/installed.js');
@@ -18,7 +18,7 @@ const { withTreesOf } = require('./request.js');
 const { variantOf } = require('../tree/walk.js');
 const { previewOf } = require('./preview.js');
 const { skeletonMessages } = require('../skeleton/messages.js');
-const { NO_COMPILER } = require('../compiler/find.js');
+const { NO_COMPILER, candidateFiles } = require('../compiler/find.js');
 const typescript = require('../compiler/typescript.js');
 
 /** @typedef {import('../messages/types').Message} Message */
@@ -340,11 +340,13 @@ async function analyseByCompiler(dir, options, context) {
 /** @type {(keyof AnalyseOptions)[]} */
 const BY_COMPILER = ['name', 'version', 'exports', 'rules', 'texts', 'within', 'treesOf', 'members', 'keepSourceFiles', 'verify', 'dts', 'withDts', 'watch'];
 
-/** The program that reads folders, where it is to; null where the compiler is. */
+/** The program that reads folders, where it is to; null where the compiler is. Where both may, the compiler's reader does what it keeps for later runs, which take less by it. */
 function sourceProgram(/** @type {AnalyseOptions} */ options, /** @type {RunContext} */ { environment }) {
-  if (options.reader !== 'source' || BY_COMPILER.some((it) => options[it])) return null;
+  const { reader = 'typescript' } = options;
+  if (reader === 'typescript' || BY_COMPILER.some((it) => options[it])) return null;
+  if (reader === EITHER && options.kept && options.kept.folder && candidateFiles().length) return null;
   const program = sourceProgramFile(environment);
-  if (program) return program;
+  if (program || reader === EITHER) return program;
   throw new ProgramError('there is no fast-check-source beside the other program, and the variable FAST_CHECK_SOURCE names none', 5);
 }
 

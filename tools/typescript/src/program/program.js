@@ -14,6 +14,8 @@ function programFile(/** @type {Record<string, string | undefined>} */ { FAST_CH
   return named || (isClone || !isForHere() ? undefined : PROGRAM);
 }
 
+// The reader of a command that names none: the program that reads folders itself, where it is there and nothing is kept for later runs, else the compiler's.
+const EITHER = 'either';
 // Where it lies from the folder of the other program: in a package, and among what the gate builds.
 const SOURCE_PROGRAMS = ['fast-check-source', 'fast_check_source', '../../fast_check_source/out/fast_check_source'];
 
@@ -41,4 +43,4 @@ function programStamp(/** @type {Record<string, string | undefined>} */ environm
   return stampOf(programFile(environment));
 }
 
-module.exports = { PLATFORM, isForHere, programStamp, sourceProgramFile, stampOf };
+module.exports = { EITHER, PLATFORM, isForHere, programStamp, sourceProgramFile, stampOf };
