@@ -110,33 +110,42 @@ fn refused(
     Message::at(alloc, path, text, offset, code, why)
 }
 
+// The tree of a module with its bodies cut. The whole one is dropped, as each that another one stands for, since few of them fit into memory.
+fn cut(alloc: Global, tree: Tree, text: &str) -> Result<Tree, AllocError> {
+    short_tree(alloc, text, &tree)
+}
+
+// A tree with its names numbered.
+fn numbered(alloc: Global, short: Tree, is_declaration: bool) -> Result<Tree, AllocError> {
+    with_scopes(alloc, &short, is_declaration)
+}
+
 // The program of a module: its bodies cut, its names numbered, and its exports written in.
 fn program_of(
     alloc: Global,
-    tree: &Tree,
+    tree: Tree,
     text: &str,
     is_declaration: bool,
 ) -> Result<Tree, AllocError> {
-    let short = short_tree(alloc, text, tree)?;
-    let scoped = with_scopes(alloc, &short, is_declaration)?;
-    let whole = mended(alloc, scoped)?;
+    let short = cut(alloc, tree, text)?;
+    let whole = mended(alloc, numbered(alloc, short, is_declaration)?)?;
     with_exports(alloc, &whole, is_declaration)
 }
 
 fn read_module(
     alloc: Global,
-    tree: &Tree,
+    tree: Tree,
     text: &str,
     media_type: MediaType,
 ) -> Result<Parsed, AllocError> {
     let is_declaration = media_type.is_declaration();
-    let own = RcStr::from_str(alloc, text)?;
-    let comments = comments_of(alloc, text, tree)?;
+    let comments = comments_of(alloc, text, &tree)?;
     let program = program_of(alloc, tree, text, is_declaration)?;
     let tables = tables_of(alloc, &program, is_declaration)?;
     let source = ParsedSource {
         media_type,
-        text: own,
+        // No answer has a text of its source.
+        text: RcStr::from_str(alloc, "")?,
         program,
         comments,
         unresolved_context: SyntaxContext(1),
@@ -363,7 +372,7 @@ impl Reading {
             return Ok(());
         };
         let place = Place { path, url, text };
-        let module = read_module(alloc, &tree, text, media_type)?;
+        let module = read_module(alloc, tree, text, media_type)?;
         let resolved = self.leads(files, packages, place, &module.source.program)?;
         self.keep(url, media_type, resolved, module)?;
         Ok(())
