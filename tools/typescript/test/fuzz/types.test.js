@@ -3,8 +3,8 @@
 const fs = require('fs');
 const path = require('path');
 const { test } = require('node:test');
-const { fuzzTypes } = require('../dev/fuzz.js');
-const { holds, PACKAGES } = require('./support/helpers.js');
+const { fuzzTypes } = require('../../dev/fuzz.js');
+const { holds, PACKAGES } = require('../support/helpers.js');
 
 test('types that are dropped, and written by fix', async () => {
   /** @type {string[]} */

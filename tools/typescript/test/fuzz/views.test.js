@@ -1,8 +1,8 @@
 'use strict';
 // Random packages, as their users see them.
 const { test } = require('node:test');
-const { fuzzViews } = require('../dev/fuzz_views.js');
-const { holds } = require('./support/helpers.js');
+const { fuzzViews } = require('../../dev/fuzz_views.js');
+const { holds } = require('../support/helpers.js');
 
 test('what users of 50 random packages see', async () => {
   /** @type {string[]} */
