@@ -61,13 +61,13 @@ function drop(/** @type {Request} */ request) {
  *
  * @returns {Answer[]}
  */
-function build(/** @type {Request} */ request, /** @type {string} */ work) {
+function build(/** @type {Request} */ request, /** @type {Info} */ { modules }, /** @type {string} */ work) {
   if (dropped.each) drop(request);
   const file = path.join(work, 'input.json');
   fs.writeFileSync(file, JSON.stringify(request));
   const [program, ...words] = command(file);
   const ran = childProcess.spawnSync(program, words, { maxBuffer: 1 << 30 });
-  if (ran.status === 0 || ran.status === 1) return restored(JSON.parse(ran.stdout.toString()), request);
+  if (ran.status === 0 || ran.status === 1) return restored(JSON.parse(ran.stdout.toString()), request, modules);
   throw new Error(ran.stderr.toString().trim().split('\n').pop());
 }
 
@@ -91,7 +91,7 @@ function messagesOf(/** @type {Answer[]} */ answers) {
 function ask(/** @type {string} */ dir, /** @type {Record<string, string>} */ exports, /** @type {string} */ work) {
   const { request, info } = inputOf(dir, { exports });
   if (!request) throw new Error(`${info.errors[0].path}: ${info.errors[0].message}`);
-  const answers = build(request, work);
+  const answers = build(request, info, work);
   const { skeletons } = part(answers, { dir, info, files: filesOf(info, dir) }, dir);
   /** @type {import('../src/program/types').World} */
   const world = { dir, request, info, files: filesOf(info, dir), skeletons, answers, warnings: [], broken: [], faults: [], lost: [], messages: [] };
