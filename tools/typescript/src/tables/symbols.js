@@ -431,11 +431,11 @@ function hasPathAlias(/** @type {Tables} */ t) {
   return t.symbols.some((symbol) => symbol.decls.some(({ kind }) => kind.QualifiedTarget));
 }
 
-/** Whether a message may name a symbol: a private member, a class or namespace in which a name is sought, or what may refer to a name within another. */
+/** Whether a message may name a symbol: a private member, a class or namespace in which a name is sought, an alias, or what may refer to a name within another. */
 function mayBeNamed(/** @type {GrowingSymbol} */ symbol, /** @type {boolean} */ byAlias) {
   const refers = (/** @type {Dependency} */ [dep]) => byAlias || !dep.Id;
   const isSaid = (/** @type {import('./types').Definition} */ it) => it.is_class || it.is_default_class_expr || it.is_ts_namespace || (it.deps || []).some(refers);
-  return symbol.is_private_member || symbol.decls.some(({ kind }) => kind.Definition && isSaid(kind.Definition));
+  return symbol.is_private_member || symbol.decls.some(({ kind }) => (kind.Definition ? isSaid(kind.Definition) : kind.Definition === undefined));
 }
 
 /** The symbol of an id, or undefined. */
